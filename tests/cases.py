@@ -1,0 +1,70 @@
+"""Runs a program on a folder of cases, each once.
+
+A case is a folder with some of these files:
+  args      one argument a line; `{case}` stands for the case's folder, `{repo}` for the repository's
+  stdin     standard input, empty where it is missing
+  closed    a file that says that standard output is closed before the program starts
+  stdout    what standard output must hold, to the byte, empty where it is missing
+  stdout.contains, stderr.contains    texts, one a line, that must stand in it, in place of an exact match
+  stderr    what standard error must hold, empty where it is missing
+  status    the exit status, 0 where it is missing
+
+Usage: cases.py PROGRAM FOLDER [PASSED FAILED]
+The two numbers are of an earlier part of the same run, and are added to the last line.
+"""
+
+import pathlib
+import subprocess
+import sys
+
+SECONDS = 60
+
+
+def read(path, missing=b""):
+    return path.read_bytes() if path.exists() else missing
+
+
+def arguments(case, repo):
+    lines = read(case / "args").decode().splitlines()
+    return [line.replace("{case}", str(case)).replace("{repo}", str(repo)) for line in lines]
+
+
+def faults(case, name, found):
+    listed = case / f"{name}.contains"
+    if listed.exists():
+        missing = [text for text in listed.read_bytes().splitlines() if text not in found]
+        return [f"{name} lacks {text!r}" for text in missing]
+    wanted = read(case / name)
+    return [] if found == wanted else [f"{name} is {found[:200]!r} and not {wanted[:200]!r}"]
+
+
+def run_case(program, case, repo):
+    command = [str(program), *arguments(case, repo)]
+    if (case / "closed").exists():
+        command = ["/bin/sh", "-c", 'exec "$@" >&-', "sh", *command]
+    done = subprocess.run(command, input=read(case / "stdin"), capture_output=True, timeout=SECONDS, check=False)
+    wanted = int(read(case / "status", b"0").decode())
+    found = [] if done.returncode == wanted else [f"status is {done.returncode} and not {wanted}"]
+    return found + faults(case, "stdout", done.stdout) + faults(case, "stderr", done.stderr)
+
+
+def main():
+    program = pathlib.Path(sys.argv[1]).resolve()
+    folder = pathlib.Path(sys.argv[2]).resolve()
+    passed, failed = (int(word) for word in sys.argv[3:5]) if len(sys.argv) > 4 else (0, 0)
+    cases = sorted(path for path in folder.iterdir() if path.is_dir())
+    for case in cases:
+        try:
+            found = run_case(program, case, folder.parent.parent)
+        except subprocess.TimeoutExpired:
+            found = [f"it still ran after {SECONDS} seconds"]
+        print(f"case {case.name}: {'passed' if not found else 'FAILED: ' + '; '.join(found)}")
+        passed, failed = (passed + 1, failed) if not found else (passed, failed + 1)
+    if not cases:
+        print(f"cases: no case in {folder}")
+        failed += 1
+    print(f"{passed} passed, {failed} failed")
+    sys.exit(1 if failed else 0)
+
+
+main()

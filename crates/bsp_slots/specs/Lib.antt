@@ -1,0 +1,4 @@
+pub mod Area
+pub mod Change
+pub mod Registrations
+pub mod Slots

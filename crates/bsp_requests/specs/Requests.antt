@@ -1,0 +1,50 @@
+-- The requests and the output of one node in one superstep, and their limits.
+use Rattle.std.specs.Prelude.{◌≡◌, ℕ, ◌+◌, ◌^◌, ◌≤◌, Bool, ◌||◌, nat_le, nat_lt, List, [], ◌∷◌, ◌++◌, length, sum_by}
+use Rattle.bsp_requests.specs.Request.{Asked, size_of}
+
+-- the requests in issue order, and the output
+pub record Requests : Type 0 where
+  pub requests : List Asked
+  pub output : List ℕ
+
+-- a node that asked for nothing and wrote nothing
+abbrev pub no_requests : Requests
+no_requests = record { requests = []; output = [] }
+
+-- one request more, issued last
+abbrev pub with_request : Requests → Asked → Requests
+with_request r q = record r { requests = r.requests ++ q ∷ [] }
+
+-- more output, after what stands there
+abbrev pub with_output : Requests → List ℕ → Requests
+with_output r bytes = record r { output = r.output ++ bytes }
+
+-- own limit: the requests of a node in a superstep
+abbrev pub max_requests : ℕ
+max_requests = 65536
+
+-- own limit: the bytes of a node in a superstep
+abbrev pub max_bytes : ℕ
+max_bytes = 2 ^ 24
+
+-- the bytes of all requests and of the output, as one sum
+abbrev pub total_bytes : Requests → ℕ
+total_bytes r = sum_by size_of r.requests + length r.output
+
+-- no limit is passed
+pub record IsWithinLimits (r : Requests) : Type 0 where
+  pub requests : length r.requests ≤ max_requests
+  pub bytes : total_bytes r ≤ max_bytes
+
+-- whether so many bytes more would pass the limit on bytes
+abbrev pub are_too_many : Requests → ℕ → Bool
+are_too_many r n = nat_lt max_bytes (total_bytes r + n)
+
+-- whether one request more would pass a limit
+abbrev pub is_too_much : Requests → Asked → Bool
+is_too_much r q = nat_le max_requests (length r.requests) || are_too_many r (size_of q)
+
+-- the number n is the sum of its bytes, and no limit is passed
+pub record IsCounted (r : Requests) (n : ℕ) : Type 0 where
+  pub sum : n ≡ total_bytes r
+  pub within : IsWithinLimits r

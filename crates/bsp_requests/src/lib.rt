@@ -1,0 +1,27 @@
+//! What a node of a bulk synchronous machine asks of the next exchange, and the messages that it got from the last.
+//!
+//! Requests are [`Put`]s, [`Get`]s and sends ([`Outgoing`]); [`Requests`] holds those of one node in one superstep,
+//! beside the node's output. Contracts see it as a list of requests in issue order and a list of bytes. An [`Inbox`]
+//! holds the messages that a node has not read yet, and is seen as their list.
+//!
+//! Callers may rely on this:
+//!
+//! - Requests are kept in the order in which they were added, whatever their kind: a request's place is its issue
+//!   number in the superstep.
+//! - A request or an output that would pass [`MAX_REQUESTS`] or [`MAX_BYTES`] is refused as [`AddError::TooMuch`],
+//!   before any memory is asked for. A refused call changes nothing.
+//! - Only the four calls that add take memory. All else, an inbox too, works on the memory that it was given.
+//!
+//! An add takes amortised constant time, beside the bytes that it copies. Taking the first message of an inbox takes
+//! constant time.
+#![tactic(auto)]
+
+mod inbox;
+mod request;
+mod requests;
+#[cfg(test)]
+mod tests;
+
+pub use inbox::{Inbox, Message};
+pub use request::{Get, Outgoing, Put, Request};
+pub use requests::{AddError, MAX_BYTES, MAX_REQUESTS, Requests};

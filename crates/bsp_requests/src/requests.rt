@@ -1,0 +1,166 @@
+ghost use Rattle.std.specs.Prelude.{◌≡◌, ◌≤◌, ◌↔◌, length, IsTrue, IsErrOf, OnOk, OnErr, option_map, option_copied, slice_get};
+ghost use Rattle.bsp_requests.specs.Request.{asked, asks_put, asks_get, asks_send};
+ghost use Rattle.bsp_requests.specs.Requests.{no_requests, with_request, with_output, total_bytes, max_requests, max_bytes, are_too_many, is_too_much};
+ghost use Rattle.bsp_requests.specs.declared.requests.AddError.TheVariants.{NoMemory};
+
+use crate::request::{Get, Outgoing, Put, Request};
+use std::alloc::{AllocError, AllocFailed, Allocator};
+use std::marker::Model;
+
+/// The most requests of a node in a superstep: puts, gets and sends together (own limit).
+pub const MAX_REQUESTS: usize = 65_536;
+
+/// The most bytes of a node in a superstep: those that puts and gets move, tags and payloads of sends, and output
+/// (own limit).
+pub const MAX_BYTES: u64 = 16_777_216;
+
+/// Why nothing was added.
+#[derive(Clone, Copy, Debug, PartialEq, Eq)]
+pub enum AddError {
+    /// [`MAX_REQUESTS`] or [`MAX_BYTES`] would be passed.
+    TooMuch,
+    NoMemory,
+}
+
+impl From<AllocError> for AddError {
+    ghost from_gives = { λ _ e. e ≡ NoMemory };
+
+    fn from(_error: AllocError) -> AddError {
+        AddError::NoMemory
+    }
+}
+
+impl<T: Drop> From<AllocFailed<T>> for AddError {
+    ghost from_gives = { λ _ e. e ≡ NoMemory };
+
+    fn from(_error: AllocFailed<T>) -> AddError {
+        AddError::NoMemory
+    }
+}
+
+/// The requests of one node in one superstep, in issue order, and the node's output in it.
+#[derive(Drop)]
+pub struct Requests<A: Allocator> {
+    requests: Vec<Request<A>, A>,
+    output: Vec<u8, A>,
+    // The bytes of all requests and of the output.
+    bytes: u64,
+}
+
+impl<A: Allocator> Model for Requests<A> {
+    ghost use Rattle.std.specs.Prelude.{map};
+    ghost use Rattle.bsp_requests.specs.Requests.{Requests as RequestsValue, IsCounted};
+
+    ghost Value = { RequestsValue };
+
+    ghost use Rattle.bsp_requests.specs.Request.{asked};
+
+    ghost view = { λ r. record { requests = map asked r.requests.items; output = r.output.items } };
+
+    ghost invariant = { λ r. IsCounted (record { requests = map asked r.requests.items; output = r.output.items }) r.bytes };
+}
+
+impl<A: Allocator + Copy> Requests<A> {
+    pub fn new(alloc: A) -> Self
+        ensures { result ≡ no_requests }
+    {
+        Requests {
+            requests: Vec::new(alloc),
+            output: Vec::new(alloc),
+            bytes: 0,
+        }
+    }
+}
+
+impl<A: Allocator> Requests<A> {
+    pub fn add_put(&mut self, put: Put<A>) -> Result<(), AddError>
+        ensures ok { OnOk result (self.new ≡ with_request self.old (asks_put put)) }
+        ensures too_much { IsErrOf result AddError.TooMuch ↔ IsTrue (is_too_much self.old (asks_put put)) }
+        ensures err { OnErr result (self.new ≡ self.old) }
+    {
+        self.add(Request::Put(put))
+    }
+
+    pub fn add_get(&mut self, get: Get) -> Result<(), AddError>
+        ensures ok { OnOk result (self.new ≡ with_request self.old (asks_get get)) }
+        ensures too_much { IsErrOf result AddError.TooMuch ↔ IsTrue (is_too_much self.old (asks_get get)) }
+        ensures err { OnErr result (self.new ≡ self.old) }
+    {
+        self.add(Request::Get(get))
+    }
+
+    pub fn add_send(&mut self, message: Outgoing<A>) -> Result<(), AddError>
+        ensures ok { OnOk result (self.new ≡ with_request self.old (asks_send message)) }
+        ensures too_much { IsErrOf result AddError.TooMuch ↔ IsTrue (is_too_much self.old (asks_send message)) }
+        ensures err { OnErr result (self.new ≡ self.old) }
+    {
+        self.add(Request::Send(message))
+    }
+
+    /// Appends to the output. Output counts among the bytes, and not among the requests.
+    pub fn add_output(&mut self, bytes: &[u8]) -> Result<(), AddError>
+        ensures ok { OnOk result (self.new ≡ with_output self.old bytes.now) }
+        ensures too_much { IsErrOf result AddError.TooMuch ↔ IsTrue (are_too_many self.old (length bytes.now)) }
+        ensures err { OnErr result (self.new ≡ self.old) }
+    {
+        let count = bytes.len() as u64;
+        if count > MAX_BYTES - self.bytes {
+            return Err(AddError::TooMuch);
+        }
+        self.output.extend_from_slice(bytes)?;
+        self.bytes += count;
+        Ok(())
+    }
+
+    /// How many requests there are, which is the next one's issue number.
+    pub fn len(&self) -> usize
+        ensures len { result ≡ length self.now.requests }
+        ensures limit { result ≤ max_requests }
+    {
+        self.requests.len()
+    }
+
+    /// The request with this issue number.
+    pub fn at(&self, issue: usize) -> Option<&Request<A>>
+        ensures { option_map asked (option_copied result) ≡ slice_get self.now.requests issue }
+    {
+        self.requests.get(issue)
+    }
+
+    /// The bytes of all requests and of the output, as one sum.
+    pub fn bytes(&self) -> u64
+        ensures sum { result ≡ total_bytes self.now }
+        ensures limit { result ≤ max_bytes }
+    {
+        self.bytes
+    }
+
+    pub fn output(&self) -> &[u8]
+        ensures { result.now ≡ self.now.output }
+    {
+        self.output.as_slice()
+    }
+
+    /// Leaves no request and no output, for the next superstep. The memory stays with it.
+    pub fn clear(&mut self)
+        ensures { self.new ≡ no_requests }
+    {
+        self.requests.clear();
+        self.output.clear();
+        self.bytes = 0;
+    }
+
+    fn add(&mut self, request: Request<A>) -> Result<(), AddError>
+        ensures ok { OnOk result (self.new ≡ with_request self.old (asked request)) }
+        ensures too_much { IsErrOf result AddError.TooMuch ↔ IsTrue (is_too_much self.old (asked request)) }
+        ensures err { OnErr result (self.new ≡ self.old) }
+    {
+        let size = request.size();
+        if self.len() >= MAX_REQUESTS || size > MAX_BYTES - self.bytes {
+            return Err(AddError::TooMuch);
+        }
+        self.requests.push(request)?;
+        self.bytes += size;
+        Ok(())
+    }
+}

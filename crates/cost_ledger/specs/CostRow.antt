@@ -1,0 +1,21 @@
+-- The cost of supersteps (the BSP cost model: w + g h + l for each).
+use Rattle.std.specs.Prelude.{◌≡◌, ℕ, ◌+◌, ◌*◌, ◌^◌, ◌<◌, ◌≤◌, List, sum_by}
+use Rattle.std.specs.List.Sorted.{IsPermutation}
+use Rattle.cost_ledger.specs.declared.CostRow.{CostRow}
+
+-- own bounds, which keep every total exact in 128 bits
+pub record IsBounded (row : CostRow) : Type 0 where
+  pub work : row.w ≤ 2 ^ 40
+  pub relation : row.h < 2 ^ 48
+
+-- the cost of one superstep, at g a byte and l a superstep
+abbrev pub cost_of : ℕ → ℕ → CostRow → ℕ
+cost_of g l row = row.w + g * row.h + l
+
+-- the cost of all of them, whether an exchange was made or not
+abbrev pub total_cost : ℕ → ℕ → List CostRow → ℕ
+total_cost g l rows = sum_by (cost_of g l) rows
+
+-- rows in another order have the same total
+abbrev pub TotalIgnoresOrder : Type 0
+TotalIgnoresOrder = (g l : ℕ) (xs ys : List CostRow) → IsPermutation xs ys → total_cost g l ys ≡ total_cost g l xs

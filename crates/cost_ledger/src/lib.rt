@@ -1,0 +1,169 @@
+//! The costs of a bulk synchronous run, superstep by superstep.
+//!
+//! A [`Ledger`] is a list of [`CostRow`]s, one for each superstep, in the order in which they ended. Contracts see it
+//! as that list. Its total is that of the BSP cost model, `w + g h + l` summed over all rows.
+//!
+//! Callers may rely on this:
+//!
+//! - A refused [`add`](Ledger::add) changes nothing. It is the only call that takes memory.
+//! - A total is exact: under the conditions of `add` no sum of costs passes 128 bits.
+//! - The order of the rows does not change a total ([`total_ignores_order`]).
+#![tactic(auto)]
+
+ghost use Rattle.std.specs.Prelude.{◌≡◌, ◌^◌, ◌<◌, ◌≤◌, [], ◌∷◌, ◌++◌, length, OnOk, OnErr};
+ghost use Rattle.cost_ledger.specs.CostRow.{IsBounded, cost_of, total_cost, TotalIgnoresOrder};
+
+use std::alloc::{AllocError, Allocator};
+use std::marker::Model;
+
+/// What one superstep cost.
+#[derive(Clone, Copy, Debug, PartialEq, Eq)]
+pub struct CostRow {
+    /// The work: the most ticks that a node made.
+    pub w: u64,
+    /// The h-relation: the most bytes that a node sent or received, or 0 where no exchange was made.
+    pub h: u64,
+    /// Whether an exchange was made.
+    pub turned: bool,
+}
+
+/// The costs of the supersteps so far, oldest first.
+#[derive(Drop)]
+pub struct Ledger<A: Allocator> {
+    rows: Vec<CostRow, A>,
+}
+
+impl<A: Allocator> Model for Ledger<A> {
+    ghost use Rattle.std.specs.Prelude.{◌^◌, ◌≤◌, List, length, All};
+    ghost use Rattle.cost_ledger.specs.declared.CostRow.{CostRow};
+    ghost use Rattle.cost_ledger.specs.CostRow.{IsBounded};
+
+    ghost Value = { List CostRow };
+
+    ghost view = { λ l. l.rows.items };
+
+    ghost invariant = { λ l. (length l.rows.items ≤ 2 ^ 41) × All IsBounded l.rows.items };
+}
+
+impl<A: Allocator> Ledger<A> {
+    pub fn new(alloc: A) -> Self
+        ensures { result ≡ [] }
+    {
+        Ledger {
+            rows: Vec::new(alloc),
+        }
+    }
+
+    pub fn add(&mut self, row: CostRow) -> Result<(), AllocError>
+        requires work { row.w ≤ 2 ^ 40 }
+        requires relation { row.h < 2 ^ 48 }
+        requires few { length self.old < 2 ^ 41 }
+        ensures ok { OnOk result (self.new ≡ self.old ++ row ∷ []) }
+        ensures err { OnErr result (self.new ≡ self.old) }
+    {
+        self.rows.push(row)?;
+        Ok(())
+    }
+
+    pub fn rows(&self) -> &[CostRow]
+        ensures { result.now ≡ self.now }
+    {
+        self.rows.as_slice()
+    }
+
+    /// The cost of all rows, turned or not, at `g` a byte and `l` a superstep.
+    #[tactic(auto, using(crate::proofs::Totals::total_fits))]
+    pub fn total(&self, g: u32, l: u32) -> u128
+        ensures { result ≡ total_cost g l self.now }
+    {
+        sum_of_costs(&self.rows, g, l)
+    }
+}
+
+fn sum_of_costs(rows: &[CostRow], g: u32, l: u32) -> u128
+    requires { total_cost g l rows.now < 2 ^ 128 }
+    ensures { result ≡ total_cost g l rows.now }
+{
+    rows.iter().map(|row| row.cost(g, l)).sum()
+}
+
+impl CostRow {
+    fn cost(&self, g: u32, l: u32) -> u128
+        ensures { result ≡ cost_of g l self.now }
+    {
+        u128::from(self.w) + u128::from(g) * u128::from(self.h) + u128::from(l)
+    }
+}
+
+/// States that rows in another order have the same total.
+pub fn total_ignores_order()
+    ensures { TotalIgnoresOrder }
+{}
+
+#[cfg(test)]
+mod tests {
+    use super::*;
+    use refusing_allocator::RefusingAllocator;
+    use std::test::Fail;
+
+    #[test]
+    fn a_total_is_summed_over_turned_and_other_rows(rt: HostRuntime) -> Result<(), Fail> {
+        let turned = CostRow {
+            w: 10,
+            h: 4,
+            turned: true,
+        };
+        let last = CostRow {
+            w: 7,
+            h: 0,
+            turned: false,
+        };
+        let mut ledger = Ledger::new(rt.alloc());
+        assert_eq!(rt; ledger.total(3, 100), 0);
+        ledger.add(turned)?;
+        ledger.add(last)?;
+        assert_eq!(rt; ledger.rows(), [turned, last].as_slice());
+        assert_eq!(rt; ledger.total(3, 100), 229);
+        Ok(())
+    }
+
+    #[test]
+    fn the_greatest_costs_are_exact(rt: HostRuntime) -> Result<(), Fail> {
+        let mut ledger = Ledger::new(rt.alloc());
+        ledger.add(CostRow {
+            w: 1_099_511_627_776,
+            h: 281_474_976_710_655,
+            turned: true,
+        })?;
+        assert_eq!(rt;
+            ledger.total(u32::MAX, u32::MAX),
+            1_208_925_819_334_253_709_623_296
+        );
+        Ok(())
+    }
+
+    #[test]
+    fn each_growth_may_be_refused(rt: HostRuntime) -> Result<(), Fail> {
+        let heap = RefusingAllocator::new(rt.alloc());
+        let mut ledger = Ledger::new(&heap);
+        let mut refusals = 0u32;
+        for w in 0..100u64 {
+            let row = CostRow {
+                w,
+                h: 0,
+                turned: true,
+            };
+            let before = ledger.rows().len();
+            assert_eq!(rt; before as u64, w);
+            heap.refuse_nth(1);
+            if ledger.add(row).is_err() {
+                refusals = refusals.saturating_add(1);
+                assert_eq!(rt; ledger.rows().len(), before, "at {w}");
+                assert_eq!(rt; ledger.add(row), Ok(()), "at {w}");
+            }
+        }
+        assert!(rt; 1 < refusals && refusals < 20, "{refusals} refusals");
+        assert_eq!(rt; ledger.total(1, 1), 5_050);
+        Ok(())
+    }
+}

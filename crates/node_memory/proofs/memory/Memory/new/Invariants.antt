@@ -1,0 +1,8 @@
+use Rattle.std.proofs.Common.{◌≡◌, take}
+use Rattle.node_memory.specs.Image.{image_bytes}
+use Rattle.node_memory.proofs.ImageBytes.{image_of}
+use Rattle.node_memory.proofs.memory.Memory.new.Given as goal
+
+abbrev pub invariant-loop-segment : goal.invariant-loop-segment
+invariant-loop-segment g l =
+    l.bytes.items ≡ image_bytes (image_of l.image.entry (take l.segment-index l.image.segments)) l.size

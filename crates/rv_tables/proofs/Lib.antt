@@ -1,0 +1,11 @@
+pub mod BranchWord
+pub mod EachRow
+pub mod Finds
+pub mod Lookup
+pub mod Masks
+pub mod NoRow
+pub mod OnlyWords
+pub mod Pairs
+pub mod RegisterNames
+pub mod RowReads
+pub mod Spelling

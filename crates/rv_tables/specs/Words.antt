@@ -1,0 +1,33 @@
+-- The words of the base formats (RISC-V Unprivileged ISA 20191213, section 2.2 "Base Instruction Formats" and section 2.3
+-- "Immediate Encoding Variants"): the bits that a row fixes, and the operands in the others.
+use Rattle.std.specs.Prelude.{◌≡◌, ℕ, ◌<◌, ◌^◌, ℤ, Option, Some, IfSome, bit_and}
+use Rattle.rv_tables.specs.Fields as Fields
+
+-- opcode, funct3 and funct7 are those of the value, and three fields of 5 bits are the operands
+abbrev pub IsRWord : ℕ → ℕ → ℕ → ℕ → ℕ → Type 0
+IsRWord value rd rs1 rs2 w =
+    (bit_and w 0xFE00707F ≡ value) × (Fields.rd w ≡ rd) × (Fields.rs1 w ≡ rs1) × (Fields.rs2 w ≡ rs2)
+
+-- opcode and funct3 are those of the value
+abbrev pub IsIWord : ℕ → ℕ → ℕ → ℤ → ℕ → Type 0
+IsIWord value rd rs1 imm w =
+    (bit_and w 0x707F ≡ value) × (Fields.rd w ≡ rd) × (Fields.rs1 w ≡ rs1) × (Fields.i_immediate w ≡ imm)
+
+abbrev pub IsSWord : ℕ → ℕ → ℕ → ℤ → ℕ → Type 0
+IsSWord value rs1 rs2 imm w =
+    (bit_and w 0x707F ≡ value) × (Fields.rs1 w ≡ rs1) × (Fields.rs2 w ≡ rs2) × (Fields.s_immediate w ≡ imm)
+
+abbrev pub IsBWord : ℕ → ℕ → ℕ → ℤ → ℕ → Type 0
+IsBWord value rs1 rs2 imm w =
+    (bit_and w 0x707F ≡ value) × (Fields.rs1 w ≡ rs1) × (Fields.rs2 w ≡ rs2) × (Fields.b_immediate w ≡ imm)
+
+-- the opcode is that of the value
+abbrev pub IsUWord : ℕ → ℕ → ℕ → ℕ → Type 0
+IsUWord value rd imm w = (bit_and w 0x7F ≡ value) × (Fields.rd w ≡ rd) × (Fields.u_immediate w ≡ imm)
+
+abbrev pub IsJWord : ℕ → ℕ → ℤ → ℕ → Type 0
+IsJWord value rd imm w = (bit_and w 0x7F ≡ value) × (Fields.rd w ≡ rd) × (Fields.j_immediate w ≡ imm)
+
+-- the value in a result has a property of words, and no other word has it
+abbrev pub IsOnlyWord : (ℕ → Type 0) → Option ℕ → Type 0
+IsOnlyWord P result = IfSome result P × ((w : ℕ) → w < 2 ^ 32 → P w → result ≡ Some w)

@@ -1,0 +1,38 @@
+//! The instructions of RV32I, Zifencei and M: their rows, words, names and registers.
+//!
+//! A row of the listings fixes some bits of a word, and the other bits are the operands of its form. So the listings
+//! are a map from words to instructions: no two rows agree on a word, and most words are of none.
+//!
+//! What callers may rely on:
+//!
+//! - [`rows`] is the table, in a fixed order, and its rows are pairwise disjoint.
+//! - [`decode`] answers the instruction of a word, and none for a word of no row. Each operand that it answers fits its
+//!   field: registers are below 32.
+//! - [`encode`] goes back: it answers a word for each instruction whose operands fit, which decodes to that instruction
+//!   and is the only one to do so, but for the two fences.
+//! - [`reg_number`] and [`mnemonic`] know the names of the manual, and no others.
+//! - [`laws`] has what holds of all words: each spells at most one instruction, which is the one that is decoded.
+//!
+//! Source: The RISC-V Instruction Set Manual, Volume I: Unprivileged ISA, 20191213, chapters 2, 3 and 7, the listings
+//! of chapter 24 and the names of chapter 25.
+#![tactic(auto)]
+
+mod decoder;
+mod encoder;
+mod fields;
+mod instr;
+pub mod laws;
+mod mnemonics;
+mod registers;
+mod table;
+mod words;
+
+pub use decoder::decode;
+pub use encoder::encode;
+pub use instr::{BranchOp, Form, IOp, Instr, LoadOp, PlainOp, ROp, Row, ShiftOp, StoreOp, UpperOp};
+pub use mnemonics::mnemonic;
+pub use registers::reg_number;
+pub use table::rows;
+
+#[cfg(test)]
+mod tests;

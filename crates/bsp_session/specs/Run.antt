@@ -1,0 +1,36 @@
+-- What a job makes of the bytes of an image and of an input (own rules).
+use Rattle.std.specs.Prelude.{◌≡◌, ℕ, ◌≤◌, ◌^◌, Bool, ◌&&◌, nat_le, List, [], ◌∷◌, length, map, Option, Some, None, if◌then◌else◌}
+use Rattle.std.specs.List.{flat_map, range_with_len}
+use Rattle.node_memory.specs.Bytes.{is_memory_size}
+use Rattle.node_memory.specs.Image.{Image}
+use Rattle.node_core.specs.Node.{NodeState, start_node, phase}
+use Rattle.bsp_session.specs.declared.job.Settings.{Settings}
+use Rattle.bsp_session.specs.declared.errors.BadSetting.{BadSetting}
+use Rattle.bsp_session.specs.declared.errors.BadSetting.TheVariants.{BadNodes, BadMemory, BadLimit}
+
+-- the first setting that is out of its range
+abbrev pub settings_fault : Settings → Option BadSetting
+settings_fault s =
+    if nat_le 1 s.nodes && nat_le s.nodes 256 then
+    (if is_memory_size s.memory then
+    (if nat_le 1 s.limit && nat_le s.limit (2 ^ 40) then None else Some BadLimit)
+    else Some BadMemory)
+    else Some BadNodes
+
+-- the image of a raw file: its bytes are the memory's from address 0 on, and pc starts there
+abbrev pub raw_image : List ℕ → Image
+raw_image [] = record { entry = 0; segments = [] }
+raw_image (b ∷ bs) =
+    record { entry = 0; segments = record { addr = 0; bytes = b ∷ bs; size = length (b ∷ bs) } ∷ [] }
+
+-- a node after its run
+abbrev pub final_node : Image → List ℕ → Settings → ℕ → NodeState
+final_node image input s rank = phase input (start_node image rank s.nodes s.memory s.limit)
+
+-- each node after its run, by rank
+unfoldable pub final_nodes : Image → List ℕ → Settings → List NodeState
+final_nodes image input s = map (final_node image input s) (range_with_len 0 s.nodes)
+
+-- what nodes have written, rank by rank
+abbrev pub output_of : List NodeState → List ℕ
+output_of nodes = flat_map (λ (n : NodeState). n.hart.output) nodes

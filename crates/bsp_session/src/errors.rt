@@ -1,0 +1,137 @@
+//! Why a session failed, and the exit status of each answer.
+
+ghost use Rattle.std.specs.Prelude.{◌≡◌};
+ghost use Rattle.bsp_session.specs.Outcome.{status_of};
+
+use crate::job::Outcome;
+use counted_io::{ReadError, WriteFault};
+use node_core::State;
+use std::alloc::AllocError;
+use std::fmt;
+use thiserror::Error;
+
+/// The setting that is out of its range. Of several the first in this order is named.
+#[derive(Clone, Copy, Debug, PartialEq, Eq)]
+pub enum BadSetting {
+    /// The number of nodes is not 1 to 256.
+    BadNodes,
+    /// The bytes of a node's memory are not 4,096 to 16,777,216, or no multiple of 4,096.
+    BadMemory,
+    /// The limit of ticks is not 1 to 2^40.
+    BadLimit,
+}
+
+impl fmt::Display for BadSetting {
+    fn fmt<W: fmt::Write>(&self, f: &mut fmt::Formatter<W>) -> fmt::Result {
+        f.write_str(match self {
+            BadSetting::BadNodes => "BadNodes",
+            BadSetting::BadMemory => "BadMemory",
+            BadSetting::BadLimit => "BadLimit",
+        })
+    }
+}
+
+/// Why a session gave no outcome. Of several causes the first in the order of the work is answered: settings, image
+/// read, input read, memories of the nodes, run, output.
+///
+/// Its text is the line, without a program's name, that a user is shown.
+#[derive(Clone, Copy, Debug, PartialEq, Eq, Error)]
+pub enum SessionError {
+    /// A setting is out of its range. Nothing was read or written.
+    #[error("settings refused: {0}")]
+    BadSettings(BadSetting),
+    /// The image, or after it the input, has more bytes than its limit of 2^24.
+    #[error("too long")]
+    TooLong,
+    /// The image reaches past the memory of a node.
+    #[error("image refused: SegmentOutside")]
+    SegmentOutside,
+    /// A call of the image's reader failed, or after that reading one of the input's.
+    #[error("read failed")]
+    ReadFault,
+    /// A call of the writer failed. Some first bytes of the output may have been written, and not all.
+    #[error("write failed")]
+    WriteFault,
+    /// A request for memory was refused.
+    #[error("no memory")]
+    NoMemory,
+}
+
+/// The exit status with which a program answers a session (own rule).
+///
+/// | Status | Answer |
+/// |---|---|
+/// | 0 | every node ended |
+/// | 1 | settings, image or input refused |
+/// | 2 | a node's fault or `abort` |
+/// | 3 | a node's limit of ticks |
+/// | 4 | any other outcome |
+/// | 5 | memory refused |
+/// | 6 | a read or a write failed |
+///
+/// Where nodes were stopped, the state of the lowest of their ranks decides.
+pub fn status(answer: &Result<Outcome, SessionError>) -> u8
+    ensures { result ≡ status_of answer.now }
+{
+    match answer {
+        Ok(Outcome::Ended) => 0,
+        Ok(Outcome::NodeStopped { state, .. }) => match state {
+            State::Faulted(_) | State::Aborted => 2,
+            State::Exhausted => 3,
+            _ => 4,
+        },
+        Ok(Outcome::Desync { .. }) => 4,
+        Err(SessionError::BadSettings(_) | SessionError::TooLong | SessionError::SegmentOutside) =>
+            { 1 }
+        Err(SessionError::ReadFault | SessionError::WriteFault) => 6,
+        Err(SessionError::NoMemory) => 5,
+    }
+}
+
+impl From<BadSetting> for SessionError {
+    ghost use Rattle.std.specs.Prelude.{◌≡◌};
+    ghost use Rattle.bsp_session.specs.declared.errors.SessionError.TheVariants.{BadSettings};
+
+    ghost from_gives = { λ cause e. e ≡ BadSettings cause };
+
+    fn from(cause: BadSetting) -> SessionError {
+        SessionError::BadSettings(cause)
+    }
+}
+
+impl From<AllocError> for SessionError {
+    ghost use Rattle.std.specs.Prelude.{◌≡◌};
+    ghost use Rattle.bsp_session.specs.declared.errors.SessionError.TheVariants.{NoMemory};
+
+    ghost from_gives = { λ _ e. e ≡ NoMemory };
+
+    fn from(_refused: AllocError) -> SessionError {
+        SessionError::NoMemory
+    }
+}
+
+impl From<WriteFault> for SessionError {
+    ghost use Rattle.std.specs.Prelude.{◌≡◌};
+    ghost use Rattle.bsp_session.specs.declared.errors.SessionError.TheVariants.{WriteFault};
+
+    ghost from_gives = { λ _ e. e ≡ WriteFault };
+
+    fn from(_fault: WriteFault) -> SessionError {
+        SessionError::WriteFault
+    }
+}
+
+impl From<ReadError> for SessionError {
+    ghost use Rattle.std.specs.Prelude.{◌≡◌};
+    ghost use Rattle.bsp_session.specs.Outcome.{error_of_read};
+
+    ghost from_gives = { λ r e. e ≡ error_of_read r };
+
+    fn from(error: ReadError) -> SessionError {
+        match error {
+            ReadError::TooLong => SessionError::TooLong,
+            ReadError::ReadFault => SessionError::ReadFault,
+            ReadError::NoMemory => SessionError::NoMemory,
+        }
+    }
+}

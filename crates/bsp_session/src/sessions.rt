@@ -1,0 +1,244 @@
+//! The session that runs a program.
+
+ghost use Rattle.std.specs.Prelude.{◌≡◌, ◌≢◌, ◌+◌, ◌<◌, ◌≤◌, ◌^◌, ◌↔◌, ◌⊎◌, List, length, true, false, Some, None, IfOk, IfErr, OnOk, OnErr, IsErrOf};
+ghost use Rattle.std.specs.Io.KnownBytes.{Appends};
+ghost use Rattle.counted_io.specs.Counted.{HasRisen};
+ghost use Rattle.counted_io.specs.Transfers.{AppendsPrefix};
+ghost use Rattle.node_memory.specs.Image.{is_segment_outside};
+ghost use Rattle.node_core.specs.Node.{start_node};
+ghost use Rattle.bsp_session.specs.declared.errors.BadSetting.{BadSetting as BadSettingCause};
+ghost use Rattle.bsp_session.specs.Outcome.{outcome_of as outcome_of_nodes, has_stopped as has_stopped_of};
+ghost use Rattle.bsp_session.specs.Run.{settings_fault, raw_image as raw_image_of, final_node, final_nodes, output_of};
+ghost use Rattle.bsp_session.specs.Session.{reader, Answers, IsTooLong, IsReadFault, IsOutside, WritesPrefix};
+
+use crate::errors::{BadSetting, SessionError};
+use crate::job::{Format, Job, Outcome, Settings};
+use counted_io::{Counted, WriteFault, read_at_most, write_whole};
+use list_vec::ListVec;
+use node_core::{Node, State};
+use node_memory::{Image, MemoryError, Segment, is_memory_size};
+use std::alloc::{AllocError, Allocator};
+use std::io::{Read, Write};
+
+/// The most bytes of a raw image (own rule).
+const RAW_IMAGE_BYTES: usize = 1 << 24;
+
+/// The most bytes of an input (own rule).
+const INPUT_BYTES: usize = 1 << 24;
+
+/// Runs the program that `image` gives on every node of the machine, each with the bytes of `input` as its input, and
+/// writes what the nodes have written to `out`, rank by rank. Both readers are read to their ends.
+///
+/// # Errors
+/// The first cause in the order of the work:
+///
+/// 1. [`SessionError::BadSettings`], with the first bad setting of nodes, memory and limit. Nothing was read.
+/// 2. [`SessionError::TooLong`] or [`SessionError::ReadFault`] of the image, and then nothing of the input was read;
+///    after it those of the input.
+/// 3. [`SessionError::SegmentOutside`], where the image reaches past the memory of a node.
+/// 4. [`SessionError::WriteFault`], with a prefix of the output written.
+///
+/// [`SessionError::NoMemory`] stands where a growth on the way was refused. Nothing is written before every node has
+/// stopped, and only a fault of `out` leaves a part of the output written.
+pub fn session<A: Allocator + Copy, I: Read, R: Read, W: Write>(
+    alloc: A,
+    image: &mut Counted<I>,
+    input: &mut Counted<R>,
+    job: &Job,
+    out: &mut Counted<W>,
+) -> Result<Outcome, SessionError>
+    ensures ok { IfOk result (λ outcome. Answers (reader I.remaining image.old image.new)
+        (reader R.remaining input.old input.new) job.now.settings
+        (W.contents out.old.inner) (W.contents out.new.inner) outcome) }
+
+    ensures bad_settings { (cause : BadSettingCause)
+        → IsErrOf result (SessionError.BadSettings cause)
+        ↔ (settings_fault job.now.settings ≡ Some cause) }
+    ensures settings_first { settings_fault job.now.settings ≢ None
+        → (image.new ≡ image.old) × (input.new ≡ input.old) }
+    ensures too_long { result ≡ Err SessionError.TooLong
+        → IsTooLong (reader I.remaining image.old image.new)
+        (reader R.remaining input.old input.new) job.now.settings }
+    ensures read_fault { result ≡ Err SessionError.ReadFault
+        → IsReadFault (reader I.remaining image.old image.new)
+        (reader R.remaining input.old input.new) job.now.settings }
+    ensures outside { result ≡ Err SessionError.SegmentOutside
+        → IsOutside (reader I.remaining image.old image.new)
+        (reader R.remaining input.old input.new) job.now.settings }
+
+    ensures write_fault { result ≡ Err SessionError.WriteFault
+        → WritesPrefix (reader I.remaining image.old image.new)
+        (reader R.remaining input.old input.new) job.now.settings
+        (W.contents out.old.inner) (W.contents out.new.inner) }
+    ensures write_failed { result ≡ Err SessionError.WriteFault
+        → HasRisen out.old.failures out.new.failures }
+    ensures nothing_written { IfErr result (λ e.
+        e ≢ SessionError.WriteFault → out.new ≡ out.old) }
+{
+    check_settings(&job.settings)?;
+    let image = read_at_most(alloc, image, RAW_IMAGE_BYTES)?;
+    let input = read_at_most(alloc, input, INPUT_BYTES)?;
+    let image = match job.format {
+        Format::Raw => raw_image(alloc, image)?,
+    };
+    let nodes = run_nodes(alloc, &image, &job.settings, input.as_slice())?;
+    write_output(&nodes, out)?;
+    Ok(outcome_of(&nodes))
+}
+
+/// Whether the settings are within their ranges; else the first that is not.
+fn check_settings(settings: &Settings) -> Result<(), BadSetting>
+    ensures ok { OnOk result (settings_fault settings.now ≡ None) }
+    ensures err { IfErr result (λ cause. settings_fault settings.now ≡ Some cause) }
+{
+    if settings.nodes < 1 || settings.nodes > 256 {
+        return Err(BadSetting::BadNodes);
+    }
+    if !is_memory_size(settings.memory) {
+        return Err(BadSetting::BadMemory);
+    }
+    if settings.limit < 1 || settings.limit > 1 << 40 {
+        return Err(BadSetting::BadLimit);
+    }
+    Ok(())
+}
+
+/// The image of a raw file: its bytes at address 0, where pc starts.
+fn raw_image<A: Allocator + Copy>(alloc: A, bytes: Vec<u8, A>) -> Result<Image<A>, AllocError>
+    requires { length bytes.items ≤ 2 ^ 24 }
+    ensures { IfOk result (λ image. image ≡ raw_image_of bytes.items) }
+{
+    let mut segments = Vec::new(alloc);
+    if !bytes.is_empty() {
+        let size = bytes.len() as u32;
+        let segment = Segment {
+            addr: 0,
+            bytes: ListVec::from_vec(bytes),
+            size,
+        };
+        segments.push(segment).map_err(AllocError::from)?;
+    }
+    Ok(Image {
+        entry: 0,
+        segments: ListVec::from_vec(segments),
+    })
+}
+
+/// Each node after its run, in rank order.
+fn run_nodes<A: Allocator + Copy>(
+    alloc: A,
+    image: &Image<A>,
+    settings: &Settings,
+    input: &[u8],
+) -> Result<Vec<Node<A>, A>, SessionError>
+    requires { settings_fault settings.now ≡ None }
+    ensures ok { IfOk result (λ nodes.
+        nodes.items ≡ final_nodes image.now input.now settings.now) }
+    ensures fits { OnOk result (is_segment_outside image.now settings.now.memory ≡ false) }
+    ensures outside { result ≡ Err SessionError.SegmentOutside
+        → is_segment_outside image.now settings.now.memory ≡ true }
+    ensures kinds { IfErr result (λ e.
+        (e ≡ SessionError.SegmentOutside) ⊎ (e ≡ SessionError.NoMemory)) }
+{
+    let mut nodes = Vec::new(alloc);
+    for rank in 0..settings.nodes {
+        let node = run_node(alloc, image, settings, input, rank)?;
+        nodes.push(node).map_err(AllocError::from)?;
+    }
+    Ok(nodes)
+}
+
+/// One node after its run.
+fn run_node<A: Allocator + Copy>(
+    alloc: A,
+    image: &Image<A>,
+    settings: &Settings,
+    input: &[u8],
+    rank: u32,
+) -> Result<Node<A>, SessionError>
+    requires settings { settings_fault settings.now ≡ None }
+    requires ranked { rank < settings.now.nodes }
+    ensures ok { IfOk result (λ node. node ≡ final_node image.now input.now settings.now rank) }
+    ensures fits { OnOk result (is_segment_outside image.now settings.now.memory ≡ false) }
+    ensures outside { result ≡ Err SessionError.SegmentOutside
+        → is_segment_outside image.now settings.now.memory ≡ true }
+    ensures kinds { IfErr result (λ e.
+        (e ≡ SessionError.SegmentOutside) ⊎ (e ≡ SessionError.NoMemory)) }
+{
+    let mut node = start(alloc, image, settings, rank)?;
+    node.run(input, settings.limit)?;
+    Ok(node)
+}
+
+/// A node at its start.
+fn start<A: Allocator + Copy>(
+    alloc: A,
+    image: &Image<A>,
+    settings: &Settings,
+    rank: u32,
+) -> Result<Node<A>, SessionError>
+    requires settings { settings_fault settings.now ≡ None }
+    requires ranked { rank < settings.now.nodes }
+    ensures ok { let s = settings.now in
+        IfOk result (λ node. node ≡ start_node image.now rank s.nodes s.memory s.limit) }
+    ensures fits { OnOk result (is_segment_outside image.now settings.now.memory ≡ false) }
+    ensures outside { result ≡ Err SessionError.SegmentOutside
+        → is_segment_outside image.now settings.now.memory ≡ true }
+    ensures kinds { IfErr result (λ e.
+        (e ≡ SessionError.SegmentOutside) ⊎ (e ≡ SessionError.NoMemory)) }
+{
+    let made = Node::new(
+        alloc,
+        image,
+        rank,
+        settings.nodes,
+        settings.memory,
+        settings.limit,
+    );
+    match made {
+        Ok(node) => Ok(node),
+        Err(MemoryError::BadSize) => unreachable!(),
+        Err(MemoryError::SegmentOutside) => Err(SessionError::SegmentOutside),
+        Err(MemoryError::NoMemory) => Err(SessionError::NoMemory),
+    }
+}
+
+/// Writes what the nodes have written, rank by rank.
+fn write_output<A: Allocator, W: Write>(
+    nodes: &[Node<A>],
+    out: &mut Counted<W>,
+) -> Result<(), WriteFault>
+    ensures ok { OnOk result (Appends
+        (W.contents out.old.inner) (W.contents out.new.inner) (output_of nodes.now)) }
+    ensures err { OnErr result (AppendsPrefix
+        (W.contents out.old.inner) (W.contents out.new.inner) (output_of nodes.now)) }
+    ensures fault { OnErr result (HasRisen out.old.failures out.new.failures) }
+    ensures never_falls { out.old.failures ≤ out.new.failures }
+{
+    for node in nodes {
+        write_whole(out, node.output())?;
+    }
+    Ok(())
+}
+
+/// How the run of these nodes ended.
+fn outcome_of<A: Allocator>(nodes: &[Node<A>]) -> Outcome
+    ensures { result ≡ outcome_of_nodes nodes.now }
+{
+    for node in nodes {
+        if has_stopped(node.state()) {
+            return Outcome::NodeStopped {
+                rank: node.rank(),
+                state: node.state(),
+            };
+        }
+    }
+    Outcome::Ended
+}
+
+/// Whether a node in this state was stopped, and did not end.
+fn has_stopped(state: State) -> bool
+    ensures { result ≡ has_stopped_of state }
+{
+    matches!(state, State::Faulted(_) | State::Aborted | State::Exhausted)
+}

@@ -1,0 +1,45 @@
+-- What the typed getters of the matches read.
+use Rattle.std.proofs.Common.{◌≡◌, ◌<◌, ◌^◌, ℕ, Option, Some, None, Result, refl, subst, sym}
+use Rattle.std.specs.declared.num.ParseIntError.{ParseIntError}
+use Rattle.std.specs.Str.Parse.{ExplainsUnsignedError, HasUnsignedDigitsIfOk, ParsesUnsigned, digits_value, without_leading_plus}
+use Rattle.clap.specs.Words.{ReadsOne, one_of, one_text, Text, rows_of}
+use Rattle.clap.specs.declared.parser.matches.Found.{Found}
+use Rattle.clap.proofs.WalkLemmas.{one_text-rows}
+use Rattle.bspemu.specs.Options.{GivesNumber}
+
+pub none≢some : {t : Text} → ◌≡◌ {A = Option Text} None (Some t) → ⊥
+none≢some e = cc
+
+pub same_text : {s t : Text} → Some s ≡ Some t → s ≡ t
+same_text e = cc
+
+-- how std reads an unsigned number of k bits
+abbrev Parses : ℕ → Text → Result ℕ ParseIntError → Type 0
+Parses k bs r = ParsesUnsigned k 10 bs r × ExplainsUnsignedError 10 bs r × HasUnsignedDigitsIfOk bs r
+
+number_of_text : (k n : ℕ) (value : Option Text) → (value ≡ None → Some n ≡ None)
+    → ((t : Text) → value ≡ Some t → ReadsOne (Parses k) t (Some n)) → GivesNumber k value n
+number_of_text k n None none some =
+    let bad : Some n ≡ None = none refl in
+    cc
+number_of_text k n (Some t) none some =
+    let read = (some t refl).0 in
+    record { digits = t; is = refl; numeral = read.0.0; number = read.1; fits = rw read.1 read.0.1 }
+
+-- a typed getter gives the number that the text spells
+pub number_of_getter : (k n : ℕ) (found : Found) (id : Text) → (one_text found id ≡ None → Some n ≡ None)
+    → ((t : Text) → one_text found id ≡ Some t → ReadsOne (Parses k) t (Some n)) → GivesNumber k (one_of id (rows_of found)) n
+number_of_getter k n found id none some =
+    subst (λ value. GivesNumber k value n) (one_text-rows found id) (number_of_text k n (one_text found id) none some)
+
+no_number_of_text : (k n : ℕ) (value : Option Text) → ((t : Text) → value ≡ Some t → ReadsOne (Parses k) t None) → GivesNumber k value n → ⊥
+no_number_of_text k n value some number =
+    let read = some number.digits number.is in
+    let fits : digits_value 10 (without_leading_plus number.digits) < 2 ^ k = rw (← number.number) number.fits in
+    read.1.0 (number.numeral, fits)
+
+-- and where it gives none, the text spells no number of k bits
+pub no_number_of_getter : (k n : ℕ) (found : Found) (id : Text)
+    → ((t : Text) → one_text found id ≡ Some t → ReadsOne (Parses k) t None) → GivesNumber k (one_of id (rows_of found)) n → ⊥
+no_number_of_getter k n found id some number =
+    no_number_of_text k n (one_text found id) some (subst (λ value. GivesNumber k value n) (sym (one_text-rows found id)) number)

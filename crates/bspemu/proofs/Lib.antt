@@ -1,0 +1,4 @@
+mod Commands
+mod Getters
+mod Laws
+mod Sessions

@@ -1,0 +1,8 @@
+use Rattle.std.proofs.lemmas.Result.{err_from_is_err_and}
+use Rattle.bspemu.proofs.Sessions.{session_error}
+use Rattle.bspemu.proofs.program.run.Goals as goal
+
+pub returns-in_err-outcome : goal.returns-in_err-outcome
+returns-in_err-outcome g c =
+    let p = err_from_is_err_and c.from_residual-in_err-outcome.result c.from_residual-in_err-outcome.ensures.1 in
+    rw (p.1, p.2) (session_error c.args.options.now.job.settings c.session.result _ c.in_err-outcome.was c.session.ensures.bad_settings)

@@ -1,0 +1,75 @@
+-- The command line, as clap's rules (own rules for the words; clap's documentation for how words meet rules).
+use Rattle.std.specs.Prelude.{◌≡◌, pos, false, true, List, [], ◌∷◌, Some, map, codes}
+use Rattle.std.specs.Borrow.{Bor}
+use Rattle.clap.specs.Words.{App, Rule, Shape, Text, app_of, new_app, new_rule, rule_of, with_rule, with_subcommand}
+use Rattle.clap.specs.declared.builder.arg.Arg.{Arg}
+use Rattle.clap.specs.declared.builder.command.Command.{Command}
+use Rattle.clap.specs.declared.builder.command.Command.TheViews.{out-Command}
+use Rattle.clap.specs.declared.builder.value_parser.ValueParser.{ValueParser}
+use Rattle.clap.specs.declared.builder.value_parser.ValueParser.TheVariants.{Names, Signed, Unsigned}
+
+-- a list of names, as clap's rules hold it
+abbrev pub NameList : Type 0
+NameList = Bor (List (Bor Text))
+
+-- the list names the formats
+abbrev pub ListsFormats : NameList → Type 0
+ListsFormats names = map (λ name. name.now) names.now ≡ codes "raw" ∷ []
+
+-- `--NAME VALUE`
+abbrev pub option_rule : Text → Rule
+option_rule name = record (new_rule name) { long = Some name; value_names = 1 }
+
+-- the same with a parser of its values, and with a default
+abbrev pub checked_rule : Text → ValueParser → Text → Rule
+checked_rule name parser default = record (option_rule name) { parser = Some parser; defaults = default ∷ [] }
+
+abbrev pub image_rule : Rule
+image_rule = record (new_rule (codes "image")) { value_names = 1; required = true }
+
+abbrev pub format_rule : NameList → Rule
+format_rule formats = checked_rule (codes "format") (Names formats) (codes "raw")
+
+-- the numbers of 32 bits, and those of 64
+abbrev pub nodes_rule : Rule
+nodes_rule = checked_rule (codes "nodes") (Signed (pos 0) (pos 4294967295)) (codes "1")
+
+abbrev pub memory_rule : Rule
+memory_rule = checked_rule (codes "memory") (Signed (pos 0) (pos 4294967295)) (codes "1048576")
+
+abbrev pub limit_rule : Rule
+limit_rule = checked_rule (codes "limit") (Unsigned 0 18446744073709551615) (codes "1000000")
+
+-- `run IMAGE` with its options
+abbrev pub run_app : NameList → App
+run_app formats =
+    with_rule (with_rule (with_rule (with_rule (with_rule (with_rule (new_app (codes "run"))
+    image_rule) (format_rule formats)) nodes_rule) memory_rule) limit_rule) (option_rule (codes "input"))
+
+-- with no words the program answers with its help
+abbrev pub bspemu_shape : Shape
+bspemu_shape = record (new_app (codes "bspemu")).top { arg_required_else_help = true; subcommand_required = true }
+
+abbrev pub bspemu_app : NameList → App
+bspemu_app formats = with_subcommand (record { top = bspemu_shape; subs = [] }) (run_app formats).top
+
+-- an argument that clap reads by this rule
+pub record HasRule (arg : Arg) (rule : Rule) : Type 0 where
+  pub is : rule_of arg ≡ rule
+  pub local : arg.global ≡ false
+
+pub record IsFormatArg (arg : Arg) : Type 0 where
+  pub formats : NameList
+  pub listed : ListsFormats formats
+  pub rule : HasRule arg (format_rule formats)
+
+-- a command whose words clap reads as this app's
+pub record HasApp (command : Command) (app : App) : Type 0 where
+  pub is : app_of command ≡ app
+  pub local : (out-Command command).has_globals ≡ false
+
+-- the same for an app with the names of the formats
+pub record HasAppOfFormats (command : Command) (app : NameList → App) : Type 0 where
+  pub formats : NameList
+  pub listed : ListsFormats formats
+  pub has : HasApp command (app formats)

@@ -1,0 +1,102 @@
+//! The files that a command line names, as readers.
+
+ghost use Rattle.std.specs.Prelude.{◌≡◌, IfOk, IfErr, IsErr, IsOk, None, codes};
+ghost use Rattle.std.specs.Io.{ReadsAtMost};
+ghost use Rattle.std.specs.Io.KnownBytes.{ReadConsumes};
+ghost use Rattle.bspemu.specs.Source.{bytes_left, image_place, file, input_place, place_of, standard_input};
+
+use std::io::{ErrorKind, Read};
+use std::rt::Files;
+use std::{fs, io};
+
+/// A source of bytes.
+#[derive(Drop)]
+pub enum Source<F, I> {
+    /// An opened file.
+    File(F),
+    /// Standard input.
+    Standard(I),
+    /// Standard input that was closed before the program started. Its reads fail.
+    Closed,
+    /// No bytes.
+    Empty,
+}
+
+impl<F: Read, I: Read> Read for Source<F, I> {
+    ghost remaining = { bytes_left F.remaining I.remaining };
+
+    fn read(&mut self, buf: &mut [u8]) -> io::Result<usize>
+        ensures bound { ReadsAtMost result buf.new }
+        ensures bytes { ReadConsumes (bytes_left F.remaining I.remaining self.old)
+            (bytes_left F.remaining I.remaining self.new) result buf.new }
+        ensures closed { self.old ≡ Source.Closed → IsErr result }
+        ensures empty { self.old ≡ Source.Empty → result ≡ Ok 0 }
+    {
+        match self {
+            Source::File(file) => file.read(buf),
+            Source::Standard(input) => input.read(buf),
+            Source::Closed => Err(io::Error::from(ErrorKind::BrokenPipe)),
+            Source::Empty => Ok(0),
+        }
+    }
+}
+
+/// The file at this path can't be opened.
+#[derive(Clone, Copy, Debug)]
+pub struct CannotOpen<'a>(pub &'a str);
+
+/// The image at `path`; `-` is standard input, and can always be opened.
+pub fn open_image<'a, R: Files + Input>(
+    rt: &R,
+    path: &'a str,
+) -> Result<Source<R::File, R::Reader>, CannotOpen<'a>>
+    ensures ok { IfOk result (λ source. place_of source ≡ image_place path.entry.now) }
+    ensures err { IfErr result (λ e. e.0 ≡ path.entry) }
+    ensures standard { path.entry.now ≡ codes "-" → IsOk result }
+{
+    if path == "-" {
+        Ok(open_standard(rt))
+    } else {
+        open(rt, path)
+    }
+}
+
+/// The input at `path`, which is a file's even where it is `-`; with no path the input is empty.
+pub fn open_input<'a, R: Files + Input>(
+    rt: &R,
+    path: Option<&'a str>,
+) -> Result<Source<R::File, R::Reader>, CannotOpen<'a>>
+    ensures ok { IfOk result (λ source. place_of source ≡ input_place path.entry) }
+    ensures err { IfErr result (λ e. path.entry ≡ Some e.0) }
+    ensures empty { path.entry ≡ None → IsOk result }
+{
+    match path {
+        Some(path) => open(rt, path),
+        None => Ok(Source::Empty),
+    }
+}
+
+/// Standard input. Where it is closed, the next file to be opened would stand in its place and be read for it: a read
+/// of no bytes tells.
+fn open_standard<R: Files + Input>(rt: &R) -> Source<R::File, R::Reader>
+    ensures { place_of result ≡ standard_input }
+{
+    let mut input = rt.reader();
+    match input.read(&mut [0; 0]) {
+        Ok(_) => Source::Standard(input),
+        Err(_) => Source::Closed,
+    }
+}
+
+fn open<'a, R: Files + Input>(
+    rt: &R,
+    path: &'a str,
+) -> Result<Source<R::File, R::Reader>, CannotOpen<'a>>
+    ensures ok { IfOk result (λ source. place_of source ≡ file) }
+    ensures err { IfErr result (λ e. e.0 ≡ path.entry) }
+{
+    match fs::open(rt, path) {
+        Ok(file) => Ok(Source::File(file)),
+        Err(_) => Err(CannotOpen(path)),
+    }
+}

@@ -1,0 +1,149 @@
+//! From the command line to the exit status.
+
+ghost use Rattle.std.specs.Prelude.{◌≡◌, ◌⊎◌, IfErr, map};
+ghost use Rattle.clap.specs.Words.{kind_of};
+ghost use Rattle.bspemu.specs.Program.{Ends, EndsOnItsWords, IsAnswer, IsStatusOfKind, status_of_answer};
+
+use crate::files::{CannotOpen, open_image, open_input};
+use crate::options::{RunOptions, refusal, run_options};
+use bsp_session::{Outcome, SessionError, session, status};
+use clap::Error;
+use clap::error::ErrorKind;
+use counted_io::Counted;
+use std::alloc::AllocError;
+use std::convert::AsStr;
+use std::rt::{Env, Files};
+use std::{env, fmt, io};
+
+/// The status where the command line is refused.
+const REFUSED: u8 = 1;
+
+/// The status where a file can't be opened.
+const NOT_OPENED: u8 = 6;
+
+/// Why a run has no outcome.
+#[derive(Clone, Copy, Debug)]
+pub enum RunError<'a> {
+    /// The file at this path can't be opened.
+    CannotOpen(&'a str),
+    Session(SessionError),
+}
+
+impl fmt::Display for RunError<'_> {
+    ghost use Rattle.bspemu.specs.Program.{text_of_error};
+
+    ghost output = { text_of_error };
+
+    fn fmt<W: fmt::Write>(&self, f: &mut fmt::Formatter<W>) -> fmt::Result {
+        match self {
+            RunError::CannotOpen(path) => write!(f, "cannot open {path}"),
+            RunError::Session(error) => write!(f, "{error}"),
+        }
+    }
+}
+
+impl<'a> From<CannotOpen<'a>> for RunError<'a> {
+    ghost use Rattle.bspemu.specs.declared.program.RunError.TheVariants.{CannotOpen};
+
+    ghost from_gives = { λ e r. r ≡ CannotOpen e.0 };
+
+    fn from(error: CannotOpen<'a>) -> RunError<'a> {
+        RunError::CannotOpen(error.0)
+    }
+}
+
+impl<'a> From<SessionError> for RunError<'a> {
+    ghost use Rattle.bspemu.specs.declared.program.RunError.TheVariants.{Session};
+
+    ghost from_gives = { λ e r. r ≡ Session e };
+
+    fn from(error: SessionError) -> RunError<'a> {
+        RunError::Session(error)
+    }
+}
+
+/// Does what the command line asks for, and gives the exit status.
+pub fn program<R: AllocGlobal + Env + Files + Input + Print + Eprint>(rt: &R) -> u8
+    ensures { EndsOnItsWords result }
+{
+    match words(rt) {
+        Ok(words) => program_on(rt, words.as_slice()),
+        Err(error) => refuse(rt, &error),
+    }
+}
+
+/// The words of the command line, the program's name first.
+fn words<R: AllocGlobal + Env>(rt: &R) -> Result<Vec<String>, Error>
+    ensures { IfErr result (λ e. (kind_of e ≡ ErrorKind.OutOfMemory) ⊎ (kind_of e ≡ ErrorKind.ValueValidation)) }
+{
+    match env::args(rt) {
+        Ok(words) => Ok(words.collect(rt.alloc())?),
+        Err(error) if error.kind() == io::ErrorKind::OutOfMemory => Err(Error::from(AllocError)),
+        Err(_) => Err(refusal(
+            rt.alloc(),
+            ErrorKind::ValueValidation,
+            "an argument is not valid UTF-8",
+        )?),
+    }
+}
+
+/// Does what these words ask for, and gives the exit status.
+pub fn program_on<R: AllocGlobal + Files + Input + Print + Eprint, S: AsStr>(
+    rt: &R,
+    words: &[S],
+) -> u8
+    ensures { Ends (map S.text words.now) result }
+{
+    match run_options(rt.alloc(), words) {
+        Ok(options) => finish(rt, run(rt, &options)),
+        Err(error) => refuse(rt, &error),
+    }
+}
+
+/// Opens what the options name, first the image, and runs the session.
+fn run<'a, R: AllocGlobal + Files + Input + Print>(
+    rt: &R,
+    options: &RunOptions<'a>,
+) -> Result<Outcome, RunError<'a>>
+    ensures { IsAnswer options.now result }
+{
+    let mut image = Counted::new(open_image(rt, options.image)?);
+    let mut input = Counted::new(open_input(rt, options.input)?);
+    let mut out = Counted::new(io::writer(rt));
+    let outcome = session(rt.alloc(), &mut image, &mut input, &options.job, &mut out)?;
+    Ok(outcome)
+}
+
+/// The status of a run, after a line on standard error where it has no outcome.
+fn finish<R: Eprint>(rt: &R, answer: Result<Outcome, RunError<'_>>) -> u8
+    ensures { result ≡ status_of_answer answer.entry }
+{
+    match answer {
+        Ok(outcome) => status(&Ok(outcome)),
+        Err(error) => {
+            let _ = eprintln!(rt; "bspemu: {error}");
+            match error {
+                RunError::CannotOpen(_) => NOT_OPENED,
+                RunError::Session(error) => status(&Err(error)),
+            }
+        }
+    }
+}
+
+/// The status where the words ask for no run, after clap's text: on standard output where it is help that was asked
+/// for, and else on standard error.
+fn refuse<R: Print + Eprint>(rt: &R, error: &Error) -> u8
+    ensures { IsStatusOfKind (kind_of error.now) result }
+{
+    match error.kind() {
+        ErrorKind::OutOfMemory => finish(rt, Err(RunError::Session(SessionError::NoMemory))),
+        ErrorKind::DisplayHelp => match rt.print(error) {
+            Ok(()) => 0,
+            Err(_) => finish(rt, Err(RunError::Session(SessionError::WriteFault))),
+        },
+        _ => {
+            let _ = rt.eprint(error);
+            REFUSED
+        }
+    }
+}

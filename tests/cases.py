@@ -4,6 +4,7 @@ A case is a folder with some of these files:
   args      one argument a line; `{case}` stands for the case's folder, `{repo}` for the repository's
   stdin     standard input, empty where it is missing
   closed    a file that says that standard output is closed before the program starts
+  address_space    how many bytes of address space the program may have, all that it wants where it is missing
   stdout    what standard output must hold, to the byte, empty where it is missing
   stdout.contains, stderr.contains    texts, one a line, that must stand in it, in place of an exact match
   stderr    what standard error must hold, empty where it is missing
@@ -14,6 +15,7 @@ The two numbers are of an earlier part of the same run, and are added to the las
 """
 
 import pathlib
+import resource
 import subprocess
 import sys
 
@@ -38,11 +40,26 @@ def faults(case, name, found):
     return [] if found == wanted else [f"{name} is {found[:200]!r} and not {wanted[:200]!r}"]
 
 
+def limited(case):
+    size = case / "address_space"
+    if not size.exists():
+        return None
+    most = int(size.read_text())
+    return lambda: resource.setrlimit(resource.RLIMIT_AS, (most, most))
+
+
 def run_case(program, case, repo):
     command = [str(program), *arguments(case, repo)]
     if (case / "closed").exists():
         command = ["/bin/sh", "-c", 'exec "$@" >&-', "sh", *command]
-    done = subprocess.run(command, input=read(case / "stdin"), capture_output=True, timeout=SECONDS, check=False)
+    done = subprocess.run(
+        command,
+        input=read(case / "stdin"),
+        capture_output=True,
+        timeout=SECONDS,
+        check=False,
+        preexec_fn=limited(case),
+    )
     wanted = int(read(case / "status", b"0").decode())
     found = [] if done.returncode == wanted else [f"status is {done.returncode} and not {wanted}"]
     return found + faults(case, "stdout", done.stdout) + faults(case, "stderr", done.stderr)

@@ -7,8 +7,8 @@
 //!
 //! What callers may rely on:
 //!
-//! - A step of a running node is one tick, a faulting one too. It executes the instruction at pc, or else ends in the
-//!   first fault of this order: `Misaligned` where pc is no multiple of four, `FetchOutside` where the four bytes at pc
+//! - A step of a running node is one tick, also where it ends in a fault. It executes the instruction at pc, or else
+//!   ends in the first fault of this order: `Misaligned` where pc is no multiple of four, `FetchOutside` where the four bytes at pc
 //!   do not lie in the memory, `IllegalInstruction` where no instruction has that word, and then the instruction's own.
 //! - A fault changes nothing but state and ticks: pc stays at the instruction, and a jump to no multiple of four does
 //!   not link. Loads and stores work at any address, with the least significant byte first.
@@ -22,8 +22,8 @@
 //!
 //! # Environment calls
 //!
-//! An ECALL makes the call whose number is in a7 (x17), with operands in a0 and a1 (x10, x11). Checks are made from left
-//! to right, before any change; the first that fails is the fault. Then pc goes on by 4.
+//! An ECALL makes the call whose number is in a7 (x17), with operands in a0 and a1 (x10, x11). A call tests its operands
+//! in the order of the table before it changes anything; the first test that fails is the fault. Then pc goes on by 4.
 //!
 //! | a7 | Call | Checks | Effect |
 //! |---|---|---|---|

@@ -118,7 +118,7 @@ fn run_command<'a>(alloc: Global) -> Result<Command<'a>, AllocError>
     ensures { IfOk result (λ command. HasAppOfFormats command run_app) }
 {
     Command::new(alloc, "run")
-        .about("Run a program on every node and write what the nodes wrote, in rank order")
+        .about("Run a program on every node and write the nodes' output, that of node 0 first")
         .after_help(STATUSES)
         .arg(image(alloc))?
         .arg(format(alloc))?
@@ -157,7 +157,7 @@ fn nodes<'a>(alloc: Global) -> Arg<'a>
         .value_name("N")
         .value_parser(value_parser!(u32))
         .default_value("1")
-        .help("Number of nodes, 1 to 256")
+        .help("Nodes of the machine, 1 to 256")
 }
 
 fn memory<'a>(alloc: Global) -> Arg<'a>
@@ -168,7 +168,7 @@ fn memory<'a>(alloc: Global) -> Arg<'a>
         .value_name("BYTES")
         .value_parser(value_parser!(u32))
         .default_value("1048576")
-        .help("Bytes of memory of each node, a multiple of 4096 up to 16777216")
+        .help("Bytes of memory of each node, a multiple of 4096 from 4096 to 16777216")
 }
 
 fn limit<'a>(alloc: Global) -> Arg<'a>
@@ -179,7 +179,7 @@ fn limit<'a>(alloc: Global) -> Arg<'a>
         .value_name("TICKS")
         .value_parser(value_parser!(u64))
         .default_value("1000000")
-        .help("Most ticks of each node, one for each instruction, 1 to 1099511627776")
+        .help("Most ticks of each node, one per instruction, 1 to 1099511627776")
 }
 
 fn input<'a>(alloc: Global) -> Arg<'a>

@@ -7,16 +7,18 @@
 //!
 //! What callers may rely on:
 //!
-//! - A step of a running node is one tick, also where it ends in a fault. It executes the instruction at pc, or else
-//!   ends in the first fault of this order: `Misaligned` where pc is no multiple of four, `FetchOutside` where the four bytes at pc
-//!   do not lie in the memory, `IllegalInstruction` where no instruction has that word, and then the instruction's own.
-//! - A fault changes nothing but state and ticks: pc stays at the instruction, and a jump to no multiple of four does
-//!   not link. Loads and stores work at any address, with the least significant byte first.
-//! - After a step, a node that still runs is [`Exhausted`](State::Exhausted) where its ticks have reached the limit. A
-//!   node that stops in its last tick stops as it would before.
-//! - A node that does not run is unchanged by `step` and `run`, and both answer `Ok`.
+//! - Each step of a running node is one tick, also where it ends in a fault. It executes the instruction at pc, or else
+//!   it ends in the first fault of this order: `Misaligned` where pc is no multiple of four, `FetchOutside` where the
+//!   four bytes at pc do not lie in the memory, `IllegalInstruction` where no instruction has that word, and then the
+//!   instruction's own.
+//! - A fault leaves registers, pc, memory, output and the place in the input as they were: only state and ticks differ.
+//!   A jump to no multiple of four is such a fault, and does not link. Loads and stores work at any address, with the
+//!   least significant byte first.
+//! - A node that has made its last tick and still runs is [`Exhausted`](State::Exhausted); one that stops by that very
+//!   step keeps the state in which it stopped.
+//! - `step` and `run` answer `Ok` for a node that does not run, and change nothing.
 //! - Memory is refused at the calls that append to the output alone, after all their checks. The step that needed it has
-//!   then changed nothing, ticks included, and can be made again; the steps before it stand.
+//!   then changed nothing, ticks included, and can be made again; a run keeps the steps that it made before.
 //! - [`laws`] has what holds of every node: each step leaves it sound, and as many steps as it has ticks left end its
 //!   local part of the superstep.
 //!

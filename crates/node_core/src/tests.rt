@@ -9,23 +9,24 @@ mod instructions;
 mod refusals;
 mod vectors;
 
-/// The bytes of a node's memory, and its limit of ticks, where a test does not say otherwise.
+// The bytes of a node's memory, where a test does not say otherwise.
 const MEMORY: u32 = 0x10_0000;
 
+// The limit of a node's ticks, where a test does not say otherwise.
 const LIMIT: u64 = 1_000_000;
 
-// `pid`, then the digit of the rank to 0x100, `write` of it, and `end`.
+// `pid()`, the digit of the rank stored at 0x100, `write(0x100, 1)`, `end()`. The words here and below are those of GNU as.
 const PRINTS_ITS_RANK: [u32; 10] = [
-    0x0030_0893,
-    0x0000_0073,
-    0x0305_0513,
-    0x10A0_2023,
-    0x1000_0513,
-    0x0010_0593,
-    0x0110_0893,
-    0x0000_0073,
-    0x0010_0893,
-    0x0000_0073,
+    0x0030_0893, // addi x17,x0,3
+    0x0000_0073, // ecall
+    0x0305_0513, // addi x10,x10,48
+    0x10A0_2023, // sw x10,256(x0)
+    0x1000_0513, // addi x10,x0,256
+    0x0010_0593, // addi x11,x0,1
+    0x0110_0893, // addi x17,x0,17
+    0x0000_0073, // ecall
+    0x0010_0893, // addi x17,x0,1
+    0x0000_0073, // ecall
 ];
 
 fn segment<A: Allocator>(
@@ -135,18 +136,18 @@ fn three_ranks_print_their_digits(rt: HostRuntime) -> Result<(), Fail> {
 #[test]
 fn one_rank_faults_and_the_others_run_to_their_limit(rt: HostRuntime) -> Result<(), Fail> {
     let alloc = rt.alloc();
-    // `pid`; rank 1 goes to 40, where no instruction stands; the others write the byte at 44, and loop at 36.
+    // `pid()`; rank 1 goes to 40, where no instruction stands; the others `write(44, 1)`, and loop at 36.
     let code = [
-        0x0030_0893,
-        0x0000_0073,
-        0x0010_0293,
-        0x0055_0E63,
-        0x0000_0537,
-        0x02C5_0513,
-        0x0010_0593,
-        0x0110_0893,
-        0x0000_0073,
-        0x0000_006F,
+        0x0030_0893, // addi x17,x0,3
+        0x0000_0073, // ecall
+        0x0010_0293, // addi x5,x0,1
+        0x0055_0E63, // beq x10,x5,40
+        0x0000_0537, // lui x10,0
+        0x02C5_0513, // addi x10,x10,44
+        0x0010_0593, // addi x11,x0,1
+        0x0110_0893, // addi x17,x0,17
+        0x0000_0073, // ecall
+        0x0000_006F, // jal x0,36
         0xFFFF_FFFF,
     ];
     let image = image(&rt, alloc, 0, &code, 44, b"a")?;
@@ -168,18 +169,20 @@ fn one_rank_faults_and_the_others_run_to_their_limit(rt: HostRuntime) -> Result<
 #[test]
 fn a_stop_in_the_last_tick_stands(rt: HostRuntime) -> Result<(), Fail> {
     let alloc = rt.alloc();
-    for (call, limit, state) in [
-        (0x0010_0893, 2, State::Ended),
-        (0x0010_0893, 1, State::Exhausted),
-        (0x0100_0893, 2, State::Aborted),
-        (0x0130_0893, 2, State::Faulted(Fault::UnknownCall)),
-        (0x0020_0893, 2, State::Exhausted),
+    // Each puts a number into x17.
+    let (end, nprocs, abort, unknown) = (0x0010_0893, 0x0020_0893, 0x0100_0893, 0x0130_0893);
+    for (addi, limit, state) in [
+        (end, 2, State::Ended),
+        (end, 1, State::Exhausted),
+        (abort, 2, State::Aborted),
+        (unknown, 2, State::Faulted(Fault::UnknownCall)),
+        (nprocs, 2, State::Exhausted),
     ] {
-        let code = [call, 0x0000_0073, 0x0000_0013];
+        let code = [addi, 0x0000_0073, 0x0000_0013];
         let image = image(&rt, alloc, 0, &code, 0, b"")?;
         let mut node = Node::new(alloc, &image, 0, 1, MEMORY, limit)?;
         node.run(b"", 9)?;
-        assert_eq!(rt; (node.state(), node.ticks()), (state, limit), "{call}");
+        assert_eq!(rt; (node.state(), node.ticks()), (state, limit));
     }
     Ok(())
 }
@@ -203,23 +206,23 @@ fn a_run_makes_no_more_steps_than_asked(rt: HostRuntime) -> Result<(), Fail> {
 fn reads_go_on_where_the_last_one_ended(rt: HostRuntime) -> Result<(), Fail> {
     // `read(0x1000, 2)`, `read(0x1002, 5)`, `read(0x1000, 1)`, `write(0x1000, 3)`, `end()`
     let code = [
-        0x0000_1537,
-        0x0020_0593,
-        0x0120_0893,
-        0x0000_0073,
-        0x0000_1537,
-        0x0025_0513,
-        0x0050_0593,
-        0x0000_0073,
-        0x0000_1537,
-        0x0010_0593,
-        0x0000_0073,
-        0x0000_1537,
-        0x0030_0593,
-        0x0110_0893,
-        0x0000_0073,
-        0x0010_0893,
-        0x0000_0073,
+        0x0000_1537, // lui x10,1
+        0x0020_0593, // addi x11,x0,2
+        0x0120_0893, // addi x17,x0,18
+        0x0000_0073, // ecall
+        0x0000_1537, // lui x10,1
+        0x0025_0513, // addi x10,x10,2
+        0x0050_0593, // addi x11,x0,5
+        0x0000_0073, // ecall
+        0x0000_1537, // lui x10,1
+        0x0010_0593, // addi x11,x0,1
+        0x0000_0073, // ecall
+        0x0000_1537, // lui x10,1
+        0x0030_0593, // addi x11,x0,3
+        0x0110_0893, // addi x17,x0,17
+        0x0000_0073, // ecall
+        0x0010_0893, // addi x17,x0,1
+        0x0000_0073, // ecall
     ];
     let mut node = node(&rt, rt.alloc(), &code)?;
     for (steps, count, cursor) in [(4, 2, 2), (4, 1, 3), (3, 0, 3)] {
@@ -235,23 +238,24 @@ fn reads_go_on_where_the_last_one_ended(rt: HostRuntime) -> Result<(), Fail> {
 #[test]
 fn a_read_is_at_fault_by_the_bytes_that_it_takes(rt: HostRuntime) -> Result<(), Fail> {
     let outside = State::Faulted(Fault::RangeOutside);
-    // `read(MEMORY - 5, 5)`, and then with other addresses
+    // `read(addr, 5)`, the address being the end of the memory plus an immediate.
     let mut code = [
-        0x0010_0537,
-        0xFFB5_0513,
-        0x0050_0593,
-        0x0120_0893,
-        0x0000_0073,
+        0x0010_0537, // lui x10,0x100
+        0x0005_0513, // addi x10,x10,0
+        0x0050_0593, // addi x11,x0,5
+        0x0120_0893, // addi x17,x0,18
+        0x0000_0073, // ecall
     ];
-    let inputs: [(u32, &[u8], State, usize); 6] = [
-        (0xFFB5_0513, b"abcdef", State::Running, 5),
-        (0xFFC5_0513, b"abcdef", outside, 0),
-        (0xFFC5_0513, b"abcd", State::Running, 4),
-        (0x0005_0513, b"", State::Running, 0),
-        (0x0005_0513, b"a", outside, 0),
-        (0x0015_0513, b"", outside, 0),
+    let (minus_5, minus_4, at_end, plus_1) = (0xFFB5_0513, 0xFFC5_0513, 0x0005_0513, 0x0015_0513);
+    let reads: [(u32, &[u8], State, usize); 6] = [
+        (minus_5, b"abcdef", State::Running, 5),
+        (minus_4, b"abcdef", outside, 0),
+        (minus_4, b"abcd", State::Running, 4),
+        (at_end, b"", State::Running, 0),
+        (at_end, b"a", outside, 0),
+        (plus_1, b"", outside, 0),
     ];
-    for (addi, input, state, count) in inputs {
+    for (addi, input, state, count) in reads {
         code[1] = addi;
         let mut node = node(&rt, rt.alloc(), &code)?;
         node.run(input, 5)?;
@@ -276,11 +280,11 @@ fn the_output_of_a_superstep_has_a_limit(rt: HostRuntime) -> Result<(), Fail> {
     let alloc = rt.alloc();
     // `write(0, 0x1000000)`, `write(0, 1)`
     let code = [
-        0x0100_05B7,
-        0x0110_0893,
-        0x0000_0073,
-        0x0010_0593,
-        0x0000_0073,
+        0x0100_05B7, // lui x11,0x1000
+        0x0110_0893, // addi x17,x0,17
+        0x0000_0073, // ecall
+        0x0010_0593, // addi x11,x0,1
+        0x0000_0073, // ecall
     ];
     let image = image(&rt, alloc, 0, &code, 0, b"")?;
     let mut node = Node::new(alloc, &image, 0, 1, 0x100_0000, LIMIT)?;

@@ -81,6 +81,7 @@ fn stores_write_their_own_bytes(rt: HostRuntime) -> Result<(), Fail> {
 
 #[test]
 fn fences_and_writes_to_x0_change_nothing_but_pc(rt: HostRuntime) -> Result<(), Fail> {
+    // fence, fence.i, add x0,x5,x6
     for word in [0x0FF0_000F, 0x0000_100F, 0x0062_8033] {
         let node = executed(&rt, rt.alloc(), word, 1, 2)?;
         for n in 0..32u8 {
@@ -97,17 +98,17 @@ fn fences_and_writes_to_x0_change_nothing_but_pc(rt: HostRuntime) -> Result<(), 
     Ok(())
 }
 
-// A jump by 2 and the entry, each as the first step of a node.
 #[test]
-fn a_fetch_is_aligned_and_in_memory(rt: HostRuntime) -> Result<(), Fail> {
+fn the_first_step_may_be_at_fault(rt: HostRuntime) -> Result<(), Fail> {
     let alloc = rt.alloc();
+    let (nop, jumps_by_2) = (0x0000_0013, 0x0020_00EF);
     for (entry, word, fault) in [
-        (0, 0x0020_00EF, Fault::Misaligned),
-        (2, 0x0000_0013, Fault::Misaligned),
-        (MEMORY, 0x0000_0013, Fault::FetchOutside),
-        (MEMORY + 2, 0x0000_0013, Fault::Misaligned),
-        (0xFFFF_FFFC, 0x0000_0013, Fault::FetchOutside),
-        (MEMORY - 4, 0x0000_0013, Fault::IllegalInstruction),
+        (0, jumps_by_2, Fault::Misaligned),
+        (2, nop, Fault::Misaligned),
+        (MEMORY, nop, Fault::FetchOutside),
+        (MEMORY + 2, nop, Fault::Misaligned),
+        (0xFFFF_FFFC, nop, Fault::FetchOutside),
+        (MEMORY - 4, nop, Fault::IllegalInstruction),
     ] {
         let image = image(&rt, alloc, entry, &[word], 0, b"")?;
         let mut node = Node::new(alloc, &image, 0, 1, MEMORY, LIMIT)?;

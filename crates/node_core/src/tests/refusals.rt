@@ -10,13 +10,13 @@ type Heap = RefusingAllocator<Global>;
 
 // `write(0, 16)`, `write(0, 200)` and `end()`: the second output does not fit the room of the first.
 const WRITES_TWICE: [u32; 7] = [
-    0x0100_0593,
-    0x0110_0893,
-    0x0000_0073,
-    0x0C80_0593,
-    0x0000_0073,
-    0x0010_0893,
-    0x0000_0073,
+    0x0100_0593, // addi x11,x0,16
+    0x0110_0893, // addi x17,x0,17
+    0x0000_0073, // ecall
+    0x0C80_0593, // addi x11,x0,200
+    0x0000_0073, // ecall
+    0x0010_0893, // addi x17,x0,1
+    0x0000_0073, // ecall
 ];
 
 fn expect_same<A: Allocator, B: Allocator>(rt: &impl Abort, found: &Node<A>, want: &Node<B>) {

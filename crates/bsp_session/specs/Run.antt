@@ -1,5 +1,5 @@
 -- What a job makes of the bytes of an image and of an input (own rules).
-use Rattle.std.specs.Prelude.{◌≡◌, ℕ, ◌≤◌, ◌^◌, Bool, ◌&&◌, nat_le, List, [], ◌∷◌, length, map, Option, Some, None, if◌then◌else◌}
+use Rattle.std.specs.Prelude.{ℕ, ◌^◌, ◌&&◌, nat_le, List, [], ◌∷◌, length, map, Option, Some, None, if◌then◌else◌, codes}
 use Rattle.std.specs.List.{flat_map, range_with_len}
 use Rattle.node_memory.specs.Bytes.{is_memory_size}
 use Rattle.node_memory.specs.Image.{Image}
@@ -17,6 +17,12 @@ settings_fault s =
     else Some BadMemory)
     else Some BadNodes
 
+-- what a bad setting is called in a line to the user
+abbrev pub name_of : BadSetting → List ℕ
+name_of BadNodes = codes "BadNodes"
+name_of BadMemory = codes "BadMemory"
+name_of BadLimit = codes "BadLimit"
+
 -- the image of a raw file: its bytes are the memory's from address 0 on, and pc starts there
 abbrev pub raw_image : List ℕ → Image
 raw_image [] = record { entry = 0; segments = [] }
@@ -31,6 +37,6 @@ final_node image input s rank = phase input (start_node image rank s.nodes s.mem
 unfoldable pub final_nodes : Image → List ℕ → Settings → List NodeState
 final_nodes image input s = map (final_node image input s) (range_with_len 0 s.nodes)
 
--- what nodes have written, rank by rank
+-- what nodes have written, one after another
 abbrev pub output_of : List NodeState → List ℕ
 output_of nodes = flat_map (λ (n : NodeState). n.hart.output) nodes

@@ -1,10 +1,10 @@
--- A session over the bytes of its readers and its writer, where they are known. The limits and the order of the work
--- are own rules: settings, image, input, the nodes' memories, run, output.
-use Rattle.std.specs.Prelude.{◌≡◌, ℕ, ◌≤◌, ◌<◌, ◌^◌, ◌⊎◌, false, true, List, length, Option, Some, None, IfSome}
+-- A session over the bytes of its readers and its writer, where they are known. The limits are own rules, and so is the
+-- order of the stages: settings, image, input, memories of the nodes, run, output.
+use Rattle.std.specs.Prelude.{◌≡◌, ℕ, ◌≤◌, ◌<◌, ◌^◌, ◌⊎◌, false, true, List, length, Option, None, IfSome}
 use Rattle.std.specs.Io.KnownBytes.{Appends, Consumes}
 use Rattle.counted_io.specs.Counted.{CountedState, HasRisen}
 use Rattle.counted_io.specs.Transfers.{AppendsPrefix}
-use Rattle.node_memory.specs.Image.{Image, is_segment_outside}
+use Rattle.node_memory.specs.Image.{is_segment_outside}
 use Rattle.bsp_session.specs.declared.job.Outcome.{Outcome}
 use Rattle.bsp_session.specs.declared.job.Settings.{Settings}
 use Rattle.bsp_session.specs.Outcome.{outcome_of}

@@ -22,6 +22,11 @@ pub enum BadSetting {
 }
 
 impl fmt::Display for BadSetting {
+    ghost use Rattle.std.specs.Prelude.{Some};
+    ghost use Rattle.bsp_session.specs.Run.{name_of};
+
+    ghost output = { λ setting. Some (name_of setting) };
+
     fn fmt<W: fmt::Write>(&self, f: &mut fmt::Formatter<W>) -> fmt::Result {
         f.write_str(match self {
             BadSetting::BadNodes => "BadNodes",
@@ -31,8 +36,8 @@ impl fmt::Display for BadSetting {
     }
 }
 
-/// Why a session gave no outcome. Of several causes the first in the order of the work is answered: settings, image
-/// read, input read, memories of the nodes, run, output.
+/// Why a session gave no outcome: the cause of the first stage that failed, of settings, image, input, memories of the
+/// nodes, run and output.
 ///
 /// Its text is the line, without a program's name, that a user is shown.
 #[derive(Clone, Copy, Debug, PartialEq, Eq, Error)]

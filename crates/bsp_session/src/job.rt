@@ -37,7 +37,7 @@ pub enum Outcome {
     /// Some node was stopped, by a fault, by its own `abort` or by the limit of ticks: the lowest rank of these nodes,
     /// and its state.
     NodeStopped { rank: u32, state: State },
-    /// Some node ended while another waited for the end of the superstep: the lowest rank of each kind. No session
-    /// gives this as long as nodes have no call that waits.
+    /// Some node ended while another waited for the end of the superstep: the lowest rank that ended, and the lowest
+    /// that waited. No session gives this as long as nodes have no call that waits.
     Desync { ended: u32, synced: u32 },
 }

@@ -1,6 +1,6 @@
 //! The session that runs a program.
 
-ghost use Rattle.std.specs.Prelude.{◌≡◌, ◌≢◌, ◌+◌, ◌<◌, ◌≤◌, ◌^◌, ◌↔◌, ◌⊎◌, List, length, true, false, Some, None, IfOk, IfErr, OnOk, OnErr, IsErrOf};
+ghost use Rattle.std.specs.Prelude.{◌≡◌, ◌≢◌, ◌<◌, ◌≤◌, ◌^◌, ◌↔◌, ◌⊎◌, length, true, false, Some, None, IfOk, IfErr, OnOk, OnErr, IsErrOf};
 ghost use Rattle.std.specs.Io.KnownBytes.{Appends};
 ghost use Rattle.counted_io.specs.Counted.{HasRisen};
 ghost use Rattle.counted_io.specs.Transfers.{AppendsPrefix};
@@ -27,19 +27,19 @@ const RAW_IMAGE_BYTES: usize = 1 << 24;
 const INPUT_BYTES: usize = 1 << 24;
 
 /// Runs the program that `image` gives on every node of the machine, each with the bytes of `input` as its input, and
-/// writes what the nodes have written to `out`, rank by rank. Both readers are read to their ends.
+/// writes what the nodes have written to `out`, in rank order. Both readers are read to their ends.
 ///
 /// # Errors
-/// The first cause in the order of the work:
+/// That of the first stage that failed:
 ///
-/// 1. [`SessionError::BadSettings`], with the first bad setting of nodes, memory and limit. Nothing was read.
-/// 2. [`SessionError::TooLong`] or [`SessionError::ReadFault`] of the image, and then nothing of the input was read;
-///    after it those of the input.
-/// 3. [`SessionError::SegmentOutside`], where the image reaches past the memory of a node.
-/// 4. [`SessionError::WriteFault`], with a prefix of the output written.
+/// 1. [`SessionError::BadSettings`], for the first bad setting of nodes, memory and limit. Nothing was read.
+/// 2. [`SessionError::TooLong`] or [`SessionError::ReadFault`] of the image. Nothing of the input was read.
+/// 3. The same two of the input.
+/// 4. [`SessionError::SegmentOutside`], where the image reaches past the memory of a node.
+/// 5. [`SessionError::WriteFault`], after some first bytes of the output, and not all, were written.
 ///
-/// [`SessionError::NoMemory`] stands where a growth on the way was refused. Nothing is written before every node has
-/// stopped, and only a fault of `out` leaves a part of the output written.
+/// [`SessionError::NoMemory`] is answered where a request for memory was refused. Nothing is written before every node
+/// has stopped.
 pub fn session<A: Allocator + Copy, I: Read, R: Read, W: Write>(
     alloc: A,
     image: &mut Counted<I>,
@@ -91,13 +91,13 @@ fn check_settings(settings: &Settings) -> Result<(), BadSetting>
     ensures ok { OnOk result (settings_fault settings.now ≡ None) }
     ensures err { IfErr result (λ cause. settings_fault settings.now ≡ Some cause) }
 {
-    if settings.nodes < 1 || settings.nodes > 256 {
+    if !(1..=256).contains(&settings.nodes) {
         return Err(BadSetting::BadNodes);
     }
     if !is_memory_size(settings.memory) {
         return Err(BadSetting::BadMemory);
     }
-    if settings.limit < 1 || settings.limit > 1 << 40 {
+    if !(1..=1 << 40).contains(&settings.limit) {
         return Err(BadSetting::BadLimit);
     }
     Ok(())
@@ -135,8 +135,8 @@ fn run_nodes<A: Allocator + Copy>(
     ensures ok { IfOk result (λ nodes.
         nodes.items ≡ final_nodes image.now input.now settings.now) }
     ensures fits { OnOk result (is_segment_outside image.now settings.now.memory ≡ false) }
-    ensures outside { result ≡ Err SessionError.SegmentOutside
-        → is_segment_outside image.now settings.now.memory ≡ true }
+    ensures outside { IsErrOf result SessionError.SegmentOutside
+        ↔ (is_segment_outside image.now settings.now.memory ≡ true) }
     ensures kinds { IfErr result (λ e.
         (e ≡ SessionError.SegmentOutside) ⊎ (e ≡ SessionError.NoMemory)) }
 {
@@ -160,8 +160,8 @@ fn run_node<A: Allocator + Copy>(
     requires ranked { rank < settings.now.nodes }
     ensures ok { IfOk result (λ node. node ≡ final_node image.now input.now settings.now rank) }
     ensures fits { OnOk result (is_segment_outside image.now settings.now.memory ≡ false) }
-    ensures outside { result ≡ Err SessionError.SegmentOutside
-        → is_segment_outside image.now settings.now.memory ≡ true }
+    ensures outside { IsErrOf result SessionError.SegmentOutside
+        ↔ (is_segment_outside image.now settings.now.memory ≡ true) }
     ensures kinds { IfErr result (λ e.
         (e ≡ SessionError.SegmentOutside) ⊎ (e ≡ SessionError.NoMemory)) }
 {
@@ -182,8 +182,8 @@ fn start<A: Allocator + Copy>(
     ensures ok { let s = settings.now in
         IfOk result (λ node. node ≡ start_node image.now rank s.nodes s.memory s.limit) }
     ensures fits { OnOk result (is_segment_outside image.now settings.now.memory ≡ false) }
-    ensures outside { result ≡ Err SessionError.SegmentOutside
-        → is_segment_outside image.now settings.now.memory ≡ true }
+    ensures outside { IsErrOf result SessionError.SegmentOutside
+        ↔ (is_segment_outside image.now settings.now.memory ≡ true) }
     ensures kinds { IfErr result (λ e.
         (e ≡ SessionError.SegmentOutside) ⊎ (e ≡ SessionError.NoMemory)) }
 {
@@ -203,7 +203,7 @@ fn start<A: Allocator + Copy>(
     }
 }
 
-/// Writes what the nodes have written, rank by rank.
+/// Writes what the nodes have written, in their order.
 fn write_output<A: Allocator, W: Write>(
     nodes: &[Node<A>],
     out: &mut Counted<W>,

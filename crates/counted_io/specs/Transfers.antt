@@ -1,5 +1,5 @@
 -- What a transfer that was cut short did to the known bytes of a reader or a writer.
-use Rattle.std.specs.Prelude.{ℕ, ◌<◌, List, length, take, Option}
+use Rattle.std.specs.Prelude.{ℕ, ◌<◌, ◌≤◌, List, length, take, Option}
 use Rattle.std.specs.Io.KnownBytes.{Appends, Consumes}
 
 -- known bytes lose a prefix
@@ -9,3 +9,7 @@ ConsumesPrefix old new = (prefix : List ℕ) × Consumes old new prefix
 -- known bytes grow by the first k of `bytes`, and not by all
 abbrev pub AppendsPrefix : Option (List ℕ) → Option (List ℕ) → List ℕ → Type 0
 AppendsPrefix old new bytes = (k : ℕ) × (k < length bytes) × Appends old new (take k bytes)
+
+-- known bytes lose a prefix of some bytes, at most `most`
+abbrev pub ConsumesWithin : Option (List ℕ) → Option (List ℕ) → ℕ → Type 0
+ConsumesWithin old new most = (prefix : List ℕ) × (0 < length prefix) × (length prefix ≤ most) × Consumes old new prefix

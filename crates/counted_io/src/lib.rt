@@ -10,7 +10,7 @@
 //!   the limit, and a refusal has taken a prefix of them.
 //! - Where the writer's bytes are known, `Ok` has appended all of the output, and a fault a prefix that lacks some.
 //! - A fault of the reader or the writer is answered only where the count rose in that call.
-//! - `NoMemory` is answered only where a growth was refused, and after the limit was looked at. No clause can say so:
+//! - `NoMemory` is answered only where a growth was refused, for bytes within the limit. No clause can count refusals:
 //!   the tests refuse each growth in turn. That an interruption is tried again, and how often, is shown by tests too.
 #![tactic(auto)]
 
@@ -18,7 +18,7 @@ ghost use Rattle.std.specs.Prelude.{◌≡◌, ◌<◌, ◌≤◌, IfErr, IfOk, 
 ghost use Rattle.std.specs.Io.{ReadsAtMost, WritesAtMost};
 ghost use Rattle.std.specs.Io.KnownBytes.{Appends, Consumes, IsAtEnd, Keeps, ReadConsumes, WriteAppends};
 ghost use Rattle.counted_io.specs.Counted.{HasRisen, is_failed_write, next_count};
-ghost use Rattle.counted_io.specs.Transfers.{AppendsPrefix, ConsumesPrefix};
+ghost use Rattle.counted_io.specs.Transfers.{AppendsPrefix, ConsumesPrefix, ConsumesWithin};
 
 use std::alloc::{AllocError, Allocator};
 use std::io;
@@ -178,6 +178,8 @@ pub fn read_at_most<A: Allocator + Copy, R: Read>(
         → IfSome (R.remaining from.old.inner) (λ all. most < length all) }
     ensures fault { result ≡ Err ReadError.ReadFault
         → HasRisen from.old.failures from.new.failures }
+    ensures no_memory { result ≡ Err ReadError.NoMemory
+        → ConsumesWithin (R.remaining from.old.inner) (R.remaining from.new.inner) most }
     ensures err { OnErr result
         (ConsumesPrefix (R.remaining from.old.inner) (R.remaining from.new.inner)) }
     ensures never_falls { from.old.failures ≤ from.new.failures }

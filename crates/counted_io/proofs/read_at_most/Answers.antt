@@ -1,6 +1,7 @@
 -- A refusal consumed what was read before, and the bytes of the last read.
-use Rattle.std.proofs.Common.{◌++◌, take}
+use Rattle.std.proofs.Common.{◌≡◌, ℕ, ◌+◌, ◌-◌, ◌<◌, ◌≤◌, List, length, ◌++◌, take, refl, arith, rules, length-append}
 use Rattle.std.proofs.KnownBytes.{Consumes-trans}
+use Rattle.std.proofs.lemmas.List.{length-take-le}
 use Rattle.std.proofs.lemmas.Result.{err_from_is_err_and}
 use Rattle.counted_io.proofs.read_at_most.Goals as goal
 
@@ -13,3 +14,16 @@ returns-in_err-extend_from_slice-clause-err g c =
     let exit = c.from_residual-in_err-extend_from_slice in
     let returned = err_from_is_err_and exit.result exit.ensures.1 in
     rw returned.1 (c.loop-input.input.items ++ take c.in_ok-count.count c.read_retrying.new.chunk, Consumes-trans _ _ _ _ _ c.loop-input.invariant.consumed c.in_ok-count.ensures.bytes.0)
+
+-- the bytes of the last read were within the limit too
+within : (read chunk : List ℕ) (count len most : ℕ) → count ≤ length chunk → 0 < count → len ≡ length read → len ≤ most → count ≤ most - len
+    → (0 < length (read ++ take count chunk)) × (length (read ++ take count chunk) ≤ most)
+within read chunk count len most got some is limited fits =
+    let all : length (read ++ take count chunk) ≡ length read + count = rw (length-append read (take count chunk), length-take-le count chunk got) refl in
+    (omega arith, omega arith)
+
+pub returns-in_err-extend_from_slice-clause-no_memory : goal.returns-in_err-extend_from_slice-clause-no_memory
+returns-in_err-extend_from_slice-clause-no_memory g c = λ refused.
+    let w = within c.loop-input.input.items c.read_retrying.new.chunk c.in_ok-count.count (length c.loop-input.input.items) c.args.most
+        c.in_ok-count.ensures.bound.0 (omega arith) refl (search rules) (search rules) in
+    (c.loop-input.input.items ++ take c.in_ok-count.count c.read_retrying.new.chunk, w.0, w.1, Consumes-trans _ _ _ _ _ c.loop-input.invariant.consumed c.in_ok-count.ensures.bytes.0)

@@ -1,0 +1,37 @@
+//! Numbers in hexadecimal digits.
+
+use std::fmt;
+
+/// A byte in two digits.
+#[derive(Clone, Copy)]
+pub(crate) struct TwoDigits(pub u8);
+
+impl fmt::Display for TwoDigits {
+    ghost use Rattle.std.specs.Prelude.{Some};
+    ghost use Rattle.rv_listing.specs.Numerals.{two_digits};
+
+    ghost output = { λ n. Some (two_digits n.0) };
+
+    #[tactic(auto, using(crate::proofs::Hexadecimal::padded_is_hexadecimal_in))]
+    fn fmt<W: fmt::Write>(&self, f: &mut fmt::Formatter<W>) -> fmt::Result {
+        let byte = self.0;
+        write!(f, "{byte:02x}")
+    }
+}
+
+/// A word in eight digits.
+#[derive(Clone, Copy)]
+pub(crate) struct EightDigits(pub u32);
+
+impl fmt::Display for EightDigits {
+    ghost use Rattle.std.specs.Prelude.{Some};
+    ghost use Rattle.rv_listing.specs.Numerals.{eight_digits};
+
+    ghost output = { λ n. Some (eight_digits n.0) };
+
+    #[tactic(auto, using(crate::proofs::Hexadecimal::padded_is_hexadecimal_in))]
+    fn fmt<W: fmt::Write>(&self, f: &mut fmt::Formatter<W>) -> fmt::Result {
+        let word = self.0;
+        write!(f, "{word:08x}")
+    }
+}

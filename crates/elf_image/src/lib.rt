@@ -1,0 +1,30 @@
+//! ELF executables for RISC-V of 32 bits, little-endian and linked statically, as images, and images as such files.
+//!
+//! An ELF file says in its program headers which of its bytes lie where in memory. That part of it is a [`node_memory::Image`];
+//! the rest, as sections and symbols, is nothing to this crate. An image has one spelling as a file.
+//!
+//! What callers may rely on:
+//!
+//! - [`load`] gives the image that a file presents, or the first of the file's faults. It looks through the whole file
+//!   before it takes memory, and takes as much time as the file has headers and its segments bytes.
+//! - [`save`] gives the spelling of an image. Loaded, it is that image again (module [`laws`]).
+//! - [`raw`] gives the image of bytes that have no headers.
+//! - Of an allocator that refuses, each answers just that it had no memory.
+//!
+//! Sources: System V ABI, chapters 4 "Object Files" and 5 "Program Loading and Dynamic Linking"; RISC-V ELF psABI
+//! specification for the machine's number. The order of faults, the limits and the spelling are this crate's own rules.
+#![tactic(auto)]
+
+mod error;
+mod file;
+mod headers;
+pub mod laws;
+mod loader;
+mod writer;
+
+pub use error::ElfError;
+pub use loader::{load, raw};
+pub use writer::save;
+
+#[cfg(test)]
+mod tests;

@@ -1,0 +1,10 @@
+pub mod Clamps
+pub mod CommaParts
+pub mod DigitValues
+pub mod Facts
+pub mod Gathered
+pub mod InRange
+pub mod Judged
+pub mod LineSplits
+pub mod TextBytes
+pub mod TokenSteps

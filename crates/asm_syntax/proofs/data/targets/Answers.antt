@@ -1,0 +1,35 @@
+use Rattle.std.proofs.Common.{◌≡◌, ◌≢◌, Err, [], ◌∷◌, ◌++◌, get_or, map, sym, ap, ◌∙◌, rules}
+use Rattle.std.proofs.lemmas.List.{map-append}
+use Rattle.std.specs.List.{list_all}
+use Rattle.asm_syntax.specs.declared.error.LineError.TheVariants.{OutOfRange}
+use Rattle.asm_syntax.specs.Faults.{judged}
+use Rattle.asm_syntax.specs.Operands.{target_in, fits_target}
+use Rattle.asm_syntax.specs.TokenViews.{token_value}
+use Rattle.asm_syntax.specs.Views.{target_value}
+use Rattle.asm_syntax.proofs.Gathered.{gathered-ok, gathered-out, gathered-fault, each_of-all}
+use Rattle.asm_syntax.proofs.data.targets.Goals as goal
+use Rattle.asm_syntax.proofs.data.targets.Goals.{in-Ok+in_ok-push-in-Ok, in-Err+else-ne}
+
+pub returns-then-ne-clause-err : goal.returns-then-ne-clause-err
+returns-then-ne-clause-err g c =
+    let ops = c.args.operands.now in
+    let other : c.in-Err.fault ≢ OutOfRange = search rules in
+    λ _. ap (judged (list_all fits_target)) (each_of-all target_in ops c.loop-operand.invariant.0)
+    ∙ (sym c.loop-operand.invariant.1
+    ∙ gathered-fault fits_target target_in ops c.loop-operand.operand-index _ c.loop-operand.fits (map target_value c.loop-operand.targets.items) c.in-Err.fault c.loop-operand-test.true (sym c.in-Err.ensures.value) other)
+
+pub loop-operand-preserved : goal.loop-operand-preserved
+loop-operand-preserved g c =
+    let ops = c.args.operands.now in (
+      c.loop-operand.invariant.0,
+      elim c.match-target.branch [
+        | in-Ok+in_ok-push-in-Ok w ↦
+            let items : map target_value w.push.new.self.items ≡ map target_value c.loop-operand.targets.items ++ (target_value w.in-Ok.target ∷ []) =
+            ap (map target_value) w.in_ok-push-in-Ok.ensures.items ∙ map-append target_value c.loop-operand.targets.items (w.in-Ok.target ∷ []) in
+            rw (w.fits-is, w.targets-is, items) (gathered-ok fits_target target_in ops c.loop-operand.operand-index _ c.loop-operand.fits (map target_value c.loop-operand.targets.items) (target_value w.in-Ok.target) c.loop-operand-test.true (sym w.in-Ok.ensures.value) ∙ c.loop-operand.invariant.1)
+        | in-Err+else-ne w ↦
+            let out : w.in-Err.fault ≡ OutOfRange = search rules in
+            let found : judged fits_target (target_in (map token_value (get_or ops c.loop-operand.operand-index _).now)) ≡ Err w.in-Err.fault = sym w.in-Err.ensures.value in
+            rw (w.fits-is, w.targets-is) (gathered-out fits_target target_in ops c.loop-operand.operand-index _ c.loop-operand.fits (map target_value c.loop-operand.targets.items) c.loop-operand-test.true (found ∙ ap Err out) ∙ c.loop-operand.invariant.1)
+      ],
+    )

@@ -1,0 +1,12 @@
+pub mod Bytes
+pub mod Faults
+pub mod Forms
+pub mod Lines
+pub mod Operands
+pub mod Limits
+pub mod Parse
+pub mod Ranges
+pub mod Statements
+pub mod TokenViews
+pub mod Tokens
+pub mod Views

@@ -1,0 +1,113 @@
+-- The tokens of a line (own language): names, numbers, strings and signs; blanks part them, and `#` outside a string
+-- begins a comment.
+use Rattle.std.specs.Prelude.{ℕ, zero, suc, ◌+◌, ◌-◌, ◌&&◌, ◌==◌, Bool, true, false, nat_lt, nat_eq, not, if◌then◌else◌, List, [], ◌∷◌, ◌++◌, length, drop, codes, Option, Some, None}
+use Rattle.std.specs.List.{list_all, take_while, prefix_len, starts_with}
+use Rattle.std.specs.Option.{option_map, option_map_or, option_and_then}
+use Rattle.std.specs.Char.{is_ascii_digit, is_ascii_hexdigit}
+use Rattle.std.specs.Int.{is_in_range}
+use Rattle.std.specs.Str.Parse.{digits_value}
+use Rattle.asm_syntax.specs.Bytes.{is_blank, is_hash, is_quote, is_backslash, is_word_byte, escape_value}
+
+-- a token
+pub data Token : Type 0 where
+  -- its bytes
+  name : List ℕ → Token
+  -- its value
+  number : ℕ → Token
+  -- its bytes, with each escape replaced by what it stands for
+  text : List ℕ → Token
+  comma : Token
+  colon : Token
+  -- `(` and `)`
+  opening : Token
+  closing : Token
+  plus : Token
+  minus : Token
+
+-- the value of `0x` and at least one hexadecimal digit
+abbrev pub hexadecimal_value : List ℕ → Option ℕ
+hexadecimal_value word =
+    if (starts_with nat_eq word (codes "0x") && nat_lt 2 (length word)) && list_all is_ascii_hexdigit (drop 2 word)
+    then Some (digits_value 16 (drop 2 word)) else None
+
+-- the value of a number: decimal digits, or `0x` and hexadecimal digits; of any size
+abbrev pub number_value : List ℕ → Option ℕ
+number_value word = if list_all is_ascii_digit word then Some (digits_value 10 word) else hexadecimal_value word
+
+-- the token of a word that begins with a byte: a number where that is a digit, else a name
+abbrev pub word_token : ℕ → List ℕ → Option Token
+word_token first rest = if is_ascii_digit first then option_map number (number_value (first ∷ rest)) else Some (name (first ∷ rest))
+
+-- the token of a byte that is a sign
+abbrev pub sign_token : ℕ → Option Token
+sign_token b =
+    if b == 44 then Some comma else
+    (if b == 58 then Some colon else
+    (if b == 40 then Some opening else
+    (if b == 41 then Some closing else
+    (if b == 43 then Some plus else
+    (if b == 45 then Some minus else None)))))
+
+-- a string behind its first `"`: what it stands for, and how many bytes spell it, the `"` at its end among them
+pub record Text : Type 0 where
+  pub content : List ℕ
+  pub len : ℕ
+
+-- the string with one byte of the line more before it, and the bytes that this byte adds to what it stands for
+abbrev pub onto_text : List ℕ → Text → Text
+onto_text added t = record { content = added ++ t.content; len = t.len + 1 }
+
+-- a string whose first byte is `b`, by what the rest of it is: behind a `\` the byte of an escape, else the `"` at its
+-- end, a `\`, or a byte from 0x20 to 0x7E that stands for itself
+abbrev pub text_with : Bool → ℕ → Option Text → Option Text
+text_with true b rest = option_and_then (λ value. option_map (onto_text (value ∷ [])) rest) (escape_value b)
+text_with false b rest =
+    if is_quote b then Some (record { content = []; len = 1 }) else
+    (if is_backslash b then option_map (onto_text []) rest else
+    (if is_in_range 0x20 0x7E b then option_map (onto_text (b ∷ [])) rest else None))
+
+-- the string that a line's bytes begin with, behind its first `"`, or behind a `\` in it; none where it has no end, or a
+-- byte or an escape that strings do not have
+abbrev pub text_from : Bool → List ℕ → Option Text
+text_from escaped [] = None
+text_from escaped (b ∷ rest) = text_with escaped b (text_from (not escaped && is_backslash b) rest)
+
+-- what a line begins with
+pub data Head : Type 0 where
+  blank : Head
+  comment : Head
+  -- a token, and how many bytes spell it
+  token : Token → ℕ → Head
+  -- none of these
+  nothing : Head
+
+-- what a line begins with whose first byte is `b`. A word is as long as it can be
+abbrev pub head_of : ℕ → List ℕ → Head
+head_of b rest =
+    if is_blank b then blank else
+    (if is_hash b then comment else
+    (if is_word_byte b then option_map_or (λ t. token t (prefix_len is_word_byte rest + 1)) (word_token b (take_while is_word_byte rest)) nothing else
+    (if is_quote b then option_map_or (λ t. token (text t.content) (t.len + 1)) (text_from false rest) nothing else
+    option_map_or (λ t. token t 1) (sign_token b) nothing)))
+
+-- how many bytes behind its first belong to what a line begins with
+abbrev pub bytes_behind : Head → ℕ
+bytes_behind (token t len) = len - 1
+bytes_behind _ = 0
+
+-- the tokens of a line that begins with `head`, by those of what is left behind it
+abbrev pub tokens_with : Head → Option (List Token) → Option (List Token)
+tokens_with blank rest = rest
+tokens_with comment rest = Some []
+tokens_with (token t len) rest = option_map (λ ts. t ∷ ts) rest
+tokens_with nothing rest = None
+
+-- the tokens of a line behind its first `skipped` bytes
+abbrev pub tokens_behind : ℕ → List ℕ → Option (List Token)
+tokens_behind skipped [] = Some []
+tokens_behind (suc skipped) (b ∷ rest) = tokens_behind skipped rest
+tokens_behind zero (b ∷ rest) = tokens_with (head_of b rest) (tokens_behind (bytes_behind (head_of b rest)) rest)
+
+-- the tokens of a line; no list of them where some byte of it belongs to none
+unfoldable pub tokens_of : List ℕ → Option (List Token)
+tokens_of line = tokens_behind 0 line

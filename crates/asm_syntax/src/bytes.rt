@@ -1,0 +1,46 @@
+//! The bytes of a line by their kinds.
+
+ghost use Rattle.std.specs.Prelude.{◌≡◌, ◌<◌};
+ghost use Rattle.std.specs.Char.{digit_value};
+ghost use Rattle.asm_syntax.specs.Bytes.{is_blank, is_word_byte, escape_value};
+
+/// A space or a tab.
+pub(crate) fn is_blank(byte: u8) -> bool
+    ensures { result ≡ is_blank byte }
+{
+    byte == b' ' || byte == b'\t'
+}
+
+/// A byte of names and numbers: a letter, a digit, `_` or `.`.
+pub(crate) fn is_word_byte(byte: u8) -> bool
+    ensures { result ≡ is_word_byte byte }
+{
+    byte.is_ascii_alphanumeric() || byte == b'_' || byte == b'.'
+}
+
+/// What an escape stands for, by the byte behind its `\`.
+pub(crate) fn escape_value(byte: u8) -> Option<u8>
+    ensures { result ≡ escape_value byte }
+{
+    match byte {
+        b'n' => Some(b'\n'),
+        b't' => Some(b'\t'),
+        b'0' => Some(0),
+        b'\\' => Some(b'\\'),
+        b'"' => Some(b'"'),
+        _ => None,
+    }
+}
+
+/// The value of a digit or a letter, and 36 for any other byte.
+pub(crate) fn digit_value(byte: u8) -> u64
+    ensures value { result ≡ digit_value byte }
+    ensures small { result < 37 }
+{
+    match byte {
+        b'0'..=b'9' => u64::from(byte - b'0'),
+        b'A'..=b'Z' => u64::from(byte - b'A') + 10,
+        b'a'..=b'z' => u64::from(byte - b'a') + 10,
+        _ => 36,
+    }
+}

@@ -1,0 +1,40 @@
+//! The lines of an assembly text, each by itself: tokens, labels and a statement.
+//!
+//! A line is a list of tokens; these are any number of labels and at most one statement; a statement is a mnemonic and
+//! operands. What a line means at an address, and where its labels stand, is not known here.
+//!
+//! What callers may rely on:
+//!
+//! - [`split_line`] takes the first line off a text.
+//! - [`parse_line`] answers the labels and the statement of a line, with every number in the range that its statement
+//!   asks for; or the fault of the line, which is the least of those that it has, in the order of [`LineError`].
+//! - [`laws`] has what holds of every line.
+//!
+//! The names of instructions and registers are those of `rv_tables`. The language is this project's own; it is a part of
+//! what the RISC-V Assembly Programmer's Handbook has (The RISC-V Instruction Set Manual, Volume I: Unprivileged ISA,
+//! 20191213, chapter 25).
+#![tactic(auto)]
+
+mod bytes;
+mod data;
+mod error;
+mod form;
+pub mod laws;
+mod lines;
+mod number;
+mod operand;
+mod parse;
+mod pseudo;
+mod rows;
+mod shapes;
+mod statement;
+mod text;
+mod token;
+
+pub use error::LineError;
+pub use lines::split_line;
+pub use parse::parse_line;
+pub use statement::{Line, Statement, Target};
+
+#[cfg(test)]
+mod tests;

@@ -1,0 +1,195 @@
+//! The operands of a statement: how many, and of which kinds.
+//!
+//! Each call answers the operands of one shape, or `BadOperand` where there are not so many or one is not of its kind, or
+//! else `OutOfRange` where a number is not in its range.
+
+ghost use Rattle.std.specs.Prelude.{true, false, ◌≡◌, ◌≤ℤ◌, ◌^◌, pos, neg_ℤ, IfOk};
+ghost use Rattle.rv_tables.specs.Operands.{IsRegister, IsImmediate};
+ghost use Rattle.asm_syntax.specs.Faults.{judged, if_ok};
+ghost use Rattle.asm_syntax.specs.Forms.{none, one, two, three};
+ghost use Rattle.asm_syntax.specs.Operands.{register_in, number_in, address_in, target_in, text_in, is_within, fits_immediate, fits_target};
+ghost use Rattle.asm_syntax.specs.Ranges.{IsWithin, IsTarget};
+ghost use Rattle.asm_syntax.specs.TokenViews.{operand_values, register_address_value, unescaped};
+ghost use Rattle.asm_syntax.specs.Views.{target_value, register_target_value, registers_target_value};
+
+use crate::error::LineError;
+use crate::operand::{self, Address};
+use crate::statement::Target;
+use crate::token::Token;
+
+/// No operands.
+pub(crate) fn nothing(operands: &[&[Token<'_>]]) -> Result<(), LineError>
+    ensures { result ≡ judged (λ _. true) (none (operand_values operands.now)) }
+{
+    match operands {
+        [] => Ok(()),
+        _ => Err(LineError::BadOperand),
+    }
+}
+
+/// `rs`.
+pub(crate) fn register(operands: &[&[Token<'_>]]) -> Result<u8, LineError>
+    ensures value { result ≡ judged (λ _. true) (one register_in (operand_values operands.now)) }
+    ensures in_range { IfOk result IsRegister }
+{
+    let [first] = operands else {
+        return Err(LineError::BadOperand);
+    };
+    operand::register(first).ok_or(LineError::BadOperand)
+}
+
+/// `rd,rs`.
+pub(crate) fn two_registers(operands: &[&[Token<'_>]]) -> Result<(u8, u8), LineError>
+    ensures value { result ≡ judged (λ _. true) (two register_in register_in (operand_values operands.now)) }
+    ensures in_range { IfOk result (λ o. IsRegister o.0 × IsRegister o.1) }
+{
+    let [first, second] = operands else {
+        return Err(LineError::BadOperand);
+    };
+    let rd = operand::register(first).ok_or(LineError::BadOperand)?;
+    let rs = operand::register(second).ok_or(LineError::BadOperand)?;
+    Ok((rd, rs))
+}
+
+/// `rd,rs1,rs2`.
+pub(crate) fn three_registers(operands: &[&[Token<'_>]]) -> Result<(u8, u8, u8), LineError>
+    ensures value { result
+        ≡ judged (λ _. true) (three register_in register_in register_in (operand_values operands.now)) }
+    ensures in_range { IfOk result (λ o. IsRegister o.0 × IsRegister o.1 × IsRegister o.2) }
+{
+    let [first, second, third] = operands else {
+        return Err(LineError::BadOperand);
+    };
+    let rd = operand::register(first).ok_or(LineError::BadOperand)?;
+    let rs1 = operand::register(second).ok_or(LineError::BadOperand)?;
+    let rs2 = operand::register(third).ok_or(LineError::BadOperand)?;
+    Ok((rd, rs1, rs2))
+}
+
+/// A number from `low` to `high`.
+pub(crate) fn number(operands: &[&[Token<'_>]], low: i64, high: i64) -> Result<i64, LineError>
+    requires low { neg_ℤ (pos (2 ^ 39)) ≤ℤ low }
+    requires high { high ≤ℤ pos (2 ^ 39) }
+    ensures value { result ≡ judged (is_within low high) (one number_in (operand_values operands.now)) }
+    ensures in_range { IfOk result (IsWithin low high) }
+{
+    let [first] = operands else {
+        return Err(LineError::BadOperand);
+    };
+    operand::number_within(first, low, high)
+}
+
+/// `rd,n`, with the number from `low` to `high`.
+#[tactic(auto, using(crate::proofs::Judged::judged_second))]
+pub(crate) fn register_number(
+    operands: &[&[Token<'_>]],
+    low: i64,
+    high: i64,
+) -> Result<(u8, i64), LineError>
+    requires low { neg_ℤ (pos (2 ^ 39)) ≤ℤ low }
+    requires high { high ≤ℤ pos (2 ^ 39) }
+    ensures value { result
+        ≡ judged (λ o. is_within low high o.1) (two register_in number_in (operand_values operands.now)) }
+    ensures in_range { IfOk result (λ o. IsRegister o.0 × IsWithin low high o.1) }
+{
+    let [first, second] = operands else {
+        return Err(LineError::BadOperand);
+    };
+    let rd = operand::register(first).ok_or(LineError::BadOperand)?;
+    let number = operand::number_within(second, low, high)?;
+    Ok((rd, number))
+}
+
+/// `rd,rs1,n`, with the number from `low` to `high`.
+#[tactic(auto, using(crate::proofs::Judged::judged_third))]
+pub(crate) fn two_registers_number(
+    operands: &[&[Token<'_>]],
+    low: i64,
+    high: i64,
+) -> Result<(u8, u8, i64), LineError>
+    requires low { neg_ℤ (pos (2 ^ 39)) ≤ℤ low }
+    requires high { high ≤ℤ pos (2 ^ 39) }
+    ensures value { result
+        ≡ judged (λ o. is_within low high o.2)
+        (three register_in register_in number_in (operand_values operands.now)) }
+    ensures in_range { IfOk result (λ o. IsRegister o.0 × IsRegister o.1 × IsWithin low high o.2) }
+{
+    let [first, second, third] = operands else {
+        return Err(LineError::BadOperand);
+    };
+    let rd = operand::register(first).ok_or(LineError::BadOperand)?;
+    let rs1 = operand::register(second).ok_or(LineError::BadOperand)?;
+    let number = operand::number_within(third, low, high)?;
+    Ok((rd, rs1, number))
+}
+
+/// `r,imm(rs1)`.
+#[tactic(auto, using(crate::proofs::Judged::judged_second))]
+pub(crate) fn register_address(operands: &[&[Token<'_>]]) -> Result<(u8, Address), LineError>
+    ensures value { if_ok register_address_value result
+        ≡ judged (λ o. fits_immediate o.1.offset) (two register_in address_in (operand_values operands.now)) }
+    ensures in_range { IfOk result (λ o. IsRegister o.0 × IsRegister o.1.base × IsImmediate o.1.offset) }
+{
+    let [first, second] = operands else {
+        return Err(LineError::BadOperand);
+    };
+    let register = operand::register(first).ok_or(LineError::BadOperand)?;
+    let address = operand::memory_address(second)?;
+    Ok((register, address))
+}
+
+/// A target.
+pub(crate) fn target<'a>(operands: &[&[Token<'a>]]) -> Result<Target<'a>, LineError>
+    ensures value { if_ok target_value result ≡ judged fits_target (one target_in (operand_values operands.now)) }
+    ensures in_range { IfOk result (λ t. IsTarget (target_value t)) }
+{
+    let [first] = operands else {
+        return Err(LineError::BadOperand);
+    };
+    operand::target(first)
+}
+
+/// `r,target`.
+#[tactic(auto, using(crate::proofs::Judged::judged_second))]
+pub(crate) fn register_target<'a>(operands: &[&[Token<'a>]]) -> Result<(u8, Target<'a>), LineError>
+    ensures value { if_ok register_target_value result
+        ≡ judged (λ o. fits_target o.1) (two register_in target_in (operand_values operands.now)) }
+    ensures in_range { IfOk result (λ o. IsRegister o.0 × IsTarget (target_value o.1)) }
+{
+    let [first, second] = operands else {
+        return Err(LineError::BadOperand);
+    };
+    let register = operand::register(first).ok_or(LineError::BadOperand)?;
+    let target = operand::target(second)?;
+    Ok((register, target))
+}
+
+/// `rs1,rs2,target`.
+#[tactic(auto, using(crate::proofs::Judged::judged_third))]
+pub(crate) fn two_registers_target<'a>(
+    operands: &[&[Token<'a>]],
+) -> Result<(u8, u8, Target<'a>), LineError>
+    ensures value { if_ok registers_target_value result
+        ≡ judged (λ o. fits_target o.2)
+        (three register_in register_in target_in (operand_values operands.now)) }
+    ensures in_range { IfOk result (λ o. IsRegister o.0 × IsRegister o.1 × IsTarget (target_value o.2)) }
+{
+    let [first, second, third] = operands else {
+        return Err(LineError::BadOperand);
+    };
+    let rs1 = operand::register(first).ok_or(LineError::BadOperand)?;
+    let rs2 = operand::register(second).ok_or(LineError::BadOperand)?;
+    let target = operand::target(third)?;
+    Ok((rs1, rs2, target))
+}
+
+/// A string: what stands between its `"`, with its escapes.
+pub(crate) fn text<'a>(operands: &[&[Token<'a>]]) -> Result<&'a [u8], LineError>
+    ensures { if_ok (λ raw. unescaped false raw.now) result
+        ≡ judged (λ _. true) (one text_in (operand_values operands.now)) }
+{
+    let [first] = operands else {
+        return Err(LineError::BadOperand);
+    };
+    operand::text(first).ok_or(LineError::BadOperand)
+}

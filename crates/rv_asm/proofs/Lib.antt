@@ -1,0 +1,16 @@
+pub mod EachWord
+pub mod FormatWords
+pub mod Judging
+pub mod LabelSteps
+pub mod Laying
+pub mod NeverMemory
+pub mod OneImage
+pub mod OnlyLabels
+pub mod Passes
+pub mod RowValues
+pub mod Sizes
+pub mod SomeImage
+pub mod Sound
+pub mod Spelling
+pub mod Whole
+pub mod Words

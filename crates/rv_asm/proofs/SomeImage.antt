@@ -1,0 +1,172 @@
+-- A text without a fault has an image.
+use Rattle.std.proofs.Common.{◌≡◌, ℕ, suc, ◌+◌, ◌^◌, ◌<◌, ◌≤◌, ◌-◌, ◌==◌, Bool, true, false, not, ◌&&◌, ◌||◌, List, [], ◌∷◌, ◌++◌, length, map, flat_map, replicate, All, Option, Some, None, is_none, IsSome, IsSomeAnd, IfSome, Ok, option_map, option_and_then, ℤ, pos, negsuc, T, eqb-true, neg_ℤ, int_le, int_lt, int_rem, unsigned_abs, refl, sym, ◌∙◌, ap, subst, if◌then◌else◌, arith, w16, w32}
+use Rattle.std.specs.Int.{cast_signed, to_le_bytes}
+use Rattle.std.specs.Option.{option_map_or, option_or}
+use Rattle.std.proofs.lemmas.Int.{ints}
+use lib.Signed.{le_z_yes, lt_z_yes}
+use Rattle.std.proofs.lemmas.List.Elements.{All-nil, All-cons, All-head, All-tail}
+use Rattle.node_memory.specs.Image.{Image}
+use Rattle.rv_tables.specs.declared.instr.Instr.{Instr}
+use Rattle.rv_tables.specs.declared.instr.Instr.TheVariants.{I, Branch, Upper, Jal}
+use Rattle.rv_tables.specs.declared.instr.IOp.TheVariants.{Addi}
+use Rattle.rv_tables.specs.declared.instr.UpperOp.TheVariants.{Lui}
+use Rattle.rv_tables.specs.Fields.{bits, sign_extended}
+use Rattle.rv_tables.specs.Operands.{IsSigned, IsEven, IsEncodable, IsImmediate, IsBranchOffset, IsJumpOffset}
+use Rattle.asm_syntax.specs.Lines.{lines_of}
+use Rattle.asm_syntax.specs.Parse.{line_of}
+use Rattle.asm_syntax.specs.Ranges.{IsInRange}
+use Rattle.asm_syntax.specs.Statements.{Line, Statement, instruction, branch, jump_and_link, load_immediate, load_address, words, halves, bytes, ascii, space, align, entry}
+use Rattle.rv_asm.specs.declared.errors.AsmKind.{AsmKind}
+use Rattle.rv_asm.specs.declared.errors.AsmKind.TheVariants.{OutOfRange, UndefinedLabel}
+use Rattle.rv_asm.specs.Faults.{text_fault, fault_alone, fault_of_use, fault_of_uses, first_fault}
+use Rattle.rv_asm.specs.Layout.{Spell, is_short, lui_addi, load_of, word_bytes, size_of, HasBytes}
+use Rattle.rv_asm.specs.Places.{places_of, symbols_of, statement_of, end_of_statement, end_from}
+use Rattle.rv_asm.specs.Symbols.{Symbols}
+use Rattle.rv_asm.specs.Targets.{modulo, value_of, offset_to, is_reached}
+use Rattle.rv_asm.specs.Text.{LineHasBytes, AreLaid, IsImageOfText, last_entry, segments_of}
+use Rattle.rv_asm.proofs.EachWord.{word_of}
+use Rattle.rv_asm.proofs.Laying.{uses_from, uses-placed, ok_parts}
+use Rattle.rv_asm.proofs.Sizes.{length-line}
+use Rattle.rv_asm.proofs.Sound.{AreSound, sound_text}
+use Rattle.rv_asm.proofs.Spelling.{load_of-short, load_of-long}
+use Rattle.rv_asm.proofs.Whole.{image-laid}
+
+spelled : (is : List Instr) → All IsEncodable is → (own : List ℕ) × Spell is own
+spelled [] h = ([], refl)
+spelled (i ∷ is) h =
+    let w = word_of i (All-head IsEncodable i is h) in
+    let rest = spelled is (All-tail IsEncodable i is h) in
+    (to_le_bytes w32 w.0 ++ rest.0, (w.0, rest.0, w.1, rest.1, refl))
+
+one : (i : Instr) → IsEncodable i → (own : List ℕ) × Spell (i ∷ []) own
+one i h = spelled (i ∷ []) (All-cons IsEncodable i [] h (All-nil IsEncodable))
+
+and_true : (a b : Bool) → (a && b) ≡ true → (a ≡ true) × (b ≡ true)
+and_true true b h = (refl, h)
+and_true false b h = cc
+
+within : (width : ℕ) (z : ℤ) → (int_le (neg_ℤ (pos (2 ^ (width - 1)))) z && int_lt z (pos (2 ^ (width - 1)))) ≡ true → IsSigned width z
+within width z h = let p = and_true (int_le (neg_ℤ (pos (2 ^ (width - 1)))) z) (int_lt z (pos (2 ^ (width - 1)))) h in (le_z_yes (subst T (sym p.0) tt), lt_z_yes (subst T (sym p.1) tt))
+
+zero_abs : (x : ℤ) → (unsigned_abs x == 0) ≡ true → x ≡ pos 0
+zero_abs (pos n) h = ap pos (eqb-true n 0 h)
+zero_abs (negsuc n) h = let e : suc n ≡ 0 = eqb-true (suc n) 0 h in cc
+
+even : (z : ℤ) → (unsigned_abs (int_rem z (pos 2)) == 0) ≡ true → IsEven z
+even z h = zero_abs (int_rem z (pos 2)) h
+
+extended : (n : ℕ) → n < 2 ^ 12 → IsSigned 12 (sign_extended 12 n)
+extended n h = grind (arith, ints)
+
+short_immediate : (word : ℕ) → is_short word ≡ true → IsImmediate (cast_signed w32 word)
+short_immediate word e = within 12 (cast_signed w32 word) e
+
+low_immediate : (word : ℕ) → IsImmediate (sign_extended 12 (bits word 11 0))
+low_immediate word = let low : bits word 11 0 < 2 ^ 12 = omega arith in extended (bits word 11 0) low
+
+lui_addi_spelled : (rd word : ℕ) → rd < 32 → (own : List ℕ) × Spell (lui_addi rd word) own
+lui_addi_spelled rd word rd_in =
+    let high : bits (word + 0x800) 31 12 < 2 ^ 20 = omega arith in
+    let upper : Instr = Upper Lui rd (bits (word + 0x800) 31 12) in
+    let low : Instr = I Addi rd rd (sign_extended 12 (bits word 11 0)) in
+    spelled (upper ∷ low ∷ []) (All-cons IsEncodable upper (low ∷ []) (rd_in, high) (All-cons IsEncodable low [] (rd_in, rd_in, low_immediate word) (All-nil IsEncodable)))
+
+load_spelled : (rd word : ℕ) (short : Bool) → is_short word ≡ short → rd < 32 → (own : List ℕ) × Spell (load_of rd word) own
+load_spelled rd word true e rd_in =
+    subst (λ is. (own : List ℕ) × Spell is own) (sym (load_of-short rd word e)) (one (I Addi rd 0 (cast_signed w32 word)) (rd_in, omega arith, short_immediate word e))
+load_spelled rd word false e rd_in = subst (λ is. (own : List ℕ) × Spell is own) (sym (load_of-long rd word e)) (lui_addi_spelled rd word rd_in)
+
+reached_branch : (offset : ℤ) → is_reached 13 offset ≡ true → IsBranchOffset offset
+reached_branch offset e = let p = and_true _ _ e in (within 13 offset p.0, even offset p.1)
+
+reached_jump : (offset : ℤ) → is_reached 21 offset ≡ true → IsJumpOffset offset
+reached_jump offset e = let p = and_true _ _ e in (within 21 offset p.0, even offset p.1)
+
+-- the tests of a use of labels
+abbrev pub by_uses : Bool → Bool → Option AsmKind
+by_uses reach undefined = if reach then Some OutOfRange else (if undefined then Some UndefinedLabel else None)
+
+uses_pass : (reach undefined : Bool) → by_uses reach undefined ≡ None → (reach ≡ false) × (undefined ≡ false)
+uses_pass true undefined h = cc
+uses_pass false true h = cc
+uses_pass false false h = (refl, refl)
+
+code_of : (o : Option ℕ) (code : ℕ → List Instr) → (is_none o || false) ≡ false → ((v : ℕ) → o ≡ Some v → (own : List ℕ) × Spell (code v) own) → (own : List ℕ) × IsSomeAnd o (λ v. Spell (code v) own)
+code_of None code h f = cc
+code_of (Some v) code h f = f v refl
+
+not_false : (b : Bool) → not b ≡ false → b ≡ true
+not_false true h = refl
+not_false false h = cc
+
+jump_of : (o : Option ℕ) (width a : ℕ) (code : ℕ → Instr) → by_uses (option_map_or (λ v. not (is_reached width (offset_to a v))) o false) (is_none o || false) ≡ None
+    → ((v : ℕ) → is_reached width (offset_to a v) ≡ true → IsEncodable (code v)) → (own : List ℕ) × IsSomeAnd o (λ v. Spell (code v ∷ []) own)
+jump_of None width a code h f = cc
+jump_of (Some v) width a code h f = one (code v) (f v (not_false (is_reached width (offset_to a v)) (uses_pass (not (is_reached width (offset_to a v))) false h).0))
+
+some_of : (o : Option ℕ) → (is_none o || false) ≡ false → IsSome o
+some_of None h = cc
+some_of (Some v) h = refl
+
+statement_bytes : (s : Symbols) (a : ℕ) (statement : Statement) → IsInRange statement → fault_of_use s a statement ≡ None → (own : List ℕ) × HasBytes s a statement own
+statement_bytes s a (instruction i) r h = one i r
+statement_bytes s a (branch op rs1 rs2 target) r h =
+    jump_of (value_of s target) 13 a (λ v. Branch op rs1 rs2 (offset_to a v)) h (λ v e. (r.0, r.1, reached_branch (offset_to a v) e))
+statement_bytes s a (jump_and_link rd target) r h =
+    jump_of (value_of s target) 21 a (λ v. Jal rd (offset_to a v)) h (λ v e. (r.0, reached_jump (offset_to a v) e))
+statement_bytes s a (load_immediate rd n) r h = load_spelled rd (modulo (2 ^ 32) n) (is_short (modulo (2 ^ 32) n)) refl r.0
+statement_bytes s a (load_address rd target) r h =
+    code_of (value_of s target) (lui_addi rd) (uses_pass false _ h).1 (λ v e. lui_addi_spelled rd v r.0)
+statement_bytes s a (words targets) r h = (flat_map (word_bytes s) targets, ((uses_pass false _ h).1, refl))
+statement_bytes s a (halves ns) r h = (flat_map (λ n. to_le_bytes w16 (modulo (2 ^ 16) n)) ns, refl)
+statement_bytes s a (bytes ns) r h = (map (modulo (2 ^ 8)) ns, refl)
+statement_bytes s a (ascii text) r h = (text, refl)
+statement_bytes s a (space n) r h = (replicate n 0, refl)
+statement_bytes s a (align n) r h = (replicate (size_of (align n) a) 0, refl)
+statement_bytes s a (entry target) r h = ([], (some_of (value_of s target) (uses_pass false _ h).1, refl))
+
+line_bytes : (s : Symbols) (a : ℕ) (statement : Option Statement) → IfSome statement IsInRange → option_and_then (fault_of_use s a) statement ≡ None → (own : List ℕ) × LineHasBytes s a statement own
+line_bytes s a None r h = ([], refl)
+line_bytes s a (Some statement) r h = statement_bytes s a statement r h
+
+fault_parts : (number : ℕ) (fault : Option AsmKind) (others : Option (ℕ × AsmKind)) → option_or (option_map (λ kind. (number, kind)) fault) others ≡ None → (fault ≡ None) × (others ≡ None)
+fault_parts number None others h = (refl, h)
+fault_parts number (Some kind) others h = cc
+
+-- lines, and their bytes from an address on
+record Laid (s : Symbols) (a : ℕ) (texts : List (List ℕ)) : Type 0 where
+  lines : List Line
+  bytes : List ℕ
+  are_lines : map line_of texts ≡ map Ok lines
+  laid : AreLaid s a lines bytes
+
+module _ (ranges : (text : List ℕ) (line : Line) → line_of text ≡ Ok line → IfSome line.statement IsInRange) where
+  lay : (s : Symbols) (n a : ℕ) (texts : List (List ℕ)) → AreSound s a texts → uses_from s n a texts ≡ None → Laid s a texts
+  lay s n a [] sound uses = record { lines = []; bytes = []; are_lines = refl; laid = refl }
+  lay s n a (text ∷ rest) sound uses =
+      let p = ok_parts (line_of text) (λ l. All (λ label. s label ≡ Some a) l.labels × (end_of_statement a l.statement ≤ 2 ^ 24)) sound.0 in
+      let says : statement_of (line_of text) ≡ p.0.statement = ap statement_of p.1 in
+      let faults = fault_parts n (option_and_then (fault_of_use s a) (statement_of (line_of text))) (uses_from s (n + 1) (end_from a (line_of text)) rest) uses in
+      let none : option_and_then (fault_of_use s a) p.0.statement ≡ None = sym (ap (option_and_then (fault_of_use s a)) says) ∙ faults.0 in
+      let own = line_bytes s a p.0.statement (ranges text p.0 p.1) none in
+      let ends : end_from a (line_of text) ≡ a + length own.0 = ap (end_of_statement a) says ∙ sym (length-line s a p.0.statement own.0 own.1) in
+      let more = lay s (n + 1) (end_from a (line_of text)) rest sound.1 faults.1 in
+      record {
+        lines = p.0 ∷ more.lines;
+        bytes = own.0 ++ more.bytes;
+        are_lines = (λ i. p.1 i ∷ more.are_lines i);
+        laid = (own.0, more.bytes, refl, p.2.0, own.1, subst (λ e. AreLaid s e more.lines more.bytes) ends more.laid);
+      }
+
+  pub some_image : (text : List ℕ) → text_fault text ≡ None → (image : Image) × IsImageOfText text image
+  unfolding text_fault
+  some_image text h =
+      let s = symbols_of (places_of text) in
+      let parts = none_parts (first_fault fault_alone (places_of text)) (first_fault (fault_of_uses s) (places_of text)) h in
+      let l = lay s 1 0 (lines_of text) (sound_text s text parts.0 (λ q. refl)) (sym (uses-placed s 1 0 (λ _. false) (lines_of text)) ∙ parts.1) in
+      let image : Image = record { entry = last_entry s 0 l.lines; segments = segments_of l.bytes } in
+      (image, image-laid text s l.bytes image (λ q. refl) (record { lines = l.lines; are_lines = l.are_lines; laid = l.laid; entry_is = refl }) refl)
+    where
+      none_parts : (first second : Option (ℕ × AsmKind)) → option_or first second ≡ None → (first ≡ None) × (second ≡ None)
+      none_parts None second e = (refl, e)
+      none_parts (Some fault) second e = cc

@@ -1,0 +1,5 @@
+use Rattle.rv_asm.proofs.OneImage.{one_image}
+use Rattle.rv_asm.proofs.laws.a_text_has_at_most_one_image.Goals as goal
+
+pub returns : goal.returns
+returns c = one_image

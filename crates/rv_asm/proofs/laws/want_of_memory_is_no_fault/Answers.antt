@@ -1,0 +1,6 @@
+use Rattle.asm_syntax.proofs.Facts as Facts
+use Rattle.rv_asm.proofs.NeverMemory.{never_memory}
+use Rattle.rv_asm.proofs.laws.want_of_memory_is_no_fault.Goals as goal
+
+pub returns : goal.returns
+returns c = never_memory Facts.never_memory

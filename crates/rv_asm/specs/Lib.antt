@@ -1,0 +1,9 @@
+pub mod ErrorTexts
+pub mod Faults
+pub mod Labels
+pub mod Layout
+pub mod Places
+pub mod Symbols
+pub mod Targets
+pub mod Text
+pub mod Writing

@@ -40,9 +40,13 @@ pub record IsWithinLimits (r : Requests) : Type 0 where
 abbrev pub are_too_many : Requests → ℕ → Bool
 are_too_many r n = nat_lt max_bytes (total_bytes r + n)
 
--- whether one request more would pass a limit
+-- whether one request more, of n bytes, would pass a limit
+abbrev pub is_full_for : Requests → ℕ → Bool
+is_full_for r n = nat_le max_requests (length r.requests) || are_too_many r n
+
+-- whether this request would
 abbrev pub is_too_much : Requests → Asked → Bool
-is_too_much r q = nat_le max_requests (length r.requests) || are_too_many r (size_of q)
+is_too_much r q = is_full_for r (size_of q)
 
 -- the number n is the sum of its bytes, and no limit is passed
 pub record IsCounted (r : Requests) (n : ℕ) : Type 0 where

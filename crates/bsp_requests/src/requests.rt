@@ -1,6 +1,6 @@
 ghost use Rattle.std.specs.Prelude.{◌≡◌, ◌≤◌, ◌↔◌, length, IsTrue, IsErrOf, OnOk, OnErr, option_map, option_copied, slice_get};
 ghost use Rattle.bsp_requests.specs.Request.{asked, asks_put, asks_get, asks_send};
-ghost use Rattle.bsp_requests.specs.Requests.{no_requests, with_request, with_output, total_bytes, max_requests, max_bytes, are_too_many, is_too_much};
+ghost use Rattle.bsp_requests.specs.Requests.{no_requests, with_request, with_output, total_bytes, max_requests, max_bytes, are_too_many, is_full_for, is_too_much};
 ghost use Rattle.bsp_requests.specs.declared.requests.AddError.TheVariants.{NoMemory};
 
 use crate::request::{Get, Outgoing, Put, Request};
@@ -135,6 +135,13 @@ impl<A: Allocator> Requests<A> {
         self.bytes
     }
 
+    /// Whether one request more, of `size` bytes, would be too much.
+    pub fn is_full_for(&self, size: u64) -> bool
+        ensures { result ≡ is_full_for self.now size }
+    {
+        self.len() >= MAX_REQUESTS || size > MAX_BYTES - self.bytes
+    }
+
     pub fn output(&self) -> &[u8]
         ensures { result.now ≡ self.now.output }
     {
@@ -156,7 +163,7 @@ impl<A: Allocator> Requests<A> {
         ensures err { OnErr result (self.new ≡ self.old) }
     {
         let size = request.size();
-        if self.len() >= MAX_REQUESTS || size > MAX_BYTES - self.bytes {
+        if self.is_full_for(size) {
             return Err(AddError::TooMuch);
         }
         self.requests.push(request)?;

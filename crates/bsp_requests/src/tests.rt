@@ -124,6 +124,7 @@ fn the_65_537th_request_is_too_much(rt: HostRuntime) -> Result<(), Fail> {
     for _ in 0..65_536 {
         requests.add_get(get(0))?;
     }
+    assert!(rt; requests.is_full_for(0));
     assert_eq!(rt; requests.add_get(get(0)), Err(AddError::TooMuch));
     assert_eq!(rt; requests.add_put(put(alloc, b"")?), Err(AddError::TooMuch));
     assert_eq!(rt;
@@ -146,6 +147,10 @@ fn the_bytes_of_all_kinds_are_one_sum(rt: HostRuntime) -> Result<(), Fail> {
     assert_eq!(rt; requests.add_output(b"678"), Err(AddError::TooMuch));
     requests.add_output(b"67")?;
     assert_eq!(rt; requests.bytes(), 16_777_216);
+    assert_eq!(rt;
+        (requests.is_full_for(0), requests.is_full_for(1)),
+        (false, true)
+    );
     assert_eq!(rt; requests.add_output(b"8"), Err(AddError::TooMuch));
     assert_eq!(rt; requests.add_put(put(alloc, b"8")?), Err(AddError::TooMuch));
     assert_eq!(rt;

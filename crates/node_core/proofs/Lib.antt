@@ -1,3 +1,9 @@
+pub mod Bytes
+pub mod Calls
+pub mod Communications
+pub mod Effects
+pub mod Harts
+pub mod Room
 pub mod Signed
 pub mod Sound
 pub mod Steps

@@ -1,17 +1,45 @@
--- The environment calls: what an ECALL does, by the number in a7 (x17), with operands from a0 (x10) on.
--- `end`, `nprocs`, `pid` and `abort` are after bsp_end, bsp_nprocs, bsp_pid and bsp_abort of BSPlib (Hill and others 1998);
--- but `abort` stops its own node alone. Output, input, the numbers, the limits and the faults are own rules: a call
--- tests its operands in the order of the nested tests below, before it changes anything.
-use Rattle.std.specs.Prelude.{◌≡◌, ℕ, ◌+◌, ◌-◌, ◌^◌, ◌≤◌, ◌==◌, ◌⊎◌, true, List, ◌++◌, length, min, nat_le, take, drop, if◌then◌else◌}
-use Rattle.node_memory.specs.Bytes.{fits, bytes_at, with_bytes}
+-- The environment calls: what an ECALL does. Tables say of each call its number (`numbered_calls`), its checks in their
+-- order (`checks`), what it does where they all pass (`performed`), and whether it asks for memory (`takes_memory`). The
+-- number stands in a7 (x17), and operands from a0 (x10) on.
+-- Calls are after BSPlib's functions of their names (Hill and others 1998). Own rules: `write` and `read`; numbers, checks
+-- and limits; that `hpput` and `hpget` are `put` and `get`, and copy their bytes at the call; that `abort` stops its own node
+-- alone; that pc goes on at `end`, `sync` and `abort` too; that of two stores of one call that overlap the later named lands
+-- over the earlier.
+use Rattle.std.specs.Prelude.{◌≡◌, ℕ, ◌+◌, ◌-◌, ◌^◌, ◌==◌, Bool, true, false, not, List, [], ◌∷◌, length, min, nat_lt, nat_le, take, drop, find, IsTrue, slice_get, Option, Some, None, is_some, unwrap_or, option_map, if◌then◌else◌}
+use Rattle.std.specs.Int.{w32, to_le_bytes}
+use Rattle.node_memory.specs.Bytes.{fits, bytes_at, with_bytes, word_at}
+use Rattle.bsp_slots.specs.declared.area.Area.{Area}
+use Rattle.bsp_slots.specs.Area.{last_position}
+use Rattle.bsp_slots.specs.Registrations.{next_list, is_full, pushed, popped}
+use Rattle.bsp_requests.specs.Inbox.{payload_bytes}
+use Rattle.bsp_requests.specs.Message.{Message}
+use Rattle.bsp_requests.specs.Request.{Asked, asks_put, asks_get, asks_send}
+use Rattle.bsp_requests.specs.Requests.{with_request, with_output, are_too_many, is_full_for}
+use Rattle.node_core.specs.declared.call.Call.{Call}
+use Rattle.node_core.specs.declared.call.Call.TheVariants.{End, Nprocs, Pid, Sync, PushReg, PopReg, Put, Get, Hpput, Hpget, SetTagsize, Send, Qsize, GetTag, Move, Abort, Write, Read}
 use Rattle.node_core.specs.declared.state.State.{State}
-use Rattle.node_core.specs.declared.state.State.TheVariants.{Running, Ended, Aborted}
-use Rattle.node_core.specs.declared.state.Fault.TheVariants.{UnknownCall, RangeOutside, TooMuch}
-use Rattle.node_core.specs.Hart.{Hart, After, reg, with_reg, advanced, goes_on, faults}
+use Rattle.node_core.specs.declared.state.State.TheVariants.{Running, Synced, Ended, Aborted}
+use Rattle.node_core.specs.declared.state.Fault.{Fault}
+use Rattle.node_core.specs.declared.state.Fault.TheVariants.{UnknownCall, BadRank, RangeOutside, NotRegistered, TooMuch, BadSize}
+use Rattle.node_core.specs.Communication.{max_tag_size}
+use Rattle.node_core.specs.Hart.{Hart, After, reg, with_reg, with_memory, with_registrations, with_requests, advanced, goes_on, faults}
 
--- the call's number, and its operands
-abbrev pub number_of : Hart → ℕ
-number_of h = reg h 17
+-- the calls with their numbers
+abbrev pub numbered_calls : List (ℕ × Call)
+numbered_calls =
+    (1, End) ∷ (2, Nprocs) ∷ (3, Pid) ∷ (4, Sync)
+    ∷ (5, PushReg) ∷ (6, PopReg)
+    ∷ (7, Put) ∷ (8, Get) ∷ (9, Hpput) ∷ (10, Hpget)
+    ∷ (11, SetTagsize) ∷ (12, Send) ∷ (13, Qsize) ∷ (14, GetTag) ∷ (15, Move)
+    ∷ (16, Abort) ∷ (17, Write) ∷ (18, Read) ∷ []
+
+-- the call of a number
+abbrev pub call_of : ℕ → Option Call
+call_of n = option_map (λ row. row.1) (find (λ row. row.0 == n) numbered_calls)
+
+-- the call that an ECALL makes, and its operands
+abbrev pub named_call : Hart → Option Call
+named_call h = call_of (reg h 17)
 
 abbrev pub a0 : Hart → ℕ
 a0 h = reg h 10
@@ -19,53 +47,272 @@ a0 h = reg h 10
 abbrev pub a1 : Hart → ℕ
 a1 h = reg h 11
 
--- a call that answers a value in a0
-abbrev pub answers : ℕ → Hart → After
-answers value h = goes_on (advanced (with_reg 10 value h))
+abbrev pub a2 : Hart → ℕ
+a2 h = reg h 12
 
--- the bytes that count for a superstep's limit
-abbrev pub bytes_made : Hart → ℕ
-bytes_made h = length h.output
+abbrev pub a3 : Hart → ℕ
+a3 h = reg h 13
 
--- n bytes from `addr` on go to the end of the output, and the node is in `state` then
-abbrev pub output_effect : State → ℕ → ℕ → Hart → After
-output_effect state addr n h =
-    if fits (length h.memory) addr n then
-    (if nat_le (bytes_made h + n) (2 ^ 24) then
-    record { hart = advanced (record h { output = h.output ++ bytes_at h.memory addr n }); state = state }
-    else faults TooMuch h)
-    else faults RangeOutside h
+abbrev pub a4 : Hart → ℕ
+a4 h = reg h 14
+
+-- a test of a call, and the fault of the call where it does not pass
+pub record Check : Type 0 where
+  pub passes : Bool
+  pub fault : Fault
+
+-- none of the checks has a fault
+abbrev pub HaveNoFault : List Check → Type 0
+HaveNoFault [] = Unit {0}
+HaveNoFault (check ∷ rest) = IsTrue check.passes × HaveNoFault rest
+
+-- the fault of the first check that does not pass, or else the effect
+abbrev pub checked : List Check → Hart → After → After
+checked [] h effect = effect
+checked (check ∷ rest) h effect = if check.passes then checked rest h effect else faults check.fault h
+
+-- n bytes from `addr` on lie in the memory
+abbrev pub range : ℕ → ℕ → Hart → Check
+range addr n h = record { passes = fits (length h.memory) addr n; fault = RangeOutside }
+
+-- a node has this rank
+abbrev pub ranked : ℕ → Hart → Check
+ranked pid h = record { passes = nat_lt pid h.nprocs; fault = BadRank }
+
+-- an area of this address stands in a list of registered ones
+abbrev pub registered : ℕ → List Area → Check
+registered addr areas = record { passes = is_some (last_position areas addr); fault = NotRegistered }
+
+-- one push more, a request of n bytes, or n bytes of output keep to the limits of a superstep
+abbrev pub room_for_push : Hart → Check
+room_for_push h = record { passes = not (is_full h.communication.registrations); fault = TooMuch }
+
+abbrev pub room_for_request : ℕ → Hart → Check
+room_for_request n h = record { passes = not (is_full_for h.communication.requests n); fault = TooMuch }
+
+abbrev pub room_for_output : ℕ → Hart → Check
+room_for_output n h = record { passes = not (are_too_many h.communication.requests n); fault = TooMuch }
+
+-- a number of bytes may be a tag's size
+abbrev pub tag_sized : ℕ → Check
+tag_sized n = record { passes = nat_le n max_tag_size; fault = BadSize }
+
+-- the first message of the queue
+abbrev pub first_message : Hart → Option Message
+first_message h = slice_get h.communication.queue 0
+
+-- how many bytes of a message a move of n takes: at most those of its payload
+abbrev pub moved : ℕ → Message → ℕ
+moved n m = min n (length m.payload)
 
 -- how many bytes a read of n takes: at most those of the input from the cursor on
 abbrev pub taken : List ℕ → ℕ → Hart → ℕ
 taken input n h = min n (length input - h.cursor)
 
+-- put(pid, src, dst, offset, n)
+abbrev pub put_checks : Hart → List Check
+put_checks h =
+    ranked (a0 h) h ∷ range (a1 h) (a4 h) h
+    ∷ registered (a2 h) h.communication.registrations.in_effect ∷ room_for_request (a4 h) h ∷ []
+
+-- get(pid, src, offset, dst, n)
+abbrev pub get_checks : Hart → List Check
+get_checks h =
+    ranked (a0 h) h ∷ range (a3 h) (a4 h) h
+    ∷ registered (a1 h) h.communication.registrations.in_effect ∷ room_for_request (a4 h) h ∷ []
+
+-- send(pid, tag, payload, n)
+abbrev pub send_checks : Hart → List Check
+send_checks h =
+    ranked (a0 h) h ∷ range (a1 h) h.communication.tag_size h ∷ range (a2 h) (a3 h) h
+    ∷ room_for_request (h.communication.tag_size + a3 h) h ∷ []
+
+-- get_tag(status, tag), with the first message, if there is one
+abbrev pub get_tag_checks : Option Message → Hart → List Check
+get_tag_checks None h = range (a0 h) 4 h ∷ []
+get_tag_checks (Some m) h = range (a0 h) 4 h ∷ range (a1 h) (length m.tag) h ∷ []
+
+-- move(addr, n), likewise
+abbrev pub move_checks : Option Message → Hart → List Check
+move_checks None h = []
+move_checks (Some m) h = range (a0 h) (moved (a1 h) m) h ∷ []
+
+-- abort(addr, n), write(addr, n)
+abbrev pub output_checks : Hart → List Check
+output_checks h = range (a0 h) (a1 h) h ∷ room_for_output (a1 h) h ∷ []
+
+-- a call's checks, in their order
+abbrev pub checks : Call → List ℕ → Hart → List Check
+checks End input h = []
+checks Nprocs input h = []
+checks Pid input h = []
+checks Sync input h = []
+-- push_reg(addr, size)
+checks PushReg input h = range (a0 h) (a1 h) h ∷ room_for_push h ∷ []
+-- pop_reg(addr)
+checks PopReg input h = registered (a0 h) (next_list h.communication.registrations) ∷ []
+checks Put input h = put_checks h
+checks Get input h = get_checks h
+checks Hpput input h = put_checks h
+checks Hpget input h = get_checks h
+-- set_tagsize(addr)
+checks SetTagsize input h = range (a0 h) 4 h ∷ tag_sized (word_at h.memory (a0 h)) ∷ []
+checks Send input h = send_checks h
+-- qsize(packets, bytes)
+checks Qsize input h = range (a0 h) 4 h ∷ range (a1 h) 4 h ∷ []
+checks GetTag input h = get_tag_checks (first_message h) h
+checks Move input h = move_checks (first_message h) h
+checks Abort input h = output_checks h
+checks Write input h = output_checks h
+-- read(addr, n)
+checks Read input h = range (a0 h) (taken input (a1 h) h) h ∷ []
+
+-- a call that answers a value in a0
+abbrev pub answers : ℕ → Hart → After
+answers value h = goes_on (advanced (with_reg 10 value h))
+
+-- the place of the area that an address names: that of the last one registered with it (0 where none is, which a check
+-- keeps out)
+abbrev pub place : List Area → ℕ → ℕ
+place areas addr = unwrap_or (last_position areas addr) 0
+
+-- a call that makes a request, issued after those before it
+abbrev pub issues : Asked → Hart → After
+issues request h = goes_on (advanced (with_requests (with_request h.communication.requests request) h))
+
+-- a put of the n bytes at `src`, as they are at the call, to the rank's area that `dst` names
+abbrev pub put_effect : Hart → After
+put_effect h =
+    issues (asks_put (record {
+      target = a0 h;
+      slot = place h.communication.registrations.in_effect (a2 h);
+      offset = a3 h;
+      bytes = bytes_at h.memory (a1 h) (a4 h);
+    })) h
+
+-- a get of n bytes of the rank's area that `src` names, to `dst`
+abbrev pub get_effect : Hart → After
+get_effect h =
+    issues (asks_get (record {
+      target = a0 h;
+      slot = place h.communication.registrations.in_effect (a1 h);
+      offset = a2 h;
+      dst = a3 h;
+      len = a4 h;
+    })) h
+
+-- a message of the tag and the n bytes of payload, as they are at the call
+abbrev pub send_effect : Hart → After
+send_effect h =
+    issues (asks_send (record {
+      target = a0 h;
+      tag = bytes_at h.memory (a1 h) h.communication.tag_size;
+      payload = bytes_at h.memory (a2 h) (a3 h);
+    })) h
+
+-- a memory with a word at `addr`
+abbrev pub with_word : List ℕ → ℕ → ℕ → List ℕ
+with_word m addr word = with_bytes m addr (to_le_bytes w32 word)
+
+-- the word at `addr` is the next tag size, so that the last call of a superstep counts; the size in effect takes its place,
+-- at a second call too (own rule)
+abbrev pub set_tagsize_effect : Hart → After
+set_tagsize_effect h = goes_on (advanced (record h {
+  memory = with_word h.memory (a0 h) h.communication.tag_size;
+  communication = record h.communication { next_tag_size = word_at h.memory (a0 h) };
+}))
+
+-- the number of messages in the queue, and then, over it, the sum of their payloads' lengths, or 2 ^ 32 - 1 where it is
+-- greater (own rule)
+abbrev pub qsize_effect : Hart → After
+qsize_effect h =
+    let packets = with_word h.memory (a0 h) (length h.communication.queue) in
+    goes_on (advanced (with_memory (with_word packets (a1 h) (min (payload_bytes h.communication.queue) (2 ^ 32 - 1))) h))
+
+-- the length of the first message's payload, and then, over it, its tag; all ones where the queue is empty
+abbrev pub get_tag_effect : Option Message → Hart → After
+get_tag_effect None h = goes_on (advanced (with_memory (with_word h.memory (a0 h) (2 ^ 32 - 1)) h))
+get_tag_effect (Some m) h = goes_on (advanced (with_memory (with_bytes (with_word h.memory (a0 h) (length m.payload)) (a1 h) m.tag) h))
+
+-- the first k bytes of the first message's payload, and the message leaves the queue
+abbrev pub move_effect : Option Message → Hart → After
+move_effect None h = goes_on (advanced h)
+move_effect (Some m) h = goes_on (advanced (record h {
+  memory = with_bytes h.memory (a0 h) (take (moved (a1 h) m) m.payload);
+  communication = record h.communication { queue = drop 1 h.communication.queue };
+}))
+
+-- n bytes from `addr` on go to the end of the output, and the node is in `state` then
+abbrev pub output_effect : State → Hart → After
+output_effect state h = record {
+  hart = advanced (with_requests (with_output h.communication.requests (bytes_at h.memory (a0 h) (a1 h))) h);
+  state = state;
+}
+
 -- the next k bytes of the input go to `addr`, and k is the call's answer
-abbrev pub read_effect : List ℕ → ℕ → ℕ → Hart → After
-read_effect input addr k h =
-    if fits (length h.memory) addr k then
-    answers k (record h { memory = with_bytes h.memory addr (take k (drop h.cursor input)); cursor = h.cursor + k })
-    else faults RangeOutside h
+abbrev pub read_effect : List ℕ → ℕ → Hart → After
+read_effect input k h =
+    answers k (record h { memory = with_bytes h.memory (a0 h) (take k (drop h.cursor input)); cursor = h.cursor + k })
 
--- the effect of a call; the numbers are this machine's
-abbrev pub call_effect : List ℕ → Hart → After
-call_effect input h =
-    -- end()
-    if number_of h == 1 then record { hart = advanced h; state = Ended }
-    -- nprocs()
-    else if number_of h == 2 then answers h.nprocs h
-    -- pid()
-    else if number_of h == 3 then answers h.rank h
-    -- abort(addr, n)
-    else if number_of h == 16 then output_effect Aborted (a0 h) (a1 h) h
-    -- write(addr, n)
-    else if number_of h == 17 then output_effect Running (a0 h) (a1 h) h
-    -- read(addr, n)
-    else if number_of h == 18 then read_effect input (a0 h) (taken input (a1 h) h) h
-    else faults UnknownCall h
+-- what a call does where its checks pass
+abbrev pub performed : Call → List ℕ → Hart → After
+performed End input h = record { hart = advanced h; state = Ended }
+performed Nprocs input h = answers h.nprocs h
+performed Pid input h = answers h.rank h
+performed Sync input h = record { hart = advanced h; state = Synced }
+performed PushReg input h = goes_on (advanced (with_registrations (pushed h.communication.registrations (record { addr = a0 h; size = a1 h })) h))
+performed PopReg input h =
+    let r = h.communication.registrations in
+    goes_on (advanced (with_registrations (popped r (a0 h) (place (next_list r) (a0 h))) h))
+performed Put input h = put_effect h
+performed Get input h = get_effect h
+performed Hpput input h = put_effect h
+performed Hpget input h = get_effect h
+performed SetTagsize input h = set_tagsize_effect h
+performed Send input h = send_effect h
+performed Qsize input h = qsize_effect h
+performed GetTag input h = get_tag_effect (first_message h) h
+performed Move input h = move_effect (first_message h) h
+performed Abort input h = output_effect Aborted h
+performed Write input h = output_effect Running h
+performed Read input h = read_effect input (taken input (a1 h) h) h
 
--- a call of abort or write that has no fault
-pub record AppendsOutput (h : Hart) : Type 0 where
-  pub named : (number_of h ≡ 16) ⊎ (number_of h ≡ 17)
-  pub in_memory : fits (length h.memory) (a0 h) (a1 h) ≡ true
-  pub in_limit : bytes_made h + a1 h ≤ 2 ^ 24
+-- the effect of a call
+abbrev pub call_effect : Call → List ℕ → Hart → After
+call_effect call input h = checked (checks call input h) h (performed call input h)
+
+-- the effect of an ECALL
+abbrev pub ecall_effect : Option Call → List ℕ → Hart → After
+ecall_effect None input h = faults UnknownCall h
+ecall_effect (Some call) input h = call_effect call input h
+
+-- a call that may ask for memory: to note a push, a pop or a request, or for bytes that it copies, even if there are none
+abbrev pub takes_memory : Call → Bool
+takes_memory End = false
+takes_memory Nprocs = false
+takes_memory Pid = false
+takes_memory Sync = false
+takes_memory PushReg = true
+takes_memory PopReg = true
+takes_memory Put = true
+takes_memory Get = true
+takes_memory Hpput = true
+takes_memory Hpget = true
+takes_memory SetTagsize = false
+takes_memory Send = true
+takes_memory Qsize = false
+takes_memory GetTag = false
+takes_memory Move = false
+takes_memory Abort = true
+takes_memory Write = true
+takes_memory Read = false
+
+-- a call that may be refused memory: it may ask for some, and has no fault
+pub record MayRefuseCall (call : Call) (input : List ℕ) (h : Hart) : Type 0 where
+  pub may_ask : takes_memory call ≡ true
+  pub no_fault : HaveNoFault (checks call input h)
+
+-- likewise an ECALL
+abbrev pub MayRefuseEcall : Option Call → List ℕ → Hart → Type 0
+MayRefuseEcall None input h = ⊥
+MayRefuseEcall (Some call) input h = MayRefuseCall call input h

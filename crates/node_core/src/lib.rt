@@ -1,9 +1,10 @@
 //! A node of the machine: a hart of RV32IM with a memory of its own, which makes environment calls by ECALL.
 //!
-//! The model of a [`Node`] is one record, a `NodeState`: its hart (rank, number of nodes, registers, pc, memory, output
-//! in this superstep, place in the input), its state, its ticks and their limit. [`Node::step`] is `local_step` of that
-//! record, and [`Node::run`] is `local_steps`, so many steps one after another. The input is the same text at each
-//! step, and no step looks at another node.
+//! The model of a [`Node`] is one record, a `NodeState`, and whether room is made for the turn of its registrations. The
+//! record has the hart (rank, number of nodes, registers, pc, memory, place in the input, and what the node communicates:
+//! registrations, requests with the output of this superstep, queue of messages, sizes of tags), the state, the ticks and
+//! their limit. [`Node::step`] is `local_step` of that record, and [`Node::run`] is `local_steps`, so many steps one after
+//! another. The input is the same text at each step, and no step looks at another node or at the room.
 //!
 //! What callers may rely on:
 //!
@@ -11,48 +12,66 @@
 //!   it ends in the first fault of this order: `Misaligned` where pc is no multiple of four, `FetchOutside` where the
 //!   four bytes at pc do not lie in the memory, `IllegalInstruction` where no instruction has that word, and then the
 //!   instruction's own.
-//! - A fault leaves registers, pc, memory, output and the place in the input as they were: only state and ticks differ.
-//!   A jump to no multiple of four is such a fault, and does not link. Loads and stores work at any address, with the
-//!   least significant byte first.
+//! - A fault leaves the hart as it was, pc too: only state and ticks differ. A jump to no multiple of four is such a
+//!   fault, and does not link. Loads and stores work at any address, with the least significant byte first.
 //! - A node that has made its last tick and still runs is [`Exhausted`](State::Exhausted); one that stops by that very
 //!   step keeps the state in which it stopped.
 //! - `step` and `run` answer `Ok` for a node that does not run, and change nothing.
-//! - Memory is refused at the calls that append to the output alone, after all their checks. The step that needed it has
-//!   then changed nothing, ticks included, and can be made again; a run keeps the steps that it made before.
-//! - [`laws`] has what holds of every node: each step leaves it sound, and as many steps as it has ticks left end its
-//!   local part of the superstep.
+//! - Memory is refused at the calls marked (m) alone, after all their checks. The step that needed it has then changed
+//!   nothing, ticks included, and can be made again; a run keeps the steps that it made before.
+//! - Room for the turn of the registrations, once made, stands until a step pushes or pops.
+//! - [`laws`] has what holds of every node: steps leave it sound, keep its rank, the number of nodes, the size of its
+//!   memory and its limit, and add up; and as many steps as it has ticks left end its local part of the superstep.
 //!
 //! # Environment calls
 //!
-//! An ECALL makes the call whose number is in a7 (x17), with operands in a0 and a1 (x10, x11). A call tests its operands
-//! in the order of the table before it changes anything; the first test that fails is the fault. Then pc goes on by 4.
+//! An ECALL makes the [`Call`] whose number is in a7 (x17), with operands in a0 to a4 (x10 to x14). A call makes its
+//! checks in the order of the table before it changes anything; the first that fails is the fault. Then pc goes on by 4.
 //!
 //! | a7 | Call | Checks | Effect |
 //! |---|---|---|---|
 //! | 1 | `end()` | | the node is `Ended` |
 //! | 2 | `nprocs()` | | a0 is the number of nodes |
 //! | 3 | `pid()` | | a0 is the rank |
-//! | 16 | `abort(addr, n)` | range, room | the n bytes at addr go to the end of the output; the node is `Aborted` |
-//! | 17 | `write(addr, n)` | range, room | the n bytes at addr go to the end of the output |
+//! | 4 | `sync()` | | the node is `Synced` |
+//! | 5 | `push_reg(addr, size)` (m) | range, room | registers the size bytes at addr, from the next superstep on |
+//! | 6 | `pop_reg(addr)` (m) | registered for the next superstep | ends the last registration of addr there |
+//! | 7, 9 | `put(pid, src, dst, offset, n)`, `hpput` (m) | rank, range of src, dst registered, room | copies the n bytes at src into a put |
+//! | 8, 10 | `get(pid, src, offset, dst, n)`, `hpget` (m) | rank, range of dst, src registered, room | makes a get |
+//! | 11 | `set_tagsize(addr)` | range of 4, size | the word at addr is the next tag size; the size in effect takes its place |
+//! | 12 | `send(pid, tag, payload, n)` (m) | rank, range of the tag, range of the payload, room | copies both into a message |
+//! | 13 | `qsize(packets, bytes)` | range of 4, range of 4 | stores the number of messages, then the sum of their payloads' lengths |
+//! | 14 | `get_tag(status, tag)` | range of 4; with a message, range of its tag | stores the first payload's length, then the tag; 2^32 - 1 where there is none |
+//! | 15 | `move(addr, n)` | with a message, range of k | copies the payload's first k bytes and removes the message |
+//! | 16 | `abort(addr, n)` (m) | range, room | the n bytes at addr go to the end of the output; the node is `Aborted` |
+//! | 17 | `write(addr, n)` (m) | range, room | the n bytes at addr go to the end of the output |
 //! | 18 | `read(addr, n)` | range of k | the next k bytes of the input go to addr; a0 is k |
 //!
-//! - range: the bytes at addr lie in the memory, else `RangeOutside`. A range of no bytes may begin at its end.
-//! - room: the output has at most 2^24 bytes with them, else `TooMuch`.
-//! - k is n, or the number of bytes that the input has left where that is less: 0 where the cursor is past its end.
+//! - range: the bytes lie in the memory, else `RangeOutside`. A range of no bytes may begin at its end.
+//! - rank: there is a node of that rank, else `BadRank`.
+//! - registered: an area is registered with that address, for `put` and `get` in the list in effect, else
+//!   `NotRegistered`. The last one counts.
+//! - room: the limits of the superstep are kept, else `TooMuch`: those of [`bsp_slots`] for a push, those of
+//!   [`bsp_requests`] for requests and output.
+//! - size: at most 4,096, else `BadSize`. A tag has the size in effect, which a superstep keeps.
+//! - k is n, or what is left where that is less: of the first payload, or of the input, which has 0 bytes left where the
+//!   cursor is past its end.
 //!
-//! Any other number is `UnknownCall`.
+//! Any other number is `UnknownCall`. Where two stores of one call overlap, the later named lands over the earlier.
 //!
 //! Sources: The RISC-V Instruction Set Manual, Volume I: Unprivileged ISA, 20191213, chapters 2, 3 and 7, for the
-//! instructions; BSPlib (Hill and others, 1998) for `end`, `nprocs`, `pid` and `abort`, which here stops its own node
-//! alone; own rules for faults, ticks, output, input and the numbers of the calls.
+//! instructions; BSPlib (Hill and others, 1998) for the calls but `write` and `read`; `abort` stops its own node alone, and
+//! `hpput` and `hpget` are `put` and `get`. Own rules for faults, ticks, output, input, limits and the numbers of the calls.
 #![tactic(auto)]
 
 mod arithmetic;
+mod call;
 mod hart;
 pub mod laws;
 mod node;
 mod state;
 
+pub use call::Call;
 pub use node::Node;
 pub use state::{Fault, State};
 

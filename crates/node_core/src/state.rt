@@ -1,9 +1,6 @@
 //! The states of a node, and the faults that stop it.
 
 /// Why a node was stopped by its own program (own rules).
-///
-/// `BadRank`, `NotRegistered` and `BadSize` are faults of calls between nodes, which this crate does not have: no step
-/// answers them.
 #[derive(Clone, Copy, Debug, PartialEq, Eq)]
 pub enum Fault {
     /// The word at pc is that of no instruction.
@@ -37,7 +34,7 @@ pub enum Fault {
 pub enum State {
     /// Its next step executes the instruction at pc. A node in any other state makes no step.
     Running,
-    /// It waits for the end of the superstep. No step of this crate leads here.
+    /// It called `sync`, and waits for the end of the superstep.
     Synced,
     /// It called `end`.
     Ended,

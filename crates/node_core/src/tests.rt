@@ -94,6 +94,7 @@ fn a_node_starts_with_its_image(rt: HostRuntime) -> Result<(), Fail> {
         assert_eq!(rt; node.reg(n), want, "x{n}");
     }
     assert_eq!(rt; (node.output().len(), node.cursor()), (0, 0));
+    assert_eq!(rt; (node.tag_size(), node.next_tag_size()), (0, 0));
     let memory = node.memory();
     assert_eq!(rt; memory.size(), 0x2000);
     assert_eq!(rt; memory.load32(36), Some(0x0000_0073));
@@ -106,62 +107,6 @@ fn a_node_starts_with_its_image(rt: HostRuntime) -> Result<(), Fail> {
     ] {
         let made = Node::new(alloc, &image, 2, 3, size, 7);
         assert_eq!(rt; made.err(), Some(want), "{size} bytes");
-    }
-    Ok(())
-}
-
-#[test]
-fn three_ranks_print_their_digits(rt: HostRuntime) -> Result<(), Fail> {
-    let alloc = rt.alloc();
-    let image = image(&rt, alloc, 0, &PRINTS_ITS_RANK, 0, b"")?;
-    let digits: [&[u8]; 3] = [b"0", b"1", b"2"];
-    for (limit, state, ticks, pc) in [
-        (LIMIT, State::Ended, 10, 40),
-        (10, State::Ended, 10, 40),
-        (9, State::Exhausted, 9, 36),
-    ] {
-        for rank in 0..3u32 {
-            let mut node = Node::new(alloc, &image, rank, 3, MEMORY, limit)?;
-            node.run(b"", limit)?;
-            expect_stop(&rt, &node, state, ticks, pc);
-            assert_eq!(rt; node.output(), digits[rank as usize], "rank {rank}");
-            node.step(b"")?;
-            node.run(b"", limit)?;
-            expect_stop(&rt, &node, state, ticks, pc);
-        }
-    }
-    Ok(())
-}
-
-#[test]
-fn one_rank_faults_and_the_others_run_to_their_limit(rt: HostRuntime) -> Result<(), Fail> {
-    let alloc = rt.alloc();
-    // `pid()`; rank 1 goes to 40, where no instruction stands; the others `write(44, 1)`, and loop at 36.
-    let code = [
-        0x0030_0893, // addi x17,x0,3
-        0x0000_0073, // ecall
-        0x0010_0293, // addi x5,x0,1
-        0x0055_0E63, // beq x10,x5,40
-        0x0000_0537, // lui x10,0
-        0x02C5_0513, // addi x10,x10,44
-        0x0010_0593, // addi x11,x0,1
-        0x0110_0893, // addi x17,x0,17
-        0x0000_0073, // ecall
-        0x0000_006F, // jal x0,36
-        0xFFFF_FFFF,
-    ];
-    let image = image(&rt, alloc, 0, &code, 44, b"a")?;
-    for rank in 0..3u32 {
-        let mut node = Node::new(alloc, &image, rank, 3, MEMORY, 1_000)?;
-        node.run(b"", u64::MAX)?;
-        if rank == 1 {
-            let fault = State::Faulted(Fault::IllegalInstruction);
-            expect_stop(&rt, &node, fault, 5, 40);
-            assert_eq!(rt; node.output().len(), 0);
-        } else {
-            expect_stop(&rt, &node, State::Exhausted, 1_000, 36);
-            assert_eq!(rt; node.output(), b"a".as_slice());
-        }
     }
     Ok(())
 }
@@ -203,82 +148,9 @@ fn a_run_makes_no_more_steps_than_asked(rt: HostRuntime) -> Result<(), Fail> {
 }
 
 #[test]
-fn reads_go_on_where_the_last_one_ended(rt: HostRuntime) -> Result<(), Fail> {
-    // `read(0x1000, 2)`, `read(0x1002, 5)`, `read(0x1000, 1)`, `write(0x1000, 3)`, `end()`
-    let code = [
-        0x0000_1537, // lui x10,1
-        0x0020_0593, // addi x11,x0,2
-        0x0120_0893, // addi x17,x0,18
-        0x0000_0073, // ecall
-        0x0000_1537, // lui x10,1
-        0x0025_0513, // addi x10,x10,2
-        0x0050_0593, // addi x11,x0,5
-        0x0000_0073, // ecall
-        0x0000_1537, // lui x10,1
-        0x0010_0593, // addi x11,x0,1
-        0x0000_0073, // ecall
-        0x0000_1537, // lui x10,1
-        0x0030_0593, // addi x11,x0,3
-        0x0110_0893, // addi x17,x0,17
-        0x0000_0073, // ecall
-        0x0010_0893, // addi x17,x0,1
-        0x0000_0073, // ecall
-    ];
-    let mut node = node(&rt, rt.alloc(), &code)?;
-    for (steps, count, cursor) in [(4, 2, 2), (4, 1, 3), (3, 0, 3)] {
-        node.run(b"abc", steps)?;
-        assert_eq!(rt; (node.reg(10), node.cursor()), (count, cursor));
-    }
-    node.run(b"abc", 9)?;
-    expect_stop(&rt, &node, State::Ended, 17, 68);
-    assert_eq!(rt; node.output(), b"abc".as_slice());
-    Ok(())
-}
-
-#[test]
-fn a_read_is_at_fault_by_the_bytes_that_it_takes(rt: HostRuntime) -> Result<(), Fail> {
-    let outside = State::Faulted(Fault::RangeOutside);
-    // `read(addr, 5)`, the address being the end of the memory plus an immediate.
-    let mut code = [
-        0x0010_0537, // lui x10,0x100
-        0x0005_0513, // addi x10,x10,0
-        0x0050_0593, // addi x11,x0,5
-        0x0120_0893, // addi x17,x0,18
-        0x0000_0073, // ecall
-    ];
-    let (minus_5, minus_4, at_end, plus_1) = (0xFFB5_0513, 0xFFC5_0513, 0x0005_0513, 0x0015_0513);
-    let reads: [(u32, &[u8], State, usize); 6] = [
-        (minus_5, b"abcdef", State::Running, 5),
-        (minus_4, b"abcdef", outside, 0),
-        (minus_4, b"abcd", State::Running, 4),
-        (at_end, b"", State::Running, 0),
-        (at_end, b"a", outside, 0),
-        (plus_1, b"", outside, 0),
-    ];
-    for (addi, input, state, count) in reads {
-        code[1] = addi;
-        let mut node = node(&rt, rt.alloc(), &code)?;
-        node.run(input, 5)?;
-        assert_eq!(rt; (node.state(), node.cursor()), (state, count), "{input:?}");
-    }
-    Ok(())
-}
-
-#[test]
-fn an_abort_writes_and_stops(rt: HostRuntime) -> Result<(), Fail> {
-    // `abort(0x1000, 2)`
-    let code = [0x0000_1537, 0x0020_0593, 0x0100_0893, 0x0000_0073];
-    let mut node = node(&rt, rt.alloc(), &code)?;
-    node.run(b"", 9)?;
-    expect_stop(&rt, &node, State::Aborted, 4, 16);
-    assert_eq!(rt; node.output(), b"no".as_slice());
-    Ok(())
-}
-
-#[test]
 fn the_output_of_a_superstep_has_a_limit(rt: HostRuntime) -> Result<(), Fail> {
     let alloc = rt.alloc();
-    // `write(0, 0x1000000)`, `write(0, 1)`
+    // `write(0, 0x1000000)`, which is all that a superstep has room for, and `write(0, 1)`.
     let code = [
         0x0100_05B7, // lui x11,0x1000
         0x0110_0893, // addi x17,x0,17
@@ -288,17 +160,117 @@ fn the_output_of_a_superstep_has_a_limit(rt: HostRuntime) -> Result<(), Fail> {
     ];
     let image = image(&rt, alloc, 0, &code, 0, b"")?;
     let mut node = Node::new(alloc, &image, 0, 1, 0x100_0000, LIMIT)?;
-    node.run(b"", 3)?;
-    expect_stop(&rt, &node, State::Running, 3, 12);
-    assert_eq!(rt; node.output().len(), 0x100_0000);
-    assert_eq!(rt; node.output().first().copied(), Some(0xB7));
-    node.run(b"", 2)?;
+    node.run(b"", 9)?;
     expect_stop(&rt, &node, State::Faulted(Fault::TooMuch), 5, 16);
     assert_eq!(rt; node.output().len(), 0x100_0000);
+    Ok(())
+}
 
-    let mut node = Node::new(alloc, &image, 0, 1, 0x80_0000, LIMIT)?;
-    node.run(b"", 9)?;
-    expect_stop(&rt, &node, State::Faulted(Fault::RangeOutside), 3, 8);
-    assert_eq!(rt; node.output().len(), 0);
+// A call: its number and its operands.
+type Numbered = (u32, [u32; 5]);
+
+// An image that makes these calls. The operands of the first stand at 0x400.
+fn calls<A: Allocator + Copy>(
+    rt: &impl Abort,
+    alloc: A,
+    calls: &[Numbered],
+) -> Result<Image<A>, AllocError> {
+    let mut code = Vec::new(alloc);
+    let mut data = Vec::new(alloc);
+    let mut at = 0x400u32;
+    for (number, operands) in calls {
+        // x10 to x14, and x17
+        let registers = [10u32, 11, 12, 13, 14, 17];
+        let values = operands.iter().chain([number]);
+        for (register, value) in registers.iter().zip(values) {
+            // lw register,at(x0)
+            let load = 0x2003 | register.wrapping_shl(7) | at.wrapping_shl(20);
+            code.push(load)?;
+            data.extend_from_slice(&value.to_le_bytes())?;
+            at = at.wrapping_add(4);
+        }
+        code.push(0x0000_0073)?;
+    }
+    image(rt, alloc, 0, &code, 0x400, &data)
+}
+
+// Rank 0 of 3, at the start of these calls.
+fn caller<A: Allocator + Copy>(
+    rt: &impl Abort,
+    alloc: A,
+    list: &[Numbered],
+) -> Result<Node<A>, MemoryError> {
+    let image = calls(rt, alloc, list)?;
+    Node::new(alloc, &image, 0, 3, MEMORY, LIMIT)
+}
+
+// An area that is registered in this superstep is not there for a put.
+static EARLY_PUT: [Numbered; 2] = [(5, [0x2000, 4, 0, 0, 0]), (7, [0, 0x1000, 0x2000, 0, 4])];
+
+static POPS_TWICE: [Numbered; 3] = [
+    (5, [0x2000, 4, 0, 0, 0]),
+    (6, [0x2000, 0, 0, 0, 0]),
+    (6, [0x2000, 0, 0, 0, 0]),
+];
+
+// The size is the word at 0x410.
+static LONG_TAGS: [Numbered; 1] = [(11, [0x410, 0, 0, 0, 4_097])];
+
+static PUTS_TO_3: [Numbered; 2] = [
+    (11, [0x410, 0, 0, 0, 4_096]),
+    (7, [3, 0x1000, 0x2000, 0, 4]),
+];
+
+// One byte more than the memory has from address 1 on.
+static WRITES_OUTSIDE: [Numbered; 1] = [(17, [1, MEMORY, 0, 0, 0])];
+
+static SYNCS: [Numbered; 2] = [(4, [0; 5]), (1, [0; 5])];
+
+// A program of calls that stops, after so many ticks and at this pc.
+fn expect_calls(
+    rt: &impl Abort,
+    alloc: Global,
+    calls: &[Numbered],
+    state: State,
+    ticks: u64,
+    pc: u32,
+) -> Result<(), MemoryError> {
+    let mut node = caller(rt, alloc, calls)?;
+    node.run(b"", LIMIT)?;
+    expect_stop(rt, &node, state, ticks, pc);
+    Ok(())
+}
+
+#[test]
+fn calls_stop_a_program(rt: HostRuntime) -> Result<(), Fail> {
+    let alloc = rt.alloc();
+    let not_registered = State::Faulted(Fault::NotRegistered);
+    expect_calls(&rt, alloc, &EARLY_PUT, not_registered, 14, 52)?;
+    expect_calls(&rt, alloc, &POPS_TWICE, not_registered, 21, 80)?;
+    expect_calls(
+        &rt,
+        alloc,
+        &LONG_TAGS,
+        State::Faulted(Fault::BadSize),
+        7,
+        24,
+    )?;
+    expect_calls(
+        &rt,
+        alloc,
+        &PUTS_TO_3,
+        State::Faulted(Fault::BadRank),
+        14,
+        52,
+    )?;
+    expect_calls(
+        &rt,
+        alloc,
+        &WRITES_OUTSIDE,
+        State::Faulted(Fault::RangeOutside),
+        7,
+        24,
+    )?;
+    expect_calls(&rt, alloc, &SYNCS, State::Synced, 7, 28)?;
     Ok(())
 }

@@ -25,5 +25,5 @@ within read chunk count len most got some is limited fits =
 pub returns-in_err-extend_from_slice-clause-no_memory : goal.returns-in_err-extend_from_slice-clause-no_memory
 returns-in_err-extend_from_slice-clause-no_memory g c = λ refused.
     let w = within c.loop-input.input.items c.read_retrying.new.chunk c.in_ok-count.count (length c.loop-input.input.items) c.args.most
-        c.in_ok-count.ensures.bound.0 (omega arith) refl (search rules) (search rules) in
+    c.in_ok-count.ensures.bound.0 (omega arith) refl (search rules) (search rules) in
     (c.loop-input.input.items ++ take c.in_ok-count.count c.read_retrying.new.chunk, w.0, w.1, Consumes-trans _ _ _ _ _ c.loop-input.invariant.consumed c.in_ok-count.ensures.bytes.0)

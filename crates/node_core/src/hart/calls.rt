@@ -1,90 +1,123 @@
 //! The environment calls: an ECALL makes the one whose number is in a7 (x17), with operands from a0 (x10) on.
 //!
-//! `end`, `nprocs`, `pid` and `abort` are after BSPlib (Hill and others, 1998); the numbers, output and input are own
-//! rules.
+//! Here are the calls that concern the node alone. Each tests its operands in the order of its checks before it changes
+//! anything, and asks for memory only where all of them pass.
 
-ghost use Rattle.std.specs.Prelude.{◌≡◌, ◌+◌, ◌^◌, ◌≤◌, ◌++◌, length};
-ghost use Rattle.std.specs.Prelude.{true, IsTrue, IfOk, OnOk, OnErr};
+ghost use Rattle.std.specs.Prelude.{◌≡◌, [], IfOk, OnErr};
 
 use super::Hart;
+use crate::call::Call;
 use crate::state::{Fault, State};
+use bsp_requests::MAX_BYTES;
 use std::alloc::{AllocError, Allocator};
 
-/// The most bytes that a node may write, put, get and send in a superstep.
-const BYTES_PER_SUPERSTEP: usize = 1 << 24;
+/// The registers of a call: its operands, the first of which takes its answer, and its number.
+pub(super) const A0: u8 = 10;
+
+pub(super) const A1: u8 = 11;
+
+pub(super) const A2: u8 = 12;
+
+pub(super) const A3: u8 = 13;
+
+pub(super) const A4: u8 = 14;
+
+pub(super) const A7: u8 = 17;
 
 impl<A: Allocator + Copy> Hart<A> {
-    ghost use Rattle.node_memory.specs.Bytes.{fits, bytes_at};
-    ghost use Rattle.node_core.specs.Calls.{a0, a1, taken, AppendsOutput};
-    ghost use Rattle.node_core.specs.Calls.{output_effect, read_effect, call_effect};
+    ghost use Rattle.node_core.specs.Hart.{advanced, room_after};
+    ghost use Rattle.node_core.specs.Calls.{named_call, call_effect, ecall_effect, output_checks, output_effect, checked};
+    ghost use Rattle.node_core.specs.Calls.{MayRefuseCall, MayRefuseEcall, HaveNoFault};
 
     /// The call whose number is in a7.
+    #[inline(never)]
     pub(super) fn call(&mut self, input: &[u8]) -> Result<State, AllocError>
-        ensures ok { IfOk result (λ state.
-            call_effect input.now self.old ≡ record { hart = self.new; state = state }) }
+        ensures ok { IfOk result (λ state. ecall_effect (named_call self.old.hart) input.now self.old.hart
+            ≡ record { hart = self.new.hart; state = state }) }
+        ensures ready { self.new.ready ≡ room_after self.old.ready self.old.hart self.new.hart }
         ensures err { OnErr result (self.new ≡ self.old) }
-        ensures refuses { OnErr result (AppendsOutput self.old) }
+        ensures refuses { OnErr result (MayRefuseEcall (named_call self.old.hart) input.now self.old.hart) }
     {
-        match self.reg(17) {
-            1 => {
-                self.advance();
-                Ok(State::Ended)
-            }
-            2 => Ok(self.put(10, self.nprocs)),
-            3 => Ok(self.put(10, self.rank)),
-            16 => self.write(State::Aborted),
-            17 => self.write(State::Running),
-            18 => Ok(self.read(input)),
-            _ => Ok(State::Faulted(Fault::UnknownCall)),
+        match Call::of_number(self.reg(A7)) {
+            Some(call) => self.make(call, input),
+            None => Ok(State::Faulted(Fault::UnknownCall)),
         }
+    }
+
+    fn make(&mut self, call: Call, input: &[u8]) -> Result<State, AllocError>
+        ensures ok { IfOk result (λ state. call_effect call input.now self.old.hart
+            ≡ record { hart = self.new.hart; state = state }) }
+        ensures ready { self.new.ready ≡ room_after self.old.ready self.old.hart self.new.hart }
+        ensures err { OnErr result (self.new ≡ self.old) }
+        ensures refuses { OnErr result (MayRefuseCall call input.now self.old.hart) }
+    {
+        match call {
+            Call::End => Ok(self.leave(State::Ended)),
+            Call::Nprocs => Ok(self.put(A0, self.nprocs)),
+            Call::Pid => Ok(self.put(A0, self.rank)),
+            Call::Sync => Ok(self.leave(State::Synced)),
+            Call::PushReg => self.push_reg(),
+            Call::PopReg => self.pop_reg(),
+            Call::Put | Call::Hpput => self.issue_put(),
+            Call::Get | Call::Hpget => self.issue_get(),
+            Call::SetTagsize => Ok(self.set_tagsize()),
+            Call::Send => self.issue_send(),
+            Call::Qsize => Ok(self.qsize()),
+            Call::GetTag => Ok(self.get_tag()),
+            Call::Move => Ok(self.move_payload()),
+            Call::Abort => self.write(State::Aborted),
+            Call::Write => self.write(State::Running),
+            Call::Read => Ok(self.read(input)),
+        }
+    }
+
+    /// Goes on at the next instruction, in the state `after`.
+    fn leave(&mut self, after: State) -> State
+        ensures state { result ≡ after }
+        ensures hart { self.new ≡ record self.old { hart = advanced self.old.hart } }
+    {
+        self.advance();
+        after
     }
 
     /// The calls that append a1 bytes at a0 to the output, and leave the node in the state `after`.
     fn write(&mut self, after: State) -> Result<State, AllocError>
         ensures ok { IfOk result (λ state.
-            output_effect after (a0 self.old) (a1 self.old) self.old
-            ≡ record { hart = self.new; state = state }) }
+            checked (output_checks self.old.hart) self.old.hart (output_effect after self.old.hart)
+            ≡ record { hart = self.new.hart; state = state }) }
+        ensures ready { self.new.ready ≡ self.old.ready }
+        ensures registrations { self.new.hart.communication.registrations
+            ≡ self.old.hart.communication.registrations }
         ensures err { OnErr result (self.new ≡ self.old) }
-        ensures in_memory { OnErr result
-            (fits (length self.old.memory) (a0 self.old) (a1 self.old) ≡ true) }
-        ensures in_limit { OnErr result (length self.old.output + a1 self.old ≤ 2 ^ 24) }
+        ensures refuses { OnErr result (HaveNoFault (output_checks self.old.hart)) }
     {
-        let addr = self.reg(10);
-        let len = self.reg(11);
+        let addr = self.reg(A0);
+        let len = self.reg(A1);
         if !self.memory.fits(addr, len) {
             return Ok(State::Faulted(Fault::RangeOutside));
         }
-        if self.output.len() + len as usize > BYTES_PER_SUPERSTEP {
+        if u64::from(len) > MAX_BYTES - self.communication.requests.bytes() {
             return Ok(State::Faulted(Fault::TooMuch));
         }
-        self.append_output(addr, len)?;
-        self.advance();
-        Ok(after)
-    }
-
-    /// Appends a range of the memory to the output.
-    fn append_output(&mut self, addr: u32, len: u32) -> Result<(), AllocError>
-        requires in_memory { IsTrue (fits (length self.old.memory) addr len) }
-        requires in_limit { length self.old.output + len ≤ 2 ^ 24 }
-        ensures ok { OnOk result (self.new
-            ≡ record self.old { output = self.old.output ++ bytes_at self.old.memory addr len }) }
-        ensures err { OnErr result (self.new ≡ self.old) }
-    {
         let Ok(bytes) = self.memory.read_range(addr, len) else {
             return Err(AllocError);
         };
-        self.output.extend_from_slice(bytes.as_slice())
+        match self.communication.requests.add_output(bytes.as_slice()) {
+            Ok(()) => Ok(self.leave(after)),
+            Err(_) => Err(AllocError),
+        }
     }
 
     /// The call that reads up to a1 bytes of the input to a0.
     fn read(&mut self, input: &[u8]) -> State
-        ensures { let k = taken input.now (a1 self.old) self.old in
-            read_effect input.now (a0 self.old) k self.old
-            ≡ record { hart = self.new; state = result } }
+        ensures hart { call_effect Call.Read input.now self.old.hart
+            ≡ record { hart = self.new.hart; state = result } }
+        ensures ready { self.new.ready ≡ self.old.ready }
+        ensures registrations { self.new.hart.communication ≡ self.old.hart.communication }
     {
-        let addr = self.reg(10);
+        let addr = self.reg(A0);
         let left = input.len().saturating_sub(self.cursor);
-        let count = left.min(self.reg(11) as usize);
+        let count = left.min(self.reg(A1) as usize);
         let start = self.cursor.min(input.len());
         if self
             .memory
@@ -94,6 +127,6 @@ impl<A: Allocator + Copy> Hart<A> {
             return State::Faulted(Fault::RangeOutside);
         }
         self.cursor += count;
-        self.put(10, count as u32)
+        self.put(A0, count as u32)
     }
 }

@@ -118,22 +118,3 @@ fn the_first_step_may_be_at_fault(rt: HostRuntime) -> Result<(), Fail> {
     }
     Ok(())
 }
-
-#[test]
-fn calls_answer_in_a0(rt: HostRuntime) -> Result<(), Fail> {
-    let alloc = rt.alloc();
-    for (li, a0, state) in [
-        (0x0020_0893, 3, State::Running),
-        (0x0030_0893, 1, State::Running),
-        (0x0000_0893, 0, State::Faulted(Fault::UnknownCall)),
-        (0x0130_0893, 0, State::Faulted(Fault::UnknownCall)),
-    ] {
-        let image = image(&rt, alloc, 0, &[li, 0x0000_0073], 0, b"")?;
-        let mut node = Node::new(alloc, &image, 1, 3, MEMORY, LIMIT)?;
-        node.run(b"", 2)?;
-        let pc = if state == State::Running { 8 } else { 4 };
-        expect_stop(&rt, &node, state, 2, pc);
-        assert_eq!(rt; node.reg(10), a0, "call {li}");
-    }
-    Ok(())
-}

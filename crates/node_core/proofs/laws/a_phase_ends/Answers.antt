@@ -1,6 +1,9 @@
 use Rattle.std.proofs.Common.{◌-◌, arith}
-use Rattle.node_core.proofs.Sound.{local_steps-end}
+use Rattle.node_core.proofs.Sound.{local_steps-end, phase-phase}
 use Rattle.node_core.proofs.laws.a_phase_ends.Goals as goal
 
-pub returns : goal.returns
-returns c input s sound = local_steps-end input (s.limit - s.ticks) s sound (omega arith)
+pub returns-clause-stopped : goal.returns-clause-stopped
+returns-clause-stopped c input s sound = local_steps-end input (s.limit - s.ticks) s sound (omega arith)
+
+pub returns-clause-again : goal.returns-clause-again
+returns-clause-again c = phase-phase

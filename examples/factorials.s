@@ -14,7 +14,7 @@ product:
 digit:
     remu  t5, t1, t3
     divu  t1, t1, t3
-    addi  t5, t5, '0'
+    addi  t5, t5, 48        # '0'
     addi  t4, t4, -1
     sb    t5, 0(t4)
     bnez  t1, digit

@@ -1,7 +1,11 @@
 """Runs a program on a folder of cases, each once.
 
 A case is a folder with some of these files:
-  args      one argument a line; `{case}` stands for the case's folder, `{repo}` for the repository's
+  args      one argument a line; `{case}` stands for the case's folder, `{repo}` for the repository's, and `{temp}` for a
+            folder that is empty before the case and gone after it
+  args.2, args.3, ..    further runs of the program, made one after another, each where the one before it ended with
+            status 0; what all of them wrote is compared, and the last one's status
+  written   what the file `{temp}/written` must hold afterwards
   stdin     standard input, empty where it is missing
   closed    a file that says that standard output is closed before the program starts
   address_space    how many bytes of address space the program may have, all that it wants where it is missing
@@ -18,6 +22,7 @@ import pathlib
 import resource
 import subprocess
 import sys
+import tempfile
 
 SECONDS = 60
 
@@ -26,9 +31,11 @@ def read(path, missing=b""):
     return path.read_bytes() if path.exists() else missing
 
 
-def arguments(case, repo):
-    lines = read(case / "args").decode().splitlines()
-    return [line.replace("{case}", str(case)).replace("{repo}", str(repo)) for line in lines]
+def arguments(path, places):
+    lines = read(path).decode().splitlines()
+    for name, place in places.items():
+        lines = [line.replace("{" + name + "}", str(place)) for line in lines]
+    return lines
 
 
 def faults(case, name, found):
@@ -48,11 +55,11 @@ def limited(case):
     return lambda: resource.setrlimit(resource.RLIMIT_AS, (most, most))
 
 
-def run_case(program, case, repo):
-    command = [str(program), *arguments(case, repo)]
+def run(program, case, words):
+    command = [str(program), *words]
     if (case / "closed").exists():
         command = ["/bin/sh", "-c", 'exec "$@" >&-', "sh", *command]
-    done = subprocess.run(
+    return subprocess.run(
         command,
         input=read(case / "stdin"),
         capture_output=True,
@@ -60,9 +67,23 @@ def run_case(program, case, repo):
         check=False,
         preexec_fn=limited(case),
     )
+
+
+def run_case(program, case, repo):
+    stdout, stderr, status = b"", b"", 0
+    with tempfile.TemporaryDirectory() as temp:
+        places = {"case": case, "repo": repo, "temp": temp}
+        for path in [case / "args", *sorted(case.glob("args.*"))]:
+            done = run(program, case, arguments(path, places))
+            stdout, stderr, status = stdout + done.stdout, stderr + done.stderr, done.returncode
+            if status != 0:
+                break
+        written = read(pathlib.Path(temp) / "written", None)
     wanted = int(read(case / "status", b"0").decode())
-    found = [] if done.returncode == wanted else [f"status is {done.returncode} and not {wanted}"]
-    return found + faults(case, "stdout", done.stdout) + faults(case, "stderr", done.stderr)
+    found = [] if status == wanted else [f"status is {status} and not {wanted}"]
+    if (case / "written").exists() and written != read(case / "written"):
+        found.append("the file that it wrote is another one")
+    return found + faults(case, "stdout", stdout) + faults(case, "stderr", stderr)
 
 
 def main():

@@ -9,6 +9,10 @@ use Rattle.bsp_session.specs.Run.{settings_fault, final_node, final_nodes}
 pub settings_fault-nodes : (s : Settings) → settings_fault s ≡ None → 1 ≤ s.nodes
 settings_fault-nodes s good = grind arith
 
+-- and for at most 256
+pub settings_fault-few : (s : Settings) → settings_fault s ≡ None → s.nodes ≤ 256
+settings_fault-few s good = grind arith
+
 -- the nodes of the ranks below the settings' number are all of them
 pub final_nodes-all : (image : Image) (input : List ℕ) (s : Settings) (k : ℕ) → k ≡ s.nodes
     → map (final_node image input s) (range_with_len 0 k) ≡ final_nodes image input s

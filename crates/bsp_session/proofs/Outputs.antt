@@ -26,21 +26,24 @@ flat_map-take_more f xs i x within is =
     ap (flat_map f) (take_more xs i x within) ∙ flat_map-append f (take i xs) (get_or xs i x ∷ [])
     ∙ ap (λ y. flat_map f (take i xs) ++ (f y ++ [])) (sym is)
 
+-- a prefix of what comes next, after what was written, is a prefix of all
+pub AppendsPrefix-behind : (done next rest whole : List ℕ) (a b c : Option (List ℕ)) → whole ≡ done ++ (next ++ rest)
+    → Appends a b done → AppendsPrefix b c next → AppendsPrefix a c whole
+AppendsPrefix-behind done next rest whole a b c is before p =
+    let few : p.0 < length next = p.1 in
+    let shorter : length done + p.0 < length whole =
+    rw (is, length-append done (next ++ rest), length-append next rest) (omega arith) in
+    let cut : take (length done + p.0) whole ≡ done ++ take p.0 next =
+    rw (is, take-append-add done (next ++ rest) p.0)
+    (ap (λ ys. done ++ ys) (take-append-le p.0 next rest (omega arith))) in
+    (length done + p.0, shorter, rw cut (Appends-trans a b c done (take p.0 next) before p.2))
+
 -- a prefix of the i-th, after all before it, is a prefix of all
 pub AppendsPrefix-at : {X : Type 0} (f : X → List ℕ) (xs : List X) (i : ℕ) (x : X)
     (a b c : Option (List ℕ)) → i < length xs → x ≡ get_or xs i x
     → Appends a b (flat_map f (take i xs)) → AppendsPrefix b c (f x) → AppendsPrefix a c (flat_map f xs)
 AppendsPrefix-at f xs i x a b c within is before p =
-    let front : List ℕ = flat_map f (take i xs) in
-    let rest : List ℕ = flat_map f (drop (suc i) xs) in
-    let whole : flat_map f xs ≡ front ++ (f x ++ rest) = flat_map-at f xs i x within is in
-    let few : p.0 < length (f x) = p.1 in
-    let shorter : length front + p.0 < length (flat_map f xs) =
-    rw (whole, length-append front (f x ++ rest), length-append (f x) rest) (omega arith) in
-    let cut : take (length front + p.0) (flat_map f xs) ≡ front ++ take p.0 (f x) =
-    rw (whole, take-append-add front (f x ++ rest) p.0)
-    (ap (λ ys. front ++ ys) (take-append-le p.0 (f x) rest (omega arith))) in
-    (length front + p.0, shorter, rw cut (Appends-trans a b c front (take p.0 (f x)) before p.2))
+    AppendsPrefix-behind (flat_map f (take i xs)) (f x) (flat_map f (drop (suc i) xs)) (flat_map f xs) a b c (flat_map-at f xs i x within is) before p
 
 -- a count that has risen, above one that is no greater
 pub HasRisen-above : (a b c : ℕ) → a ≤ b → HasRisen b c → HasRisen a c

@@ -1,9 +1,9 @@
--- What a job makes of the bytes of an image and of an input (own rules).
-use Rattle.std.specs.Prelude.{ℕ, ◌^◌, ◌&&◌, nat_le, List, [], ◌∷◌, length, map, Option, Some, None, if◌then◌else◌, codes}
+-- What a machine makes of an image and of an input (own rules).
+use Rattle.std.specs.Prelude.{ℕ, ◌^◌, ◌&&◌, false, nat_le, List, [], ◌∷◌, length, map, Option, Some, None, if◌then◌else◌, codes}
 use Rattle.std.specs.List.{flat_map, range_with_len}
 use Rattle.node_memory.specs.Bytes.{is_memory_size}
 use Rattle.node_memory.specs.Image.{Image}
-use Rattle.node_core.specs.Node.{NodeState, start_node, phase}
+use Rattle.node_core.specs.Node.{PreparedNode, start_node, phase}
 use Rattle.bsp_session.specs.declared.job.Settings.{Settings}
 use Rattle.bsp_session.specs.declared.errors.BadSetting.{BadSetting}
 use Rattle.bsp_session.specs.declared.errors.BadSetting.TheVariants.{BadNodes, BadMemory, BadLimit}
@@ -23,20 +23,14 @@ name_of BadNodes = codes "BadNodes"
 name_of BadMemory = codes "BadMemory"
 name_of BadLimit = codes "BadLimit"
 
--- the image of a raw file: its bytes are the memory's from address 0 on, and pc starts there
-abbrev pub raw_image : List ℕ → Image
-raw_image [] = record { entry = 0; segments = [] }
-raw_image (b ∷ bs) =
-    record { entry = 0; segments = record { addr = 0; bytes = b ∷ bs; size = length (b ∷ bs) } ∷ [] }
-
--- a node after its run
-abbrev pub final_node : Image → List ℕ → Settings → ℕ → NodeState
-final_node image input s rank = phase input (start_node image rank s.nodes s.memory s.limit)
+-- a node after its run; no room is made for a turn
+abbrev pub final_node : Image → List ℕ → Settings → ℕ → PreparedNode
+final_node image input s rank = record { node = phase input (start_node image rank s.nodes s.memory s.limit); ready = false }
 
 -- each node after its run, by rank
-unfoldable pub final_nodes : Image → List ℕ → Settings → List NodeState
+unfoldable pub final_nodes : Image → List ℕ → Settings → List PreparedNode
 final_nodes image input s = map (final_node image input s) (range_with_len 0 s.nodes)
 
 -- what nodes have written, one after another
-abbrev pub output_of : List NodeState → List ℕ
-output_of nodes = flat_map (λ (n : NodeState). n.hart.output) nodes
+abbrev pub output_of : List PreparedNode → List ℕ
+output_of nodes = flat_map (λ (n : PreparedNode). n.node.hart.communication.requests.output) nodes

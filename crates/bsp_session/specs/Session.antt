@@ -1,97 +1,89 @@
--- A session over the bytes of its readers and its writer, where they are known. The limits are own rules, and so is the
--- order of the stages: settings, image, input, memories of the nodes, run, output.
-use Rattle.std.specs.Prelude.{◌≡◌, ℕ, ◌≤◌, ◌<◌, ◌^◌, ◌⊎◌, false, true, List, length, Option, None, IfSome}
-use Rattle.std.specs.Io.KnownBytes.{Appends, Consumes}
-use Rattle.counted_io.specs.Counted.{CountedState, HasRisen}
+-- A session over the bytes of its readers and its writer, where they are known. The order of the stages is an own rule:
+-- settings, image read, input read, image understood, memories of the nodes, run, output.
+use Rattle.std.specs.Prelude.{◌≡◌, ℕ, ◌^◌, ◌⊎◌, false, true, List, Option, None, Some}
+use Rattle.std.specs.Io.KnownBytes.{Appends}
 use Rattle.counted_io.specs.Transfers.{AppendsPrefix}
-use Rattle.node_memory.specs.Image.{is_segment_outside}
+use Rattle.node_memory.specs.Image.{Image, is_segment_outside}
+use Rattle.bsp_session.specs.declared.errors.SessionError.{SessionError}
+use Rattle.bsp_session.specs.declared.job.Job.{Job}
 use Rattle.bsp_session.specs.declared.job.Outcome.{Outcome}
-use Rattle.bsp_session.specs.declared.job.Settings.{Settings}
-use Rattle.bsp_session.specs.Outcome.{outcome_of}
-use Rattle.bsp_session.specs.Run.{settings_fault, raw_image, final_nodes, output_of}
+use Rattle.bsp_session.specs.Images.{most_bytes, Gives, image_fault}
+use Rattle.bsp_session.specs.Outcome.{IsOutcomeOf}
+use Rattle.bsp_session.specs.Readers.{Reader, IsUntouched, ReadsWhole, PassesLimit, HasFailed, IsCutShort}
+use Rattle.bsp_session.specs.Run.{settings_fault, final_nodes, output_of}
 
--- a reader before and after a session: its known bytes, and how many of its calls had failed
-pub record Reader : Type 0 where
-  pub before : Option (List ℕ)
-  pub after : Option (List ℕ)
-  pub failures_before : ℕ
-  pub failures_after : ℕ
+-- the most bytes of an input (own limit)
+abbrev pub most_input : ℕ
+most_input = 2 ^ 24
 
-abbrev pub reader : {T : Type 0} → (T → Option (List ℕ))
-    → CountedState T → CountedState T → Reader
-reader remaining old new = record {
-  before = remaining old.inner;
-  after = remaining new.inner;
-  failures_before = old.failures;
-  failures_after = new.failures;
-}
+-- the settings are good, and an image's file and an input were read
+pub record ReadsBoth (image input : Reader) (job : Job) (i n : List ℕ) : Type 0 where
+  pub settings : settings_fault job.settings ≡ None
+  pub image_read : ReadsWhole image i (most_bytes job.format)
+  pub input_read : ReadsWhole input n most_input
 
--- nothing was read, and no call failed
-pub record IsUntouched (r : Reader) : Type 0 where
-  pub bytes : r.after ≡ r.before
-  pub failures : r.failures_after ≡ r.failures_before
-
--- `bytes` were read, up to the end: at most `most`, and all that the reader had, where that is known
-pub record ReadsWhole (r : Reader) (bytes : List ℕ) (most : ℕ) : Type 0 where
-  pub limited : length bytes ≤ most
-  pub consumed : Consumes r.before r.after bytes
-  pub whole : IfSome r.before (λ all. bytes ≡ all)
-
--- an image and an input were read
-pub record ReadsBoth (image input : Reader) (i n : List ℕ) : Type 0 where
-  pub image_read : ReadsWhole image i (2 ^ 24)
-  pub input_read : ReadsWhole input n (2 ^ 24)
-
--- the session came to its output, for these bytes of an image and an input
-pub record Runs (image input : Reader) (s : Settings) (i n : List ℕ) : Type 0 where
-  pub settings : settings_fault s ≡ None
-  pub read : ReadsBoth image input i n
-  pub fits : is_segment_outside (raw_image i) s.memory ≡ false
+-- the session came to its output: the file gives an image that fits the memory
+pub record Runs (image input : Reader) (job : Job) (i n : List ℕ) (m : Image) : Type 0 where
+  pub read : ReadsBoth image input job i n
+  pub gives : Gives job.format i m
+  pub fits : is_segment_outside m job.settings.memory ≡ false
 
 -- an answer: how the nodes ended, after all of their output was written
-pub record Answers (image input : Reader) (s : Settings)
+pub record Answers (image input : Reader) (job : Job)
     (out_before out_after : Option (List ℕ)) (o : Outcome) : Type 0 where
   pub i : List ℕ
   pub n : List ℕ
-  pub runs : Runs image input s i n
-  pub outcome : o ≡ outcome_of (final_nodes (raw_image i) n s)
-  pub written : Appends out_before out_after (output_of (final_nodes (raw_image i) n s))
+  pub m : Image
+  pub runs : Runs image input job i n m
+  pub outcome : IsOutcomeOf (final_nodes m n job.settings) o
+  pub written : Appends out_before out_after (output_of (final_nodes m n job.settings))
 
 -- the writer failed: some first bytes of the nodes' output were written, and not all
-pub record WritesPrefix (image input : Reader) (s : Settings)
+pub record WritesPrefix (image input : Reader) (job : Job)
     (out_before out_after : Option (List ℕ)) : Type 0 where
   pub i : List ℕ
   pub n : List ℕ
-  pub runs : Runs image input s i n
-  pub written : AppendsPrefix out_before out_after (output_of (final_nodes (raw_image i) n s))
+  pub m : Image
+  pub runs : Runs image input job i n m
+  pub written : AppendsPrefix out_before out_after (output_of (final_nodes m n job.settings))
 
--- the reading of the image ended the session, with `cause`; or the image was read, and that of the input did
-abbrev pub EndsAtReader : (Reader → Type 0) → Reader → Reader → Type 0
-EndsAtReader cause image input =
-    (cause image × IsUntouched input) ⊎ ((i : List ℕ) × ReadsWhole image i (2 ^ 24) × cause input)
+-- the reading of the image ended the session, by a cause that a limit has a part in; or the image was read, and that of
+-- the input did
+abbrev pub EndsAtReader : (ℕ → Reader → Type 0) → Reader → Reader → Job → Type 0
+EndsAtReader cause image input job =
+    (cause (most_bytes job.format) image × IsUntouched input)
+    ⊎ ((i : List ℕ) × ReadsWhole image i (most_bytes job.format) × cause most_input input)
 
--- a reader has more bytes than the limit, where they are known
-abbrev pub PassesLimit : Reader → Type 0
-PassesLimit r = IfSome r.before (λ all. 2 ^ 24 < length all)
-
--- a call of the reader failed
-abbrev pub HasFailed : Reader → Type 0
-HasFailed r = HasRisen r.failures_before r.failures_after
+-- good settings, and then such an end
+pub record EndsReading (cause : ℕ → Reader → Type 0) (image input : Reader) (job : Job) : Type 0 where
+  pub settings : settings_fault job.settings ≡ None
+  pub ended : EndsAtReader cause image input job
 
 -- the image, or after it the input, has more bytes than its limit
-pub record IsTooLong (image input : Reader) (s : Settings) : Type 0 where
-  pub settings : settings_fault s ≡ None
-  pub passed : EndsAtReader PassesLimit image input
+abbrev pub IsTooLong : Reader → Reader → Job → Type 0
+IsTooLong image input job = EndsReading PassesLimit image input job
 
 -- the image, or after it the input, could not be read
-pub record IsReadFault (image input : Reader) (s : Settings) : Type 0 where
-  pub settings : settings_fault s ≡ None
-  pub failed : EndsAtReader HasFailed image input
+abbrev pub IsReadFault : Reader → Reader → Job → Type 0
+IsReadFault image input job = EndsReading (λ _ r. HasFailed r) image input job
 
--- a part of the image lies past the memory
-pub record IsOutside (image input : Reader) (s : Settings) : Type 0 where
+-- the file gives no image, and is refused for this
+pub record IsRefused (image input : Reader) (job : Job) (e : SessionError) : Type 0 where
   pub i : List ℕ
   pub n : List ℕ
-  pub settings : settings_fault s ≡ None
-  pub read : ReadsBoth image input i n
-  pub outside : is_segment_outside (raw_image i) s.memory ≡ true
+  pub read : ReadsBoth image input job i n
+  pub refused : image_fault job.format i ≡ Some e
+
+-- a part of the image lies past the memory
+pub record IsOutside (image input : Reader) (job : Job) : Type 0 where
+  pub i : List ℕ
+  pub n : List ℕ
+  pub m : Image
+  pub read : ReadsBoth image input job i n
+  pub gives : Gives job.format i m
+  pub outside : is_segment_outside m job.settings.memory ≡ true
+
+-- memory was refused: while the image or the input was read, within its limit, or after both were read
+abbrev pub IsOutOfMemory : Reader → Reader → Job → Type 0
+IsOutOfMemory image input job =
+    EndsReading IsCutShort image input job ⊎ ((i : List ℕ) × (n : List ℕ) × ReadsBoth image input job i n)

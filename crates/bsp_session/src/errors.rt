@@ -5,7 +5,9 @@ ghost use Rattle.bsp_session.specs.Outcome.{status_of};
 
 use crate::job::Outcome;
 use counted_io::{ReadError, WriteFault};
+use elf_image::ElfError;
 use node_core::State;
+use rv_asm::{AsmError, AsmKind};
 use std::alloc::AllocError;
 use std::fmt;
 use thiserror::Error;
@@ -36,8 +38,8 @@ impl fmt::Display for BadSetting {
     }
 }
 
-/// Why a session gave no outcome: the cause of the first stage that failed, of settings, image, input, memories of the
-/// nodes, run and output.
+/// Why a session gave no outcome: the cause of the first stage that failed, of settings, reading of the image, reading of
+/// the input, the image itself, memories of the nodes, run and output.
 ///
 /// Its text is the line, without a program's name, that a user is shown.
 #[derive(Clone, Copy, Debug, PartialEq, Eq, Error)]
@@ -45,9 +47,15 @@ pub enum SessionError {
     /// A setting is out of its range. Nothing was read or written.
     #[error("settings refused: {0}")]
     BadSettings(BadSetting),
-    /// The image, or after it the input, has more bytes than its limit of 2^24.
+    /// The image, or after it the input, has more bytes than its limit.
     #[error("too long")]
     TooLong,
+    /// The image is a text with a fault.
+    #[error("{0}")]
+    Text(AsmError),
+    /// The image is no ELF file that can be loaded.
+    #[error("image refused: {0}")]
+    BadImage(ElfError),
     /// The image reaches past the memory of a node.
     #[error("image refused: SegmentOutside")]
     SegmentOutside,
@@ -86,8 +94,13 @@ pub fn status(answer: &Result<Outcome, SessionError>) -> u8
             _ => 4,
         },
         Ok(Outcome::Desync { .. }) => 4,
-        Err(SessionError::BadSettings(_) | SessionError::TooLong | SessionError::SegmentOutside) =>
-            { 1 }
+        Err(
+            SessionError::BadSettings(_)
+            | SessionError::TooLong
+            | SessionError::Text(_)
+            | SessionError::BadImage(_)
+            | SessionError::SegmentOutside,
+        ) => 1,
         Err(SessionError::ReadFault | SessionError::WriteFault) => 6,
         Err(SessionError::NoMemory) => 5,
     }
@@ -137,6 +150,34 @@ impl From<ReadError> for SessionError {
             ReadError::TooLong => SessionError::TooLong,
             ReadError::ReadFault => SessionError::ReadFault,
             ReadError::NoMemory => SessionError::NoMemory,
+        }
+    }
+}
+
+impl From<AsmError> for SessionError {
+    ghost use Rattle.std.specs.Prelude.{◌≡◌};
+    ghost use Rattle.bsp_session.specs.Outcome.{error_of_text};
+
+    ghost from_gives = { λ cause e. e ≡ error_of_text cause };
+
+    fn from(cause: AsmError) -> SessionError {
+        match cause.kind {
+            AsmKind::NoMemory => SessionError::NoMemory,
+            _ => SessionError::Text(cause),
+        }
+    }
+}
+
+impl From<ElfError> for SessionError {
+    ghost use Rattle.std.specs.Prelude.{◌≡◌};
+    ghost use Rattle.bsp_session.specs.Outcome.{error_of_file};
+
+    ghost from_gives = { λ cause e. e ≡ error_of_file cause };
+
+    fn from(cause: ElfError) -> SessionError {
+        match cause {
+            ElfError::NoMemory => SessionError::NoMemory,
+            _ => SessionError::BadImage(cause),
         }
     }
 }

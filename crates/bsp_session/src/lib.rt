@@ -25,11 +25,14 @@
 #![tactic(auto)]
 
 mod errors;
+mod images;
 mod job;
+mod listing;
 mod sessions;
 #[cfg(test)]
 mod tests;
 
 pub use errors::{BadSetting, SessionError, status};
 pub use job::{Format, Job, Outcome, Settings};
+pub use listing::{asm_session, list_session};
 pub use sessions::session;

@@ -6,22 +6,22 @@ ghost use Rattle.counted_io.specs.Counted.{HasRisen};
 ghost use Rattle.counted_io.specs.Transfers.{AppendsPrefix};
 ghost use Rattle.node_memory.specs.Image.{is_segment_outside};
 ghost use Rattle.node_core.specs.Node.{start_node};
+ghost use Rattle.elf_image.specs.declared.error.ElfError.{ElfError as ElfErrorValue};
+ghost use Rattle.rv_asm.specs.declared.errors.AsmError.{AsmError as AsmErrorValue};
 ghost use Rattle.bsp_session.specs.declared.errors.BadSetting.{BadSetting as BadSettingCause};
-ghost use Rattle.bsp_session.specs.Outcome.{outcome_of as outcome_of_nodes, has_stopped as has_stopped_of};
-ghost use Rattle.bsp_session.specs.Run.{settings_fault, raw_image as raw_image_of, final_node, final_nodes, output_of};
-ghost use Rattle.bsp_session.specs.Session.{reader, Answers, IsTooLong, IsReadFault, IsOutside, WritesPrefix};
+ghost use Rattle.bsp_session.specs.Outcome.{IsOutcomeOf, lowest, has_stopped as has_stopped_of, is_waiting as is_waiting_of};
+ghost use Rattle.bsp_session.specs.Readers.{reader};
+ghost use Rattle.bsp_session.specs.Run.{settings_fault, final_node, final_nodes, output_of};
+ghost use Rattle.bsp_session.specs.Session.{Answers, IsTooLong, IsReadFault, IsRefused, IsOutside, IsOutOfMemory, WritesPrefix};
 
 use crate::errors::{BadSetting, SessionError};
-use crate::job::{Format, Job, Outcome, Settings};
+use crate::images::image_of;
+use crate::job::{Job, Outcome, Settings};
 use counted_io::{Counted, WriteFault, read_at_most, write_whole};
-use list_vec::ListVec;
 use node_core::{Node, State};
-use node_memory::{Image, MemoryError, Segment, is_memory_size};
+use node_memory::{Image, MemoryError, is_memory_size};
 use std::alloc::{AllocError, Allocator};
 use std::io::{Read, Write};
-
-/// The most bytes of a raw image (own rule).
-const RAW_IMAGE_BYTES: usize = 1 << 24;
 
 /// The most bytes of an input (own rule).
 const INPUT_BYTES: usize = 1 << 24;
@@ -35,8 +35,9 @@ const INPUT_BYTES: usize = 1 << 24;
 /// 1. [`SessionError::BadSettings`], for the first bad setting of nodes, memory and limit. Nothing was read.
 /// 2. [`SessionError::TooLong`] or [`SessionError::ReadFault`] of the image. Nothing of the input was read.
 /// 3. The same two of the input.
-/// 4. [`SessionError::SegmentOutside`], where the image reaches past the memory of a node.
-/// 5. [`SessionError::WriteFault`], after some first bytes of the output, and not all, were written.
+/// 4. [`SessionError::Text`] or [`SessionError::BadImage`], where the bytes of the image give none.
+/// 5. [`SessionError::SegmentOutside`], where the image reaches past the memory of a node.
+/// 6. [`SessionError::WriteFault`], after some first bytes of the output, and not all, were written.
 ///
 /// [`SessionError::NoMemory`] is answered where a request for memory was refused. Nothing is written before every node
 /// has stopped.
@@ -48,7 +49,7 @@ pub fn session<A: Allocator + Copy, I: Read, R: Read, W: Write>(
     out: &mut Counted<W>,
 ) -> Result<Outcome, SessionError>
     ensures ok { IfOk result (λ outcome. Answers (reader I.remaining image.old image.new)
-        (reader R.remaining input.old input.new) job.now.settings
+        (reader R.remaining input.old input.new) job.now
         (W.contents out.old.inner) (W.contents out.new.inner) outcome) }
 
     ensures bad_settings { (cause : BadSettingCause)
@@ -58,17 +59,26 @@ pub fn session<A: Allocator + Copy, I: Read, R: Read, W: Write>(
         → (image.new ≡ image.old) × (input.new ≡ input.old) }
     ensures too_long { result ≡ Err SessionError.TooLong
         → IsTooLong (reader I.remaining image.old image.new)
-        (reader R.remaining input.old input.new) job.now.settings }
+        (reader R.remaining input.old input.new) job.now }
     ensures read_fault { result ≡ Err SessionError.ReadFault
         → IsReadFault (reader I.remaining image.old image.new)
-        (reader R.remaining input.old input.new) job.now.settings }
+        (reader R.remaining input.old input.new) job.now }
+    ensures text { (cause : AsmErrorValue) → result ≡ Err (SessionError.Text cause)
+        → IsRefused (reader I.remaining image.old image.new)
+        (reader R.remaining input.old input.new) job.now (SessionError.Text cause) }
+    ensures bad_image { (cause : ElfErrorValue) → result ≡ Err (SessionError.BadImage cause)
+        → IsRefused (reader I.remaining image.old image.new)
+        (reader R.remaining input.old input.new) job.now (SessionError.BadImage cause) }
     ensures outside { result ≡ Err SessionError.SegmentOutside
         → IsOutside (reader I.remaining image.old image.new)
-        (reader R.remaining input.old input.new) job.now.settings }
+        (reader R.remaining input.old input.new) job.now }
+    ensures no_memory { result ≡ Err SessionError.NoMemory
+        → IsOutOfMemory (reader I.remaining image.old image.new)
+        (reader R.remaining input.old input.new) job.now }
 
     ensures write_fault { result ≡ Err SessionError.WriteFault
         → WritesPrefix (reader I.remaining image.old image.new)
-        (reader R.remaining input.old input.new) job.now.settings
+        (reader R.remaining input.old input.new) job.now
         (W.contents out.old.inner) (W.contents out.new.inner) }
     ensures write_failed { result ≡ Err SessionError.WriteFault
         → HasRisen out.old.failures out.new.failures }
@@ -76,11 +86,9 @@ pub fn session<A: Allocator + Copy, I: Read, R: Read, W: Write>(
         e ≢ SessionError.WriteFault → out.new ≡ out.old) }
 {
     check_settings(&job.settings)?;
-    let image = read_at_most(alloc, image, RAW_IMAGE_BYTES)?;
+    let image = read_at_most(alloc, image, job.format.most_bytes())?;
     let input = read_at_most(alloc, input, INPUT_BYTES)?;
-    let image = match job.format {
-        Format::Raw => raw_image(alloc, image)?,
-    };
+    let image = image_of(alloc, job.format, image.as_slice())?;
     let nodes = run_nodes(alloc, &image, &job.settings, input.as_slice())?;
     write_output(&nodes, out)?;
     Ok(outcome_of(&nodes))
@@ -103,27 +111,6 @@ fn check_settings(settings: &Settings) -> Result<(), BadSetting>
     Ok(())
 }
 
-/// The image of a raw file: its bytes at address 0, where pc starts.
-fn raw_image<A: Allocator + Copy>(alloc: A, bytes: Vec<u8, A>) -> Result<Image<A>, AllocError>
-    requires { length bytes.items ≤ 2 ^ 24 }
-    ensures { IfOk result (λ image. image ≡ raw_image_of bytes.items) }
-{
-    let mut segments = Vec::new(alloc);
-    if !bytes.is_empty() {
-        let size = bytes.len() as u32;
-        let segment = Segment {
-            addr: 0,
-            bytes: ListVec::from_vec(bytes),
-            size,
-        };
-        segments.push(segment).map_err(AllocError::from)?;
-    }
-    Ok(Image {
-        entry: 0,
-        segments: ListVec::from_vec(segments),
-    })
-}
-
 /// Each node after its run, in rank order.
 fn run_nodes<A: Allocator + Copy>(
     alloc: A,
@@ -134,6 +121,7 @@ fn run_nodes<A: Allocator + Copy>(
     requires { settings_fault settings.now ≡ None }
     ensures ok { IfOk result (λ nodes.
         nodes.items ≡ final_nodes image.now input.now settings.now) }
+    ensures few { IfOk result (λ nodes. length nodes.items ≤ 256) }
     ensures fits { OnOk result (is_segment_outside image.now settings.now.memory ≡ false) }
     ensures outside { IsErrOf result SessionError.SegmentOutside
         ↔ (is_segment_outside image.now settings.now.memory ≡ true) }
@@ -180,7 +168,8 @@ fn start<A: Allocator + Copy>(
     requires settings { settings_fault settings.now ≡ None }
     requires ranked { rank < settings.now.nodes }
     ensures ok { let s = settings.now in
-        IfOk result (λ node. node ≡ start_node image.now rank s.nodes s.memory s.limit) }
+        IfOk result (λ node. node
+        ≡ record { node = start_node image.now rank s.nodes s.memory s.limit; ready = false }) }
     ensures fits { OnOk result (is_segment_outside image.now settings.now.memory ≡ false) }
     ensures outside { IsErrOf result SessionError.SegmentOutside
         ↔ (is_segment_outside image.now settings.now.memory ≡ true) }
@@ -221,19 +210,32 @@ fn write_output<A: Allocator, W: Write>(
     Ok(())
 }
 
-/// How the run of these nodes ended.
+/// How the run of these nodes ended. A node's rank is its place among them.
 fn outcome_of<A: Allocator>(nodes: &[Node<A>]) -> Outcome
-    ensures { result ≡ outcome_of_nodes nodes.now }
+    requires { length nodes.now ≤ 256 }
+    ensures { IsOutcomeOf nodes.now result }
 {
-    for node in nodes {
-        if has_stopped(node.state()) {
-            return Outcome::NodeStopped {
-                rank: node.rank(),
-                state: node.state(),
-            };
-        }
+    match lowest_stopped(nodes).or(lowest_waiting(nodes)) {
+        Some(rank) => Outcome::NodeStopped {
+            rank: rank as u32,
+            state: nodes[rank].state(),
+        },
+        None => Outcome::Ended,
     }
-    Outcome::Ended
+}
+
+/// The lowest rank that was stopped.
+fn lowest_stopped<A: Allocator>(nodes: &[Node<A>]) -> Option<usize>
+    ensures { result ≡ lowest has_stopped_of nodes.now }
+{
+    nodes.iter().position(|node| has_stopped(node.state()))
+}
+
+/// The lowest rank that waits.
+fn lowest_waiting<A: Allocator>(nodes: &[Node<A>]) -> Option<usize>
+    ensures { result ≡ lowest is_waiting_of nodes.now }
+{
+    nodes.iter().position(|node| is_waiting(node.state()))
 }
 
 /// Whether a node in this state was stopped, and did not end.
@@ -241,4 +243,11 @@ fn has_stopped(state: State) -> bool
     ensures { result ≡ has_stopped_of state }
 {
     matches!(state, State::Faulted(_) | State::Aborted | State::Exhausted)
+}
+
+/// Whether a node in this state waits for the end of the superstep.
+fn is_waiting(state: State) -> bool
+    ensures { result ≡ is_waiting_of state }
+{
+    matches!(state, State::Synced)
 }

@@ -1,12 +1,16 @@
 use super::*;
 use crate::errors::BadSetting;
 use counted_io::Counted;
+use elf_image::ElfError;
 use node_core::{Fault, State};
 use refusing_allocator::RefusingAllocator;
+use rv_asm::{AsmError, AsmKind};
 use std::alloc::{AllocError, Allocator, Global};
 use std::io;
 use std::io::{ErrorKind, Read, Write};
 use std::test::Fail;
+
+mod images;
 
 // Writes the digit of the node's rank.
 const PRINTS_ITS_RANK: [u32; 10] = [
@@ -57,6 +61,16 @@ const ENDS_ON_RANK_0: [u32; 5] = [
     0x0000_0073, // ecall
     0x0005_1663, // bnez a0, 12 bytes on
     0x0010_0893, // li a7, 1: end
+    0x0000_0073, // ecall
+];
+
+// Waits for the end of the superstep on rank 1; rank 0 ends.
+const WAITS_ON_RANK_1: [u32; 6] = [
+    0x0030_0893, // li a7, 3: the rank of the node
+    0x0000_0073, // ecall
+    0x0015_0893, // addi a7, a0, 1: end on rank 0
+    0x0005_0463, // beqz a0, 8 bytes on
+    0x0040_0893, // li a7, 4: sync
     0x0000_0073, // ecall
 ];
 
@@ -181,6 +195,7 @@ fn programs_give_their_output_and_outcome(rt: HostRuntime) -> Result<(), Fail> {
         (&COPIES_ITS_INPUT, 2, 100, ENDED, "abcabc", 0),
         (&ABORTS, 1, 100, stopped(0, State::Aborted), "no", 2),
         (&ENDS_ON_RANK_0, 3, 100, stopped(1, no_instruction), "", 2),
+        (&WAITS_ON_RANK_1, 2, 100, stopped(1, State::Synced), "", 4),
         (&[], 3, 100, stopped(0, no_instruction), "", 2),
     ] {
         let image = image_of(alloc, program)?;
@@ -252,35 +267,6 @@ fn a_writer_that_fails_keeps_what_it_took(rt: HostRuntime) -> Result<(), Fail> {
 }
 
 #[test]
-fn settings_have_ranges(rt: HostRuntime) -> Result<(), Fail> {
-    let alloc = rt.alloc();
-    let image = image_of(alloc, &PRINTS_ITS_RANK)?;
-    let nodes = refused(BadSetting::BadNodes);
-    let memory = refused(BadSetting::BadMemory);
-    let limit = refused(BadSetting::BadLimit);
-    for (job, answer) in [
-        (machine(0, 4096, 10), nodes),
-        (machine(1, 4096, 10), ENDED),
-        (machine(256, 4096, 10), ENDED),
-        (machine(257, 4096, 10), nodes),
-        (machine(1, 4095, 10), memory),
-        (machine(1, 6144, 10), memory),
-        (machine(1, 1 << 24, 10), ENDED),
-        (machine(1, (1 << 24) + 4096, 10), memory),
-        (machine(1, 4096, 0), limit),
-        (machine(1, 4096, 1), stopped(0, State::Exhausted)),
-        (machine(1, 4096, 1 << 40), ENDED),
-        (machine(1, 4096, (1 << 40) + 1), limit),
-        (machine(0, 0, 0), nodes),
-        (machine(1, 0, 0), memory),
-    ] {
-        let (given, _) = run(alloc, alloc, image.as_slice(), b"".as_slice(), &job);
-        assert_eq!(rt; given, answer, "at {job:?}");
-    }
-    Ok(())
-}
-
-#[test]
 fn the_first_cause_is_answered(rt: HostRuntime) {
     let alloc = rt.alloc();
     let most = 1 << 24;
@@ -337,27 +323,6 @@ fn a_refused_request_is_no_memory(rt: HostRuntime) -> Result<(), Fail> {
 }
 
 #[test]
-fn each_outcome_has_a_status(rt: HostRuntime) {
-    let desync = Outcome::Desync {
-        ended: 0,
-        synced: 1,
-    };
-    for (answer, number) in [
-        (ENDED, 0),
-        (stopped(7, State::Aborted), 2),
-        (stopped(7, State::Faulted(Fault::IllegalInstruction)), 2),
-        (stopped(7, State::Faulted(Fault::BadSize)), 2),
-        (stopped(7, State::Exhausted), 3),
-        (stopped(7, State::Running), 4),
-        (stopped(7, State::Synced), 4),
-        (stopped(7, State::Ended), 4),
-        (Ok(desync), 4),
-    ] {
-        assert_eq!(rt; status(&answer), number, "at {answer:?}");
-    }
-}
-
-#[test]
 fn each_error_has_a_line_and_a_status(rt: HostRuntime) -> Result<(), Fail> {
     let bad = |setting| SessionError::BadSettings(setting);
     for (error, line, number) in [
@@ -365,6 +330,19 @@ fn each_error_has_a_line_and_a_status(rt: HostRuntime) -> Result<(), Fail> {
         (bad(BadSetting::BadMemory), "settings refused: BadMemory", 1),
         (bad(BadSetting::BadLimit), "settings refused: BadLimit", 1),
         (SessionError::TooLong, "too long", 1),
+        (
+            SessionError::Text(AsmError {
+                line: 12,
+                kind: AsmKind::BadToken,
+            }),
+            "line 12: BadToken",
+            1,
+        ),
+        (
+            SessionError::BadImage(ElfError::NotElf),
+            "image refused: NotElf",
+            1,
+        ),
         (
             SessionError::SegmentOutside,
             "image refused: SegmentOutside",

@@ -6,8 +6,8 @@ use Rattle.clap.specs.declared.error.Error.{Error}
 use Rattle.clap.specs.declared.error.kind.ErrorKind.TheVariants.{MissingSubcommand}
 use Rattle.clap.specs.declared.parser.matches.ArgMatches.{ArgMatches}
 use Rattle.bspemu.specs.CommandLine.{HasAppOfFormats, NameList, bspemu_app}
-use Rattle.bspemu.specs.Options.{AsksFor, GivesRun, IsFaultOf, IsNeverMet}
-use Rattle.bspemu.specs.declared.options.RunOptions.{RunOptions}
+use Rattle.bspemu.specs.Options.{AsksFor, Gives, IsFaultOf, IsNeverMet}
+use Rattle.bspemu.specs.declared.options.Action.{Action}
 
 -- they give its matches and its faults exactly
 is_simple_line : (formats : NameList) → is_simple (bspemu_app formats) ≡ true
@@ -17,24 +17,24 @@ pub is_free_line : (formats : NameList) → is_simple_and_free (bspemu_app forma
 is_free_line formats = refl
 
 -- the matches of a parse are those of the words
-run_of_parse : (command : Command) (words : List Text) (m : ArgMatches) (app : HasAppOfFormats command bspemu_app)
+found_of_parse : (command : Command) (words : List Text) (m : ArgMatches) (app : HasAppOfFormats command bspemu_app)
     → HasMatchesOf (app_of command) words m → subcommand_rows_of m ≡ subcommand_of (bspemu_app app.formats) words
-run_of_parse command words m app matches =
+found_of_parse command words m app matches =
     (matches (ap is_simple app.has.is ∙ is_simple_line app.formats)).1 ∙ ap (λ (a : App). subcommand_of a words) app.has.is
 
--- so are the options that they give
-pub asks_of_parse : (command : Command) (words : List Text) (m : ArgMatches) (o : RunOptions) → HasAppOfFormats command bspemu_app
-    → fault_of (app_of command) words ≡ [] → HasMatchesOf (app_of command) words m → GivesRun (subcommand_rows_of m) o → AsksFor words o
-asks_of_parse command words m o app faultless matches gives = record {
+-- so is the action that they give
+pub asks_of_parse : (command : Command) (words : List Text) (m : ArgMatches) (a : Action) → HasAppOfFormats command bspemu_app
+    → fault_of (app_of command) words ≡ [] → HasMatchesOf (app_of command) words m → Gives (subcommand_rows_of m) a → AsksFor words a
+asks_of_parse command words m a app faultless matches gives = record {
   formats = app.formats;
   listed = app.listed;
   faultless = subst (λ (a : App). fault_of a words ≡ []) app.has.is faultless;
-  run = subst (λ run. GivesRun run o) (run_of_parse command words m app matches) gives;
+  gives = subst (λ found. Gives found a) (found_of_parse command words m app matches) gives;
 }
 
 -- where they give none, that is the fault
 pub lack_of_parse : (command : Command) (words : List Text) (m : ArgMatches) (e : Error) → HasAppOfFormats command bspemu_app
-    → fault_of (app_of command) words ≡ [] → HasMatchesOf (app_of command) words m → IsNeverMet (GivesRun (subcommand_rows_of m))
+    → fault_of (app_of command) words ≡ [] → HasMatchesOf (app_of command) words m → IsNeverMet (Gives (subcommand_rows_of m))
     → kind_of e ≡ MissingSubcommand → IsFaultOf words e
 lack_of_parse command words m e app faultless matches never kind = inr (record {
   formats = app.formats;
@@ -42,7 +42,7 @@ lack_of_parse command words m e app faultless matches never kind = inr (record {
   found = inr (
     kind,
     subst (λ (a : App). fault_of a words ≡ []) app.has.is faultless,
-    subst (λ run. IsNeverMet (GivesRun run)) (run_of_parse command words m app matches) never,
+    subst (λ found. IsNeverMet (Gives found)) (found_of_parse command words m app matches) never,
   );
 })
 

@@ -14,7 +14,7 @@ NameList = Bor (List (Bor Text))
 
 -- the list names the formats
 abbrev pub ListsFormats : NameList → Type 0
-ListsFormats names = map (λ name. name.now) names.now ≡ codes "raw" ∷ []
+ListsFormats names = map (λ name. name.now) names.now ≡ codes "elf" ∷ codes "raw" ∷ codes "asm" ∷ []
 
 -- `--NAME VALUE`
 abbrev pub option_rule : Text → Rule
@@ -24,11 +24,12 @@ option_rule name = record (new_rule name) { long = Some name; value_names = 1 }
 abbrev pub checked_rule : Text → ValueParser → Text → Rule
 checked_rule name parser default = record (option_rule name) { parser = Some parser; defaults = default ∷ [] }
 
-abbrev pub image_rule : Rule
-image_rule = record (new_rule (codes "image")) { value_names = 1; required = true }
+-- `NAME`, which has to be there
+abbrev pub file_rule : Text → Rule
+file_rule name = record (new_rule name) { value_names = 1; required = true }
 
 abbrev pub format_rule : NameList → Rule
-format_rule formats = checked_rule (codes "format") (Names formats) (codes "raw")
+format_rule formats = checked_rule (codes "format") (Names formats) (codes "elf")
 
 -- the numbers of 32 bits, and those of 64
 abbrev pub nodes_rule : Rule
@@ -44,24 +45,29 @@ limit_rule = checked_rule (codes "limit") (Unsigned 0 18446744073709551615) (cod
 abbrev pub run_app : NameList → App
 run_app formats =
     with_rule (with_rule (with_rule (with_rule (with_rule (with_rule (new_app (codes "run"))
-    image_rule) (format_rule formats)) nodes_rule) memory_rule) limit_rule) (option_rule (codes "input"))
+    (file_rule (codes "image"))) (format_rule formats)) nodes_rule) memory_rule) limit_rule) (option_rule (codes "input"))
+
+-- `list IMAGE` with its option
+abbrev pub list_app : NameList → App
+list_app formats = with_rule (with_rule (new_app (codes "list")) (file_rule (codes "image"))) (format_rule formats)
+
+-- `asm TEXT IMAGE`
+abbrev pub asm_app : App
+asm_app = with_rule (with_rule (new_app (codes "asm")) (file_rule (codes "text"))) (file_rule (codes "image"))
 
 -- with no words the program answers with its help
 abbrev pub bspemu_shape : Shape
 bspemu_shape = record (new_app (codes "bspemu")).top { arg_required_else_help = true; subcommand_required = true }
 
 abbrev pub bspemu_app : NameList → App
-bspemu_app formats = with_subcommand (record { top = bspemu_shape; subs = [] }) (run_app formats).top
+bspemu_app formats =
+    with_subcommand (with_subcommand (with_subcommand (record { top = bspemu_shape; subs = [] })
+    (run_app formats).top) (list_app formats).top) asm_app.top
 
 -- an argument that clap reads by this rule
 pub record HasRule (arg : Arg) (rule : Rule) : Type 0 where
   pub is : rule_of arg ≡ rule
   pub local : arg.global ≡ false
-
-pub record IsFormatArg (arg : Arg) : Type 0 where
-  pub formats : NameList
-  pub listed : ListsFormats formats
-  pub rule : HasRule arg (format_rule formats)
 
 -- a command whose words clap reads as this app's
 pub record HasApp (command : Command) (app : App) : Type 0 where

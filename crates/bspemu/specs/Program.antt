@@ -8,10 +8,19 @@ use Rattle.clap.specs.declared.error.kind.ErrorKind.TheVariants.{DisplayHelp, Ou
 use Rattle.bsp_session.specs.declared.errors.SessionError.{SessionError}
 use Rattle.bsp_session.specs.declared.errors.SessionError.TheVariants.{BadSettings}
 use Rattle.bsp_session.specs.declared.job.Outcome.{Outcome}
+use Rattle.bsp_session.specs.declared.job.Outcome.TheVariants.{Ended}
+use Rattle.bsp_session.specs.declared.job.Job.{Job}
 use Rattle.bsp_session.specs.declared.job.Settings.{Settings}
-use Rattle.bsp_session.specs.Outcome.{outcome_of, status_of}
-use Rattle.bsp_session.specs.Run.{final_nodes, raw_image, settings_fault}
+use Rattle.node_memory.specs.Image.{Image}
+use Rattle.bsp_session.specs.Images.{Gives}
+use Rattle.bsp_session.specs.Listing.{IsErrorWithoutMachine}
+use Rattle.bsp_session.specs.Outcome.{IsOutcomeOf, status_of}
+use Rattle.bsp_session.specs.Run.{final_nodes, settings_fault}
 use Rattle.bspemu.specs.declared.options.RunOptions.{RunOptions}
+use Rattle.bspemu.specs.declared.options.ListOptions.{ListOptions}
+use Rattle.bspemu.specs.declared.options.AsmOptions.{AsmOptions}
+use Rattle.bspemu.specs.declared.options.Action.{Action}
+use Rattle.bspemu.specs.declared.options.Action.TheVariants as action
 use Rattle.bspemu.specs.declared.program.RunError.{RunError}
 use Rattle.bspemu.specs.declared.program.RunError.TheVariants.{CannotOpen, Session}
 use Rattle.bspemu.specs.Options.{AsksFor, IsFaultOf}
@@ -21,12 +30,14 @@ abbrev pub text_of_error : RunError → Option Text
 text_of_error (CannotOpen path) = Some (codes "cannot open " ++ path.now)
 text_of_error (Session error) = None
 
--- the outcome of the nodes' runs, for some bytes of an image and an input
-pub record HasOutcome (s : Settings) (o : Outcome) : Type 0 where
-  pub image : List ℕ
+-- the outcome of the nodes' runs, for some bytes of an image's file, which give an image, and of an input
+pub record HasOutcome (job : Job) (o : Outcome) : Type 0 where
+  pub file : List ℕ
   pub input : List ℕ
-  pub settings : settings_fault s ≡ None
-  pub outcome : o ≡ outcome_of (final_nodes (raw_image image) input s)
+  pub image : Image
+  pub settings : settings_fault job.settings ≡ None
+  pub gives : Gives job.format file image
+  pub outcome : IsOutcomeOf (final_nodes image input job.settings) o
 
 -- the options name this file: as the image, which is not standard input, or as the input
 abbrev pub NamesFile : RunOptions → Bor Text → Type 0
@@ -38,10 +49,28 @@ IsSessionError s (BadSettings cause) = settings_fault s ≡ Some cause
 IsSessionError s _ = settings_fault s ≡ None
 
 -- an answer that a run with these options can have
-abbrev pub IsAnswer : RunOptions → Result Outcome RunError → Type 0
-IsAnswer o (Ok outcome) = HasOutcome o.job.settings outcome
-IsAnswer o (Err (CannotOpen path)) = NamesFile o path
-IsAnswer o (Err (Session error)) = IsSessionError o.job.settings error
+abbrev pub IsAnswerOfRun : RunOptions → Result Outcome RunError → Type 0
+IsAnswerOfRun o (Ok outcome) = HasOutcome o.job outcome
+IsAnswerOfRun o (Err (CannotOpen path)) = NamesFile o path
+IsAnswerOfRun o (Err (Session error)) = IsSessionError o.job.settings error
+
+-- an answer that a listing with these options can have
+abbrev pub IsAnswerOfList : ListOptions → Result Outcome RunError → Type 0
+IsAnswerOfList o (Ok outcome) = outcome ≡ Ended
+IsAnswerOfList o (Err (CannotOpen path)) = (o.image.now ≢ codes "-") × (o.image ≡ path)
+IsAnswerOfList o (Err (Session error)) = IsErrorWithoutMachine error
+
+-- an answer that an assembly with these options can have
+abbrev pub IsAnswerOfAsm : AsmOptions → Result Outcome RunError → Type 0
+IsAnswerOfAsm o (Ok outcome) = outcome ≡ Ended
+IsAnswerOfAsm o (Err (CannotOpen path)) = (o.text ≡ path) ⊎ (o.image ≡ path)
+IsAnswerOfAsm o (Err (Session error)) = IsErrorWithoutMachine error
+
+-- an answer that an action can have
+abbrev pub IsAnswer : Action → Result Outcome RunError → Type 0
+IsAnswer (action.Run o) answer = IsAnswerOfRun o answer
+IsAnswer (action.List o) answer = IsAnswerOfList o answer
+IsAnswer (action.Asm o) answer = IsAnswerOfAsm o answer
 
 -- the exit status of an answer
 abbrev pub status_of_answer : Result Outcome RunError → ℕ
@@ -49,21 +78,21 @@ status_of_answer (Ok outcome) = status_of (Ok outcome)
 status_of_answer (Err (CannotOpen path)) = 6
 status_of_answer (Err (Session error)) = status_of (Err error)
 
--- the exit status where words give no options; help that can't be written is a failed write
+-- the exit status where words ask for nothing; help that can't be written is a failed write
 abbrev pub IsStatusOfKind : ErrorKind → ℕ → Type 0
 IsStatusOfKind OutOfMemory status = status ≡ 5
 IsStatusOfKind DisplayHelp status = (status ≡ 0) ⊎ (status ≡ 6)
 IsStatusOfKind _ status = status ≡ 1
 
--- the words ask for a run, and this is the status of an answer that it can have
-pub record EndsRun (words : List Text) (status : ℕ) : Type 0 where
-  pub options : RunOptions
-  pub asked : AsksFor words options
+-- the words ask for an action, and this is the status of an answer that it can have
+pub record EndsAction (words : List Text) (status : ℕ) : Type 0 where
+  pub action : Action
+  pub asked : AsksFor words action
   pub answer : Result Outcome RunError
-  pub answered : IsAnswer options answer
+  pub answered : IsAnswer action answer
   pub status_is : status ≡ status_of_answer answer
 
--- the words give no options, and this is the status of such a fault
+-- the words ask for nothing, and this is the status of such a fault
 pub record EndsRefused (words : List Text) (status : ℕ) : Type 0 where
   pub error : Error
   pub fault : IsFaultOf words error
@@ -71,7 +100,7 @@ pub record EndsRefused (words : List Text) (status : ℕ) : Type 0 where
 
 -- how the program ends on these words
 abbrev pub Ends : List Text → ℕ → Type 0
-Ends words status = EndsRun words status ⊎ EndsRefused words status
+Ends words status = EndsAction words status ⊎ EndsRefused words status
 
 -- how it ends on the words that the system gives; where they can't be had, memory ran out, or one of them is no text
 abbrev pub EndsOnItsWords : ℕ → Type 0

@@ -57,7 +57,7 @@ pub fn open_image<'a, R: Files + Input>(
     if path == "-" {
         Ok(open_standard(rt))
     } else {
-        open(rt, path)
+        Ok(Source::File(open_file(rt, path)?))
     }
 }
 
@@ -71,7 +71,7 @@ pub fn open_input<'a, R: Files + Input>(
     ensures empty { path.entry ≡ None → IsOk result }
 {
     match path {
-        Some(path) => open(rt, path),
+        Some(path) => Ok(Source::File(open_file(rt, path)?)),
         None => Ok(Source::Empty),
     }
 }
@@ -88,15 +88,16 @@ fn open_standard<R: Files + Input>(rt: &R) -> Source<R::File, R::Reader>
     }
 }
 
-fn open<'a, R: Files + Input>(
-    rt: &R,
-    path: &'a str,
-) -> Result<Source<R::File, R::Reader>, CannotOpen<'a>>
-    ensures ok { IfOk result (λ source. place_of source ≡ file) }
-    ensures err { IfErr result (λ e. e.0 ≡ path.entry) }
+/// The file at `path`, to be read.
+pub fn open_file<'a, R: Files>(rt: &R, path: &'a str) -> Result<R::File, CannotOpen<'a>>
+    ensures { IfErr result (λ e. e.0 ≡ path.entry) }
 {
-    match fs::open(rt, path) {
-        Ok(file) => Ok(Source::File(file)),
-        Err(_) => Err(CannotOpen(path)),
-    }
+    fs::open(rt, path).map_err(|_| CannotOpen(path))
+}
+
+/// The file at `path`, to be written: it is created where there is none, and else emptied.
+pub fn create<'a, R: Files>(rt: &R, path: &'a str) -> Result<R::File, CannotOpen<'a>>
+    ensures { IfErr result (λ e. e.0 ≡ path.entry) }
+{
+    fs::create(rt, path).map_err(|_| CannotOpen(path))
 }

@@ -1,15 +1,14 @@
-//! The command line: what it may hold, and what it asks for.
+//! What the words of the command line ask for.
 
-ghost use Rattle.std.specs.Prelude.{◌≡◌, IfOk, IfErr, IfNone, IfSome, map, codes};
+ghost use Rattle.std.specs.Prelude.{◌≡◌, IfOk, IfErr, IfNone, IfSome, map};
 ghost use Rattle.clap.specs.Words.{found_of, kind_of, rows_of, subcommand_rows_of};
-ghost use Rattle.bspemu.specs.CommandLine.{HasAppOfFormats, HasRule, IsFormatArg, bspemu_app, image_rule};
-ghost use Rattle.bspemu.specs.CommandLine.{limit_rule, memory_rule, nodes_rule, option_rule, run_app};
-ghost use Rattle.bspemu.specs.Options.{AsksFor, GivesOptions, GivesRun, GivesSettings, IsFaultOf, IsNeverMet};
-ghost use Rattle.bspemu.specs.Options.{name_of_format};
+ghost use Rattle.bspemu.specs.Options.{AsksFor, Gives, GivesAction, GivesAsmOptions, GivesListOptions, GivesRunOptions};
+ghost use Rattle.bspemu.specs.Options.{GivesSettings, IsFaultOf, IsNeverMet, name_of_format};
 
+use crate::command_line::command;
 use bsp_session::{Format, Job, Settings};
 use clap::error::ErrorKind;
-use clap::{Arg, ArgMatches, Command, Error, value_parser};
+use clap::{ArgMatches, Error};
 use std::alloc::{AllocError, Global};
 use std::convert::AsStr;
 
@@ -23,31 +22,45 @@ pub struct RunOptions<'a> {
     pub job: Job,
 }
 
-/// The names of the formats.
-static FORMATS: [&str; 1] = ["raw"];
+/// What `bspemu list` was asked to do.
+#[derive(Debug, Drop)]
+pub struct ListOptions<'a> {
+    /// The file of the program; `-` is standard input.
+    pub image: &'a str,
+    pub format: Format,
+}
 
-const ABOUT: &str =
-    "Emulator of a bulk synchronous parallel machine whose nodes run RISC-V programs";
+/// What `bspemu asm` was asked to do.
+#[derive(Debug, Drop)]
+pub struct AsmOptions<'a> {
+    /// The file of the text.
+    pub text: &'a str,
+    /// The file to save the image in.
+    pub image: &'a str,
+}
 
-const STATUSES: &str = "Exit status:
-  0  every node ended, or this help was asked for
-  1  the command line, a setting or the program was refused
-  2  a node was stopped by a fault, or by its own abort
-  3  a node still ran at its limit
-  5  memory ran out
-  6  a file could not be opened, read or written";
+/// What the command line asks for.
+#[derive(Debug, Drop)]
+pub enum Action<'a> {
+    /// Run a program.
+    Run(RunOptions<'a>),
+    /// Write the listing of a program.
+    List(ListOptions<'a>),
+    /// Assemble a text, and save it.
+    Asm(AsmOptions<'a>),
+}
 
 /// What the words ask for; the first is the program's name.
 ///
 /// # Errors
 /// The text for the user: help where it was asked for, and else what is wrong with the words.
-pub fn run_options<'a, S: AsStr>(alloc: Global, words: &'a [S]) -> Result<RunOptions<'a>, Error>
+pub fn action_of<'a, S: AsStr>(alloc: Global, words: &'a [S]) -> Result<Action<'a>, Error>
     ensures ok { IfOk result (AsksFor (map S.text words.entry.now)) }
     ensures err { IfErr result (IsFaultOf (map S.text words.entry.now)) }
 {
     let matches = command(alloc)?.try_get_matches_from(words)?;
-    match options_of(&matches) {
-        Some(options) => Ok(options),
+    match action_of_matches(&matches) {
+        Some(action) => Ok(action),
         None => Err(refusal(alloc, ErrorKind::MissingSubcommand, "a value is missing")?),
     }
 }
@@ -59,17 +72,31 @@ pub fn refusal(alloc: Global, kind: ErrorKind, message: &str) -> Result<Error, A
     command(alloc)?.error(kind, message)
 }
 
-/// The options among the matches of [`command`], if each has a value.
-fn options_of<'a>(matches: &ArgMatches<'a>) -> Option<RunOptions<'a>>
-    ensures some { IfSome result (GivesRun (subcommand_rows_of matches.now)) }
-    ensures none { IfNone result (IsNeverMet (GivesRun (subcommand_rows_of matches.now))) }
+/// The action among the matches of [`command`], if each of its options has a value.
+fn action_of_matches<'a>(matches: &ArgMatches<'a>) -> Option<Action<'a>>
+    ensures some { IfSome result (Gives (subcommand_rows_of matches.now)) }
+    ensures none { IfNone result (IsNeverMet (Gives (subcommand_rows_of matches.now))) }
 {
-    options_of_run(matches.subcommand_matches("run")?)
+    let (name, found) = matches.subcommand()?;
+    action_named(name, found)
+}
+
+/// The action of the subcommand of this name.
+fn action_named<'a>(name: &str, found: &ArgMatches<'a>) -> Option<Action<'a>>
+    ensures some { IfSome result (GivesAction name.now (rows_of (found_of found.now))) }
+    ensures none { IfNone result (IsNeverMet (GivesAction name.now (rows_of (found_of found.now)))) }
+{
+    match name {
+        "run" => Some(Action::Run(options_of_run(found)?)),
+        "list" => Some(Action::List(options_of_list(found)?)),
+        "asm" => Some(Action::Asm(options_of_asm(found)?)),
+        _ => None,
+    }
 }
 
 fn options_of_run<'a>(run: &ArgMatches<'a>) -> Option<RunOptions<'a>>
-    ensures some { IfSome result (GivesOptions (rows_of (found_of run.now))) }
-    ensures none { IfNone result (IsNeverMet (GivesOptions (rows_of (found_of run.now)))) }
+    ensures some { IfSome result (GivesRunOptions (rows_of (found_of run.now))) }
+    ensures none { IfNone result (IsNeverMet (GivesRunOptions (rows_of (found_of run.now)))) }
 {
     Some(RunOptions {
         image: run.get_str("image")?,
@@ -78,6 +105,26 @@ fn options_of_run<'a>(run: &ArgMatches<'a>) -> Option<RunOptions<'a>>
             format: format_named(run.get_str("format")?)?,
             settings: settings_of_run(run)?,
         },
+    })
+}
+
+fn options_of_list<'a>(list: &ArgMatches<'a>) -> Option<ListOptions<'a>>
+    ensures some { IfSome result (GivesListOptions (rows_of (found_of list.now))) }
+    ensures none { IfNone result (IsNeverMet (GivesListOptions (rows_of (found_of list.now)))) }
+{
+    Some(ListOptions {
+        image: list.get_str("image")?,
+        format: format_named(list.get_str("format")?)?,
+    })
+}
+
+fn options_of_asm<'a>(asm: &ArgMatches<'a>) -> Option<AsmOptions<'a>>
+    ensures some { IfSome result (GivesAsmOptions (rows_of (found_of asm.now))) }
+    ensures none { IfNone result (IsNeverMet (GivesAsmOptions (rows_of (found_of asm.now)))) }
+{
+    Some(AsmOptions {
+        text: asm.get_str("text")?,
+        image: asm.get_str("image")?,
     })
 }
 
@@ -97,96 +144,9 @@ fn format_named(name: &str) -> Option<Format>
     ensures none { IfNone result (IsNeverMet (λ format. name.now ≡ name_of_format format)) }
 {
     match name {
+        "elf" => Some(Format::Elf),
         "raw" => Some(Format::Raw),
+        "asm" => Some(Format::Asm),
         _ => None,
     }
-}
-
-fn command<'a>(alloc: Global) -> Result<Command<'a>, AllocError>
-    ensures { IfOk result (λ command. HasAppOfFormats command bspemu_app) }
-{
-    Command::new(alloc, "bspemu")
-        .bin_name("bspemu")?
-        .about(ABOUT)
-        .after_help(STATUSES)
-        .subcommand_required(true)
-        .arg_required_else_help(true)
-        .subcommand(run_command(alloc)?)
-}
-
-fn run_command<'a>(alloc: Global) -> Result<Command<'a>, AllocError>
-    ensures { IfOk result (λ command. HasAppOfFormats command run_app) }
-{
-    Command::new(alloc, "run")
-        .about("Run a program on every node and write the nodes' output, that of node 0 first")
-        .after_help(STATUSES)
-        .arg(image(alloc))?
-        .arg(format(alloc))?
-        .arg(nodes(alloc))?
-        .arg(memory(alloc))?
-        .arg(limit(alloc))?
-        .arg(input(alloc))
-}
-
-fn image<'a>(alloc: Global) -> Arg<'a>
-    ensures { HasRule result image_rule }
-{
-    Arg::new(alloc, "image")
-        .value_name("IMAGE")
-        .required(true)
-        .help("File with the program, at most 16777216 bytes; - for standard input")
-}
-
-fn format<'a>(alloc: Global) -> Arg<'a>
-    ensures { IsFormatArg result }
-{
-    Arg::new(alloc, "format")
-        .long("format")
-        .value_name("FORMAT")
-        .value_parser(FORMATS.as_slice())
-        .default_value("raw")
-        .hide_possible_values(true)
-        .help("Format of IMAGE: raw, the bytes of memory from address 0, where execution begins")
-}
-
-fn nodes<'a>(alloc: Global) -> Arg<'a>
-    ensures { HasRule result nodes_rule }
-{
-    Arg::new(alloc, "nodes")
-        .long("nodes")
-        .value_name("N")
-        .value_parser(value_parser!(u32))
-        .default_value("1")
-        .help("Nodes of the machine, 1 to 256")
-}
-
-fn memory<'a>(alloc: Global) -> Arg<'a>
-    ensures { HasRule result memory_rule }
-{
-    Arg::new(alloc, "memory")
-        .long("memory")
-        .value_name("BYTES")
-        .value_parser(value_parser!(u32))
-        .default_value("1048576")
-        .help("Bytes of memory of each node, a multiple of 4096 from 4096 to 16777216")
-}
-
-fn limit<'a>(alloc: Global) -> Arg<'a>
-    ensures { HasRule result limit_rule }
-{
-    Arg::new(alloc, "limit")
-        .long("limit")
-        .value_name("TICKS")
-        .value_parser(value_parser!(u64))
-        .default_value("1000000")
-        .help("Most ticks of each node, one per instruction, 1 to 1099511627776")
-}
-
-fn input<'a>(alloc: Global) -> Arg<'a>
-    ensures { HasRule result (option_rule (codes "input")) }
-{
-    Arg::new(alloc, "input")
-        .long("input")
-        .value_name("FILE")
-        .help("File that each node reads as its input, at most 16777216 bytes [default: no input]")
 }

@@ -2,11 +2,12 @@
 
 ghost use Rattle.std.specs.Prelude.{◌≡◌, ◌⊎◌, IfErr, map};
 ghost use Rattle.clap.specs.Words.{kind_of};
-ghost use Rattle.bspemu.specs.Program.{Ends, EndsOnItsWords, IsAnswer, IsStatusOfKind, status_of_answer};
+ghost use Rattle.bspemu.specs.Program.{Ends, EndsOnItsWords, IsAnswer, IsAnswerOfAsm, IsAnswerOfList, IsAnswerOfRun};
+ghost use Rattle.bspemu.specs.Program.{IsStatusOfKind, status_of_answer};
 
-use crate::files::{CannotOpen, open_image, open_input};
-use crate::options::{RunOptions, refusal, run_options};
-use bsp_session::{Outcome, SessionError, session, status};
+use crate::files::{CannotOpen, create, open_file, open_image, open_input};
+use crate::options::{Action, AsmOptions, ListOptions, RunOptions, action_of, refusal};
+use bsp_session::{Outcome, SessionError, asm_session, list_session, session, status};
 use clap::Error;
 use clap::error::ErrorKind;
 use counted_io::Counted;
@@ -21,7 +22,7 @@ const REFUSED: u8 = 1;
 /// The status where a file can't be opened.
 const NOT_OPENED: u8 = 6;
 
-/// Why a run has no outcome.
+/// Why what was asked for was not done.
 #[derive(Clone, Copy, Debug)]
 pub enum RunError<'a> {
     /// The file at this path can't be opened.
@@ -94,9 +95,23 @@ pub fn program_on<R: AllocGlobal + Files + Input + Print + Eprint, S: AsStr>(
 ) -> u8
     ensures { Ends (map S.text words.now) result }
 {
-    match run_options(rt.alloc(), words) {
-        Ok(options) => finish(rt, run(rt, &options)),
+    match action_of(rt.alloc(), words) {
+        Ok(action) => finish(rt, perform(rt, &action)),
         Err(error) => refuse(rt, &error),
+    }
+}
+
+/// Does what was asked for. A listing and a saved image count as ended.
+fn perform<'a, R: AllocGlobal + Files + Input + Print>(
+    rt: &R,
+    action: &Action<'a>,
+) -> Result<Outcome, RunError<'a>>
+    ensures { IsAnswer action.now result }
+{
+    match action {
+        Action::Run(options) => run(rt, options),
+        Action::List(options) => list(rt, options),
+        Action::Asm(options) => assemble(rt, options),
     }
 }
 
@@ -105,7 +120,7 @@ fn run<'a, R: AllocGlobal + Files + Input + Print>(
     rt: &R,
     options: &RunOptions<'a>,
 ) -> Result<Outcome, RunError<'a>>
-    ensures { IsAnswer options.now result }
+    ensures { IsAnswerOfRun options.now result }
 {
     let mut image = Counted::new(open_image(rt, options.image)?);
     let mut input = Counted::new(open_input(rt, options.input)?);
@@ -114,7 +129,33 @@ fn run<'a, R: AllocGlobal + Files + Input + Print>(
     Ok(outcome)
 }
 
-/// The status of a run, after a line on standard error where it has no outcome.
+/// Opens the image, and writes its listing.
+fn list<'a, R: AllocGlobal + Files + Input + Print>(
+    rt: &R,
+    options: &ListOptions<'a>,
+) -> Result<Outcome, RunError<'a>>
+    ensures { IsAnswerOfList options.now result }
+{
+    let mut image = Counted::new(open_image(rt, options.image)?);
+    let mut out = Counted::new(io::writer(rt));
+    list_session(rt.alloc(), options.format, &mut image, &mut out)?;
+    Ok(Outcome::Ended)
+}
+
+/// Opens the text, creates the file of the image, or empties it, and saves the text's image there.
+fn assemble<'a, R: AllocGlobal + Files + Input>(
+    rt: &R,
+    options: &AsmOptions<'a>,
+) -> Result<Outcome, RunError<'a>>
+    ensures { IsAnswerOfAsm options.now result }
+{
+    let mut text = Counted::new(open_file(rt, options.text)?);
+    let mut image = Counted::new(create(rt, options.image)?);
+    asm_session(rt.alloc(), &mut text, &mut image)?;
+    Ok(Outcome::Ended)
+}
+
+/// The status of an answer, after a line on standard error where it has no outcome.
 fn finish<R: Eprint>(rt: &R, answer: Result<Outcome, RunError<'_>>) -> u8
     ensures { result ≡ status_of_answer answer.entry }
 {

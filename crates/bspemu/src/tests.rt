@@ -1,5 +1,5 @@
-use crate::files::{Source, open_image, open_input};
-use crate::options::{refusal, run_options};
+use crate::files::{Source, create, open_file, open_image, open_input};
+use crate::options::{Action, action_of, refusal};
 use crate::program::program_on;
 use bsp_session::{Format, Job, Settings};
 use clap::error::ErrorKind;
@@ -7,7 +7,7 @@ use std::io::Read;
 use std::test::Fail;
 
 #[test]
-fn words_give_options(rt: HostRuntime) -> Result<(), Fail> {
+fn words_give_a_run(rt: HostRuntime) -> Result<(), Fail> {
     let words = [
         "bspemu",
         "run",
@@ -19,12 +19,16 @@ fn words_give_options(rt: HostRuntime) -> Result<(), Fail> {
         "10",
         "--input",
         "in.txt",
+        "--format",
+        "raw",
     ];
-    let options = run_options(rt.alloc(), words.as_slice())?;
     let settings = Settings {
         nodes: 3,
         memory: 8192,
         limit: 10,
+    };
+    let Action::Run(options) = action_of(rt.alloc(), words.as_slice())? else {
+        return Err(Fail::from("this is no run"));
     };
     assert!(rt; options.image == "-");
     assert!(rt; options.input == Some("in.txt"));
@@ -40,21 +44,41 @@ fn words_give_options(rt: HostRuntime) -> Result<(), Fail> {
 
 #[test]
 fn options_have_defaults(rt: HostRuntime) -> Result<(), Fail> {
-    let options = run_options(rt.alloc(), ["bspemu", "run", "a.raw"].as_slice())?;
+    let words = ["bspemu", "run", "a.elf"];
+    let Action::Run(options) = action_of(rt.alloc(), words.as_slice())? else {
+        return Err(Fail::from("this is no run"));
+    };
     let settings = Settings {
         nodes: 1,
         memory: 1_048_576,
         limit: 1_000_000,
     };
-    assert!(rt; options.image == "a.raw");
     assert!(rt; options.input == None);
     assert!(rt;
         options.job
             == Job {
-                format: Format::Raw,
+                format: Format::Elf,
                 settings
             }
     );
+    Ok(())
+}
+
+#[test]
+fn words_give_a_listing_or_an_assembly(rt: HostRuntime) -> Result<(), Fail> {
+    let words = ["bspemu", "list", "a.s", "--format", "asm"];
+    let Action::List(options) = action_of(rt.alloc(), words.as_slice())? else {
+        return Err(Fail::from("this is no listing"));
+    };
+    assert!(rt; options.image == "a.s");
+    assert!(rt; options.format == Format::Asm);
+
+    let words = ["bspemu", "asm", "a.s", "a.elf"];
+    let Action::Asm(options) = action_of(rt.alloc(), words.as_slice())? else {
+        return Err(Fail::from("this is no assembly"));
+    };
+    assert!(rt; options.text == "a.s");
+    assert!(rt; options.image == "a.elf");
     Ok(())
 }
 
@@ -80,6 +104,8 @@ fn places_are_opened(rt: HostRuntime) -> Result<(), Fail> {
     );
     assert!(rt; matches!(open_image(&rt, "/dev/null"), Ok(Source::File(_))));
     assert!(rt; matches!(open_input(&rt, Some("/dev/null")), Ok(Source::File(_))));
+    assert!(rt; open_file(&rt, "/dev/null").is_ok());
+    assert!(rt; create(&rt, "/dev/null").is_ok());
     let Err(error) = open_input(&rt, Some("-")) else {
         return Err(Fail::from("a file of this name was opened"));
     };
@@ -94,13 +120,10 @@ fn places_are_opened(rt: HostRuntime) -> Result<(), Fail> {
 #[test]
 fn words_end_with_a_status(rt: HostRuntime) {
     // An image of no bytes: the word at address 0 is 0, which is no instruction.
-    assert!(rt; program_on(&rt, ["bspemu", "run", "/dev/null"].as_slice()) == 2);
-    assert!(rt;
-        program_on(
-            &rt,
-            ["bspemu", "run", "/dev/null", "--nodes", "0"].as_slice()
-        ) == 1
-    );
+    let words = ["bspemu", "run", "/dev/null", "--format", "raw"];
+    assert!(rt; program_on(&rt, words.as_slice()) == 2);
+    assert!(rt; program_on(&rt, ["bspemu", "run", "/dev/null"].as_slice()) == 1);
+    assert!(rt; program_on(&rt, ["bspemu", "asm", "/dev/null", "/dev/null"].as_slice()) == 0);
     assert!(rt; program_on(&rt, ["bspemu", "run", "no such file"].as_slice()) == 6);
     assert!(rt; program_on(&rt, ["bspemu", "run", "--nodes", "many", "-"].as_slice()) == 1);
     assert!(rt; program_on(&rt, ["bspemu", "--help"].as_slice()) == 0);

@@ -1,0 +1,126 @@
+//! Tests of the formats of images, of listings and of saved images.
+
+use super::*;
+
+const TEXT: &[u8] = b"start: beq x0,x0,next\nli a0,-2049\nnext: ecall\n.byte 7\n";
+
+const LISTING: &str = "00000000: 00000663  beq x0,x0,0x0000000c
+00000004: fffff537  lui x10,0xfffff
+00000008: 7ff50513  addi x10,x10,2047
+0000000c: 00000073  ecall
+00000010: 07        .byte 0x07
+";
+
+// The listing of a file, written to a writer of its own.
+fn listed<A: Allocator + Copy>(
+    alloc: A,
+    holder: Global,
+    format: Format,
+    file: &[u8],
+) -> (Result<(), SessionError>, Vec<u8>) {
+    let mut out = Counted::new(Vec::new(holder));
+    let answer = list_session(alloc, format, &mut Counted::new(file), &mut out);
+    (answer, out.into_inner())
+}
+
+// The file of a text's image.
+fn saved<A: Allocator + Copy>(
+    alloc: A,
+    holder: Global,
+    text: &[u8],
+) -> (Result<(), SessionError>, Vec<u8>) {
+    let mut out = Counted::new(Vec::new(holder));
+    let answer = asm_session(alloc, &mut Counted::new(text), &mut out);
+    (answer, out.into_inner())
+}
+
+#[test]
+fn a_text_and_its_saved_image_have_one_listing(rt: HostRuntime) {
+    let alloc = rt.alloc();
+    let (answer, file) = saved(alloc, alloc, TEXT);
+    assert_eq!(rt; answer, Ok(()));
+    assert_eq!(rt; file.len(), 52 + 32 + 17);
+    for (format, bytes) in [(Format::Asm, TEXT), (Format::Elf, file.as_slice())] {
+        let (answer, written) = listed(alloc, alloc, format, bytes);
+        assert_eq!(rt; answer, Ok(()), "as {format:?}");
+        assert_eq!(rt; written.as_slice(), LISTING.as_bytes(), "as {format:?}");
+    }
+    let (answer, written) = listed(alloc, alloc, Format::Raw, &file[84..]);
+    assert_eq!(rt; answer, Ok(()));
+    assert_eq!(rt; written.as_slice(), LISTING.as_bytes());
+}
+
+#[test]
+fn files_that_give_no_image_are_refused(rt: HostRuntime) {
+    let alloc = rt.alloc();
+    let not_elf = Err(SessionError::BadImage(ElfError::NotElf));
+    let bad_operand = Err(SessionError::Text(AsmError {
+        line: 2,
+        kind: AsmKind::BadOperand,
+    }));
+    let text = b"nop\nnop nop\n".as_slice();
+    for (format, answer) in [(Format::Elf, not_elf), (Format::Asm, bad_operand)] {
+        let (given, written) = listed(alloc, alloc, format, text);
+        assert_eq!(rt; given, answer);
+        assert!(rt; written.is_empty());
+    }
+    let (given, written) = saved(alloc, alloc, text);
+    assert_eq!(rt; given, bad_operand);
+    assert!(rt; written.is_empty());
+}
+
+#[test]
+fn a_listing_or_a_saved_image_may_be_cut_short(rt: HostRuntime) {
+    let alloc = rt.alloc();
+    let mut text = Counted::new(Source {
+        text: b"nop",
+        step: 2,
+        fails: true,
+    });
+    let mut out = Counted::new(Vec::new(alloc));
+    let answer = list_session(alloc, Format::Asm, &mut text, &mut out);
+    assert_eq!(rt; answer, Err(SessionError::ReadFault));
+    assert!(rt; out.inner().is_empty());
+
+    let mut out = Counted::new(Sink {
+        held: Vec::new(alloc),
+        room: 10,
+    });
+    let answer = list_session(alloc, Format::Asm, &mut Counted::new(TEXT), &mut out);
+    assert_eq!(rt; answer, Err(SessionError::WriteFault));
+    assert_eq!(rt; out.inner().held.as_slice(), b"00000000: ".as_slice());
+
+    let mut out = Counted::new(Sink {
+        held: Vec::new(alloc),
+        room: 4,
+    });
+    let answer = asm_session(alloc, &mut Counted::new(TEXT), &mut out);
+    assert_eq!(rt; answer, Err(SessionError::WriteFault));
+    assert_eq!(rt; out.inner().held.as_slice(), b"\x7fELF".as_slice());
+}
+
+#[test]
+fn a_refused_request_of_these_is_no_memory_too(rt: HostRuntime) {
+    let alloc = rt.alloc();
+    let heap = RefusingAllocator::new(alloc);
+    let mut met = 0;
+    for request in 1..100 {
+        heap.refuse_nth(request);
+        let (answer, _) = listed(&heap, alloc, Format::Asm, TEXT);
+        if heap.refusals() == 0 {
+            assert_eq!(rt; answer, Ok(()));
+            break;
+        }
+        assert_eq!(rt; answer, Err(SessionError::NoMemory), "at request {request}");
+        met = request;
+    }
+    assert!(rt; met >= 3 && met < 99, "{met} requests were refused");
+    for request in 1..=met {
+        heap.refuse_nth(request);
+        let (answer, written) = saved(&heap, alloc, TEXT);
+        if heap.refusals() > 0 {
+            assert_eq!(rt; answer, Err(SessionError::NoMemory), "at request {request}");
+            assert!(rt; written.is_empty());
+        }
+    }
+}

@@ -1,0 +1,12 @@
+use Rattle.std.proofs.Common.{codes, rules}
+use Rattle.std.proofs.lemmas.Result.{IfOk-weaker}
+use Rattle.clap.specs.Words.{new_app}
+use Rattle.bspemu.specs.CommandLine.{HasApp}
+use Rattle.bspemu.proofs.Commands.{with_arg}
+use Rattle.bspemu.proofs.command_line.asm_command.Goals as goal
+
+pub returns : goal.returns
+returns c =
+    let named : HasApp c.after_help.result (new_app (codes "asm")) = record { is = search rules; local = search rules } in
+    let text = with_arg _ _ _ _ _ c.in_ok-arg.ensures named c.text.ensures in
+    IfOk-weaker c.arg-2.result _ _ (λ r adds. with_arg _ _ _ _ _ adds text c.saved_image.ensures) c.arg-2.ensures

@@ -1,0 +1,12 @@
+use Rattle.std.proofs.Common.{codes, rules}
+use Rattle.std.proofs.lemmas.Result.{IfOk-weaker}
+use Rattle.clap.specs.Words.{new_app}
+use Rattle.bspemu.specs.CommandLine.{HasApp}
+use Rattle.bspemu.proofs.Commands.{with_arg}
+use Rattle.bspemu.proofs.command_line.list_command.Goals as goal
+
+pub returns : goal.returns
+returns c =
+    let named : HasApp c.about.result (new_app (codes "list")) = record { is = search rules; local = search rules } in
+    let image = with_arg _ _ _ _ _ c.in_ok-arg.ensures named c.image.ensures in
+    IfOk-weaker c.arg-2.result _ _ (λ r adds. with_arg _ _ _ _ _ adds image c.format.ensures) c.arg-2.ensures

@@ -1,0 +1,166 @@
+//! The rules of the command line: subcommands, their arguments and options, and their help.
+
+ghost use Rattle.std.specs.Prelude.{IfOk, codes};
+ghost use Rattle.bspemu.specs.CommandLine.{HasApp, HasAppOfFormats, HasRule, asm_app, bspemu_app, file_rule, format_rule};
+ghost use Rattle.bspemu.specs.CommandLine.{limit_rule, list_app, memory_rule, nodes_rule, option_rule, run_app};
+
+use clap::{Arg, Command, value_parser};
+use std::alloc::{AllocError, Global};
+
+/// The names of the formats.
+static FORMATS: [&str; 3] = ["elf", "raw", "asm"];
+
+const ABOUT: &str =
+    "Emulator of a bulk synchronous parallel machine whose nodes run RISC-V programs";
+
+const FORMAT: &str =
+    "Format of IMAGE: elf, an ELF executable; raw, the bytes of memory from address 0; asm, an assembly text";
+
+const STATUSES: &str = "Exit status:
+  0  every node ended, or this help was asked for
+  1  the command line, a setting or the program was refused
+  2  a node was stopped by a fault, or by its own abort
+  3  a node still ran at its limit
+  4  nodes wait for the end of a superstep that does not come
+  5  memory ran out
+  6  a file could not be opened, read or written";
+
+const ASM_AFTER_HELP: &str = "A text that is refused has a line `line N: NAME` on standard error:
+  BadToken         something that is no name, number, string or sign
+  UnknownMnemonic  the statement does not begin with a name of the language
+  BadOperand       too few or too many operands, or one of another kind
+  OutOfRange       a number or the offset of a jump is out of its range, or an offset is odd
+  DuplicateLabel   the label stands in this line or an earlier one already
+  UndefinedLabel   no line has the label that is used
+  TooLarge         the statement ends past 16777216 bytes
+docs/ASSEMBLY.md has the whole language.";
+
+/// The command line of the program.
+pub fn command<'a>(alloc: Global) -> Result<Command<'a>, AllocError>
+    ensures { IfOk result (λ command. HasAppOfFormats command bspemu_app) }
+{
+    let formats = FORMATS.as_slice();
+    Command::new(alloc, "bspemu")
+        .bin_name("bspemu")?
+        .about(ABOUT)
+        .after_help(STATUSES)
+        .subcommand_required(true)
+        .arg_required_else_help(true)
+        .subcommand(run_command(alloc, formats)?)?
+        .subcommand(list_command(alloc, formats)?)?
+        .subcommand(asm_command(alloc)?)
+}
+
+fn run_command<'a>(alloc: Global, formats: &'a [&'a str]) -> Result<Command<'a>, AllocError>
+    ensures { IfOk result (λ command. HasApp command (run_app formats.entry)) }
+{
+    Command::new(alloc, "run")
+        .about("Run a program on every node and write the nodes' output, that of node 0 first")
+        .after_help(STATUSES)
+        .arg(image(alloc))?
+        .arg(format(alloc, formats))?
+        .arg(nodes(alloc))?
+        .arg(memory(alloc))?
+        .arg(limit(alloc))?
+        .arg(input(alloc))
+}
+
+fn list_command<'a>(alloc: Global, formats: &'a [&'a str]) -> Result<Command<'a>, AllocError>
+    ensures { IfOk result (λ command. HasApp command (list_app formats.entry)) }
+{
+    Command::new(alloc, "list")
+        .about("Write each word of a program with its address and its instruction")
+        .arg(image(alloc))?
+        .arg(format(alloc, formats))
+}
+
+fn asm_command<'a>(alloc: Global) -> Result<Command<'a>, AllocError>
+    ensures { IfOk result (λ command. HasApp command asm_app) }
+{
+    Command::new(alloc, "asm")
+        .about("Assemble a text and save it as an ELF file")
+        .after_help(ASM_AFTER_HELP)
+        .arg(text(alloc))?
+        .arg(saved_image(alloc))
+}
+
+fn image<'a>(alloc: Global) -> Arg<'a>
+    ensures { HasRule result (file_rule (codes "image")) }
+{
+    Arg::new(alloc, "image")
+        .value_name("IMAGE")
+        .required(true)
+        .help("File with the program; - for standard input")
+}
+
+fn text<'a>(alloc: Global) -> Arg<'a>
+    ensures { HasRule result (file_rule (codes "text")) }
+{
+    Arg::new(alloc, "text")
+        .value_name("TEXT")
+        .required(true)
+        .help("File with the assembly text, at most 4194304 bytes")
+}
+
+fn saved_image<'a>(alloc: Global) -> Arg<'a>
+    ensures { HasRule result (file_rule (codes "image")) }
+{
+    Arg::new(alloc, "image")
+        .value_name("IMAGE")
+        .required(true)
+        .help("File to save the program in; it is created, or emptied, once TEXT is open")
+}
+
+fn format<'a>(alloc: Global, formats: &'a [&'a str]) -> Arg<'a>
+    ensures { HasRule result (format_rule formats.entry) }
+{
+    Arg::new(alloc, "format")
+        .long("format")
+        .value_name("FORMAT")
+        .value_parser(formats)
+        .default_value("elf")
+        .hide_possible_values(true)
+        .help(FORMAT)
+}
+
+fn nodes<'a>(alloc: Global) -> Arg<'a>
+    ensures { HasRule result nodes_rule }
+{
+    Arg::new(alloc, "nodes")
+        .long("nodes")
+        .value_name("N")
+        .value_parser(value_parser!(u32))
+        .default_value("1")
+        .help("Nodes of the machine, 1 to 256")
+}
+
+fn memory<'a>(alloc: Global) -> Arg<'a>
+    ensures { HasRule result memory_rule }
+{
+    Arg::new(alloc, "memory")
+        .long("memory")
+        .value_name("BYTES")
+        .value_parser(value_parser!(u32))
+        .default_value("1048576")
+        .help("Bytes of memory of each node, a multiple of 4096 from 4096 to 16777216")
+}
+
+fn limit<'a>(alloc: Global) -> Arg<'a>
+    ensures { HasRule result limit_rule }
+{
+    Arg::new(alloc, "limit")
+        .long("limit")
+        .value_name("TICKS")
+        .value_parser(value_parser!(u64))
+        .default_value("1000000")
+        .help("Most ticks of each node, one per instruction, 1 to 1099511627776")
+}
+
+fn input<'a>(alloc: Global) -> Arg<'a>
+    ensures { HasRule result (option_rule (codes "input")) }
+{
+    Arg::new(alloc, "input")
+        .long("input")
+        .value_name("FILE")
+        .help("File that each node reads as its input, at most 16777216 bytes [default: no input]")
+}

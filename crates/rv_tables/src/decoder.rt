@@ -11,7 +11,8 @@ use crate::instr::{BranchOp, IOp, Instr, LoadOp, PlainOp, ROp, ShiftOp, StoreOp,
 /// The instruction that a word spells, or none where the word meets no row.
 ///
 /// By matches on the opcode, and on funct3 and funct7 where the opcode asks for them.
-#[inline]
+// For speed: a node decodes a word in each step, and a call of its own would cost as much as the rest of the step.
+#[inline(always)]
 #[tactic(auto, using(crate::proofs::NoRow::opcodes))]
 pub fn decode(word: u32) -> Option<Instr>
     ensures value { result ≡ instruction_of word }

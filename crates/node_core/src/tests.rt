@@ -95,6 +95,8 @@ fn a_node_starts_with_its_image(rt: HostRuntime) -> Result<(), Fail> {
     }
     assert_eq!(rt; (node.output().len(), node.cursor()), (0, 0));
     assert_eq!(rt; (node.tag_size(), node.next_tag_size()), (0, 0));
+    assert_eq!(rt; (node.slots().count(), node.requests().len()), (0, 0));
+    assert_eq!(rt; node.inbox().count(), 0);
     let memory = node.memory();
     assert_eq!(rt; memory.size(), 0x2000);
     assert_eq!(rt; memory.load32(36), Some(0x0000_0073));

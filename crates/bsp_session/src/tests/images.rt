@@ -99,13 +99,14 @@ fn a_listing_or_a_saved_image_may_be_cut_short(rt: HostRuntime) {
     assert_eq!(rt; out.inner().held.as_slice(), b"\x7fELF".as_slice());
 }
 
+// A refused growth may be followed by a smaller one, so all requests from one on are refused.
 #[test]
 fn a_refused_request_of_these_is_no_memory_too(rt: HostRuntime) {
     let alloc = rt.alloc();
     let heap = RefusingAllocator::new(alloc);
     let mut met = 0;
     for request in 1..100 {
-        heap.refuse_nth(request);
+        heap.refuse_from_nth(request);
         let (answer, _) = listed(&heap, alloc, Format::Asm, TEXT);
         if heap.refusals() == 0 {
             assert_eq!(rt; answer, Ok(()));
@@ -116,7 +117,7 @@ fn a_refused_request_of_these_is_no_memory_too(rt: HostRuntime) {
     }
     assert!(rt; met >= 3 && met < 99, "{met} requests were refused");
     for request in 1..=met {
-        heap.refuse_nth(request);
+        heap.refuse_from_nth(request);
         let (answer, written) = saved(&heap, alloc, TEXT);
         if heap.refusals() > 0 {
             assert_eq!(rt; answer, Err(SessionError::NoMemory), "at request {request}");

@@ -1,5 +1,5 @@
-use super::{LIMIT, MEMORY, PRINTS_ITS_RANK, image};
-use crate::Node;
+use super::{LIMIT, MEMORY, PRINTS_ITS_RANK, image, node};
+use crate::{Node, State};
 use node_memory::MemoryError;
 use refusing_allocator::RefusingAllocator;
 use std::alloc::Global;
@@ -16,5 +16,24 @@ fn a_node_that_is_refused_memory_is_not_made(rt: HostRuntime) -> Result<(), Fail
     assert_eq!(rt; refused.err(), Some(MemoryError::NoMemory));
     let refused = Node::new(&heap, &image, 0, 1, 4095, LIMIT);
     assert_eq!(rt; refused.err(), Some(MemoryError::BadSize));
+    Ok(())
+}
+
+#[test]
+fn a_refused_step_can_be_made_again(rt: HostRuntime) -> Result<(), Fail> {
+    let heap = Heap::new(rt.alloc());
+    let mut found = node(&rt, &heap, &PRINTS_ITS_RANK)?;
+    heap.refuse_from_nth(1);
+    assert!(rt; found.run(b"", LIMIT).is_err());
+    assert_eq!(rt;
+        (found.state(), found.ticks(), found.pc()),
+        (State::Running, 7, 28)
+    );
+    assert!(rt; found.step(b"").is_err());
+    assert_eq!(rt; (found.ticks(), found.output().len()), (7, 0));
+    heap.refuse_nth(0);
+    found.run(b"", LIMIT)?;
+    assert_eq!(rt; (found.state(), found.ticks()), (State::Ended, 10));
+    assert_eq!(rt; found.output(), b"0".as_slice());
     Ok(())
 }

@@ -1,7 +1,9 @@
-use Rattle.std.proofs.Common.{◌*◌, ◌^◌, ◌<◌, ◌≤◌, List, length, arith}
+use Rattle.std.proofs.Common.{◌≡◌, ℕ, ◌+◌, ◌-◌, ◌∙◌, ◌*◌, ◌^◌, ◌<◌, ◌≤◌, List, ◌∷◌, length, drop, arith}
 use Rattle.std.specs.Prelude.{All}
-use Rattle.std.proofs.lemmas.List.Sums.{sum_by-le}
-use Rattle.bsp_requests.specs.Inbox.{payload_bytes}
+use Rattle.std.proofs.lemmas.List.{length-drop}
+use Rattle.std.proofs.lemmas.List.Elements.{All-drop}
+use Rattle.std.proofs.lemmas.List.Sums.{sum_by-le, sum_by-cons}
+use Rattle.bsp_requests.specs.Inbox.{payload_bytes, IsQueue, IsCountedQueue}
 use Rattle.bsp_requests.specs.Message.{Message, IsShort}
 
 -- the payloads of fewer than 2^32 messages within the limits have less than 2^56 bytes
@@ -10,3 +12,16 @@ payload_bytes_fit messages few short =
     let each : All (λ m. length m.payload ≤ 2 ^ 24) messages = λ k d within. (short k d within).payload in
     let bound : payload_bytes messages ≤ length messages * 2 ^ 24 = sum_by-le (λ m. length m.payload) (2 ^ 24) messages each in
     omega arith
+
+-- a queue without its first message is one
+rest_is_queue : (messages : List Message) → IsQueue messages → IsQueue (drop 1 messages)
+rest_is_queue messages queue =
+    let n : length (drop 1 messages) ≡ length messages - 1 = length-drop 1 messages in
+    record { few = omega (arith, n, queue.few); short = All-drop IsShort 1 messages queue.short }
+
+-- what is left of a queue when its first message is taken
+pub rest_is_counted : (messages rest : List Message) (first : Message) (n k : ℕ) → messages ≡ first ∷ rest → k ≡ length first.payload → IsCountedQueue messages n → IsCountedQueue rest (n - k)
+rest_is_counted messages rest first n k whole size counted =
+    let old : IsCountedQueue (first ∷ rest) n = rw (← whole) counted in
+    let more : n ≡ length first.payload + payload_bytes rest = old.sum ∙ sum_by-cons (λ m. length m.payload) first rest in
+    record { queue = rest_is_queue (first ∷ rest) old.queue; sum = omega (arith, more, size) }

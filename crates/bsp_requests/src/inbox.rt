@@ -1,5 +1,5 @@
 ghost use Rattle.std.specs.Prelude.{◌≡◌, ◌^◌, ◌<◌, length, drop, All, option_copied, slice_get};
-ghost use Rattle.bsp_requests.specs.Inbox.{payload_bytes};
+ghost use Rattle.bsp_requests.specs.Inbox.{payload_bytes, IsQueue};
 ghost use Rattle.bsp_requests.specs.Message.{IsShort};
 
 use list_vec::ListVec;
@@ -24,7 +24,8 @@ impl<A: Allocator> Model for Message<A> {
     ghost view = { λ m. record { sender = m.sender; tag = m.tag; payload = m.payload } };
 }
 
-/// The messages that a node has not read yet, in order (the queue of BSPlib's bulk synchronous messages).
+/// The messages that a node has not read yet, in order (the queue of BSPlib's bulk synchronous messages): fewer than 2^32,
+/// each with a tag and a payload of at most 2^24 bytes.
 #[derive(Drop)]
 pub struct Inbox<A: Allocator> {
     messages: VecDeque<Message<A>, A>,
@@ -33,15 +34,15 @@ pub struct Inbox<A: Allocator> {
 }
 
 impl<A: Allocator> Model for Inbox<A> {
-    ghost use Rattle.std.specs.Prelude.{List, ◌≡◌};
+    ghost use Rattle.std.specs.Prelude.{List};
     ghost use Rattle.bsp_requests.specs.Message.{Message as MessageValue};
-    ghost use Rattle.bsp_requests.specs.Inbox.{payload_bytes};
+    ghost use Rattle.bsp_requests.specs.Inbox.{IsCountedQueue};
 
     ghost Value = { List MessageValue };
 
     ghost view = { λ i. i.messages.items };
 
-    ghost invariant = { λ i. i.bytes ≡ payload_bytes i.messages.items };
+    ghost invariant = { λ i. IsCountedQueue i.messages.items i.bytes };
 }
 
 impl<A: Allocator> Inbox<A> {
@@ -62,7 +63,8 @@ impl<A: Allocator> Inbox<A> {
     }
 
     pub fn count(&self) -> usize
-        ensures { result ≡ length self.now }
+        ensures value { result ≡ length self.now }
+        ensures sound { IsQueue self.now }
     {
         self.messages.len()
     }

@@ -216,6 +216,28 @@ impl<A: Allocator> Memory<A> {
     }
 }
 
+impl<A: Allocator> Memory<A> {
+    ghost use Rattle.std.specs.Prelude.{◌++◌};
+
+    /// Appends a copy of the `len` bytes from `addr` on, which lie in the memory, to `bytes`.
+    ///
+    /// # Errors
+    /// Where memory is refused. `bytes` has then the elements that it had.
+    pub fn append_range<B: Allocator>(
+        &self,
+        addr: u32,
+        len: u32,
+        bytes: &mut Vec<u8, B>,
+    ) -> Result<(), AllocError>
+        requires { IsTrue (fits (length self.now) addr len) }
+        ensures ok { OnOk result (bytes.new.items ≡ bytes.old.items ++ bytes_at self.now addr len) }
+        ensures err { OnErr result (bytes.new.items ≡ bytes.old.items) }
+    {
+        let at = addr as usize;
+        bytes.extend_from_slice(&self.bytes.as_slice()[at..at + len as usize])
+    }
+}
+
 impl<A: Allocator + Copy> Memory<A> {
     /// The first `size` bytes of `image`: its segments in their order, each with zeros after its bytes up to its size, a
     /// later one over an earlier one, and zeros where none lies.

@@ -5,3 +5,4 @@ pub mod Effects
 pub mod Hart
 pub mod Inside
 pub mod Node
+pub mod Turn

@@ -1,0 +1,14 @@
+pub mod Finds
+pub mod Gathered
+pub mod Gathering
+pub mod Kept
+pub mod KeyOrder
+pub mod Landed
+pub mod Latest
+pub mod Loads
+pub mod Lookups
+pub mod Patches
+pub mod Tallies
+pub mod Transfers
+pub mod Turns
+pub mod Waiting

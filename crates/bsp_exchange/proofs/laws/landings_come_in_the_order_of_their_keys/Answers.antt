@@ -1,0 +1,8 @@
+use Rattle.bsp_exchange.proofs.KeyOrder.{keys_do_not_fall, have_own_keys}
+use Rattle.bsp_exchange.proofs.laws.landings_come_in_the_order_of_their_keys.Goals as goal
+
+pub returns-clause-order : goal.returns-clause-order
+returns-clause-order c = keys_do_not_fall
+
+pub returns-clause-own : goal.returns-clause-own
+returns-clause-own c = have_own_keys

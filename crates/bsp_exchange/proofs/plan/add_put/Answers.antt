@@ -1,0 +1,10 @@
+use Rattle.std.proofs.Common.{sym, ap, ◌∙◌}
+use Rattle.bsp_exchange.specs.Exchange.{states}
+use Rattle.bsp_exchange.specs.Landings.{area_start}
+use Rattle.bsp_exchange.specs.Parts.{Patch, changed_at, with_put}
+use Rattle.bsp_exchange.proofs.Gathered.{put_back}
+use Rattle.bsp_exchange.proofs.plan.add_put.Goals as goal
+
+pub returns : goal.returns
+returns g c =
+    rw (sym c.start_of-start.ensures.value) (put_back (with_put (record { addr = c.start_of-start.result; bytes = c.args.bytes.now })) c.args.target c.args.parts.now c.index-parts-target.result c.add_put.new.self c.add_put.result (rw c.requires.parts c.requires.target) c.index-parts-target.is (rw c.index-parts-target.is c.add_put.ensures.ok))

@@ -1,0 +1,10 @@
+pub mod Areas
+pub mod Exchange
+pub mod Faults
+pub mod Issued
+pub mod Landings
+pub mod Loads
+pub mod Parts
+pub mod Queues
+pub mod SameNode
+pub mod Traffic

@@ -1,0 +1,104 @@
+//! Bytes that wait to land in one memory.
+
+ghost use Rattle.std.specs.Prelude.{◌≡◌, ◌∷◌, ◌++◌, [], length, IsTrue, OnOk, OnErr};
+ghost use Rattle.node_memory.specs.Bytes.{fits, bytes_at};
+ghost use Rattle.node_core.specs.declared.state.State.TheVariants.{Synced};
+ghost use Rattle.bsp_exchange.specs.Parts.{LieIn, with_patches};
+
+use node_core::Node;
+use node_memory::Memory;
+use std::alloc::{AllocError, Allocator};
+use std::marker::Model;
+
+/// So many bytes go to an address.
+#[derive(Clone, Copy)]
+struct Range {
+    addr: u32,
+    len: usize,
+}
+
+/// Bytes that wait to land in one node's memory, in the order in which they land.
+///
+/// Contracts see them as a list of patches, each an address and its bytes. The bytes of all stand in one buffer, so that many
+/// small ones cost no memory of their own each.
+#[derive(Drop)]
+pub(crate) struct Landings<A: Allocator> {
+    ranges: Vec<Range, A>,
+    // Those of the first range, then those of the second, and so on.
+    bytes: Vec<u8, A>,
+}
+
+impl<A: Allocator> Model for Landings<A> {
+    ghost use Rattle.std.specs.Prelude.{List};
+    ghost use Rattle.bsp_exchange.specs.Parts.{Patch, patches_view, AreCovered};
+
+    ghost Value = { List Patch };
+
+    ghost view = { patches_view };
+
+    ghost invariant = { AreCovered };
+}
+
+impl<A: Allocator + Copy> Landings<A> {
+    /// No bytes wait. No memory is taken.
+    pub(crate) fn new(alloc: A) -> Landings<A>
+        ensures { result ≡ [] }
+    {
+        Landings {
+            ranges: Vec::new(alloc),
+            bytes: Vec::new(alloc),
+        }
+    }
+
+    /// Adds a copy of `bytes`, which land from `addr` on, after those that wait.
+    #[tactic(auto, using(crate::proofs::Patches::patches_push))]
+    pub(crate) fn push(&mut self, addr: u32, bytes: &[u8]) -> Result<(), AllocError>
+        ensures ok { OnOk result (self.new ≡ self.old ++ record { addr = addr; bytes = bytes.now } ∷ []) }
+        ensures err { OnErr result (self.new ≡ self.old) }
+    {
+        self.ranges.reserve(1)?;
+        self.bytes.extend_from_slice(bytes)?;
+        self.ranges.push_reserved(Range {
+            addr,
+            len: bytes.len(),
+        });
+        Ok(())
+    }
+
+    /// Adds a copy of the `len` bytes from `from` on of a memory, which land from `addr` on, after those that wait.
+    #[tactic(auto, using(crate::proofs::Patches::patches_push_range))]
+    pub(crate) fn push_copy_of(
+        &mut self,
+        addr: u32,
+        memory: &Memory<A>,
+        from: u32,
+        len: u32,
+    ) -> Result<(), AllocError>
+        requires { IsTrue (fits (length memory.now) from len) }
+        ensures ok { OnOk result (self.new
+            ≡ self.old ++ record { addr = addr; bytes = bytes_at memory.now from len } ∷ []) }
+        ensures err { OnErr result (self.new ≡ self.old) }
+    {
+        self.ranges.reserve(1)?;
+        memory.append_range(from, len, &mut self.bytes)?;
+        self.ranges.push_reserved(Range {
+            addr,
+            len: len as usize,
+        });
+        Ok(())
+    }
+
+    /// Lands them in the memory of a node that waits. They lie in it.
+    pub(crate) fn land(&self, node: &mut Node<A>)
+        requires synced { node.old.node.state ≡ Synced }
+        requires within { LieIn (length node.old.node.hart.memory) self.now }
+        ensures { node.new ≡ record node.old { node = with_patches self.now node.old.node } }
+    {
+        let mut rest = self.bytes.as_slice();
+        for range in &self.ranges {
+            let (bytes, after) = rest.split_at(range.len);
+            node.land(range.addr, bytes);
+            rest = after;
+        }
+    }
+}

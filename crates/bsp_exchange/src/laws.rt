@@ -1,0 +1,54 @@
+//! Laws of the exchange, over its definitions alone. Each is the contract of a function that does nothing.
+
+ghost use Rattle.std.specs.Prelude.{◌≡◌, ℕ, false, List, length, All, Contains, IsTrue};
+ghost use Rattle.std.specs.List.{AllZip};
+ghost use Rattle.node_memory.specs.Bytes.{byte_at};
+ghost use Rattle.node_core.specs.Node.{NodeState};
+ghost use Rattle.bsp_exchange.specs.Exchange.{AreAtSync, exchanged};
+ghost use Rattle.bsp_exchange.specs.Landings.{Landing, IsAtMost, KeysDoNotFall, HaveOwnKeys, AreSameLandings, landings_at, covers, landing_byte, landed_byte, memory_after};
+ghost use Rattle.bsp_exchange.specs.SameNode.{IsSameNode};
+
+/// The landings in a memory come in the order of their keys, and each has a key of its own.
+pub fn landings_come_in_the_order_of_their_keys()
+    ensures order { (nodes : List NodeState) (rank : ℕ)
+        → AreAtSync nodes → KeysDoNotFall (landings_at nodes rank) }
+    ensures own { (nodes : List NodeState) (rank : ℕ)
+        → AreAtSync nodes → HaveOwnKeys (landings_at nodes rank) }
+{}
+
+/// Of the landings that cover an address, the one with the greatest key counts. Where none does, the byte stays.
+#[tactic(auto, using(crate::proofs::Latest::greatest_lands, crate::proofs::Latest::uncovered_stays))]
+pub fn the_greatest_key_counts()
+    ensures lands { (nodes : List NodeState) (rank addr : ℕ) (memory : List ℕ) (l : Landing)
+        → AreAtSync nodes
+        → Contains (landings_at nodes rank) l
+        → IsTrue (covers addr l)
+        → All (λ other. IsTrue (covers addr other) → IsAtMost other.key l.key) (landings_at nodes rank)
+        → landed_byte (landings_at nodes rank) memory addr ≡ landing_byte addr l }
+    ensures stays { (nodes : List NodeState) (rank addr : ℕ) (memory : List ℕ)
+        → All (λ l. covers addr l ≡ false) (landings_at nodes rank)
+        → landed_byte (landings_at nodes rank) memory addr ≡ byte_at memory addr }
+{}
+
+/// Any list of the same landings in which keys do not fall gives the same bytes.
+#[tactic(auto, using(crate::proofs::Latest::same_byte, crate::proofs::Latest::same_memory))]
+pub fn only_the_order_of_keys_matters()
+    ensures byte { (nodes : List NodeState) (rank addr : ℕ) (memory : List ℕ) (others : List Landing)
+        → AreAtSync nodes
+        → AreSameLandings others (landings_at nodes rank)
+        → KeysDoNotFall others
+        → landed_byte others memory addr ≡ landed_byte (landings_at nodes rank) memory addr }
+    ensures memory { (nodes : List NodeState) (rank : ℕ) (memory : List ℕ) (others : List Landing)
+        → AreAtSync nodes
+        → AreSameLandings others (landings_at nodes rank)
+        → KeysDoNotFall others
+        → memory_after others memory ≡ memory_after (landings_at nodes rank) memory }
+{}
+
+/// An exchange leaves as many nodes, in the same order, and changes of each only its memory's bytes, what it communicates and its
+/// state.
+#[tactic(auto, using(crate::proofs::Kept::all_same))]
+pub fn a_turn_leaves_what_it_does_not_name()
+    ensures count { (nodes : List NodeState) → length (exchanged nodes) ≡ length nodes }
+    ensures each { (nodes : List NodeState) → AllZip IsSameNode nodes (exchanged nodes) }
+{}

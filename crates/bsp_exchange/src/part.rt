@@ -1,0 +1,109 @@
+//! What one node receives in an exchange.
+
+ghost use Rattle.std.specs.Prelude.{◌≡◌, false, length, IsTrue, OnOk, OnErr};
+ghost use Rattle.node_memory.specs.Bytes.{fits, bytes_at};
+ghost use Rattle.node_core.specs.declared.state.State.TheVariants.{Synced};
+ghost use Rattle.bsp_exchange.specs.Parts.{nothing, FitsIn, after_landing};
+
+use crate::landings::Landings;
+use bsp_requests::{Inbox, Message};
+use list_vec::ListVec;
+use node_core::Node;
+use node_memory::Memory;
+use std::alloc::{AllocError, Allocator};
+use std::marker::Model;
+use std::mem;
+
+/// What one node receives in an exchange, gathered before anything lands: the bytes that its gets fetch, those that are put into its
+/// areas, and the messages that are sent to it.
+#[derive(Drop)]
+pub(crate) struct Part<A: Allocator> {
+    alloc: A,
+    gets: Landings<A>,
+    puts: Landings<A>,
+    messages: Vec<Message<A>, A>,
+}
+
+impl<A: Allocator> Model for Part<A> {
+    ghost use Rattle.bsp_exchange.specs.Parts.{Received};
+
+    ghost Value = { Received };
+
+    ghost view = { λ p. record { gets = p.gets; puts = p.puts; messages = p.messages.items } };
+}
+
+impl<A: Allocator + Copy> Part<A> {
+    ghost use Rattle.std.specs.Prelude.{◌++◌, ◌∷◌, []};
+
+    /// Nothing. No memory is taken.
+    pub(crate) fn new(alloc: A) -> Part<A>
+        ensures { result ≡ nothing }
+    {
+        Part {
+            alloc,
+            gets: Landings::new(alloc),
+            puts: Landings::new(alloc),
+            messages: Vec::new(alloc),
+        }
+    }
+
+    /// Adds what a get fetches: the `len` bytes from `from` on of a memory, which land from `addr` on.
+    pub(crate) fn add_get(
+        &mut self,
+        addr: u32,
+        memory: &Memory<A>,
+        from: u32,
+        len: u32,
+    ) -> Result<(), AllocError>
+        requires { IsTrue (fits (length memory.now) from len) }
+        ensures ok { OnOk result (self.new ≡ record self.old {
+          gets = self.old.gets ++ record { addr = addr; bytes = bytes_at memory.now from len } ∷ [];
+        }) }
+    {
+        self.gets.push_copy_of(addr, memory, from, len)
+    }
+
+    /// Adds bytes that are put, from `addr` on.
+    pub(crate) fn add_put(&mut self, addr: u32, bytes: &[u8]) -> Result<(), AllocError>
+        ensures ok { OnOk result (self.new ≡ record self.old {
+          puts = self.old.puts ++ record { addr = addr; bytes = bytes.now } ∷ [];
+        }) }
+    {
+        self.puts.push(addr, bytes)
+    }
+
+    /// Adds a message.
+    pub(crate) fn add_message(
+        &mut self,
+        sender: u16,
+        tag: &[u8],
+        payload: &[u8],
+    ) -> Result<(), AllocError>
+        ensures ok { OnOk result (self.new ≡ record self.old {
+          messages = self.old.messages ++ record { sender = sender; tag = tag.now; payload = payload.now } ∷ [];
+        }) }
+    {
+        let message = Message {
+            sender,
+            tag: ListVec::from_vec(Vec::from_slice(self.alloc, tag)?),
+            payload: ListVec::from_vec(Vec::from_slice(self.alloc, payload)?),
+        };
+        self.messages.push(message)?;
+        Ok(())
+    }
+
+    /// Lands all of it in its node, which waits and has room for its turn, and begins the node's next superstep. The messages
+    /// go over to the node.
+    #[tactic(auto, using(crate::proofs::Patches::lie_in_laid))]
+    pub(crate) fn land(&mut self, node: &mut Node<A>)
+        requires synced { node.old.node.state ≡ Synced }
+        requires ready { IsTrue node.old.ready }
+        requires within { FitsIn (length node.old.node.hart.memory) self.old }
+        ensures { node.new ≡ record { node = after_landing self.old node.old.node; ready = false } }
+    {
+        self.gets.land(node);
+        self.puts.land(node);
+        let messages = mem::replace(&mut self.messages, Vec::new(self.alloc));
+        node.finish_turn(Inbox::of(messages));
+    }
+}

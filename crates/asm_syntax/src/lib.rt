@@ -35,6 +35,3 @@ pub use error::LineError;
 pub use lines::split_line;
 pub use parse::parse_line;
 pub use statement::{Line, Statement, Target};
-
-#[cfg(test)]
-mod tests;

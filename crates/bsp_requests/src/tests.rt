@@ -83,11 +83,37 @@ fn expect_message<A: Allocator>(
     assert_eq!(rt; found.payload.as_slice(), payload);
 }
 
+// Whether a request is the put that `put` makes of these bytes.
+fn is_put<A: Allocator>(found: Option<&Request<A>>, bytes: &[u8]) -> bool {
+    match found {
+        Some(Request::Put(put)) => {
+            put.target == 2 && put.slot == 7 && put.offset == 12 && put.bytes.as_slice() == bytes
+        }
+        _ => false,
+    }
+}
+
+fn is_get<A: Allocator>(found: Option<&Request<A>>, get: Get) -> bool {
+    match found {
+        Some(Request::Get(found)) => *found == get,
+        _ => false,
+    }
+}
+
+// Whether a request is the send that `outgoing` makes of this tag and this payload.
+fn is_send<A: Allocator>(found: Option<&Request<A>>, tag: &[u8], payload: &[u8]) -> bool {
+    match found {
+        Some(Request::Send(send)) => {
+            send.target == 3 && send.tag.as_slice() == tag && send.payload.as_slice() == payload
+        }
+        _ => false,
+    }
+}
+
 #[test]
 fn requests_of_all_kinds_stand_in_issue_order(rt: HostRuntime) -> Result<(), Fail> {
     let alloc = rt.alloc();
     let mut requests = Requests::new(alloc);
-    assert_eq!(rt; (requests.len(), requests.bytes()), (0, 0));
     requests.add_put(put(alloc, &[5, 6, 7, 8])?)?;
     requests.add_get(get(8))?;
     requests.add_output(b"n")?;
@@ -95,22 +121,19 @@ fn requests_of_all_kinds_stand_in_issue_order(rt: HostRuntime) -> Result<(), Fai
     requests.add_output(b"o")?;
     assert_eq!(rt; (requests.len(), requests.bytes()), (3, 19));
     assert_eq!(rt; requests.output(), b"no".as_slice());
-    let Some(Request::Put(first)) = requests.at(0) else {
-        panic!(rt; "no put at 0");
-    };
-    assert_eq!(rt; (first.target, first.slot, first.offset), (2, 7, 12));
-    assert_eq!(rt; first.bytes.as_slice(), [5, 6, 7, 8].as_slice());
-    let Some(Request::Get(second)) = requests.at(1) else {
-        panic!(rt; "no get at 1");
-    };
-    assert_eq!(rt; *second, get(8));
-    let Some(Request::Send(third)) = requests.at(2) else {
-        panic!(rt; "no send at 2");
-    };
-    assert_eq!(rt; third.target, 3);
-    assert_eq!(rt; third.tag.as_slice(), b"ab".as_slice());
-    assert_eq!(rt; third.payload.as_slice(), b"xyz".as_slice());
+    assert!(rt; is_put(requests.at(0), &[5, 6, 7, 8]));
+    assert!(rt; is_get(requests.at(1), get(8)));
+    assert!(rt; is_send(requests.at(2), b"ab", b"xyz"));
     assert!(rt; requests.at(3).is_none());
+    Ok(())
+}
+
+#[test]
+fn a_list_is_empty_at_first_and_when_it_was_cleared(rt: HostRuntime) -> Result<(), Fail> {
+    let mut requests = Requests::new(rt.alloc());
+    assert_eq!(rt; (requests.len(), requests.bytes()), (0, 0));
+    requests.add_get(get(8))?;
+    requests.add_output(b"no")?;
     requests.clear();
     assert_eq!(rt; (requests.len(), requests.bytes()), (0, 0));
     assert!(rt; requests.output().is_empty());
@@ -151,12 +174,6 @@ fn the_bytes_of_all_kinds_are_one_sum(rt: HostRuntime) -> Result<(), Fail> {
         (requests.is_full_for(0), requests.is_full_for(1)),
         (false, true)
     );
-    assert_eq!(rt; requests.add_output(b"8"), Err(AddError::TooMuch));
-    assert_eq!(rt; requests.add_put(put(alloc, b"8")?), Err(AddError::TooMuch));
-    assert_eq!(rt;
-        requests.add_send(outgoing(alloc, b"8", b"")?),
-        Err(AddError::TooMuch)
-    );
     assert_eq!(rt; requests.add_get(get(0)), Ok(()));
     assert_eq!(rt; requests.add_output(b""), Ok(()));
     assert_eq!(rt; requests.len(), 4);
@@ -173,15 +190,17 @@ fn messages_are_taken_in_order(rt: HostRuntime) -> Result<(), Fail> {
     push(&mut messages, alloc, 2, b"yz")?;
     let mut inbox = Inbox::of(messages);
     assert_eq!(rt; (inbox.count(), inbox.bytes()), (3, 8));
-    expect_message(&rt, inbox.first(), 0, b"hello");
-    expect_message(&rt, inbox.at(1), 0, b"x");
     expect_message(&rt, inbox.at(2), 2, b"yz");
     assert!(rt; inbox.at(3).is_none());
-    expect_message(&rt, inbox.take_first().as_ref(), 0, b"hello");
-    assert_eq!(rt; (inbox.count(), inbox.bytes()), (2, 3));
-    expect_message(&rt, inbox.take_first().as_ref(), 0, b"x");
-    expect_message(&rt, inbox.take_first().as_ref(), 2, b"yz");
-    assert_eq!(rt; (inbox.count(), inbox.bytes()), (0, 0));
+    for (sender, payload, left) in [
+        (0, b"hello".as_slice(), (2, 3)),
+        (0, b"x".as_slice(), (1, 2)),
+        (2, b"yz".as_slice(), (0, 0)),
+    ] {
+        expect_message(&rt, inbox.first(), sender, payload);
+        expect_message(&rt, inbox.take_first().as_ref(), sender, payload);
+        assert_eq!(rt; (inbox.count(), inbox.bytes()), left);
+    }
     assert!(rt; inbox.first().is_none());
     assert!(rt; inbox.take_first().is_none());
     Ok(())
@@ -189,7 +208,7 @@ fn messages_are_taken_in_order(rt: HostRuntime) -> Result<(), Fail> {
 
 // A list takes its first memory at its first add, of whatever kind it is.
 #[test]
-fn a_refused_add_changes_nothing_and_can_be_made_again(rt: HostRuntime) -> Result<(), Fail> {
+fn a_refused_put_changes_nothing_and_can_be_made_again(rt: HostRuntime) -> Result<(), Fail> {
     let heap = Heap::new(rt.alloc());
     let mut requests = Requests::new(&heap);
     let (refused, again) = (put(&heap, b"123")?, put(&heap, b"123")?);
@@ -198,7 +217,12 @@ fn a_refused_add_changes_nothing_and_can_be_made_again(rt: HostRuntime) -> Resul
     assert_eq!(rt; (requests.len(), requests.bytes()), (0, 0));
     assert_eq!(rt; requests.add_put(again), Ok(()));
     assert_eq!(rt; (requests.len(), requests.bytes()), (1, 3));
+    Ok(())
+}
 
+#[test]
+fn a_refused_send_changes_nothing_and_can_be_made_again(rt: HostRuntime) -> Result<(), Fail> {
+    let heap = Heap::new(rt.alloc());
     let mut requests = Requests::new(&heap);
     let (refused, again) = (outgoing(&heap, b"1", b"23")?, outgoing(&heap, b"1", b"23")?);
     heap.refuse_nth(1);
@@ -206,14 +230,18 @@ fn a_refused_add_changes_nothing_and_can_be_made_again(rt: HostRuntime) -> Resul
     assert_eq!(rt; (requests.len(), requests.bytes()), (0, 0));
     assert_eq!(rt; requests.add_send(again), Ok(()));
     assert_eq!(rt; (requests.len(), requests.bytes()), (1, 3));
+    Ok(())
+}
 
+#[test]
+fn refused_output_changes_nothing_and_can_be_made_again(rt: HostRuntime) {
+    let heap = Heap::new(rt.alloc());
     let mut requests = Requests::new(&heap);
     heap.refuse_nth(1);
     assert_eq!(rt; requests.add_output(b"123"), Err(AddError::NoMemory));
     assert_eq!(rt; (requests.output().len(), requests.bytes()), (0, 0));
     assert_eq!(rt; requests.add_output(b"123"), Ok(()));
     assert_eq!(rt; requests.output(), b"123".as_slice());
-    Ok(())
 }
 
 #[test]
@@ -233,27 +261,22 @@ fn each_growth_of_a_long_list_may_be_refused(rt: HostRuntime) -> Result<(), Fail
     assert!(rt; 1 < refusals && refusals < 20, "{refusals} refusals");
     assert_eq!(rt; (requests.len(), requests.bytes()), (100, 4_950));
     for issue in 0..100u32 {
-        let Some(Request::Get(found)) = requests.at(issue as usize) else {
-            panic!(rt; "no get at {issue}");
-        };
-        assert_eq!(rt; found.len, issue);
+        assert!(rt;
+            is_get(requests.at(issue as usize), get(issue)),
+            "at {issue}"
+        );
     }
     Ok(())
 }
 
 #[test]
-fn only_adds_take_memory(rt: HostRuntime) -> Result<(), Fail> {
+fn a_full_list_takes_no_memory(rt: HostRuntime) -> Result<(), Fail> {
     let heap = Heap::new(rt.alloc());
-    let mut messages = Vec::new(&heap);
-    push(&mut messages, &heap, 1, b"a")?;
-    push(&mut messages, &heap, 1, b"b")?;
     let mut full = Requests::new(&heap);
     full.add_get(get(16_777_216))?;
     full.add_output(b"")?;
     let (too_long, too_many) = (put(&heap, b"1")?, outgoing(&heap, b"1", b"")?);
-
     heap.refuse_from_nth(1);
-    assert_eq!(rt; Requests::new(&heap).len(), 0);
     assert_eq!(rt; full.add_put(too_long), Err(AddError::TooMuch));
     assert_eq!(rt; full.add_send(too_many), Err(AddError::TooMuch));
     assert_eq!(rt; full.add_get(get(1)), Err(AddError::TooMuch));
@@ -262,6 +285,18 @@ fn only_adds_take_memory(rt: HostRuntime) -> Result<(), Fail> {
     assert!(rt; full.at(0).is_some());
     assert!(rt; full.output().is_empty());
     full.clear();
+    assert_eq!(rt; Requests::new(&heap).len(), 0);
+    assert_eq!(rt; heap.requests(), 0);
+    Ok(())
+}
+
+#[test]
+fn an_inbox_takes_no_memory(rt: HostRuntime) -> Result<(), Fail> {
+    let heap = Heap::new(rt.alloc());
+    let mut messages = Vec::new(&heap);
+    push(&mut messages, &heap, 1, b"a")?;
+    push(&mut messages, &heap, 1, b"b")?;
+    heap.refuse_from_nth(1);
     let mut inbox = Inbox::of(messages);
     assert_eq!(rt; (inbox.count(), inbox.bytes()), (2, 2));
     expect_message(&rt, inbox.first(), 1, b"a");

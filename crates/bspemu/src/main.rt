@@ -13,8 +13,6 @@ mod command_line;
 mod files;
 mod options;
 mod program;
-#[cfg(test)]
-mod tests;
 
 use std::process::ExitCode;
 

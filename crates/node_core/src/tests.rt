@@ -29,21 +29,23 @@ const PRINTS_ITS_RANK: [u32; 10] = [
     0x0000_0073, // ecall
 ];
 
-fn segment<A: Allocator>(
-    rt: &impl Abort,
+// The bytes of a memory from address 0 on: `code`, and `data` at `addr`, or right behind the code.
+fn bytes_of<A: Allocator>(
     alloc: A,
+    code: &[u32],
     addr: u32,
-    bytes: &[u8],
-) -> Result<Segment<A>, AllocError> {
-    assert!(rt; bytes.len() <= 0x1000 && addr <= MEMORY);
-    Ok(Segment {
-        addr,
-        bytes: ListVec::from_vec(Vec::from_slice(alloc, bytes)?),
-        size: bytes.len() as u32,
-    })
+    data: &[u8],
+) -> Result<Vec<u8, A>, AllocError> {
+    let mut bytes = Vec::new(alloc);
+    for word in code {
+        bytes.extend_from_slice(&word.to_le_bytes())?;
+    }
+    bytes.resize(bytes.len().max(addr as usize), 0)?;
+    bytes.extend_from_slice(data)?;
+    Ok(bytes)
 }
 
-// An image with `code` at address 0, and `data` at `addr`.
+// An image of one segment, which has `code` at address 0 and `data` at `addr`.
 fn image<A: Allocator + Copy>(
     rt: &impl Abort,
     alloc: A,
@@ -52,16 +54,14 @@ fn image<A: Allocator + Copy>(
     addr: u32,
     data: &[u8],
 ) -> Result<Image<A>, AllocError> {
-    let mut bytes = Vec::new(alloc);
-    for word in code {
-        bytes.extend_from_slice(&word.to_le_bytes())?;
-    }
-    let code = segment(rt, alloc, 0, &bytes)?;
-    let data = segment(rt, alloc, addr, data)?;
-    assert!(rt; code.bytes.len() <= 0x1000 && data.bytes.len() <= 0x1000);
+    let bytes = bytes_of(alloc, code, addr, data)?;
+    assert!(rt; bytes.len() <= 0x4000);
     let mut segments = Vec::new(alloc);
-    segments.push(code)?;
-    segments.push(data)?;
+    segments.push(Segment {
+        addr: 0,
+        size: bytes.len() as u32,
+        bytes: ListVec::from_vec(bytes),
+    })?;
     Ok(Image {
         entry,
         segments: ListVec::from_vec(segments),
@@ -82,70 +82,46 @@ fn expect_stop<A: Allocator>(rt: &impl Abort, node: &Node<A>, state: State, tick
     assert_eq!(rt; (node.state(), node.ticks(), node.pc()), (state, ticks, pc));
 }
 
-#[test]
-fn a_node_starts_with_its_image(rt: HostRuntime) -> Result<(), Fail> {
-    let alloc = rt.alloc();
-    let image = image(&rt, alloc, 8, &PRINTS_ITS_RANK, 0x1FFE, b"ab")?;
-    let node = Node::new(alloc, &image, 2, 3, 0x2000, 7)?;
-    assert_eq!(rt; node.rank(), 2);
-    expect_stop(&rt, &node, State::Running, 0, 8);
+// Zeros but for x2, which has the end of a memory of 0x2000 bytes.
+fn expect_first_registers(rt: &impl Abort, node: &Node<Global>) {
     for n in 0..32u8 {
         let want = if n == 2 { 0x2000 } else { 0 };
         assert_eq!(rt; node.reg(n), want, "x{n}");
     }
+}
+
+fn expect_nothing_communicated(rt: &impl Abort, node: &Node<Global>) {
     assert_eq!(rt; (node.output().len(), node.cursor()), (0, 0));
     assert_eq!(rt; (node.tag_size(), node.next_tag_size()), (0, 0));
     assert_eq!(rt; (node.slots().count(), node.requests().len()), (0, 0));
     assert_eq!(rt; node.inbox().count(), 0);
+}
+
+#[test]
+fn a_node_starts_with_its_image(rt: HostRuntime) -> Result<(), Fail> {
+    let image = image(&rt, rt.alloc(), 8, &PRINTS_ITS_RANK, 0x1FFE, b"ab")?;
+    let node = Node::new(rt.alloc(), &image, 2, 3, 0x2000, 7)?;
+    assert_eq!(rt; node.rank(), 2);
+    expect_stop(&rt, &node, State::Running, 0, 8);
+    expect_first_registers(&rt, &node);
+    expect_nothing_communicated(&rt, &node);
     let memory = node.memory();
-    assert_eq!(rt; memory.size(), 0x2000);
-    assert_eq!(rt; memory.load32(36), Some(0x0000_0073));
-    assert_eq!(rt; memory.load16(40), Some(0));
-    assert_eq!(rt; memory.load8(0x1FFF), Some(b'b'));
+    let found = (memory.load32(36), memory.load16(40), memory.load8(0x1FFF));
+    assert_eq!(rt; found, (Some(0x0000_0073), Some(0), Some(b'b')));
+    Ok(())
+}
+
+#[test]
+fn a_memory_of_another_size_is_refused(rt: HostRuntime) -> Result<(), Fail> {
+    let image = image(&rt, rt.alloc(), 8, &PRINTS_ITS_RANK, 0x1FFE, b"ab")?;
     for (size, want) in [
         (0x1800, MemoryError::BadSize),
         (0x100_1000, MemoryError::BadSize),
         (0x1000, MemoryError::SegmentOutside),
     ] {
-        let made = Node::new(alloc, &image, 2, 3, size, 7);
+        let made = Node::new(rt.alloc(), &image, 2, 3, size, 7);
         assert_eq!(rt; made.err(), Some(want), "{size} bytes");
     }
-    Ok(())
-}
-
-#[test]
-fn a_stop_in_the_last_tick_stands(rt: HostRuntime) -> Result<(), Fail> {
-    let alloc = rt.alloc();
-    // Each puts a number into x17.
-    let (end, nprocs, abort, unknown) = (0x0010_0893, 0x0020_0893, 0x0100_0893, 0x0130_0893);
-    for (addi, limit, state) in [
-        (end, 2, State::Ended),
-        (end, 1, State::Exhausted),
-        (abort, 2, State::Aborted),
-        (unknown, 2, State::Faulted(Fault::UnknownCall)),
-        (nprocs, 2, State::Exhausted),
-    ] {
-        let code = [addi, 0x0000_0073, 0x0000_0013];
-        let image = image(&rt, alloc, 0, &code, 0, b"")?;
-        let mut node = Node::new(alloc, &image, 0, 1, MEMORY, limit)?;
-        node.run(b"", 9)?;
-        assert_eq!(rt; (node.state(), node.ticks()), (state, limit));
-    }
-    Ok(())
-}
-
-#[test]
-fn a_run_makes_no_more_steps_than_asked(rt: HostRuntime) -> Result<(), Fail> {
-    let mut node = node(&rt, rt.alloc(), &PRINTS_ITS_RANK)?;
-    node.run(b"", 0)?;
-    expect_stop(&rt, &node, State::Running, 0, 0);
-    node.run(b"", 4)?;
-    expect_stop(&rt, &node, State::Running, 4, 16);
-    assert_eq!(rt; node.memory().load32(0x100), Some(0x30));
-    node.step(b"")?;
-    expect_stop(&rt, &node, State::Running, 5, 20);
-    node.run(b"", 5)?;
-    expect_stop(&rt, &node, State::Ended, 10, 40);
     Ok(())
 }
 
@@ -172,11 +148,11 @@ fn the_output_of_a_superstep_has_a_limit(rt: HostRuntime) -> Result<(), Fail> {
 type Numbered = (u32, [u32; 5]);
 
 // An image that makes these calls. The operands of the first stand at 0x400.
-fn calls<A: Allocator + Copy>(
+fn calls_of(
     rt: &impl Abort,
-    alloc: A,
+    alloc: Global,
     calls: &[Numbered],
-) -> Result<Image<A>, AllocError> {
+) -> Result<Image<Global>, AllocError> {
     let mut code = Vec::new(alloc);
     let mut data = Vec::new(alloc);
     let mut at = 0x400u32;
@@ -194,16 +170,6 @@ fn calls<A: Allocator + Copy>(
         code.push(0x0000_0073)?;
     }
     image(rt, alloc, 0, &code, 0x400, &data)
-}
-
-// Rank 0 of 3, at the start of these calls.
-fn caller<A: Allocator + Copy>(
-    rt: &impl Abort,
-    alloc: A,
-    list: &[Numbered],
-) -> Result<Node<A>, MemoryError> {
-    let image = calls(rt, alloc, list)?;
-    Node::new(alloc, &image, 0, 3, MEMORY, LIMIT)
 }
 
 // An area that is registered in this superstep is not there for a put.
@@ -228,51 +194,21 @@ static WRITES_OUTSIDE: [Numbered; 1] = [(17, [1, MEMORY, 0, 0, 0])];
 
 static SYNCS: [Numbered; 2] = [(4, [0; 5]), (1, [0; 5])];
 
-// A program of calls that stops, after so many ticks and at this pc.
-fn expect_calls(
-    rt: &impl Abort,
-    alloc: Global,
-    calls: &[Numbered],
-    state: State,
-    ticks: u64,
-    pc: u32,
-) -> Result<(), MemoryError> {
-    let mut node = caller(rt, alloc, calls)?;
-    node.run(b"", LIMIT)?;
-    expect_stop(rt, &node, state, ticks, pc);
-    Ok(())
-}
-
 #[test]
 fn calls_stop_a_program(rt: HostRuntime) -> Result<(), Fail> {
-    let alloc = rt.alloc();
     let not_registered = State::Faulted(Fault::NotRegistered);
-    expect_calls(&rt, alloc, &EARLY_PUT, not_registered, 14, 52)?;
-    expect_calls(&rt, alloc, &POPS_TWICE, not_registered, 21, 80)?;
-    expect_calls(
-        &rt,
-        alloc,
-        &LONG_TAGS,
-        State::Faulted(Fault::BadSize),
-        7,
-        24,
-    )?;
-    expect_calls(
-        &rt,
-        alloc,
-        &PUTS_TO_3,
-        State::Faulted(Fault::BadRank),
-        14,
-        52,
-    )?;
-    expect_calls(
-        &rt,
-        alloc,
-        &WRITES_OUTSIDE,
-        State::Faulted(Fault::RangeOutside),
-        7,
-        24,
-    )?;
-    expect_calls(&rt, alloc, &SYNCS, State::Synced, 7, 28)?;
+    for (calls, state, ticks, pc) in [
+        (EARLY_PUT.as_slice(), not_registered, 14, 52),
+        (&POPS_TWICE, not_registered, 21, 80),
+        (&LONG_TAGS, State::Faulted(Fault::BadSize), 7, 24),
+        (&PUTS_TO_3, State::Faulted(Fault::BadRank), 14, 52),
+        (&WRITES_OUTSIDE, State::Faulted(Fault::RangeOutside), 7, 24),
+        (&SYNCS, State::Synced, 7, 28),
+    ] {
+        let image = calls_of(&rt, rt.alloc(), calls)?;
+        let mut node = Node::new(rt.alloc(), &image, 0, 3, MEMORY, LIMIT)?;
+        node.run(b"", LIMIT)?;
+        expect_stop(&rt, &node, state, ticks, pc);
+    }
     Ok(())
 }

@@ -39,36 +39,9 @@ fn empty_image<A: Allocator>(alloc: A) -> Image<A> {
 }
 
 #[test]
-fn numbers_stand_low_byte_first(rt: HostRuntime) -> Result<(), Fail> {
+fn a_range_that_passes_the_last_address_does_not_fit(rt: HostRuntime) -> Result<(), Fail> {
     let alloc = rt.alloc();
-    let mut memory = Memory::new(alloc, &empty_image(alloc), 4096)?;
-    assert_eq!(rt; memory.size(), 4096);
-    memory.store32(0x100, 0x1122_3344)?;
-    for (addr, byte) in [(0x100, 0x44), (0x101, 0x33), (0x102, 0x22), (0x103, 0x11)] {
-        assert_eq!(rt; memory.load8(addr), Some(byte), "at {addr}");
-    }
-    assert_eq!(rt; memory.load16(0x101), Some(0x2233));
-    memory.store16(0x102, 0xAABB)?;
-    assert_eq!(rt; memory.load32(0x100), Some(0xAABB_3344));
-    memory.store8(0x103, 0xCC)?;
-    assert_eq!(rt; memory.load32(0x101), Some(0x00CC_BB33));
-    Ok(())
-}
-
-#[test]
-fn the_last_bytes_can_be_reached(rt: HostRuntime) -> Result<(), Fail> {
-    let alloc = rt.alloc();
-    let mut memory = Memory::new(alloc, &empty_image(alloc), 4096)?;
-    memory.store8(4095, 7)?;
-    assert_eq!(rt; memory.load8(4095), Some(7));
-    assert_eq!(rt; memory.load32(4092), Some(0x0700_0000));
-    assert_eq!(rt; memory.load32(4093), None);
-    assert_eq!(rt; memory.load16(4095), None);
-    assert_eq!(rt; memory.load8(4096), None);
-    assert_eq!(rt; memory.store8(4096, 1), Err(Outside));
-    assert_eq!(rt; memory.store16(4095, 1), Err(Outside));
-    assert_eq!(rt; memory.store32(u32::MAX, 1), Err(Outside));
-    assert_eq!(rt; memory.load8(4095), Some(7));
+    let memory = Memory::new(alloc, &empty_image(alloc), 4096)?;
     for (addr, len, want) in [
         (0, 4096, true),
         (4096, 0, true),
@@ -140,23 +113,27 @@ fn sizes_are_whole_pages(rt: HostRuntime) -> Result<(), Fail> {
 }
 
 #[test]
-fn a_refused_growth_is_no_memory(rt: HostRuntime) -> Result<(), Fail> {
+fn a_memory_may_be_refused(rt: HostRuntime) {
     let heap = RefusingAllocator::new(rt.alloc());
     let image = empty_image(&heap);
+    for (size, fault, requests) in [
+        (4095, MemoryError::BadSize, 0),
+        (4096, MemoryError::NoMemory, 1),
+    ] {
+        heap.refuse_nth(1);
+        let made = Memory::new(&heap, &image, size);
+        assert_eq!(rt; made.err(), Some(fault), "{size} bytes");
+        assert_eq!(rt; heap.requests(), requests, "{size} bytes");
+    }
+}
+
+#[test]
+fn only_a_range_that_is_read_takes_memory(rt: HostRuntime) -> Result<(), Fail> {
+    let heap = RefusingAllocator::new(rt.alloc());
+    let mut memory = Memory::new(&heap, &empty_image(&heap), 4096)?;
     heap.refuse_nth(1);
-    assert_eq!(rt;
-        Memory::new(&heap, &image, 4095).err(),
-        Some(MemoryError::BadSize)
-    );
-    assert_eq!(rt; heap.requests(), 0);
-    assert_eq!(rt;
-        Memory::new(&heap, &image, 4096).err(),
-        Some(MemoryError::NoMemory)
-    );
-    let mut memory = Memory::new(&heap, &image, 4096)?;
-    heap.refuse_nth(1);
-    memory.store32(0, 0x0403_0201)?;
-    memory.write_range(4, &[5])?;
+    assert!(rt; memory.store32(0, 0x0403_0201).is_ok());
+    assert!(rt; memory.write_range(4, &[5]).is_ok());
     assert_eq!(rt; memory.load32(1), Some(0x0504_0302));
     assert_eq!(rt; memory.read_range(4096, 1).err(), Some(ReadError::Outside));
     assert_eq!(rt; heap.requests(), 0);

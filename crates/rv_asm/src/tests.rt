@@ -9,6 +9,7 @@ use std::alloc::{Allocator, Global};
 use std::process::Abort;
 use std::test::Fail;
 
+mod lines;
 mod vectors;
 
 /// The bytes of an image.

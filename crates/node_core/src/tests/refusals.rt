@@ -1,4 +1,4 @@
-use super::{LIMIT, MEMORY, PRINTS_ITS_RANK, image, node};
+use super::{LIMIT, MEMORY, PRINTS_ITS_RANK, expect_stop, image, node};
 use crate::{Node, State};
 use node_memory::MemoryError;
 use refusing_allocator::RefusingAllocator;
@@ -25,15 +25,13 @@ fn a_refused_step_can_be_made_again(rt: HostRuntime) -> Result<(), Fail> {
     let mut found = node(&rt, &heap, &PRINTS_ITS_RANK)?;
     heap.refuse_from_nth(1);
     assert!(rt; found.run(b"", LIMIT).is_err());
-    assert_eq!(rt;
-        (found.state(), found.ticks(), found.pc()),
-        (State::Running, 7, 28)
-    );
+    expect_stop(&rt, &found, State::Running, 7, 28);
     assert!(rt; found.step(b"").is_err());
-    assert_eq!(rt; (found.ticks(), found.output().len()), (7, 0));
+    expect_stop(&rt, &found, State::Running, 7, 28);
+    assert!(rt; found.output().is_empty());
     heap.refuse_nth(0);
     found.run(b"", LIMIT)?;
-    assert_eq!(rt; (found.state(), found.ticks()), (State::Ended, 10));
+    expect_stop(&rt, &found, State::Ended, 10, 40);
     assert_eq!(rt; found.output(), b"0".as_slice());
     Ok(())
 }

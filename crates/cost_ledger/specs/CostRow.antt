@@ -1,5 +1,5 @@
 -- The cost of supersteps (the BSP cost model: w + g h + l for each).
-use Rattle.std.specs.Prelude.{◌≡◌, ℕ, ◌+◌, ◌*◌, ◌^◌, ◌<◌, ◌≤◌, List, sum_by}
+use Rattle.std.specs.Prelude.{◌≡◌, ℕ, ◌+◌, ◌*◌, ◌^◌, ◌<◌, ◌≤◌, Bool, List, sum_by}
 use Rattle.std.specs.List.Sorted.{IsPermutation}
 use Rattle.cost_ledger.specs.declared.CostRow.{CostRow}
 
@@ -19,3 +19,8 @@ total_cost g l rows = sum_by (cost_of g l) rows
 -- rows in another order have the same total
 abbrev pub TotalIgnoresOrder : Type 0
 TotalIgnoresOrder = (g l : ℕ) (xs ys : List CostRow) → IsPermutation xs ys → total_cost g l ys ≡ total_cost g l xs
+
+-- the rows of a ledger, and whether room is made for one more
+pub record PreparedRows : Type 0 where
+  pub rows : List CostRow
+  pub ready : Bool

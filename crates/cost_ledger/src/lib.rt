@@ -1,16 +1,18 @@
 //! The costs of a bulk synchronous run, superstep by superstep.
 //!
 //! A [`Ledger`] is a list of [`CostRow`]s, one for each superstep, in the order in which they ended. Contracts see it
-//! as that list. Its total is that of the BSP cost model, `w + g h + l` summed over all rows.
+//! as that list, and whether room is made for one row more. Its total is that of the BSP cost model, `w + g h + l` summed
+//! over all rows.
 //!
 //! Callers may rely on this:
 //!
-//! - A refused [`add`](Ledger::add) changes nothing. It is the only call that takes memory.
+//! - A refused [`add`](Ledger::add) or [`prepare`](Ledger::prepare) changes nothing. No other call takes memory.
+//! - After `prepare` a row can be added without being refused, by [`add_prepared`](Ledger::add_prepared).
 //! - A total is exact: under the conditions of `add` no sum of costs passes 128 bits.
 //! - The order of the rows does not change a total ([`total_ignores_order`]).
 #![tactic(auto)]
 
-ghost use Rattle.std.specs.Prelude.{◌≡◌, ◌^◌, ◌<◌, ◌≤◌, [], ◌∷◌, ◌++◌, length, OnOk, OnErr};
+ghost use Rattle.std.specs.Prelude.{◌≡◌, ◌^◌, ◌<◌, ◌≤◌, true, false, [], ◌∷◌, ◌++◌, length, IsTrue, OnOk, OnErr};
 ghost use Rattle.cost_ledger.specs.CostRow.{IsBounded, cost_of, total_cost, TotalIgnoresOrder};
 
 use std::alloc::{AllocError, Allocator};
@@ -31,42 +33,78 @@ pub struct CostRow {
 #[derive(Drop)]
 pub struct Ledger<A: Allocator> {
     rows: Vec<CostRow, A>,
+    ready: bool,
 }
 
 impl<A: Allocator> Model for Ledger<A> {
-    ghost use Rattle.std.specs.Prelude.{◌^◌, ◌≤◌, List, length, All};
-    ghost use Rattle.cost_ledger.specs.declared.CostRow.{CostRow};
-    ghost use Rattle.cost_ledger.specs.CostRow.{IsBounded};
+    ghost use Rattle.std.specs.Prelude.{◌^◌, ◌<◌, ◌≤◌, length, All, IsTrue, vec_capacity};
+    ghost use Rattle.cost_ledger.specs.CostRow.{IsBounded, PreparedRows};
 
-    ghost Value = { List CostRow };
+    ghost Value = { PreparedRows };
 
-    ghost view = { λ l. l.rows.items };
+    ghost view = { λ l. record { rows = l.rows.items; ready = l.ready } };
 
-    ghost invariant = { λ l. (length l.rows.items ≤ 2 ^ 41) × All IsBounded l.rows.items };
+    ghost invariant = { λ l. (length l.rows.items ≤ 2 ^ 41)
+        × All IsBounded l.rows.items
+        × (IsTrue l.ready → length l.rows.items < vec_capacity l.rows) };
 }
 
 impl<A: Allocator> Ledger<A> {
+    /// A ledger without rows, which takes no memory.
     pub fn new(alloc: A) -> Self
-        ensures { result ≡ [] }
+        ensures { result ≡ record { rows = []; ready = false } }
     {
         Ledger {
             rows: Vec::new(alloc),
+            ready: false,
         }
     }
 
+    /// Appends a row.
+    ///
+    /// # Errors
+    /// Where memory is refused. Nothing has changed then.
     pub fn add(&mut self, row: CostRow) -> Result<(), AllocError>
         requires work { row.w ≤ 2 ^ 40 }
         requires relation { row.h < 2 ^ 48 }
-        requires few { length self.old < 2 ^ 41 }
-        ensures ok { OnOk result (self.new ≡ self.old ++ row ∷ []) }
+        requires few { length self.old.rows < 2 ^ 41 }
+        ensures ok { OnOk result
+            (self.new ≡ record { rows = self.old.rows ++ row ∷ []; ready = false }) }
         ensures err { OnErr result (self.new ≡ self.old) }
     {
-        self.rows.push(row)?;
+        self.prepare()?;
+        self.add_prepared(row);
         Ok(())
     }
 
+    /// Makes room for one row, which then stands until the next row is added.
+    ///
+    /// # Errors
+    /// Where memory is refused. Nothing has changed then.
+    pub fn prepare(&mut self) -> Result<(), AllocError>
+        ensures ok { OnOk result (self.new ≡ record self.old { ready = true }) }
+        ensures err { OnErr result (self.new ≡ self.old) }
+    {
+        self.rows.reserve(1)?;
+        self.ready = true;
+        Ok(())
+    }
+
+    /// Appends a row, for which [`Ledger::prepare`] made room.
+    pub fn add_prepared(&mut self, row: CostRow)
+        requires work { row.w ≤ 2 ^ 40 }
+        requires relation { row.h < 2 ^ 48 }
+        requires few { length self.old.rows < 2 ^ 41 }
+        requires ready { IsTrue self.old.ready }
+        ensures { self.new ≡ record { rows = self.old.rows ++ row ∷ []; ready = false } }
+    {
+        self.rows.push_reserved(row);
+        self.ready = false;
+    }
+
+    /// The rows, oldest first.
     pub fn rows(&self) -> &[CostRow]
-        ensures { result.now ≡ self.now }
+        ensures { result.now ≡ self.now.rows }
     {
         self.rows.as_slice()
     }
@@ -74,7 +112,7 @@ impl<A: Allocator> Ledger<A> {
     /// The cost of all rows, turned or not, at `g` a byte and `l` a superstep.
     #[tactic(auto, using(crate::proofs::Totals::total_fits))]
     pub fn total(&self, g: u32, l: u32) -> u128
-        ensures { result ≡ total_cost g l self.now }
+        ensures { result ≡ total_cost g l self.now.rows }
     {
         sum_of_costs(&self.rows, g, l)
     }

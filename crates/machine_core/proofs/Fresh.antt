@@ -1,0 +1,58 @@
+-- A machine at its start is sound.
+use Rattle.std.proofs.Common.{◌≡◌, ℕ, zero, suc, ◌+◌, ◌<◌, List, [], ◌∷◌, length, map, replicate, get_or, refl, ap, arith}
+use Rattle.std.specs.List.{AllZip, range_with_len}
+use Rattle.std.proofs.lemmas.Bool.{false≢true}
+use Rattle.std.proofs.lemmas.List.Elements.{All-map}
+use Rattle.std.proofs.lemmas.List.FromFn.{length-range_with_len, get_or-range_with_len}
+use Rattle.node_memory.specs.Image.{Image}
+use Rattle.node_memory.proofs.ImageBytes.{length-image_bytes}
+use Rattle.node_core.specs.Node.{NodeState, IsSoundNode, start_node}
+use Rattle.node_core.proofs.Communications.{IsCommunication-none}
+use Rattle.machine_core.specs.declared.settings.Settings.{Settings}
+use Rattle.machine_core.specs.Machine.{fresh}
+use Rattle.machine_core.specs.Sound.{AreInRange, IsNodeOf, IsUnderWay, IsSoundMachine}
+
+module _ (image : Image) (s : Settings) where
+  abbrev at_start : ℕ → NodeState
+  at_start rank = start_node image rank s.nodes s.memory s.limit
+
+  IsSoundNode-start : (rank : ℕ) → AreInRange s → rank < s.nodes → IsSoundNode (at_start rank)
+  IsSoundNode-start rank range within = record {
+    node = record {
+      limited = range.limit;
+      within = omega arith;
+      has_ticks_left = λ _. range.ticks;
+      has_stepped = λ stopped. absurd cc;
+    };
+    hart = record {
+      ranked = within;
+      few = range.few;
+      thirty_two = refl;
+      x0 = refl;
+      memory = rw (length-image_bytes image s.memory) range.memory;
+      communication = IsCommunication-none _ _;
+    };
+  }
+
+  ranks-start : (ranks : List ℕ) → map (λ n. n.hart.rank) (map at_start ranks) ≡ ranks
+  ranks-start [] = refl
+  ranks-start (rank ∷ ranks) = ap (λ (xs : List ℕ). rank ∷ xs) (ranks-start ranks)
+
+  IsUnderWay-start : (from n : ℕ) → AllZip (IsUnderWay 0) (map at_start (range_with_len from n)) (replicate n 0)
+  IsUnderWay-start from zero = tt
+  IsUnderWay-start from (suc n) = (record { exchanged = omega arith; kept = omega arith; waited = λ waits. absurd cc }, IsUnderWay-start (from + 1) n)
+
+  pub IsSoundMachine-fresh : (input : List ℕ) → AreInRange s → IsSoundMachine (fresh image input s)
+  IsSoundMachine-fresh input range = record {
+    settings = range;
+    ranks = ranks-start (range_with_len 0 s.nodes);
+    nodes = All-map (IsNodeOf s) at_start (range_with_len 0 s.nodes) (λ k d within.
+        let long = length-range_with_len 0 s.nodes in
+        let below : k < s.nodes = omega arith in
+        let here = get_or-range_with_len 0 s.nodes k d below in
+        record { nodes = refl; memory = length-image_bytes image s.memory; limit = refl; sound = IsSoundNode-start (get_or (range_with_len 0 s.nodes) k d) range (omega arith) });
+    ticks = IsUnderWay-start 0 s.nodes;
+    areas = (0, All-map (λ (n : NodeState). length n.hart.communication.registrations.in_effect ≡ 0) at_start (range_with_len 0 s.nodes) (λ k d within. refl));
+    outcome = λ over. absurd (false≢true over);
+    ledger = refl;
+  }

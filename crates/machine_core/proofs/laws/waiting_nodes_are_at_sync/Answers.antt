@@ -1,0 +1,5 @@
+use Rattle.machine_core.proofs.Sound.{AreAtSync-from}
+use Rattle.machine_core.proofs.laws.waiting_nodes_are_at_sync.Goals as goal
+
+pub returns : goal.returns
+returns c = AreAtSync-from

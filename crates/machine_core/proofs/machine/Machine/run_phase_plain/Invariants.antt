@@ -1,0 +1,9 @@
+use Rattle.std.proofs.Common.{◌≡◌}
+use Rattle.machine_core.proofs.Phased.{IsPhasing}
+use Rattle.machine_core.proofs.machine.Machine.run_phase_plain.Given as goal
+
+abbrev pub invariant-loop-rank : goal.invariant-loop-rank
+invariant-loop-rank g l = record {
+  phasing : IsPhasing l.initial.self l.self l.rank;
+  settings : l.self.settings ≡ l.initial.self.settings;
+}

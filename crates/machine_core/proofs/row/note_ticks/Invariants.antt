@@ -1,0 +1,6 @@
+use Rattle.std.proofs.Common.{◌≡◌}
+use Rattle.machine_core.proofs.States.{noted}
+use Rattle.machine_core.proofs.row.note_ticks.Given as goal
+
+abbrev pub invariant-loop-rank : goal.invariant-loop-rank
+invariant-loop-rank g l = l.started ≡ noted l.nodes l.initial.started l.rank

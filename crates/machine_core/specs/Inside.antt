@@ -1,0 +1,16 @@
+-- What the fields of a `Machine` show: whether room is made for a turn or a row of costs is no part of it.
+use Rattle.bsp_exchange.specs.Exchange.{states}
+use Rattle.machine_core.specs.declared.machine.Machine.TheInside.{Inside}
+use Rattle.machine_core.specs.Machine.{MachineState}
+
+abbrev pub machine_view : {A : Type 0} → Inside A → MachineState
+machine_view m = record {
+  settings = m.settings;
+  input = m.input.items;
+  nodes = states m.nodes.items;
+  started = m.started.items;
+  output = m.output.items;
+  ledger = m.ledger.rows;
+  exchanges = m.exchanges;
+  outcome = m.outcome;
+}

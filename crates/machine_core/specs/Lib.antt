@@ -1,0 +1,7 @@
+pub mod Closing
+pub mod Events
+pub mod Inside
+pub mod Machine
+pub mod Sound
+pub mod Turn
+pub mod Walk

@@ -1,0 +1,62 @@
+-- A machine of several nodes with one input (BSPlib, Hill and others 1998: one program on all processes. That the start of the image
+-- is the start of all of them is an own rule, and so is the input).
+use Rattle.std.specs.Prelude.{ℕ, ◌^◌, ◌&&◌, nat_le, List, [], map, replicate, Option, Some, None, if◌then◌else◌}
+use Rattle.std.specs.List.{range_with_len}
+use Rattle.std.specs.Option.{option_or}
+use Rattle.node_memory.specs.Bytes.{is_memory_size}
+use Rattle.node_memory.specs.Image.{Image, is_segment_outside}
+use Rattle.node_core.specs.Node.{NodeState, start_node}
+use Rattle.cost_ledger.specs.declared.CostRow.{CostRow}
+use Rattle.machine_core.specs.declared.error.MachineError.{MachineError}
+use Rattle.machine_core.specs.declared.error.MachineError.TheVariants.{BadNodes, BadMemory, BadLimit, SegmentOutside}
+use Rattle.machine_core.specs.declared.outcome.Outcome.{Outcome}
+use Rattle.machine_core.specs.declared.settings.Settings.{Settings}
+
+pub record MachineState : Type 0 where
+  pub settings : Settings
+  -- one text, which each node reads by itself
+  pub input : List ℕ
+  -- each at the place of its rank
+  pub nodes : List NodeState
+  -- the ticks that each node had made when the superstep began
+  pub started : List ℕ
+  -- what the nodes wrote in the supersteps that are over, rank by rank in each
+  pub output : List ℕ
+  -- the costs of the supersteps that are over
+  pub ledger : List CostRow
+  -- how many exchanges were made
+  pub exchanges : ℕ
+  -- how it ended, if it has
+  pub outcome : Option Outcome
+
+-- nodes at their start, with the image in each memory
+abbrev pub start_nodes : Image → Settings → List NodeState
+start_nodes image s = map (λ rank. start_node image rank s.nodes s.memory s.limit) (range_with_len 0 s.nodes)
+
+-- a machine at the start of its first superstep
+abbrev pub fresh : Image → List ℕ → Settings → MachineState
+fresh image input settings = record {
+  settings = settings;
+  input = input;
+  nodes = start_nodes image settings;
+  started = replicate settings.nodes 0;
+  output = [];
+  ledger = [];
+  exchanges = 0;
+  outcome = None;
+}
+
+-- the first setting that is out of its range (own limits)
+abbrev pub settings_fault : Settings → Option MachineError
+settings_fault s =
+    if nat_le 1 s.nodes && nat_le s.nodes 256 then
+    (if is_memory_size s.memory then
+    (if nat_le 1 s.limit && nat_le s.limit (2 ^ 40) then None else Some BadLimit)
+    else Some BadMemory)
+    else Some BadNodes
+
+-- why there is no machine of an image and settings: the first setting that is out of its range, or else a part of the image that
+-- lies past the memory
+abbrev pub machine_fault : Image → Settings → Option MachineError
+machine_fault image s =
+    option_or (settings_fault s) (if is_segment_outside image s.memory then Some SegmentOutside else None)

@@ -1,0 +1,42 @@
+-- What always holds of a machine.
+use Rattle.std.specs.Prelude.{◌≡◌, ℕ, ◌+◌, ◌^◌, ◌<◌, ◌≤◌, false, length, map, All, IsTrue, IsSome, is_some, if◌then◌else◌}
+use Rattle.std.specs.List.{range_with_len, AllZip}
+use Rattle.node_memory.specs.Bytes.{is_memory_size}
+use Rattle.node_core.specs.declared.state.State.TheVariants.{Synced}
+use Rattle.node_core.specs.Node.{NodeState, IsSoundNode}
+use Rattle.machine_core.specs.declared.settings.Settings.{Settings}
+use Rattle.machine_core.specs.Machine.{MachineState}
+use Rattle.machine_core.specs.Events.{some_runs}
+
+-- settings of a machine that can be made (own limits)
+pub record AreInRange (s : Settings) : Type 0 where
+  pub some : 0 < s.nodes
+  pub few : s.nodes ≤ 256
+  pub memory : IsTrue (is_memory_size s.memory)
+  pub ticks : 0 < s.limit
+  pub limit : s.limit ≤ 2 ^ 40
+
+-- a sound node with the machine's number of nodes, size of memory and limit
+pub record IsNodeOf (s : Settings) (n : NodeState) : Type 0 where
+  pub nodes : n.hart.nprocs ≡ s.nodes
+  pub memory : length n.hart.memory ≡ s.memory
+  pub limit : n.limit ≡ s.limit
+  pub sound : IsSoundNode n
+
+-- a node whose ticks were `started` when the superstep began, after so many exchanges: each cost it a tick, and to wait for the
+-- next one costs it another
+pub record IsUnderWay (exchanges : ℕ) (n : NodeState) (started : ℕ) : Type 0 where
+  pub exchanged : exchanges ≤ started
+  pub kept : started ≤ n.ticks
+  pub waited : n.state ≡ Synced → started < n.ticks
+
+-- the nodes have their ranks and equally many areas in effect, and their ticks fit the exchanges; a machine with an outcome has no
+-- node that runs; the ledger has a row for each exchange, and one for the outcome
+pub record IsSoundMachine (m : MachineState) : Type 0 where
+  pub settings : AreInRange m.settings
+  pub ranks : map (λ n. n.hart.rank) m.nodes ≡ range_with_len 0 m.settings.nodes
+  pub nodes : All (IsNodeOf m.settings) m.nodes
+  pub ticks : AllZip (IsUnderWay m.exchanges) m.nodes m.started
+  pub areas : (count : ℕ) × All (λ n. length n.hart.communication.registrations.in_effect ≡ count) m.nodes
+  pub outcome : IsSome m.outcome → some_runs m.nodes ≡ false
+  pub ledger : length m.ledger ≡ m.exchanges + (if is_some m.outcome then 1 else 0)

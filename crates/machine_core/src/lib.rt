@@ -1,0 +1,39 @@
+//! The machine: nodes that step, each by itself, and the turn that ends a superstep once no node runs (BSP, Valiant 1990;
+//! BSPlib, Hill and others 1998).
+//!
+//! Contracts see a [`Machine`] as one record, a `MachineState`: its settings and input, the nodes with the ticks at which they
+//! began the superstep, what was written, the costs, the number of exchanges, and the outcome, if it has one. An [`Event`] is a
+//! step of one node or the turn. The definitions say what each does to the record, and know neither who chooses the events nor in
+//! which order nodes step.
+//!
+//! What callers may rely on:
+//!
+//! - A machine is always sound, as `IsSoundMachine` says.
+//! - [`Machine::apply`] makes an event, or changes nothing where it is not enabled. [`Machine::run_plain`] leaves the machine at its
+//!   end, and [`Machine::run_phase_plain`] at the end of its nodes' local parts.
+//! - Only these three, [`Machine::turn`] and [`Machine::new`] take memory, and after the outcome none of them but `new` does. An event
+//!   that is refused memory has changed nothing. A run that is refused keeps the events that it made, and the call made again
+//!   leaves what it would have left.
+//! - Whether memory was refused is all that no clause says: the tests refuse each request in turn.
+//!
+//! [`laws`] has what holds of every machine, and first that order does not matter: whatever events are made, a machine has the
+//! same end, which is that of the run superstep by superstep.
+#![tactic(auto)]
+
+mod closing;
+mod error;
+mod event;
+pub mod laws;
+mod machine;
+mod outcome;
+mod row;
+mod settings;
+mod start;
+#[cfg(test)]
+mod tests;
+
+pub use error::MachineError;
+pub use event::Event;
+pub use machine::Machine;
+pub use outcome::Outcome;
+pub use settings::Settings;

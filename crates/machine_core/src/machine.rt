@@ -1,0 +1,281 @@
+//! The machine itself: its events, its runs, and what can be read of it.
+
+ghost use Rattle.std.specs.Prelude.{◌≡◌, ◌↔◌, ◌<◌, ℕ, Some, None, IfOk, OnOk, OnErr, IsErrOf, IsSomeAnd, length, map, replicate, slice_get, option_copied, option_map, true};
+ghost use Rattle.node_core.specs.Node.{PreparedNode, MayRefuseStep, is_running};
+ghost use Rattle.bsp_exchange.specs.Exchange.{states};
+ghost use Rattle.machine_core.specs.declared.event.Event.TheVariants.{Step as step_of, Turn as the_turn};
+ghost use Rattle.machine_core.specs.Machine.{fresh, machine_fault};
+ghost use Rattle.machine_core.specs.Turn.{lowest, turned, with_phases, end_of};
+ghost use Rattle.machine_core.specs.Events.{is_enabled, event as event_of, after, MayRefuseEvent};
+ghost use Rattle.machine_core.specs.Walk.{walked, IsOnPhase};
+ghost use Rattle.machine_core.specs.Sound.{IsSoundMachine};
+
+use crate::closing::{Closing, close, last_row};
+use crate::error::MachineError;
+use crate::event::Event;
+use crate::outcome::Outcome;
+use crate::row;
+use crate::settings::Settings;
+use crate::start::{check_settings, start_nodes};
+use cost_ledger::{CostRow, Ledger};
+use node_core::Node;
+use node_memory::Image;
+use std::alloc::{AllocError, Allocator};
+use std::marker::Model;
+
+/// A machine of several nodes with one input.
+///
+/// Contracts see it as a `MachineState`: settings and input, the nodes with the ticks at which they began the superstep, the
+/// output and the costs of the supersteps that are over, the number of exchanges, and the outcome, if there is one. It is
+/// always sound, as `IsSoundMachine` says.
+#[derive(Drop)]
+pub struct Machine<A: Allocator> {
+    alloc: A,
+    settings: Settings,
+    input: Vec<u8, A>,
+    nodes: Vec<Node<A>, A>,
+    started: Vec<u64, A>,
+    output: Vec<u8, A>,
+    ledger: Ledger<A>,
+    exchanges: u64,
+    outcome: Option<Outcome>,
+}
+
+impl<A: Allocator> Model for Machine<A> {
+    ghost use Rattle.machine_core.specs.Machine.{MachineState};
+    ghost use Rattle.machine_core.specs.Sound.{IsSoundMachine};
+
+    ghost Value = { MachineState };
+
+    ghost use Rattle.machine_core.specs.Inside.{machine_view};
+
+    ghost view = { machine_view };
+
+    ghost invariant = { λ m. IsSoundMachine (machine_view m) };
+}
+
+impl<A: Allocator + Copy> Machine<A> {
+    /// A machine at the start of its first superstep, with the image in each node's memory. The input is copied.
+    ///
+    /// # Errors
+    /// The first that applies of [`MachineError`]'s, in their order.
+    pub fn new(
+        alloc: A,
+        image: &Image<A>,
+        input: &[u8],
+        settings: Settings,
+    ) -> Result<Machine<A>, MachineError>
+        ensures ok { IfOk result (λ m. m ≡ fresh image.now input.now settings) }
+        ensures bad_nodes { IsErrOf result MachineError.BadNodes
+            ↔ (machine_fault image.now settings ≡ Some MachineError.BadNodes) }
+        ensures bad_memory { IsErrOf result MachineError.BadMemory
+            ↔ (machine_fault image.now settings ≡ Some MachineError.BadMemory) }
+        ensures bad_limit { IsErrOf result MachineError.BadLimit
+            ↔ (machine_fault image.now settings ≡ Some MachineError.BadLimit) }
+        ensures segment_outside { IsErrOf result MachineError.SegmentOutside
+            ↔ (machine_fault image.now settings ≡ Some MachineError.SegmentOutside) }
+    {
+        check_settings(&settings)?;
+        let nodes = start_nodes(alloc, image, &settings)?;
+        let started = vec![in alloc; 0u64; settings.nodes as usize]?;
+        let input = Vec::from_slice(alloc, input)?;
+        Ok(Machine {
+            alloc,
+            settings,
+            input,
+            nodes,
+            started,
+            output: Vec::new(alloc),
+            ledger: Ledger::new(alloc),
+            exchanges: 0,
+            outcome: None,
+        })
+    }
+
+    /// Makes an event, if it is enabled, and answers whether it was. One that is not enabled changes nothing: a step of a
+    /// rank that is absent or does not run, and a turn while a node runs or after the outcome.
+    ///
+    /// # Errors
+    /// Where memory is refused, which can be at an enabled event alone, and at a step only where the node's own step can be
+    /// refused. Nothing has changed then, and the event can be made again.
+    pub fn apply(&mut self, event: Event) -> Result<bool, AllocError>
+        ensures ok { OnOk result (self.new ≡ event_of self.old event) }
+        ensures enabled { IfOk result (λ made. made ≡ is_enabled self.old event) }
+        ensures err { OnErr result (self.new ≡ self.old) }
+        ensures refuses { OnErr result (MayRefuseEvent self.old event) }
+    {
+        match event {
+            Event::Step(rank) => self.step(rank),
+            Event::Turn => self.turn(),
+        }
+    }
+
+    /// Makes a step of the node of a rank, as [`Machine::apply`] does.
+    fn step(&mut self, rank: u32) -> Result<bool, AllocError>
+        ensures ok { OnOk result (self.new ≡ event_of self.old (step_of rank)) }
+        ensures enabled { IfOk result (λ made. made ≡ is_enabled self.old (step_of rank)) }
+        ensures err { OnErr result (self.new ≡ self.old) }
+        ensures refuses { OnErr result (MayRefuseEvent self.old (step_of rank)) }
+    {
+        row::step_at(&mut self.nodes, rank as usize, &self.input)
+    }
+
+    /// Makes the turn, as [`Machine::apply`] does: ends the superstep, with the exchange or with the outcome.
+    pub fn turn(&mut self) -> Result<bool, AllocError>
+        ensures ok { OnOk result (self.new ≡ event_of self.old the_turn) }
+        ensures enabled { IfOk result (λ made. made ≡ is_enabled self.old the_turn) }
+        ensures err { OnErr result (self.new ≡ self.old) }
+        ensures refuses { OnErr result (MayRefuseEvent self.old the_turn) }
+    {
+        if !self.can_turn() {
+            return Ok(false);
+        }
+        self.make_turn()?;
+        Ok(true)
+    }
+
+    /// Whether the turn is enabled: no node runs, and there is no outcome.
+    fn can_turn(&self) -> bool
+        ensures { result ≡ is_enabled self.now the_turn }
+    {
+        self.outcome.is_none() && !row::some_runs(&self.nodes)
+    }
+
+    /// Makes the turn. All memory is asked for before the exchange, so that nothing can be refused after it.
+    fn make_turn(&mut self) -> Result<(), AllocError>
+        requires { is_enabled self.old the_turn ≡ true }
+        ensures ok { OnOk result (self.new ≡ turned self.old) }
+        ensures err { OnErr result (self.new ≡ self.old) }
+    {
+        self.ledger.prepare()?;
+        let before = self.output.len();
+        row::append_output(&self.nodes, &mut self.output)?;
+        let w = row::work(&self.nodes, &self.started);
+        let closing = match close(self.alloc, &mut self.nodes) {
+            Ok(closing) => closing,
+            Err(refused) => {
+                self.output.truncate(before);
+                return Err(refused);
+            }
+        };
+        match closing {
+            Closing::Over(outcome) => {
+                self.ledger.add_prepared(last_row(w));
+                self.outcome = Some(outcome);
+            }
+            Closing::Exchanged(h) => {
+                self.ledger.add_prepared(CostRow { w, h, turned: true });
+                row::note_ticks(&self.nodes, &mut self.started);
+                self.exchanges += 1;
+            }
+        }
+        Ok(())
+    }
+
+    /// Runs each running node in rank order until it stops. After the outcome nothing is left to run.
+    ///
+    /// # Errors
+    /// Where memory is refused in a step, after which no node runs of a lower rank than that step's. The steps before it are
+    /// made, and a call made again leaves what this one would have left.
+    pub fn run_phase_plain(&mut self) -> Result<(), AllocError>
+        ensures ok { OnOk result (self.new ≡ with_phases self.old) }
+        ensures err { OnErr result (IsOnPhase self.old self.new) }
+        ensures going { OnErr result (self.new.outcome ≡ None) }
+        ensures refuses { OnErr result (IsSomeAnd (lowest is_running self.new.nodes)
+            (λ n. MayRefuseStep self.new.input n)) }
+    {
+        for rank in 0..self.nodes.len() {
+            self.run_node(rank)?;
+        }
+        Ok(())
+    }
+
+    /// Runs the node of a rank until it stops.
+    fn run_node(&mut self, rank: usize) -> Result<(), AllocError>
+        requires { rank < length self.old.nodes }
+        ensures ok { OnOk result
+            (self.new ≡ after self.old (replicate self.old.settings.limit (step_of rank))) }
+        ensures err { OnErr result
+            ((k : ℕ) × (self.new ≡ after self.old (replicate k (step_of rank)))) }
+        ensures refuses { OnErr result (MayRefuseEvent self.new (step_of rank)) }
+        ensures sound { IsSoundMachine self.old }
+    {
+        row::run_at(&mut self.nodes, rank, self.settings.limit, &self.input)
+    }
+
+    /// Runs the machine to its outcome, superstep by superstep. After the outcome nothing is left to run.
+    ///
+    /// # Errors
+    /// Where memory is refused in a step or a turn. What was made before it stands, and a call made again leaves what this one
+    /// would have left.
+    pub fn run_plain(&mut self) -> Result<(), AllocError>
+        ensures ok { OnOk result (self.new ≡ end_of self.old) }
+        ensures err { OnErr result ((k : ℕ) × (self.new ≡ walked k self.old)) }
+        ensures going { OnErr result (self.new.outcome ≡ None) }
+    {
+        while self.outcome.is_none() {
+            self.run_phase_plain()?;
+            self.turn()?;
+        }
+        Ok(())
+    }
+}
+
+impl<A: Allocator> Machine<A> {
+    /// How the machine ended, if it has.
+    pub fn outcome(&self) -> Option<Outcome>
+        ensures { result ≡ self.now.outcome }
+    {
+        self.outcome
+    }
+
+    /// What the nodes wrote in the supersteps that are over, rank by rank in each.
+    pub fn output(&self) -> &[u8]
+        ensures { result.now ≡ self.now.output }
+    {
+        self.output.as_slice()
+    }
+
+    /// The costs of the supersteps that are over.
+    pub fn ledger(&self) -> &Ledger<A>
+        ensures { result.now.rows ≡ self.now.ledger }
+    {
+        &self.ledger
+    }
+
+    /// The node of a rank.
+    pub fn node(&self, rank: u32) -> Option<&Node<A>>
+        ensures { option_map (λ (p : PreparedNode). p.node) (option_copied result)
+            ≡ slice_get self.now.nodes rank }
+    {
+        self.nodes.get(rank as usize)
+    }
+
+    /// The nodes, each at the place of its rank.
+    pub fn nodes(&self) -> &[Node<A>]
+        ensures { states result.now ≡ self.now.nodes }
+    {
+        self.nodes.as_slice()
+    }
+
+    /// How many exchanges were made: the number of the superstep, from 0.
+    pub fn superstep(&self) -> u64
+        ensures { result ≡ self.now.exchanges }
+    {
+        self.exchanges
+    }
+
+    /// The input, which each node reads by itself.
+    pub fn input(&self) -> &[u8]
+        ensures { result.now ≡ self.now.input }
+    {
+        self.input.as_slice()
+    }
+
+    /// What the machine is made of.
+    pub fn settings(&self) -> Settings
+        ensures { result ≡ self.now.settings }
+    {
+        self.settings
+    }
+}

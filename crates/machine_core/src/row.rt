@@ -1,0 +1,109 @@
+//! The row of nodes, each at the place of its rank.
+
+ghost use Rattle.std.specs.Prelude.{◌≡◌, ℕ, ◌<◌, ◌++◌, length, map, false, slice_get, IfOk, OnOk, OnErr, IsSomeAnd};
+ghost use Rattle.std.specs.Option.{option_map_or};
+ghost use Rattle.node_core.specs.Node.{NodeState, MayRefuseStep};
+ghost use Rattle.bsp_exchange.specs.Exchange.{states};
+ghost use Rattle.machine_core.specs.Events.{runs, some_runs as some_runs_of, stepped, stepped_often};
+ghost use Rattle.machine_core.specs.Turn.{written, most_ticks};
+
+use node_core::Node;
+use std::alloc::{AllocError, Allocator};
+
+/// Whether some node runs.
+pub(crate) fn some_runs<A: Allocator>(nodes: &[Node<A>]) -> bool
+    ensures { result ≡ some_runs_of (states nodes.now) }
+{
+    nodes.iter().any(|node| node.state().is_running())
+}
+
+/// Makes a step of the node of a rank, if it runs, and answers whether it did.
+///
+/// # Errors
+/// Where memory is refused. Nothing has changed then.
+pub(crate) fn step_at<A: Allocator + Copy>(
+    nodes: &mut [Node<A>],
+    rank: usize,
+    input: &[u8],
+) -> Result<bool, AllocError>
+    ensures ok { OnOk result (states nodes.new ≡ stepped input.now rank (states nodes.old)) }
+    ensures made { IfOk result (λ made.
+        made ≡ option_map_or runs (slice_get (states nodes.old) rank) false) }
+    ensures err { OnErr result (states nodes.new ≡ states nodes.old) }
+    ensures refuses { OnErr result
+        (IsSomeAnd (slice_get (states nodes.old) rank) (λ n. MayRefuseStep input.now n)) }
+{
+    if rank >= nodes.len() {
+        return Ok(false);
+    }
+    if !nodes[rank].state().is_running() {
+        return Ok(false);
+    }
+    nodes[rank].step(input)?;
+    Ok(true)
+}
+
+/// Makes at most `most` steps of the node of a rank, as long as it runs.
+///
+/// # Errors
+/// Where memory is refused in a step. The steps before it are made.
+pub(crate) fn run_at<A: Allocator + Copy>(
+    nodes: &mut [Node<A>],
+    rank: usize,
+    most: u64,
+    input: &[u8],
+) -> Result<(), AllocError>
+    requires { rank < length nodes.old }
+    ensures ok { OnOk result
+        (states nodes.new ≡ stepped_often input.now rank most (states nodes.old)) }
+    ensures err { OnErr result
+        ((k : ℕ) × (states nodes.new ≡ stepped_often input.now rank k (states nodes.old))) }
+    ensures refuses { OnErr result
+        (IsSomeAnd (slice_get (states nodes.new) rank) (λ n. MayRefuseStep input.now n)) }
+{
+    nodes[rank].run(input, most)
+}
+
+/// The most ticks that a node has made beyond those in `started`.
+pub(crate) fn work<A: Allocator>(nodes: &[Node<A>], started: &[u64]) -> u64
+    requires { length started.now ≡ length nodes.now }
+    ensures { result ≡ most_ticks (states nodes.now) started.now }
+{
+    let mut most = 0;
+    for (rank, node) in nodes.iter().enumerate() {
+        most = most.max(node.ticks().saturating_sub(started[rank]));
+    }
+    most
+}
+
+/// Appends what the nodes wrote in this superstep to `output`, rank by rank.
+///
+/// # Errors
+/// Where memory is refused. `output` has then the bytes that it had.
+pub(crate) fn append_output<A: Allocator>(
+    nodes: &[Node<A>],
+    output: &mut Vec<u8, A>,
+) -> Result<(), AllocError>
+    ensures ok { OnOk result
+        (output.new.items ≡ output.old.items ++ written (states nodes.now)) }
+    ensures err { OnErr result (output.new.items ≡ output.old.items) }
+{
+    let before = output.len();
+    for node in nodes {
+        if let Err(refused) = output.extend_from_slice(node.output()) {
+            output.truncate(before);
+            return Err(refused);
+        }
+    }
+    Ok(())
+}
+
+/// Notes the ticks of the nodes, with which their next superstep begins.
+pub(crate) fn note_ticks<A: Allocator>(nodes: &[Node<A>], started: &mut [u64])
+    requires { length started.old ≡ length nodes.now }
+    ensures { started.new ≡ map (λ (n : NodeState). n.ticks) (states nodes.now) }
+{
+    for (rank, node) in nodes.iter().enumerate() {
+        started[rank] = node.ticks();
+    }
+}

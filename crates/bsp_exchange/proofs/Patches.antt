@@ -1,8 +1,8 @@
 -- Patches whose bytes stand one after another.
-use Rattle.std.proofs.Common.{◌≡◌, ℕ, ◌+◌, ◌-◌, ◌≤◌, List, [], ◌∷◌, ◌++◌, length, take, drop, refl, sym, ap, ◌∙◌, arith, zero, suc}
+use Rattle.std.proofs.Common.{◌≡◌, ℕ, ◌+◌, ◌-◌, ◌≤◌, List, [], ◌∷◌, ◌++◌, length, take, drop, refl, sym, ap, ◌∙◌, arith}
 use Rattle.std.specs.Prelude.{sum_by, IsTrue}
 use Rattle.std.proofs.lemmas.Bool.Decides.{nat_tests}
-use Rattle.std.proofs.lemmas.List.{places, take_all, take-append-le, drop-append-le, length-drop, length-take-le, nil_from_length}
+use Rattle.std.proofs.lemmas.List.{places, take_all, take-append-le, drop-append-le, length-drop, nil_from_length}
 use Rattle.std.proofs.lemmas.List.Sums.{sum_by-cons}
 use Rattle.node_memory.specs.Bytes.{fits, bytes_at, with_bytes}
 use Rattle.bsp_exchange.specs.declared.landings.Range.{Range}

@@ -1,6 +1,6 @@
 -- A transfer that keeps to its area keeps to its node's memory.
-use Rattle.std.proofs.Common.{◌≡◌, ℕ, ◌+◌, ◌<◌, ◌≤◌, ◌^◌, Bool, true, false, not, leb, List, length, get_or, refl, sym, ap, ◌∙◌, [], arith, Option, Some, None}
-use Rattle.std.specs.Prelude.{IsTrue, All, slice_get, option_map}
+use Rattle.std.proofs.Common.{◌≡◌, ℕ, ◌+◌, ◌<◌, ◌≤◌, ◌^◌, false, not, leb, List, length, get_or, refl, sym, ap, ◌∙◌, [], arith, Option, Some}
+use Rattle.std.specs.Prelude.{IsTrue, slice_get, option_map}
 use Rattle.std.specs.Option.{option_map_or}
 use Rattle.std.proofs.lemmas.Bool.Decides.{nat_tests}
 use Rattle.std.proofs.lemmas.Option.{slice_get-map, slice_get_read, slice_get_within, get_or_from_slice_get}
@@ -14,7 +14,7 @@ use Rattle.bsp_exchange.specs.Areas.{area_at}
 use Rattle.bsp_exchange.specs.Exchange.{states}
 use Rattle.bsp_exchange.specs.Faults.{is_outside}
 use Rattle.bsp_exchange.specs.Landings.{area_start, memory_of}
-use Rattle.bsp_exchange.specs.Parts.{Patch, fetched}
+use Rattle.bsp_exchange.specs.Parts.{fetched}
 use Rattle.bsp_exchange.proofs.Finds.{area_of}
 
 -- the memory of a rank's node is that of the node at its place

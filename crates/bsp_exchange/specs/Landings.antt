@@ -11,7 +11,7 @@ use Rattle.bsp_requests.specs.declared.request.Get.{Get}
 use Rattle.bsp_requests.specs.Put.{Put}
 use Rattle.node_core.specs.Node.{NodeState}
 use Rattle.bsp_exchange.specs.Areas.{area_at}
-use Rattle.bsp_exchange.specs.Issued.{Issued, issued}
+use Rattle.bsp_exchange.specs.Issued.{issued}
 
 -- which of two landings is the later: `kind` is 0 for a get and 1 for a put; then the caller's rank, then the issue number
 pub record Key : Type 0 where

@@ -1,6 +1,6 @@
 -- What the nodes receive in an exchange, gathered node by node before anything lands. The exchange's definitions do not rest on
 -- this: it is what the code keeps of them.
-use Rattle.std.specs.Prelude.{◌≡◌, ℕ, false, ◌+◌, ◌==◌, zero, suc, List, [], ◌∷◌, ◌++◌, length, map, take, drop, filter, filter_map, sum_by, if◌then◌else◌, Option, Some, None, IsTrue}
+use Rattle.std.specs.Prelude.{◌≡◌, ℕ, false, ◌+◌, ◌==◌, zero, suc, List, [], ◌∷◌, ◌++◌, length, map, take, drop, filter, filter_map, sum_by, IsTrue}
 use Rattle.std.specs.List.{fold}
 use Rattle.node_memory.specs.Bytes.{fits, bytes_at, with_bytes}
 use Rattle.bsp_requests.specs.declared.request.Get.{Get}
@@ -14,7 +14,7 @@ use Rattle.node_core.specs.Turn.{next_superstep}
 use Rattle.bsp_exchange.specs.declared.landings.Range.{Range}
 use Rattle.bsp_exchange.specs.declared.landings.Landings.TheInside.{Inside}
 use Rattle.bsp_exchange.specs.Issued.{Issued, issued}
-use Rattle.bsp_exchange.specs.Landings.{Landing, area_start, memory_of, landing_of_get, landing_of_put, landings_at}
+use Rattle.bsp_exchange.specs.Landings.{Landing, area_start, memory_of, landing_of_get, landing_of_put}
 use Rattle.bsp_exchange.specs.Queues.{queue_after}
 
 -- bytes for one memory, from an address on

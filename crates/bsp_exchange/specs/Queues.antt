@@ -4,7 +4,7 @@ use Rattle.std.specs.Prelude.{ℕ, ◌==◌, List, filter_map, if◌then◌else�
 use Rattle.bsp_requests.specs.Message.{Message}
 use Rattle.bsp_requests.specs.Request.{Asked, asks_put, asks_get, asks_send}
 use Rattle.node_core.specs.Node.{NodeState}
-use Rattle.bsp_exchange.specs.Issued.{Issued, issued}
+use Rattle.bsp_exchange.specs.Issued.{issued}
 
 -- the message of a request of `sender`, where it is a send to `rank`
 abbrev pub message_to : ℕ → ℕ → Asked → Option Message

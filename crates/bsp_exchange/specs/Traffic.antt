@@ -4,7 +4,7 @@ use Rattle.std.specs.Prelude.{ℕ, ◌==◌, max, List, map, filter, sum_by}
 use Rattle.std.specs.List.{fold}
 use Rattle.bsp_requests.specs.Request.{Asked, asks_put, asks_get, asks_send, size_of}
 use Rattle.node_core.specs.Node.{NodeState}
-use Rattle.bsp_exchange.specs.Issued.{Issued, issued}
+use Rattle.bsp_exchange.specs.Issued.{issued}
 
 -- so many bytes go from one rank to another
 pub record Transfer : Type 0 where

@@ -1,8 +1,7 @@
-use Rattle.std.proofs.Common.{sym, ap, ◌∙◌, length, slice_set, slice_index_or}
-use Rattle.std.specs.Prelude.{IsTrue, OnOk, ◌≡◌}
-use Rattle.node_memory.specs.Bytes.{fits, bytes_at}
+use Rattle.std.proofs.Common.{sym, ◌∙◌}
+use Rattle.node_memory.specs.Bytes.{bytes_at}
 use Rattle.bsp_exchange.specs.Exchange.{states}
-use Rattle.bsp_exchange.specs.Parts.{Patch, changed_at, with_get, fetched}
+use Rattle.bsp_exchange.specs.Parts.{with_get}
 use Rattle.bsp_exchange.proofs.Gathered.{put_back}
 use Rattle.bsp_exchange.proofs.Transfers.{memory_at, fetched_is}
 use Rattle.bsp_exchange.proofs.plan.add_get.Goals as goal

@@ -1,7 +1,5 @@
-use Rattle.std.proofs.Common.{sym, ap, ◌∙◌}
-use Rattle.bsp_exchange.specs.Exchange.{states}
-use Rattle.bsp_exchange.specs.Landings.{area_start}
-use Rattle.bsp_exchange.specs.Parts.{Patch, changed_at, with_put}
+use Rattle.std.proofs.Common.{sym}
+use Rattle.bsp_exchange.specs.Parts.{with_put}
 use Rattle.bsp_exchange.proofs.Gathered.{put_back}
 use Rattle.bsp_exchange.proofs.plan.add_put.Goals as goal
 

@@ -1,4 +1,4 @@
-use Rattle.std.proofs.Common.{List, ℕ, ◌+◌, length, ap, sym, ◌∙◌, ◌≡◌}
+use Rattle.std.proofs.Common.{List, ℕ, ◌+◌, length, ap, sym, ◌∙◌}
 use Rattle.bsp_requests.specs.Put.{Put}
 use Rattle.bsp_requests.specs.Request.{asked, asks_put}
 use Rattle.bsp_exchange.specs.Exchange.{states}

@@ -1,9 +1,9 @@
-use Rattle.std.proofs.Common.{◌≡◌, ◌≤◌, ◌<◌, ◌+◌, List, length, arith, ap, sym, ◌∙◌, Some, option_copied, slice_get}
+use Rattle.std.proofs.Common.{◌≤◌, ◌+◌, List, length, arith, ap, sym, ◌∙◌, option_copied, slice_get}
 use Rattle.std.specs.Prelude.{option_map}
-use Rattle.bsp_requests.specs.Request.{Asked, asked}
+use Rattle.bsp_requests.specs.Request.{asked}
 use Rattle.bsp_requests.specs.Requests.{Requests}
 use Rattle.bsp_exchange.specs.Exchange.{states}
-use Rattle.bsp_exchange.specs.Parts.{Received, target_of, with_asked, with_issued}
+use Rattle.bsp_exchange.specs.Parts.{Received, with_asked, with_issued}
 use Rattle.bsp_exchange.proofs.Finds.{issued_from, past_end}
 use Rattle.bsp_exchange.proofs.Gathered.{inside_here, gathered_here, gathered_all, target_there}
 use Rattle.bsp_exchange.proofs.plan.add_requests.Goals.{in-Some+in_ok-add_request, in_default}

@@ -1,4 +1,4 @@
-use Rattle.std.proofs.Common.{◌≡◌, length, drop, ℕ}
+use Rattle.std.proofs.Common.{◌≡◌, length, drop}
 use Rattle.node_core.specs.declared.state.State.TheVariants.{Synced}
 use Rattle.bsp_exchange.specs.Parts.{patches_of, LieIn, with_patches}
 use Rattle.bsp_exchange.proofs.Patches.{bytes_in}

@@ -20,6 +20,8 @@
 //! - Memory is refused at the calls marked (m) alone, after all their checks. The step that needed it has then changed
 //!   nothing, ticks included, and can be made again; a run keeps the steps that it made before.
 //! - Room for the turn of the registrations, once made, stands until a step pushes or pops.
+//! - At the end of a superstep [`Node::prepare_turn`] makes that room, which may be refused; [`Node::land`] writes what an
+//!   exchange brings, and [`Node::finish_turn`] begins the next superstep. Each changes just what it names.
 //! - [`laws`] has what holds of every node: steps leave it sound, keep its rank, the number of nodes, the size of its
 //!   memory and its limit, and add up; and as many steps as it has ticks left end its local part of the superstep.
 //!

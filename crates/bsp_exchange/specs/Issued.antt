@@ -1,4 +1,5 @@
--- All requests of a superstep in one order: by the ranks of the nodes that issued them, and those of one node in issue order.
+-- All requests of a superstep in one order (own rule: BSPlib, Hill and others 1998, leaves it open): by the ranks of the nodes that
+-- issued them, and those of one node in issue order.
 use Rattle.std.specs.Prelude.{ℕ, List, map, flat_map}
 use Rattle.std.specs.List.{enumerate_from}
 use Rattle.bsp_requests.specs.Request.{Asked}

@@ -178,6 +178,7 @@ fn start_of<A: Allocator + Copy>(
     ensures value { result ≡ area_start (states nodes.now) target slot + offset }
     ensures within { IsTrue (fits (length (memory_of (states nodes.now) target)) result len) }
 {
+    // Its contract says that the node is sound, and so that its areas lie in its memory.
     let _memory = nodes[target as usize].memory();
     match area_at(nodes, target, slot) {
         Some(area) => area.addr + offset,

@@ -1,9 +1,10 @@
 -- Why an exchange is refused. The nodes have to agree on the next tag size and on the sequence of registrations (BSPlib, Hill and
 -- others 1998: `bsp_set_tagsize`, `bsp_push_reg` and `bsp_pop_reg` are to be called alike by all processes), and puts and gets have
 -- to keep to the registered areas. That these are faults, and their order, is an own rule.
-use Rattle.std.specs.Prelude.{ℕ, ◌+◌, ◌==◌, Bool, false, not, nat_le, List, [], ◌∷◌, length, find, Option, None, option_map, nat_eq}
+use Rattle.std.specs.Prelude.{ℕ, ◌+◌, ◌==◌, Bool, false, not, nat_le, List, [], ◌∷◌, ◌++◌, codes, length, find, Option, None, option_map, nat_eq}
 use Rattle.std.specs.Option.{option_or, option_map_or, option_eq}
 use Rattle.std.specs.Cmp.Lexicographic.{pointwise}
+use Rattle.std.specs.Fmt.{decimal}
 use Rattle.bsp_slots.specs.declared.area.Area.{Area}
 use Rattle.bsp_slots.specs.Registrations.{shape}
 use Rattle.bsp_requests.specs.Request.{Asked, asks_put, asks_get, asks_send}
@@ -53,3 +54,9 @@ exchange_fault nodes =
     option_or (option_map TagMismatch (disagreeing have_same_tag_size nodes))
     (option_or (option_map SlotMismatch (disagreeing have_same_shape nodes))
     (first_outside nodes (issued nodes)))
+
+-- what a fault is called in texts for users (own names)
+abbrev pub fault_text : ExchangeFault → List ℕ
+fault_text (TagMismatch rank) = codes "TagMismatch rank " ++ decimal rank
+fault_text (SlotMismatch rank) = codes "SlotMismatch rank " ++ decimal rank
+fault_text (OutsideArea rank issue) = codes "OutsideArea rank " ++ decimal rank ++ codes " request " ++ decimal issue

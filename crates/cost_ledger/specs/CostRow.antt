@@ -1,5 +1,6 @@
--- The cost of supersteps (the BSP cost model: w + g h + l for each).
-use Rattle.std.specs.Prelude.{◌≡◌, ℕ, ◌+◌, ◌*◌, ◌^◌, ◌<◌, ◌≤◌, Bool, List, sum_by}
+-- The cost of supersteps (w + g h + l for each: the cost model of BSPlib, Hill and others 1998).
+use Rattle.std.specs.Prelude.{◌≡◌, ℕ, ◌+◌, ◌*◌, ◌^◌, ◌<◌, ◌≤◌, Bool, if◌then◌else◌, List, ◌++◌, codes, sum_by}
+use Rattle.std.specs.Fmt.{decimal}
 use Rattle.std.specs.List.Sorted.{IsPermutation}
 use Rattle.cost_ledger.specs.declared.CostRow.{CostRow}
 
@@ -24,3 +25,8 @@ TotalIgnoresOrder = (g l : ℕ) (xs ys : List CostRow) → IsPermutation xs ys �
 pub record PreparedRows : Type 0 where
   pub rows : List CostRow
   pub ready : Bool
+
+-- what a superstep cost, in texts for users (own text)
+abbrev pub row_text : CostRow → List ℕ
+row_text row =
+    codes "w " ++ decimal row.w ++ codes " h " ++ decimal row.h ++ codes " " ++ (if row.turned then codes "turned" else codes "last")

@@ -16,9 +16,10 @@ ghost use Rattle.std.specs.Prelude.{◌≡◌, ◌^◌, ◌<◌, ◌≤◌, true
 ghost use Rattle.cost_ledger.specs.CostRow.{IsBounded, cost_of, total_cost, TotalIgnoresOrder};
 
 use std::alloc::{AllocError, Allocator};
+use std::fmt;
 use std::marker::Model;
 
-/// What one superstep cost.
+/// What one superstep cost. Its text is as `w 10 h 4 turned`, and ends with `last` where no exchange was made.
 #[derive(Clone, Copy, Debug, PartialEq, Eq)]
 pub struct CostRow {
     /// The work: the most ticks that a node made.
@@ -123,6 +124,18 @@ fn sum_of_costs(rows: &[CostRow], g: u32, l: u32) -> u128
     ensures { result ≡ total_cost g l rows.now }
 {
     rows.iter().map(|row| row.cost(g, l)).sum()
+}
+
+impl fmt::Display for CostRow {
+    ghost use Rattle.std.specs.Prelude.{Some};
+    ghost use Rattle.cost_ledger.specs.CostRow.{row_text};
+
+    ghost output = { λ row. Some (row_text row) };
+
+    fn fmt<W: fmt::Write>(&self, f: &mut fmt::Formatter<W>) -> fmt::Result {
+        let end = if self.turned { "turned" } else { "last" };
+        write!(f, "w {} h {} {end}", self.w, self.h)
+    }
 }
 
 impl CostRow {

@@ -1,6 +1,6 @@
 //! The machine itself: its events, its runs, and what can be read of it.
 
-ghost use Rattle.std.specs.Prelude.{◌≡◌, ◌↔◌, ◌<◌, ℕ, Some, None, IfOk, OnOk, OnErr, IsErrOf, IsSomeAnd, length, map, replicate, slice_get, option_copied, option_map, true};
+ghost use Rattle.std.specs.Prelude.{◌≡◌, ◌↔◌, ◌<◌, ℕ, Some, None, IfOk, OnOk, OnErr, IsErrOf, IsSome, IsSomeAnd, length, map, replicate, slice_get, option_copied, option_map, true};
 ghost use Rattle.node_core.specs.Node.{PreparedNode, MayRefuseStep, is_running};
 ghost use Rattle.bsp_exchange.specs.Exchange.{states};
 ghost use Rattle.machine_core.specs.declared.event.Event.TheVariants.{Step as step_of, Turn as the_turn};
@@ -16,7 +16,7 @@ use crate::event::Event;
 use crate::outcome::Outcome;
 use crate::row;
 use crate::settings::Settings;
-use crate::start::{check_settings, start_nodes};
+use crate::start::start_nodes;
 use cost_ledger::{CostRow, Ledger};
 use node_core::Node;
 use node_memory::Image;
@@ -75,7 +75,7 @@ impl<A: Allocator + Copy> Machine<A> {
         ensures segment_outside { IsErrOf result MachineError.SegmentOutside
             ↔ (machine_fault image.now settings ≡ Some MachineError.SegmentOutside) }
     {
-        check_settings(&settings)?;
+        settings.check()?;
         let nodes = start_nodes(alloc, image, &settings)?;
         let started = vec![in alloc; 0u64; settings.nodes as usize]?;
         let input = Vec::from_slice(alloc, input)?;
@@ -210,6 +210,7 @@ impl<A: Allocator + Copy> Machine<A> {
     /// would have left.
     pub fn run_plain(&mut self) -> Result<(), AllocError>
         ensures ok { OnOk result (self.new ≡ end_of self.old) }
+        ensures over { OnOk result (IsSome self.new.outcome) }
         ensures err { OnErr result ((k : ℕ) × (self.new ≡ walked k self.old)) }
         ensures going { OnErr result (self.new.outcome ≡ None) }
     {

@@ -2,6 +2,7 @@
 
 use bsp_exchange::ExchangeFault;
 use node_core::State;
+use std::fmt;
 
 /// How a machine ended (own rules).
 #[derive(Clone, Copy, Debug, PartialEq, Eq)]
@@ -15,4 +16,22 @@ pub enum Outcome {
     Desync { ended: u32, synced: u32 },
     /// Each node waited for the end of the superstep, and the exchange was refused.
     Refused(ExchangeFault),
+}
+
+impl fmt::Display for Outcome {
+    ghost use Rattle.std.specs.Prelude.{Some};
+    ghost use Rattle.machine_core.specs.Outcome.{outcome_text};
+
+    ghost output = { λ outcome. Some (outcome_text outcome) };
+
+    fn fmt<W: fmt::Write>(&self, f: &mut fmt::Formatter<W>) -> fmt::Result {
+        match self {
+            Outcome::Ended => write!(f, "ended"),
+            Outcome::NodeStopped { rank, state } => write!(f, "rank {rank} stopped: {state}"),
+            Outcome::Desync { ended, synced } => {
+                write!(f, "desync: rank {ended} ended, rank {synced} synced")
+            }
+            Outcome::Refused(fault) => write!(f, "refused: {fault}"),
+        }
+    }
 }

@@ -1,5 +1,8 @@
 //! What a machine is made of.
 
+use crate::error::MachineError;
+use node_memory::is_memory_size;
+
 /// How many nodes there are, and what each of them has. The ranges are own rules.
 #[derive(Clone, Copy, Debug, PartialEq, Eq)]
 pub struct Settings {
@@ -9,4 +12,29 @@ pub struct Settings {
     pub memory: u32,
     /// How many ticks, each of one step, a node may make: 1 to 2^40.
     pub limit: u64,
+}
+
+impl Settings {
+    ghost use Rattle.std.specs.Prelude.{◌≡◌, Some, None, IfErr, OnOk};
+    ghost use Rattle.machine_core.specs.Machine.{settings_fault};
+
+    /// Whether the settings are within their ranges.
+    ///
+    /// # Errors
+    /// [`MachineError::BadNodes`], [`MachineError::BadMemory`] or [`MachineError::BadLimit`], the first that applies.
+    pub fn check(&self) -> Result<(), MachineError>
+        ensures ok { OnOk result (settings_fault self.now ≡ None) }
+        ensures err { IfErr result (λ cause. settings_fault self.now ≡ Some cause) }
+    {
+        if !(1..=256).contains(&self.nodes) {
+            return Err(MachineError::BadNodes);
+        }
+        if !is_memory_size(self.memory) {
+            return Err(MachineError::BadMemory);
+        }
+        if !(1..=1 << 40).contains(&self.limit) {
+            return Err(MachineError::BadLimit);
+        }
+        Ok(())
+    }
 }

@@ -10,25 +10,8 @@ ghost use Rattle.machine_core.specs.Machine.{settings_fault, start_nodes as star
 use crate::error::MachineError;
 use crate::settings::Settings;
 use node_core::Node;
-use node_memory::{Image, MemoryError, is_memory_size};
+use node_memory::{Image, MemoryError};
 use std::alloc::{AllocError, Allocator};
-
-/// Whether the settings are within their ranges; else the first that is not.
-pub(crate) fn check_settings(settings: &Settings) -> Result<(), MachineError>
-    ensures ok { OnOk result (settings_fault settings.now ≡ None) }
-    ensures err { IfErr result (λ cause. settings_fault settings.now ≡ Some cause) }
-{
-    if !(1..=256).contains(&settings.nodes) {
-        return Err(MachineError::BadNodes);
-    }
-    if !is_memory_size(settings.memory) {
-        return Err(MachineError::BadMemory);
-    }
-    if !(1..=1 << 40).contains(&settings.limit) {
-        return Err(MachineError::BadLimit);
-    }
-    Ok(())
-}
 
 /// Each node at its start, in rank order.
 pub(crate) fn start_nodes<A: Allocator + Copy>(

@@ -4,5 +4,6 @@ pub mod Communication
 pub mod Effects
 pub mod Hart
 pub mod Inside
+pub mod Names
 pub mod Node
 pub mod Turn

@@ -1,4 +1,6 @@
-//! The states of a node, and the faults that stop it.
+//! The states of a node, and the faults that stop it. Each displays as its name.
+
+use std::fmt;
 
 /// Why a node was stopped by its own program (own rules).
 #[derive(Clone, Copy, Debug, PartialEq, Eq)]
@@ -29,6 +31,30 @@ pub enum Fault {
     BadSize,
 }
 
+impl fmt::Display for Fault {
+    ghost use Rattle.std.specs.Prelude.{Some};
+    ghost use Rattle.node_core.specs.Names.{fault_name};
+
+    ghost output = { λ fault. Some (fault_name fault) };
+
+    fn fmt<W: fmt::Write>(&self, f: &mut fmt::Formatter<W>) -> fmt::Result {
+        f.write_str(match self {
+            Fault::IllegalInstruction => "IllegalInstruction",
+            Fault::FetchOutside => "FetchOutside",
+            Fault::Misaligned => "Misaligned",
+            Fault::LoadOutside => "LoadOutside",
+            Fault::StoreOutside => "StoreOutside",
+            Fault::Break => "Break",
+            Fault::UnknownCall => "UnknownCall",
+            Fault::BadRank => "BadRank",
+            Fault::RangeOutside => "RangeOutside",
+            Fault::NotRegistered => "NotRegistered",
+            Fault::TooMuch => "TooMuch",
+            Fault::BadSize => "BadSize",
+        })
+    }
+}
+
 /// What a node is doing.
 #[derive(Clone, Copy, Debug, PartialEq, Eq)]
 pub enum State {
@@ -56,5 +82,23 @@ impl State {
         ensures { result ≡ is_running self }
     {
         matches!(self, State::Running)
+    }
+}
+
+impl fmt::Display for State {
+    ghost use Rattle.std.specs.Prelude.{Some};
+    ghost use Rattle.node_core.specs.Names.{state_name};
+
+    ghost output = { λ state. Some (state_name state) };
+
+    fn fmt<W: fmt::Write>(&self, f: &mut fmt::Formatter<W>) -> fmt::Result {
+        match self {
+            State::Running => write!(f, "running"),
+            State::Synced => write!(f, "synced"),
+            State::Ended => write!(f, "ended"),
+            State::Aborted => write!(f, "aborted"),
+            State::Exhausted => write!(f, "exhausted"),
+            State::Faulted(fault) => write!(f, "fault {fault}"),
+        }
     }
 }

@@ -8,6 +8,7 @@ A case is a folder with some of these files:
   written   what the file `{temp}/written` must hold afterwards
   stdin     standard input, empty where it is missing
   closed    a file that says that standard output is closed before the program starts
+  terminal  a file that says that the script `bspemu` is run in the program's place, with a terminal as standard error
   address_space    how many bytes of address space the program may have, all that it wants where it is missing
   stdout    what standard output must hold, to the byte, empty where it is missing
   stdout.contains, stderr.contains    texts, one a line, that must stand in it, in place of an exact match
@@ -18,7 +19,9 @@ Usage: cases.py PROGRAM FOLDER [PASSED FAILED]
 The two numbers are of an earlier part of the same run, and are added to the last line.
 """
 
+import os
 import pathlib
+import pty
 import resource
 import subprocess
 import sys
@@ -55,7 +58,27 @@ def limited(case):
     return lambda: resource.setrlimit(resource.RLIMIT_AS, (most, most))
 
 
+def at_terminal(case, command):
+    """Runs a command whose standard error is a terminal, and gives what it wrote there with plain line ends."""
+    ours, theirs = pty.openpty()
+    try:
+        done = subprocess.run(
+            command, input=read(case / "stdin"), stdout=subprocess.PIPE, stderr=theirs, timeout=SECONDS, check=False
+        )
+    finally:
+        os.close(theirs)
+    try:
+        told = os.read(ours, 1 << 16)
+    except OSError:
+        told = b""  # nothing was written before the terminal closed
+    os.close(ours)
+    done.stderr = told.replace(b"\r\n", b"\n")
+    return done
+
+
 def run(program, case, words):
+    if (case / "terminal").exists():
+        return at_terminal(case, [str(case.parent.parent.parent / "bspemu"), *words])
     command = [str(program), *words]
     if (case / "closed").exists():
         command = ["/bin/sh", "-c", 'exec "$@" >&-', "sh", *command]

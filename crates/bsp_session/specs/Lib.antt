@@ -2,5 +2,5 @@ pub mod Images
 pub mod Listing
 pub mod Outcome
 pub mod Readers
-pub mod Run
+pub mod Report
 pub mod Session

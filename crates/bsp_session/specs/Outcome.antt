@@ -1,56 +1,30 @@
--- How a run ended, and the exit statuses (own rules).
-use Rattle.std.specs.Prelude.{◌≡◌, ℕ, Bool, true, false, List, position, slice_get, Option, Some, None, option_map, Result, Ok, Err}
-use Rattle.std.specs.Option.{option_or}
+-- Exit statuses, and what a session answers where one of its parts was refused (own rules).
+use Rattle.std.specs.Prelude.{ℕ, List, codes, Result, Ok, Err}
 use Rattle.counted_io.specs.declared.ReadError.{ReadError}
 use Rattle.counted_io.specs.declared.ReadError.TheVariants as read
 use Rattle.elf_image.specs.declared.error.ElfError.{ElfError}
 use Rattle.elf_image.specs.declared.error.ElfError.TheVariants as file
-use Rattle.node_core.specs.Node.{PreparedNode}
 use Rattle.node_core.specs.declared.state.State.{State}
 use Rattle.node_core.specs.declared.state.State.TheVariants.{Running, Synced, Ended, Aborted, Exhausted, Faulted}
 use Rattle.rv_asm.specs.declared.errors.AsmError.{AsmError}
 use Rattle.rv_asm.specs.declared.errors.AsmKind.{AsmKind}
 use Rattle.rv_asm.specs.declared.errors.AsmKind.TheVariants as kind
-use Rattle.bsp_session.specs.declared.job.Outcome.{Outcome}
-use Rattle.bsp_session.specs.declared.job.Outcome.TheVariants as outcome
+use Rattle.machine_core.specs.declared.error.MachineError.{MachineError}
+use Rattle.machine_core.specs.declared.error.MachineError.TheVariants as machine
+use Rattle.machine_core.specs.declared.outcome.Outcome.{Outcome}
+use Rattle.machine_core.specs.declared.outcome.Outcome.TheVariants as outcome
+use Rattle.bsp_session.specs.declared.errors.BadSetting.{BadSetting}
+use Rattle.bsp_session.specs.declared.errors.BadSetting.TheVariants.{BadNodes, BadMemory, BadLimit}
 use Rattle.bsp_session.specs.declared.errors.SessionError.{SessionError}
 use Rattle.bsp_session.specs.declared.errors.SessionError.TheVariants.{BadSettings, TooLong, Text, BadImage, SegmentOutside, ReadFault, WriteFault, NoMemory}
 
--- a node was stopped: by a fault, by its own abort, or by the limit
-abbrev pub has_stopped : State → Bool
-has_stopped Running = false
-has_stopped Synced = false
-has_stopped Ended = false
-has_stopped Aborted = true
-has_stopped Exhausted = true
-has_stopped (Faulted _) = true
+-- what a bad setting is called in a line to the user
+abbrev pub name_of : BadSetting → List ℕ
+name_of BadNodes = codes "BadNodes"
+name_of BadMemory = codes "BadMemory"
+name_of BadLimit = codes "BadLimit"
 
--- a node waits for the end of the superstep
-abbrev pub is_waiting : State → Bool
-is_waiting Running = false
-is_waiting Synced = true
-is_waiting Ended = false
-is_waiting Aborted = false
-is_waiting Exhausted = false
-is_waiting (Faulted _) = false
-
--- the lowest rank, which is its place in the list, of a node in such a state
-abbrev pub lowest : (State → Bool) → List PreparedNode → Option ℕ
-lowest test nodes = position (λ (n : PreparedNode). test n.node.state) nodes
-
--- the rank that decides how nodes ended: the lowest that was stopped, and where none was, the lowest that waits, since no
--- exchange is made
-abbrev pub deciding_rank : List PreparedNode → Option ℕ
-deciding_rank nodes = option_or (lowest has_stopped nodes) (lowest is_waiting nodes)
-
--- how nodes at their ends ended
-abbrev pub IsOutcomeOf : List PreparedNode → Outcome → Type 0
-IsOutcomeOf nodes outcome.Ended = deciding_rank nodes ≡ None
-IsOutcomeOf nodes (outcome.NodeStopped rank state) =
-    (deciding_rank nodes ≡ Some rank) × (option_map (λ (n : PreparedNode). n.node.state) (slice_get nodes rank) ≡ Some state)
-IsOutcomeOf nodes (outcome.Desync ended synced) = ⊥
-
--- a state that stops no node has the status of an outcome without a name of its own
+-- 2 for a fault or an abort, 3 for the limit. No node is stopped in any other state, which counts as the machine's refusal to go on
 abbrev pub status_of_stop : State → ℕ
 status_of_stop Running = 4
 status_of_stop Synced = 4
@@ -59,11 +33,12 @@ status_of_stop Aborted = 2
 status_of_stop Exhausted = 3
 status_of_stop (Faulted _) = 2
 
--- 0 where all ended, and else what stopped the lowest rank; 4 where nodes neither all ended nor were stopped
+-- 0 where all ended, and else that of the lowest rank that was stopped; 4 where none was and the nodes could not go on together
 abbrev pub status_of_outcome : Outcome → ℕ
 status_of_outcome outcome.Ended = 0
 status_of_outcome (outcome.NodeStopped rank state) = status_of_stop state
 status_of_outcome (outcome.Desync ended synced) = 4
+status_of_outcome (outcome.Refused fault) = 4
 
 -- 1 for what was handed in, 6 for readers and writers, 5 for memory
 abbrev pub status_of_error : SessionError → ℕ
@@ -99,3 +74,18 @@ error_of_text cause = for_kind cause.kind
 abbrev pub error_of_file : ElfError → SessionError
 error_of_file file.NoMemory = NoMemory
 error_of_file cause = BadImage cause
+
+-- what a session answers where there is no machine
+abbrev pub error_of_machine : MachineError → SessionError
+error_of_machine machine.BadNodes = BadSettings BadNodes
+error_of_machine machine.BadMemory = BadSettings BadMemory
+error_of_machine machine.BadLimit = BadSettings BadLimit
+error_of_machine machine.SegmentOutside = SegmentOutside
+error_of_machine machine.NoMemory = NoMemory
+
+-- an error of a session once its image is understood
+abbrev pub IsErrorOfRun : SessionError → Type 0
+IsErrorOfRun SegmentOutside = Unit {0}
+IsErrorOfRun WriteFault = Unit {0}
+IsErrorOfRun NoMemory = Unit {0}
+IsErrorOfRun _ = ⊥

@@ -1,16 +1,18 @@
 -- A session over the bytes of its readers and its writer, where they are known. The order of the stages is an own rule:
--- settings, image read, input read, image understood, memories of the nodes, run, output.
+-- settings, image read, input read, image understood, machine made, run, report written.
 use Rattle.std.specs.Prelude.{◌≡◌, ℕ, ◌^◌, ◌⊎◌, false, true, List, Option, None, Some}
 use Rattle.std.specs.Io.KnownBytes.{Appends}
 use Rattle.counted_io.specs.Transfers.{AppendsPrefix}
 use Rattle.node_memory.specs.Image.{Image, is_segment_outside}
+use Rattle.machine_core.specs.declared.outcome.Outcome.{Outcome}
+use Rattle.machine_core.specs.declared.settings.Settings.{Settings}
+use Rattle.machine_core.specs.Machine.{MachineState, fresh, settings_fault}
+use Rattle.machine_core.specs.Turn.{end_of}
 use Rattle.bsp_session.specs.declared.errors.SessionError.{SessionError}
 use Rattle.bsp_session.specs.declared.job.Job.{Job}
-use Rattle.bsp_session.specs.declared.job.Outcome.{Outcome}
 use Rattle.bsp_session.specs.Images.{most_bytes, Gives, image_fault}
-use Rattle.bsp_session.specs.Outcome.{IsOutcomeOf}
 use Rattle.bsp_session.specs.Readers.{Reader, IsUntouched, ReadsWhole, PassesLimit, HasFailed, IsCutShort}
-use Rattle.bsp_session.specs.Run.{settings_fault, final_nodes, output_of}
+use Rattle.bsp_session.specs.Report.{report_of}
 
 -- the most bytes of an input (own limit)
 abbrev pub most_input : ℕ
@@ -22,39 +24,43 @@ pub record ReadsBoth (image input : Reader) (job : Job) (i n : List ℕ) : Type 
   pub image_read : ReadsWhole image i (most_bytes job.format)
   pub input_read : ReadsWhole input n most_input
 
--- the session came to its output: the file gives an image that fits the memory
-pub record Runs (image input : Reader) (job : Job) (i n : List ℕ) (m : Image) : Type 0 where
+-- the machine at the end of its run
+abbrev pub run_of : Image → List ℕ → Settings → MachineState
+run_of image input settings = end_of (fresh image input settings)
+
+-- both were read, and the file gives an image that fits the memory
+pub record HasMachine (image input : Reader) (job : Job) (i n : List ℕ) (m : Image) : Type 0 where
   pub read : ReadsBoth image input job i n
   pub gives : Gives job.format i m
   pub fits : is_segment_outside m job.settings.memory ≡ false
 
--- an answer: how the nodes ended, after all of their output was written
+-- an answer: how the run ended, after the whole of its report was written
 pub record Answers (image input : Reader) (job : Job)
     (out_before out_after : Option (List ℕ)) (o : Outcome) : Type 0 where
   pub i : List ℕ
   pub n : List ℕ
   pub m : Image
-  pub runs : Runs image input job i n m
-  pub outcome : IsOutcomeOf (final_nodes m n job.settings) o
-  pub written : Appends out_before out_after (output_of (final_nodes m n job.settings))
+  pub machine : HasMachine image input job i n m
+  pub outcome : (run_of m n job.settings).outcome ≡ Some o
+  pub written : Appends out_before out_after (report_of job (run_of m n job.settings))
 
--- the writer failed: some first bytes of the nodes' output were written, and not all
+-- what is known where the writer failed: some first bytes of the report were written, and not all
 pub record WritesPrefix (image input : Reader) (job : Job)
     (out_before out_after : Option (List ℕ)) : Type 0 where
   pub i : List ℕ
   pub n : List ℕ
   pub m : Image
-  pub runs : Runs image input job i n m
-  pub written : AppendsPrefix out_before out_after (output_of (final_nodes m n job.settings))
+  pub machine : HasMachine image input job i n m
+  pub written : AppendsPrefix out_before out_after (report_of job (run_of m n job.settings))
 
--- the reading of the image ended the session, by a cause that a limit has a part in; or the image was read, and that of
--- the input did
+-- a cause, which may have to do with the limit, ended the reading of the image, and the input was not touched; or the image was
+-- read, and the cause ended the reading of the input
 abbrev pub EndsAtReader : (ℕ → Reader → Type 0) → Reader → Reader → Job → Type 0
 EndsAtReader cause image input job =
     (cause (most_bytes job.format) image × IsUntouched input)
     ⊎ ((i : List ℕ) × ReadsWhole image i (most_bytes job.format) × cause most_input input)
 
--- good settings, and then such an end
+-- the settings are good, and the session ended while it read
 pub record EndsReading (cause : ℕ → Reader → Type 0) (image input : Reader) (job : Job) : Type 0 where
   pub settings : settings_fault job.settings ≡ None
   pub ended : EndsAtReader cause image input job
@@ -83,7 +89,7 @@ pub record IsOutside (image input : Reader) (job : Job) : Type 0 where
   pub gives : Gives job.format i m
   pub outside : is_segment_outside m job.settings.memory ≡ true
 
--- memory was refused: while the image or the input was read, within its limit, or after both were read
+-- what is known where memory was refused: the image or the input was being read, within its limit, or both were read
 abbrev pub IsOutOfMemory : Reader → Reader → Job → Type 0
 IsOutOfMemory image input job =
     EndsReading IsCutShort image input job ⊎ ((i : List ℕ) × (n : List ℕ) × ReadsBoth image input job i n)

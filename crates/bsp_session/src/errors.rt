@@ -3,9 +3,9 @@
 ghost use Rattle.std.specs.Prelude.{◌≡◌};
 ghost use Rattle.bsp_session.specs.Outcome.{status_of};
 
-use crate::job::Outcome;
 use counted_io::{ReadError, WriteFault};
 use elf_image::ElfError;
+use machine_core::{MachineError, Outcome};
 use node_core::State;
 use rv_asm::{AsmError, AsmKind};
 use std::alloc::AllocError;
@@ -25,7 +25,7 @@ pub enum BadSetting {
 
 impl fmt::Display for BadSetting {
     ghost use Rattle.std.specs.Prelude.{Some};
-    ghost use Rattle.bsp_session.specs.Run.{name_of};
+    ghost use Rattle.bsp_session.specs.Outcome.{name_of};
 
     ghost output = { λ setting. Some (name_of setting) };
 
@@ -39,7 +39,7 @@ impl fmt::Display for BadSetting {
 }
 
 /// Why a session gave no outcome: the cause of the first stage that failed, of settings, reading of the image, reading of
-/// the input, the image itself, memories of the nodes, run and output.
+/// the input, the image itself, the machine, its run and the report.
 ///
 /// Its text is the line, without a program's name, that a user is shown.
 #[derive(Clone, Copy, Debug, PartialEq, Eq, Error)]
@@ -62,7 +62,7 @@ pub enum SessionError {
     /// A call of the image's reader failed, or after that reading one of the input's.
     #[error("read failed")]
     ReadFault,
-    /// A call of the writer failed. Some first bytes of the output may have been written, and not all.
+    /// A call of the writer failed. Some first bytes of what was to be written may have been, and not all.
     #[error("write failed")]
     WriteFault,
     /// A request for memory was refused.
@@ -78,7 +78,7 @@ pub enum SessionError {
 /// | 1 | settings, image or input refused |
 /// | 2 | a node's fault or `abort` |
 /// | 3 | a node's limit of ticks |
-/// | 4 | any other outcome |
+/// | 4 | nodes that wait for one that ended, or an exchange that is refused |
 /// | 5 | memory refused |
 /// | 6 | a read or a write failed |
 ///
@@ -93,7 +93,7 @@ pub fn status(answer: &Result<Outcome, SessionError>) -> u8
             State::Exhausted => 3,
             _ => 4,
         },
-        Ok(Outcome::Desync { .. }) => 4,
+        Ok(Outcome::Desync { .. } | Outcome::Refused(_)) => 4,
         Err(
             SessionError::BadSettings(_)
             | SessionError::TooLong
@@ -106,14 +106,20 @@ pub fn status(answer: &Result<Outcome, SessionError>) -> u8
     }
 }
 
-impl From<BadSetting> for SessionError {
+impl From<MachineError> for SessionError {
     ghost use Rattle.std.specs.Prelude.{◌≡◌};
-    ghost use Rattle.bsp_session.specs.declared.errors.SessionError.TheVariants.{BadSettings};
+    ghost use Rattle.bsp_session.specs.Outcome.{error_of_machine};
 
-    ghost from_gives = { λ cause e. e ≡ BadSettings cause };
+    ghost from_gives = { λ cause e. e ≡ error_of_machine cause };
 
-    fn from(cause: BadSetting) -> SessionError {
-        SessionError::BadSettings(cause)
+    fn from(cause: MachineError) -> SessionError {
+        match cause {
+            MachineError::BadNodes => SessionError::BadSettings(BadSetting::BadNodes),
+            MachineError::BadMemory => SessionError::BadSettings(BadSetting::BadMemory),
+            MachineError::BadLimit => SessionError::BadSettings(BadSetting::BadLimit),
+            MachineError::SegmentOutside => SessionError::SegmentOutside,
+            MachineError::NoMemory => SessionError::NoMemory,
+        }
     }
 }
 

@@ -1,6 +1,6 @@
-//! What a session is asked to do, and how its run ended.
+//! What a session is asked to do.
 
-use node_core::State;
+use machine_core::Settings;
 
 /// How the bytes of an image file are read.
 #[derive(Clone, Copy, Debug, PartialEq, Eq)]
@@ -29,36 +29,16 @@ impl Format {
     }
 }
 
-/// The machine: how many nodes it has, and what each of them has.
-///
-/// A value may be out of its range; a session then refuses it. The ranges are own rules.
-#[derive(Clone, Copy, Debug, PartialEq, Eq)]
-pub struct Settings {
-    /// How many nodes: 1 to 256. Their ranks are 0 to `nodes` - 1.
-    pub nodes: u32,
-    /// The memory of each node in bytes: 4,096 to 16,777,216, a multiple of 4,096.
-    pub memory: u32,
-    /// How many ticks, each of one step, a node may make: 1 to 2^40.
-    pub limit: u64,
-}
-
-/// How the image is read, and the machine that runs it.
+/// How the image is read, the machine that runs it, and what is told of the run.
 #[derive(Clone, Copy, Debug, PartialEq, Eq)]
 pub struct Job {
     pub format: Format,
+    /// Settings may be out of their ranges; a session then refuses them.
     pub settings: Settings,
-}
-
-/// How a run ended (own rule).
-#[derive(Clone, Copy, Debug, PartialEq, Eq)]
-pub enum Outcome {
-    /// No node was stopped: each called `end`.
-    Ended,
-    /// Some node was stopped, by a fault, by its own `abort` or by the limit of ticks: the lowest rank of these nodes,
-    /// and its state. Where none was, and some node waits for the end of the superstep, which does not come: the lowest
-    /// rank of those that wait.
-    NodeStopped { rank: u32, state: State },
-    /// Some node ended while another waited for the end of the superstep: the lowest rank that ended, and the lowest
-    /// that waited. No session gives this as long as nodes have no call that waits.
-    Desync { ended: u32, synced: u32 },
+    /// Whether the costs of the supersteps, their total and the outcome follow the output.
+    pub report: bool,
+    /// The price of a byte of the h-relation, in ticks.
+    pub g: u32,
+    /// The price of a superstep's end, in ticks.
+    pub l: u32,
 }

@@ -99,7 +99,25 @@ pub fn asm_session<A: Allocator + Copy, T: Read, W: Write>(
 {
     let bytes = read_at_most(alloc, text, Format::Asm.most_bytes())?;
     let image = image_of(alloc, Format::Asm, bytes.as_slice())?;
-    let file = save(alloc, &image)?;
+    write_saved(alloc, &image, out)
+}
+
+/// Writes an image as an ELF file, which is whole before its first byte is written.
+fn write_saved<A: Allocator + Copy, W: Write>(
+    alloc: A,
+    image: &Image<A>,
+    out: &mut Counted<W>,
+) -> Result<(), SessionError>
+    ensures ok { OnOk result
+        (Appends (W.contents out.old.inner) (W.contents out.new.inner) (spelling_of image.now)) }
+    ensures kinds { IfErr result (λ e.
+        (e ≡ SessionError.WriteFault) ⊎ (e ≡ SessionError.NoMemory)) }
+    ensures prefix { result ≡ Err SessionError.WriteFault → AppendsPrefix
+        (W.contents out.old.inner) (W.contents out.new.inner) (spelling_of image.now) }
+    ensures fault { result ≡ Err SessionError.WriteFault → HasRisen out.old.failures out.new.failures }
+    ensures nothing_written { IfErr result (λ e. e ≢ SessionError.WriteFault → out.new ≡ out.old) }
+{
+    let file = save(alloc, image)?;
     Ok(write_whole(out, file.as_slice())?)
 }
 

@@ -1,11 +1,12 @@
 -- What the typed getters of the matches read.
-use Rattle.std.proofs.Common.{◌≡◌, ◌<◌, ◌^◌, ℕ, Option, Some, None, Result, refl, subst, sym}
+use Rattle.std.proofs.Common.{◌≡◌, ◌<◌, ◌^◌, ℕ, Bool, true, false, Option, Some, None, Result, ap, codes, refl, subst, sym}
 use Rattle.std.specs.declared.num.ParseIntError.{ParseIntError}
-use Rattle.std.specs.Str.Parse.{ExplainsUnsignedError, HasUnsignedDigitsIfOk, ParsesUnsigned, digits_value, without_leading_plus}
+use Rattle.std.specs.declared.str.ParseBoolError.{ParseBoolError}
+use Rattle.std.specs.Str.Parse.{ExplainsUnsignedError, HasUnsignedDigitsIfOk, ParsesBool, ParsesUnsigned, digits_value, without_leading_plus}
 use Rattle.clap.specs.Words.{ReadsOne, one_of, one_text, Text, rows_of}
 use Rattle.clap.specs.declared.parser.matches.Found.{Found}
 use Rattle.clap.proofs.WalkLemmas.{one_text-rows}
-use Rattle.bspemu.specs.Options.{GivesNumber}
+use Rattle.bspemu.specs.Options.{GivesFlag, GivesNumber}
 
 pub none≢some : {t : Text} → ◌≡◌ {A = Option Text} None (Some t) → ⊥
 none≢some e = cc
@@ -43,3 +44,27 @@ pub no_number_of_getter : (k n : ℕ) (found : Found) (id : Text)
     → ((t : Text) → one_text found id ≡ Some t → ReadsOne (Parses k) t None) → GivesNumber k (one_of id (rows_of found)) n → ⊥
 no_number_of_getter k n found id some number =
     no_number_of_text k n (one_text found id) some (subst (λ value. GivesNumber k value n) (sym (one_text-rows found id)) number)
+
+flag_of_text : (b : Bool) (value : Option Text) → (value ≡ None → Some b ≡ None)
+    → ((t : Text) → value ≡ Some t → ReadsOne {E = ParseBoolError} ParsesBool t (Some b)) → GivesFlag value b
+flag_of_text b None none some =
+    let bad : Some b ≡ None = none refl in
+    cc
+flag_of_text true (Some t) none some = ap (λ (text : Text). Some text) (some t refl)
+flag_of_text false (Some t) none some = ap (λ (text : Text). Some text) (some t refl)
+
+-- so does that of a flag
+pub flag_of_getter : (b : Bool) (found : Found) (id : Text) → (one_text found id ≡ None → Some b ≡ None)
+    → ((t : Text) → one_text found id ≡ Some t → ReadsOne {E = ParseBoolError} ParsesBool t (Some b)) → GivesFlag (one_of id (rows_of found)) b
+flag_of_getter b found id none some =
+    subst (λ value. GivesFlag value b) (one_text-rows found id) (flag_of_text b (one_text found id) none some)
+
+no_flag_of_text : (b : Bool) (value : Option Text)
+    → ((t : Text) → value ≡ Some t → ReadsOne {E = ParseBoolError} ParsesBool t None) → GivesFlag value b → ⊥
+no_flag_of_text true value some flag = (some (codes "true") flag).1.0 refl
+no_flag_of_text false value some flag = (some (codes "false") flag).1.1 refl
+
+pub no_flag_of_getter : (b : Bool) (found : Found) (id : Text)
+    → ((t : Text) → one_text found id ≡ Some t → ReadsOne {E = ParseBoolError} ParsesBool t None) → GivesFlag (one_of id (rows_of found)) b → ⊥
+no_flag_of_getter b found id some flag =
+    no_flag_of_text b (one_text found id) some (subst (λ value. GivesFlag value b) (sym (one_text-rows found id)) flag)

@@ -2,6 +2,7 @@
 use Rattle.std.specs.Prelude.{◌≡◌, pos, false, true, List, [], ◌∷◌, Some, map, codes}
 use Rattle.std.specs.Borrow.{Bor}
 use Rattle.clap.specs.Words.{App, Rule, Shape, Text, app_of, new_app, new_rule, rule_of, with_rule, with_subcommand}
+use Rattle.clap.specs.declared.builder.action.ArgAction.TheVariants.{SetTrue}
 use Rattle.clap.specs.declared.builder.arg.Arg.{Arg}
 use Rattle.clap.specs.declared.builder.command.Command.{Command}
 use Rattle.clap.specs.declared.builder.command.Command.TheViews.{out-Command}
@@ -20,7 +21,11 @@ ListsFormats names = map (λ name. name.now) names.now ≡ codes "elf" ∷ codes
 abbrev pub option_rule : Text → Rule
 option_rule name = record (new_rule name) { long = Some name; value_names = 1 }
 
--- the same with a parser of its values, and with a default
+-- `--NAME`, without a value
+abbrev pub flag_rule : Text → Rule
+flag_rule name = record (new_rule name) { long = Some name; action = Some SetTrue }
+
+-- an option with a parser of its values, and with a default
 abbrev pub checked_rule : Text → ValueParser → Text → Rule
 checked_rule name parser default = record (option_rule name) { parser = Some parser; defaults = default ∷ [] }
 
@@ -31,21 +36,35 @@ file_rule name = record (new_rule name) { value_names = 1; required = true }
 abbrev pub format_rule : NameList → Rule
 format_rule formats = checked_rule (codes "format") (Names formats) (codes "elf")
 
--- the numbers of 32 bits, and those of 64
+-- the numbers of 32 bits
+abbrev pub in_32_bits : ValueParser
+in_32_bits = Signed (pos 0) (pos 4294967295)
+
 abbrev pub nodes_rule : Rule
-nodes_rule = checked_rule (codes "nodes") (Signed (pos 0) (pos 4294967295)) (codes "1")
+nodes_rule = checked_rule (codes "nodes") in_32_bits (codes "1")
 
 abbrev pub memory_rule : Rule
-memory_rule = checked_rule (codes "memory") (Signed (pos 0) (pos 4294967295)) (codes "1048576")
+memory_rule = checked_rule (codes "memory") in_32_bits (codes "1048576")
 
 abbrev pub limit_rule : Rule
 limit_rule = checked_rule (codes "limit") (Unsigned 0 18446744073709551615) (codes "1000000")
 
+abbrev pub g_rule : Rule
+g_rule = checked_rule (codes "g") in_32_bits (codes "1")
+
+abbrev pub l_rule : Rule
+l_rule = checked_rule (codes "l") in_32_bits (codes "0")
+
+-- `NAME IMAGE` with what a machine is made of, and the prices of its costs
+abbrev pub machine_app : Text → NameList → App
+machine_app name formats =
+    with_rule (with_rule (with_rule (with_rule (with_rule (with_rule (with_rule (with_rule (new_app name)
+    (file_rule (codes "image"))) (format_rule formats)) nodes_rule) memory_rule) limit_rule) (option_rule (codes "input")))
+    g_rule) l_rule
+
 -- `run IMAGE` with its options
 abbrev pub run_app : NameList → App
-run_app formats =
-    with_rule (with_rule (with_rule (with_rule (with_rule (with_rule (new_app (codes "run"))
-    (file_rule (codes "image"))) (format_rule formats)) nodes_rule) memory_rule) limit_rule) (option_rule (codes "input"))
+run_app formats = with_rule (machine_app (codes "run") formats) (flag_rule (codes "report"))
 
 -- `list IMAGE` with its option
 abbrev pub list_app : NameList → App
@@ -55,9 +74,9 @@ list_app formats = with_rule (with_rule (new_app (codes "list")) (file_rule (cod
 abbrev pub asm_app : App
 asm_app = with_rule (with_rule (new_app (codes "asm")) (file_rule (codes "text"))) (file_rule (codes "image"))
 
--- with no words the program answers with its help
+-- with no words the program answers with its help, and `--version` asks for its version
 abbrev pub bspemu_shape : Shape
-bspemu_shape = record (new_app (codes "bspemu")).top { arg_required_else_help = true; subcommand_required = true }
+bspemu_shape = record (new_app (codes "bspemu")).top { has_version = true; arg_required_else_help = true; subcommand_required = true }
 
 abbrev pub bspemu_app : NameList → App
 bspemu_app formats =

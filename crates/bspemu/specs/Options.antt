@@ -1,12 +1,12 @@
 -- What words ask for.
-use Rattle.std.specs.Prelude.{◌≡◌, ◌⊎◌, ◌<◌, ◌^◌, ℕ, List, [], Option, Some, None, option_map, codes}
+use Rattle.std.specs.Prelude.{◌≡◌, ◌⊎◌, ◌<◌, ◌^◌, ℕ, Bool, true, false, List, [], Option, Some, None, option_map, codes}
 use Rattle.std.specs.Str.Parse.{IsNumeral, digits_value, without_leading_plus}
 use Rattle.clap.specs.Words.{Row, Text, first_of, one_of, subcommand_of, fault_of, IsAmong, kind_of}
 use Rattle.clap.specs.declared.error.Error.{Error}
 use Rattle.clap.specs.declared.error.kind.ErrorKind.TheVariants.{MissingSubcommand, OutOfMemory}
 use Rattle.bsp_session.specs.declared.job.Format.{Format}
 use Rattle.bsp_session.specs.declared.job.Format.TheVariants.{Elf, Raw, Asm}
-use Rattle.bsp_session.specs.declared.job.Settings.{Settings}
+use Rattle.machine_core.specs.declared.settings.Settings.{Settings}
 use Rattle.bspemu.specs.declared.options.RunOptions.{RunOptions}
 use Rattle.bspemu.specs.declared.options.ListOptions.{ListOptions}
 use Rattle.bspemu.specs.declared.options.AsmOptions.{AsmOptions}
@@ -31,6 +31,11 @@ pub record GivesNumber (bits : ℕ) (value : Option Text) (n : ℕ) : Type 0 whe
   pub number : n ≡ digits_value 10 (without_leading_plus digits)
   pub fits : n < 2 ^ bits
 
+-- a flag is set, or it is not
+abbrev pub GivesFlag : Option Text → Bool → Type 0
+GivesFlag value true = value ≡ Some (codes "true")
+GivesFlag value false = value ≡ Some (codes "false")
+
 -- the matches of `run` give these settings, each from the value of its own id
 pub record GivesSettings (rows : List Row) (s : Settings) : Type 0 where
   pub nodes : GivesNumber 32 (one_of (codes "nodes") rows) s.nodes
@@ -43,6 +48,9 @@ pub record GivesRunOptions (rows : List Row) (o : RunOptions) : Type 0 where
   pub input : first_of (codes "input") rows ≡ option_map (λ path. path.now) o.input
   pub format : first_of (codes "format") rows ≡ Some (name_of_format o.job.format)
   pub settings : GivesSettings rows o.job.settings
+  pub report : GivesFlag (one_of (codes "report") rows) o.job.report
+  pub g : GivesNumber 32 (one_of (codes "g") rows) o.job.g
+  pub l : GivesNumber 32 (one_of (codes "l") rows) o.job.l
 
 -- the matches of `list` give these options
 pub record GivesListOptions (rows : List Row) (o : ListOptions) : Type 0 where

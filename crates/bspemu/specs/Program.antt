@@ -1,21 +1,22 @@
 -- How the program ends (own rules).
-use Rattle.std.specs.Prelude.{◌≡◌, ◌≢◌, ◌⊎◌, ◌++◌, ℕ, Option, None, List, Some, None, Result, Ok, Err, codes}
+use Rattle.std.specs.Prelude.{◌≡◌, ◌≢◌, ◌≤◌, ◌⊎◌, ◌++◌, false, length, ℕ, Option, None, List, Some, Result, Ok, Err, codes, option_map}
 use Rattle.std.specs.Borrow.{Bor}
 use Rattle.clap.specs.Words.{Text, kind_of}
 use Rattle.clap.specs.declared.error.Error.{Error}
 use Rattle.clap.specs.declared.error.kind.ErrorKind.{ErrorKind}
-use Rattle.clap.specs.declared.error.kind.ErrorKind.TheVariants.{DisplayHelp, OutOfMemory}
+use Rattle.clap.specs.declared.error.kind.ErrorKind.TheVariants.{DisplayHelp, DisplayVersion, OutOfMemory}
 use Rattle.bsp_session.specs.declared.errors.SessionError.{SessionError}
 use Rattle.bsp_session.specs.declared.errors.SessionError.TheVariants.{BadSettings}
-use Rattle.bsp_session.specs.declared.job.Outcome.{Outcome}
-use Rattle.bsp_session.specs.declared.job.Outcome.TheVariants.{Ended}
 use Rattle.bsp_session.specs.declared.job.Job.{Job}
-use Rattle.bsp_session.specs.declared.job.Settings.{Settings}
-use Rattle.node_memory.specs.Image.{Image}
-use Rattle.bsp_session.specs.Images.{Gives}
+use Rattle.machine_core.specs.Machine.{settings_fault}
+use Rattle.machine_core.specs.declared.outcome.Outcome.{Outcome}
+use Rattle.machine_core.specs.declared.outcome.Outcome.TheVariants.{Ended}
+use Rattle.machine_core.specs.declared.settings.Settings.{Settings}
+use Rattle.node_memory.specs.Image.{Image, is_segment_outside}
+use Rattle.bsp_session.specs.Images.{Gives, most_bytes}
 use Rattle.bsp_session.specs.Listing.{IsErrorWithoutMachine}
-use Rattle.bsp_session.specs.Outcome.{IsOutcomeOf, status_of}
-use Rattle.bsp_session.specs.Run.{final_nodes, settings_fault}
+use Rattle.bsp_session.specs.Outcome.{error_of_machine, status_of}
+use Rattle.bsp_session.specs.Session.{most_input, run_of}
 use Rattle.bspemu.specs.declared.options.RunOptions.{RunOptions}
 use Rattle.bspemu.specs.declared.options.ListOptions.{ListOptions}
 use Rattle.bspemu.specs.declared.options.AsmOptions.{AsmOptions}
@@ -30,14 +31,17 @@ abbrev pub text_of_error : RunError → Option Text
 text_of_error (CannotOpen path) = Some (codes "cannot open " ++ path.now)
 text_of_error (Session error) = None
 
--- the outcome of the nodes' runs, for some bytes of an image's file, which give an image, and of an input
+-- the outcome of a machine's run, for some bytes of an image's file, which give an image, and of an input
 pub record HasOutcome (job : Job) (o : Outcome) : Type 0 where
   pub file : List ℕ
   pub input : List ℕ
   pub image : Image
   pub settings : settings_fault job.settings ≡ None
+  pub file_limited : length file ≤ most_bytes job.format
+  pub input_limited : length input ≤ most_input
   pub gives : Gives job.format file image
-  pub outcome : IsOutcomeOf (final_nodes image input job.settings) o
+  pub fits : is_segment_outside image job.settings.memory ≡ false
+  pub outcome : (run_of image input job.settings).outcome ≡ Some o
 
 -- the options name this file: as the image, which is not standard input, or as the input
 abbrev pub NamesFile : RunOptions → Bor Text → Type 0
@@ -45,7 +49,7 @@ NamesFile o path = ((o.image.now ≢ codes "-") × (o.image ≡ path)) ⊎ (o.in
 
 -- an error of a session: only settings out of their ranges are refused as such
 abbrev pub IsSessionError : Settings → SessionError → Type 0
-IsSessionError s (BadSettings cause) = settings_fault s ≡ Some cause
+IsSessionError s (BadSettings cause) = option_map error_of_machine (settings_fault s) ≡ Some (BadSettings cause)
 IsSessionError s _ = settings_fault s ≡ None
 
 -- an answer that a run with these options can have
@@ -78,10 +82,11 @@ status_of_answer (Ok outcome) = status_of (Ok outcome)
 status_of_answer (Err (CannotOpen path)) = 6
 status_of_answer (Err (Session error)) = status_of (Err error)
 
--- the exit status where words ask for nothing; help that can't be written is a failed write
+-- the exit status where words ask for nothing; help, or a version, that can't be written is a failed write
 abbrev pub IsStatusOfKind : ErrorKind → ℕ → Type 0
 IsStatusOfKind OutOfMemory status = status ≡ 5
 IsStatusOfKind DisplayHelp status = (status ≡ 0) ⊎ (status ≡ 6)
+IsStatusOfKind DisplayVersion status = (status ≡ 0) ⊎ (status ≡ 6)
 IsStatusOfKind _ status = status ≡ 1
 
 -- the words ask for an action, and this is the status of an answer that it can have

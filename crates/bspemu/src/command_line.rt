@@ -1,14 +1,16 @@
 //! The rules of the command line: subcommands, their arguments and options, and their help.
 
 ghost use Rattle.std.specs.Prelude.{IfOk, codes};
-ghost use Rattle.bspemu.specs.CommandLine.{HasApp, HasAppOfFormats, HasRule, asm_app, bspemu_app, file_rule, format_rule};
-ghost use Rattle.bspemu.specs.CommandLine.{limit_rule, list_app, memory_rule, nodes_rule, option_rule, run_app};
+ghost use Rattle.bspemu.specs.CommandLine.{HasApp, HasAppOfFormats, HasRule, asm_app, bspemu_app, file_rule, flag_rule, format_rule};
+ghost use Rattle.bspemu.specs.CommandLine.{g_rule, l_rule, limit_rule, list_app, machine_app, memory_rule, nodes_rule, option_rule, run_app};
 
-use clap::{Arg, Command, value_parser};
+use clap::{Arg, ArgAction, Command, value_parser};
 use std::alloc::{AllocError, Global};
 
 /// The names of the formats.
 static FORMATS: [&str; 3] = ["elf", "raw", "asm"];
+
+const VERSION: &str = "0.1.0";
 
 const ABOUT: &str =
     "Emulator of a bulk synchronous parallel machine whose nodes run RISC-V programs";
@@ -17,11 +19,11 @@ const FORMAT: &str =
     "Format of IMAGE: elf, an ELF executable; raw, the bytes of memory from address 0; asm, an assembly text";
 
 const STATUSES: &str = "Exit status:
-  0  every node ended, or this help was asked for
+  0  every node ended; a listing or an image was written; help or the version was asked for
   1  the command line, a setting or the program was refused
   2  a node was stopped by a fault, or by its own abort
   3  a node still ran at its limit
-  4  nodes wait for the end of a superstep that does not come
+  4  nodes waited for one that had ended, or an exchange was refused
   5  memory ran out
   6  a file could not be opened, read or written";
 
@@ -42,6 +44,7 @@ pub fn command<'a>(alloc: Global) -> Result<Command<'a>, AllocError>
     let formats = FORMATS.as_slice();
     Command::new(alloc, "bspemu")
         .bin_name("bspemu")?
+        .version(VERSION)
         .about(ABOUT)
         .after_help(STATUSES)
         .subcommand_required(true)
@@ -54,15 +57,31 @@ pub fn command<'a>(alloc: Global) -> Result<Command<'a>, AllocError>
 fn run_command<'a>(alloc: Global, formats: &'a [&'a str]) -> Result<Command<'a>, AllocError>
     ensures { IfOk result (λ command. HasApp command (run_app formats.entry)) }
 {
-    Command::new(alloc, "run")
-        .about("Run a program on every node and write the nodes' output, that of node 0 first")
+    machine_command(alloc, "run", formats)?
+        .about(
+            "Run a program on every node, superstep by superstep, and write what the nodes write",
+        )
         .after_help(STATUSES)
+        .arg(report(alloc))
+}
+
+/// A subcommand over a machine: the program, what the machine is made of, and the prices of its costs.
+fn machine_command<'a>(
+    alloc: Global,
+    name: &'a str,
+    formats: &'a [&'a str],
+) -> Result<Command<'a>, AllocError>
+    ensures { IfOk result (λ command. HasApp command (machine_app name.entry.now formats.entry)) }
+{
+    Command::new(alloc, name)
         .arg(image(alloc))?
         .arg(format(alloc, formats))?
         .arg(nodes(alloc))?
         .arg(memory(alloc))?
         .arg(limit(alloc))?
-        .arg(input(alloc))
+        .arg(input(alloc))?
+        .arg(byte_price(alloc))?
+        .arg(superstep_price(alloc))
 }
 
 fn list_command<'a>(alloc: Global, formats: &'a [&'a str]) -> Result<Command<'a>, AllocError>
@@ -163,4 +182,35 @@ fn input<'a>(alloc: Global) -> Arg<'a>
         .long("input")
         .value_name("FILE")
         .help("File that each node reads as its input, at most 16777216 bytes [default: no input]")
+}
+
+fn report<'a>(alloc: Global) -> Arg<'a>
+    ensures { HasRule result (flag_rule (codes "report")) }
+{
+    Arg::new(alloc, "report")
+        .long("report")
+        .action(ArgAction::SetTrue)
+        .help("After the output write the costs of the supersteps, their total and the outcome")
+}
+
+fn byte_price<'a>(alloc: Global) -> Arg<'a>
+    ensures { HasRule result g_rule }
+{
+    Arg::new(alloc, "g")
+        .long("g")
+        .value_name("TICKS")
+        .value_parser(value_parser!(u32))
+        .default_value("1")
+        .help("Ticks that a byte of the h-relation costs in the report's total")
+}
+
+fn superstep_price<'a>(alloc: Global) -> Arg<'a>
+    ensures { HasRule result l_rule }
+{
+    Arg::new(alloc, "l")
+        .long("l")
+        .value_name("TICKS")
+        .value_parser(value_parser!(u32))
+        .default_value("0")
+        .help("Ticks that the end of a superstep costs in the report's total")
 }

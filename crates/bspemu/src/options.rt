@@ -104,6 +104,9 @@ fn options_of_run<'a>(run: &ArgMatches<'a>) -> Option<RunOptions<'a>>
         job: Job {
             format: format_named(run.get_str("format")?)?,
             settings: settings_of_run(run)?,
+            report: run.get_one("report")?,
+            g: run.get_one("g")?,
+            l: run.get_one("l")?,
         },
     })
 }

@@ -171,14 +171,14 @@ fn finish<R: Eprint>(rt: &R, answer: Result<Outcome, RunError<'_>>) -> u8
     }
 }
 
-/// The status where the words ask for no run, after clap's text: on standard output where it is help that was asked
-/// for, and else on standard error.
+/// The status where the words ask for no run, after clap's text: on standard output where it is help or the version that
+/// was asked for, and else on standard error.
 fn refuse<R: Print + Eprint>(rt: &R, error: &Error) -> u8
     ensures { IsStatusOfKind (kind_of error.now) result }
 {
     match error.kind() {
         ErrorKind::OutOfMemory => finish(rt, Err(RunError::Session(SessionError::NoMemory))),
-        ErrorKind::DisplayHelp => match rt.print(error) {
+        ErrorKind::DisplayHelp | ErrorKind::DisplayVersion => match rt.print(error) {
             Ok(()) => 0,
             Err(_) => finish(rt, Err(RunError::Session(SessionError::WriteFault))),
         },

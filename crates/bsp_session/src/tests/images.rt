@@ -51,25 +51,6 @@ fn a_text_and_its_saved_image_have_one_listing(rt: HostRuntime) {
 }
 
 #[test]
-fn files_that_give_no_image_are_refused(rt: HostRuntime) {
-    let alloc = rt.alloc();
-    let not_elf = Err(SessionError::BadImage(ElfError::NotElf));
-    let bad_operand = Err(SessionError::Text(AsmError {
-        line: 2,
-        kind: AsmKind::BadOperand,
-    }));
-    let text = b"nop\nnop nop\n".as_slice();
-    for (format, answer) in [(Format::Elf, not_elf), (Format::Asm, bad_operand)] {
-        let (given, written) = listed(alloc, alloc, format, text);
-        assert_eq!(rt; given, answer);
-        assert!(rt; written.is_empty());
-    }
-    let (given, written) = saved(alloc, alloc, text);
-    assert_eq!(rt; given, bad_operand);
-    assert!(rt; written.is_empty());
-}
-
-#[test]
 fn a_listing_or_a_saved_image_may_be_cut_short(rt: HostRuntime) {
     let alloc = rt.alloc();
     let mut text = Counted::new(Source {

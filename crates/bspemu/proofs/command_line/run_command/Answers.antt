@@ -1,16 +1,11 @@
 use Rattle.std.proofs.Common.{codes, rules}
 use Rattle.std.proofs.lemmas.Result.{IfOk-weaker}
-use Rattle.clap.specs.Words.{new_app}
-use Rattle.bspemu.specs.CommandLine.{HasApp}
+use Rattle.bspemu.specs.CommandLine.{HasApp, machine_app}
 use Rattle.bspemu.proofs.Commands.{with_arg}
 use Rattle.bspemu.proofs.command_line.run_command.Goals as goal
 
 pub returns : goal.returns
 returns c =
-    let named : HasApp c.after_help.result (new_app (codes "run")) = record { is = search rules; local = search rules } in
-    let image = with_arg _ _ _ _ _ c.in_ok-arg.ensures named c.image.ensures in
-    let format = with_arg _ _ _ _ _ c.in_ok-arg-2.ensures image c.format.ensures in
-    let nodes = with_arg _ _ _ _ _ c.in_ok-arg-3.ensures format c.nodes.ensures in
-    let memory = with_arg _ _ _ _ _ c.in_ok-arg-4.ensures nodes c.memory.ensures in
-    let limit = with_arg _ _ _ _ _ c.in_ok-arg-5.ensures memory c.limit.ensures in
-    IfOk-weaker c.arg-6.result _ _ (λ r adds. with_arg _ _ _ _ _ adds limit c.input.ensures) c.arg-6.ensures
+    let made = c.in_ok-machine_command.ensures in
+    let named : HasApp c.after_help.result (machine_app (codes "run") c.args.formats) = record { is = search rules; local = search rules } in
+    IfOk-weaker c.arg.result _ _ (λ r adds. with_arg _ _ _ _ _ adds named c.report.ensures) c.arg.ensures

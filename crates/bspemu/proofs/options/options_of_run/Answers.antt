@@ -1,7 +1,7 @@
 use Rattle.std.proofs.Common.{◌∙◌, ap, codes, List, Some, sym, ℕ}
 use Rattle.clap.specs.Words.{found_of}
 use Rattle.clap.proofs.WalkLemmas.{first_value-rows}
-use Rattle.bspemu.proofs.Getters.{none≢some, same_text}
+use Rattle.bspemu.proofs.Getters.{flag_of_getter, no_flag_of_getter, no_number_of_getter, none≢some, number_of_getter, same_text}
 use Rattle.bspemu.proofs.options.options_of_run.Goals as goal
 
 pub returns-clause-some : goal.returns-clause-some
@@ -12,6 +12,9 @@ returns-clause-some c =
       input = sym (c.get_str-2.ensures ∙ first_value-rows found (codes "input"));
       format = sym (c.in_ok-get_str-2.ensures ∙ first_value-rows found (codes "format")) ∙ ap (λ (name : List ℕ). Some name) c.in_ok-format_named.ensures.some;
       settings = c.in_ok-settings_of_run.ensures.some;
+      report = flag_of_getter _ found (codes "report") c.in_ok-get_one.ensures.none c.in_ok-get_one.ensures.value;
+      g = number_of_getter 32 _ found (codes "g") c.in_ok-get_one-2.ensures.none c.in_ok-get_one-2.ensures.value;
+      l = number_of_getter 32 _ found (codes "l") c.in_ok-get_one-3.ensures.none c.in_ok-get_one-3.ensures.value;
     }
 
 pub returns-in_err-get_str-clause-none : goal.returns-in_err-get_str-clause-none
@@ -32,3 +35,18 @@ returns-in_err-format_named-clause-none c =
 pub returns-in_err-settings_of_run-clause-none : goal.returns-in_err-settings_of_run-clause-none
 returns-in_err-settings_of_run-clause-none c =
     rw c.from_residual-in_err-settings_of_run.ensures (λ o gives. c.in_err-settings_of_run.ensures.none o.job.settings gives.settings)
+
+pub returns-in_err-get_one-clause-none : goal.returns-in_err-get_one-clause-none
+returns-in_err-get_one-clause-none c =
+    rw c.from_residual-in_err-get_one.ensures
+    (λ o gives. no_flag_of_getter o.job.report (found_of c.args.run.now) (codes "report") c.in_err-get_one.ensures.value gives.report)
+
+pub returns-in_err-get_one-2-clause-none : goal.returns-in_err-get_one-2-clause-none
+returns-in_err-get_one-2-clause-none c =
+    rw c.from_residual-in_err-get_one-2.ensures
+    (λ o gives. no_number_of_getter 32 o.job.g (found_of c.args.run.now) (codes "g") c.in_err-get_one-2.ensures.value gives.g)
+
+pub returns-in_err-get_one-3-clause-none : goal.returns-in_err-get_one-3-clause-none
+returns-in_err-get_one-3-clause-none c =
+    rw c.from_residual-in_err-get_one-3.ensures
+    (λ o gives. no_number_of_getter 32 o.job.l (found_of c.args.run.now) (codes "l") c.in_err-get_one-3.ensures.value gives.l)

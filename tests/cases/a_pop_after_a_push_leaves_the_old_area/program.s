@@ -1,0 +1,28 @@
+# An area of four bytes is pushed again with eight, and then popped once, which ends the later registration: bytes 4 to 7 are
+# past the other.
+    li    a0, 0x2000
+    li    a1, 4
+    li    a7, 5             # push_reg(0x2000, 4)
+    ecall
+    li    a7, 4             # sync()
+    ecall
+    li    a0, 0x2000
+    li    a1, 8
+    li    a7, 5             # push_reg(0x2000, 8)
+    ecall
+    li    a0, 0x2000
+    li    a7, 6             # pop_reg(0x2000)
+    ecall
+    li    a7, 4             # sync()
+    ecall
+    li    a0, 0
+    li    a1, 0x1000
+    li    a2, 0x2000
+    li    a3, 4
+    li    a4, 4
+    li    a7, 7             # put(0, 0x1000, 0x2000, 4, 4)
+    ecall
+    li    a7, 4             # sync()
+    ecall
+    li    a7, 1             # end()
+    ecall

@@ -1,12 +1,10 @@
-use Rattle.std.proofs.Common.{◌≡◌, ℕ, ◌<◌, ◌^◌, Bool, true, false, List, [], ◌∷◌, length, refl, arith}
-use Rattle.std.specs.Prelude.{All, IsTrue}
+use Rattle.std.proofs.Common.{◌≡◌, ℕ, ◌<◌, ◌^◌, List, [], length, refl, arith}
+use Rattle.std.specs.Prelude.{All}
 use Rattle.std.proofs.lemmas.List.Elements.{All-cons, All-nil}
-use Rattle.node_memory.specs.Bytes.{is_memory_size}
-use Rattle.bsp_slots.specs.declared.area.Area.{Area}
 use Rattle.bsp_slots.specs.Registrations.{Registrations, no_registrations, pushed, turned}
 use Rattle.bsp_requests.specs.Message.{Message, IsShort}
 use Rattle.bsp_requests.specs.Requests.{no_requests}
-use Rattle.node_core.specs.Communication.{Communication, IsCommunication, LiesIn, IsWellAddressed}
+use Rattle.node_core.specs.Communication.{IsCommunication, LiesIn, IsWellAddressed}
 use Rattle.node_core.proofs.hart.tests.hart.Goals as goal
 
 -- one area of 8 bytes at 0x2000 in effect, and a queue

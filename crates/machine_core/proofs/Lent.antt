@@ -1,13 +1,14 @@
 -- Rows in which each node has made some steps of its own.
-use Rattle.std.proofs.Common.{◌≡◌, ℕ, zero, suc, List, [], ◌∷◌, map, refl, sym, ap, ◌∙◌}
-use Rattle.std.specs.List.{AllZip}
+use Rattle.std.proofs.Common.{◌≡◌, ℕ, zero, suc, List, [], ◌∷◌, map, refl, sym, ap, subst, ◌∙◌}
 use Rattle.node_core.specs.Node.{NodeState, local_step, local_steps}
 use Rattle.node_core.proofs.Steps.{local_steps-zero, local_steps-suc}
 use Rattle.machine_core.specs.declared.event.Event.{Event}
 use Rattle.machine_core.specs.declared.event.Event.TheVariants.{Step}
 use Rattle.machine_core.specs.Machine.{MachineState}
-use Rattle.machine_core.specs.Events.{stepped, event, after, MakeNoTurn}
+use Rattle.machine_core.specs.Events.{HaveStepped, stepped, event, after, MakeNoTurn}
+use Rattle.machine_core.specs.Sound.{IsSoundMachine}
 use Rattle.machine_core.proofs.Rows.{stepped-suc}
+use Rattle.machine_core.proofs.Sound.{IsSoundMachine-after}
 use Rattle.machine_core.proofs.Steps.{after-nil, after-cons, event-step}
 
 -- the nodes after steps of these ranks
@@ -32,7 +33,7 @@ module _ (input : List ℕ) where
   row-first zero ranks n rest = row-others ranks n rest ∙ ap (λ (x : NodeState). x ∷ row_after input ranks rest) (sym (local_steps-zero input n))
   row-first (suc k) ranks n rest = row-first k ranks (local_step input n) rest ∙ ap (λ (x : NodeState). x ∷ row_after input ranks rest) (sym (local_steps-suc input k n))
 
-  row-ranks : (old new : List NodeState) → AllZip (λ o n. (k : ℕ) × (n ≡ local_steps input k o)) old new → (ranks : List ℕ) × (row_after input ranks old ≡ new)
+  row-ranks : (old new : List NodeState) → HaveStepped input old new → (ranks : List ℕ) × (row_after input ranks old ≡ new)
   unfolding row_after
   row-ranks [] [] each = ([], refl)
   row-ranks [] (n ∷ new) each = absurd each
@@ -62,7 +63,13 @@ after-steps m (rank ∷ ranks) =
     ∙ ap (λ (x : MachineState). after x (steps_of ranks)) (event-step m rank)
     ∙ after-steps (record m { nodes = stepped m.input rank m.nodes }) ranks
 
-pub row_is_events : (m : MachineState) (nodes : List NodeState) → AllZip (λ o n. (k : ℕ) × (n ≡ local_steps m.input k o)) m.nodes nodes → (events : List Event) × MakeNoTurn m events × (after m events ≡ record m { nodes = nodes })
+pub row_is_events : (m : MachineState) (nodes : List NodeState) → HaveStepped m.input m.nodes nodes → (events : List Event) × MakeNoTurn m events × (after m events ≡ record m { nodes = nodes })
 row_is_events m nodes each =
     let ranks = row-ranks m.input m.nodes nodes each in
     (steps_of ranks.0, no_turn m ranks.0, after-steps m ranks.0 ∙ ap (λ (xs : List NodeState). record m { nodes = xs }) ranks.1)
+
+-- a sound machine whose row comes back after such steps is sound
+pub IsSoundMachine-lent : (m : MachineState) (nodes : List NodeState) → IsSoundMachine m → HaveStepped m.input m.nodes nodes → IsSoundMachine (record m { nodes = nodes })
+IsSoundMachine-lent m nodes sound each =
+    let events = row_is_events m nodes each in
+    subst IsSoundMachine events.2 (IsSoundMachine-after m events.0 sound)

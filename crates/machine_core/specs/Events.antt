@@ -4,7 +4,7 @@ use Rattle.std.specs.Prelude.{◌≡◌, ℕ, ◌≤◌, ◌==◌, Bool, true, f
 use Rattle.std.specs.Fn.{iterate}
 use Rattle.std.specs.List.{AllZip, list_any}
 use Rattle.std.specs.Option.{option_map_or}
-use Rattle.node_core.specs.Node.{NodeState, Extends, MayRefuseStep, is_running, local_step}
+use Rattle.node_core.specs.Node.{NodeState, Extends, MayRefuseStep, is_running, local_step, local_steps}
 use Rattle.machine_core.specs.declared.event.Event.{Event}
 use Rattle.machine_core.specs.declared.event.Event.TheVariants.{Step, Turn}
 use Rattle.machine_core.specs.Machine.{MachineState}
@@ -20,6 +20,10 @@ some_runs nodes = list_any runs nodes
 abbrev pub is_enabled : MachineState → Event → Bool
 is_enabled m (Step rank) = option_map_or runs (slice_get m.nodes rank) false
 is_enabled m Turn = is_none m.outcome && not (some_runs m.nodes)
+
+-- each node has made some steps of its own, or none
+abbrev pub HaveStepped : List ℕ → List NodeState → List NodeState → Type 0
+HaveStepped input old new = AllZip (λ o n. (k : ℕ) × (n ≡ local_steps input k o)) old new
 
 -- nodes after a step of the one of a rank
 abbrev pub stepped : List ℕ → ℕ → List NodeState → List NodeState

@@ -2,7 +2,6 @@
 
 ghost use Rattle.std.specs.Prelude.{◌≡◌, ◌≢◌, ℕ, ◌+◌, ◌*◌, ◌≤◌, false, List, length, slice_get, count_by, option_map, Option, None, IsSome};
 ghost use Rattle.node_memory.specs.Image.{Image};
-ghost use Rattle.std.specs.List.{AllZip};
 ghost use Rattle.node_core.specs.Node.{NodeState, local_steps};
 ghost use Rattle.bsp_exchange.specs.Exchange.{AreAtSync};
 ghost use Rattle.cost_ledger.specs.CostRow.{IsBounded};
@@ -10,7 +9,7 @@ ghost use Rattle.machine_core.specs.declared.event.Event.{Event};
 ghost use Rattle.machine_core.specs.declared.settings.Settings.{Settings};
 ghost use Rattle.machine_core.specs.Machine.{MachineState, fresh};
 ghost use Rattle.machine_core.specs.Turn.{was_stopped, has_ended, lowest, cost_row, turned, with_phases, superstep, end_of};
-ghost use Rattle.machine_core.specs.Events.{event, after, some_runs, is_step_of, MakeNoTurn, IsOnward};
+ghost use Rattle.machine_core.specs.Events.{event, after, some_runs, is_step_of, HaveStepped, MakeNoTurn, IsOnward};
 ghost use Rattle.machine_core.specs.Walk.{walked, IsOnPhase};
 ghost use Rattle.machine_core.specs.Sound.{AreInRange, IsSoundMachine};
 
@@ -40,7 +39,7 @@ pub fn nodes_do_not_meet_between_turns()
     ensures others { (m : MachineState) (events : List Event) → MakeNoTurn m events
         → after m events ≡ record m { nodes = (after m events).nodes } }
     ensures reached { (m : MachineState) (nodes : List NodeState)
-        → AllZip (λ old new. (k : ℕ) × (new ≡ local_steps m.input k old)) m.nodes nodes
+        → HaveStepped m.input m.nodes nodes
         → (events : List Event) × MakeNoTurn m events × (after m events ≡ record m { nodes = nodes }) }
 {}
 

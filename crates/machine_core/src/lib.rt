@@ -34,6 +34,6 @@ mod tests;
 
 pub use error::MachineError;
 pub use event::Event;
-pub use machine::Machine;
+pub use machine::{Lender, Machine};
 pub use outcome::Outcome;
 pub use settings::Settings;

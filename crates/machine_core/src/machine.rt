@@ -23,6 +23,10 @@ use node_memory::Image;
 use std::alloc::{AllocError, Allocator};
 use std::marker::Model;
 
+mod lender;
+
+pub use lender::Lender;
+
 /// A machine of several nodes with one input.
 ///
 /// Contracts see it as a `MachineState`: settings and input, the nodes with the ticks at which they began the superstep, the
@@ -225,7 +229,8 @@ impl<A: Allocator + Copy> Machine<A> {
 impl<A: Allocator> Machine<A> {
     /// How the machine ended, if it has.
     pub fn outcome(&self) -> Option<Outcome>
-        ensures { result ≡ self.now.outcome }
+        ensures value { result ≡ self.now.outcome }
+        ensures sound { IsSoundMachine self.now }
     {
         self.outcome
     }

@@ -1,0 +1,13 @@
+use Rattle.std.proofs.Common.{sym, subst}
+use Rattle.bsp_exchange.specs.Exchange.{states}
+use Rattle.machine_core.specs.Events.{HaveStepped}
+use Rattle.machine_core.specs.Inside.{lender_view}
+use Rattle.machine_core.specs.Machine.{MachineState}
+use Rattle.machine_core.proofs.Lent.{IsSoundMachine-lent}
+use Rattle.machine_core.proofs.machine.lender.Lender.take_back.Goals as goal
+
+pub invariant_of-result : goal.invariant_of-result
+invariant_of-result g c =
+    let row = states c.args.row.items in
+    IsSoundMachine-lent (lender_view c.self.inside) row c.self.invariant
+    (subst (λ (m : MachineState). HaveStepped m.input m.nodes row) (sym c.self.view_is) c.requires)

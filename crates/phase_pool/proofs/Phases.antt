@@ -1,0 +1,77 @@
+-- What work on its row makes of a machine.
+use Rattle.std.proofs.Common.{◌≡◌, ◌≤◌, ℕ, List, [], ◌∷◌, ◌++◌, length, map, Result, Err, refl, sym, ap, ap₂, subst, ◌∙◌}
+use Rattle.std.specs.Prelude.{OnOk, IsSome, ⊤}
+use Rattle.std.proofs.lemmas.List.Elements.{length_all_zip}
+use Rattle.std.proofs.lemmas.Result.{on_ok_weaker}
+use Rattle.node_core.specs.Node.{NodeState, phase}
+use Rattle.machine_core.specs.declared.event.Event.{Event}
+use Rattle.machine_core.specs.declared.event.Event.TheVariants.{Turn}
+use Rattle.machine_core.specs.Events.{HaveStepped, event, after}
+use Rattle.machine_core.specs.Machine.{MachineState}
+use Rattle.machine_core.specs.Sound.{IsSoundMachine}
+use Rattle.machine_core.specs.Turn.{with_phases}
+use Rattle.machine_core.proofs.Lent.{row_is_events}
+use Rattle.machine_core.proofs.Onward.{onward_after}
+use Rattle.machine_core.proofs.Phases.{map-phase-stopped}
+use Rattle.machine_core.proofs.Steps.{after-nil, after-cons}
+use Rattle.phase_pool.specs.declared.error.Refusal.{Refusal}
+use Rattle.phase_pool.specs.declared.error.Refusal.TheVariants.{NoWorker, NoMemory}
+use Rattle.phase_pool.specs.declared.error.PoolError.{PoolError}
+use Rattle.phase_pool.specs.declared.error.PoolError.TheVariants as error
+use Rattle.phase_pool.specs.Numbers.{error_of}
+use Rattle.phase_pool.specs.Phases.{LeadsTo, LeadsWithoutTurn}
+use Rattle.phase_pool.specs.Work.{IsWorked}
+
+-- a machine whose row was worked on, `lender` being the machine meanwhile
+module _ (m lender new : MachineState) (input : List ℕ) (old row : List NodeState) (answer : Result ⊤ Refusal) (lent : lender ≡ m) (same : old ≡ m.nodes) (read : input ≡ lender.input) (back : new ≡ record lender { nodes = row }) (worked : IsWorked input old row answer) where
+  inputs : input ≡ m.input
+  inputs = read ∙ ap (λ (x : MachineState). x.input) lent
+
+  backs : new ≡ record m { nodes = row }
+  backs = back ∙ ap (λ (x : MachineState). record x { nodes = row }) lent
+
+  pub worked_phases : OnOk answer (new ≡ with_phases m)
+  worked_phases =
+      on_ok_weaker answer
+      (λ done. backs ∙ ap (λ (ns : List NodeState). record m { nodes = ns }) (done ∙ ap₂ (λ (i : List ℕ) (ns : List NodeState). map (phase i) ns) inputs same))
+      worked.ok
+
+  pub worked_events : LeadsWithoutTurn m new
+  worked_events =
+      let each : HaveStepped m.input m.nodes row = subst (λ (i : List ℕ). HaveStepped i m.nodes row) inputs (subst (λ (ns : List NodeState). HaveStepped input ns row) same worked.stepped) in
+      let events = row_is_events m row each in
+      (events.0, events.1, backs ∙ sym events.2)
+
+pub no_events : (m : MachineState) → LeadsWithoutTurn m m
+no_events m = ([], tt, sym (after-nil m))
+
+-- after the outcome no node has a local part left
+pub phases_over : (m : MachineState) → IsSoundMachine m → IsSome m.outcome → m ≡ with_phases m
+phases_over m sound over = sym (ap (λ (ns : List NodeState). record m { nodes = ns }) (map-phase-stopped m.input m.nodes (sound.outcome over)))
+
+after-append : (m : MachineState) (first second : List Event) → after m (first ++ second) ≡ after (after m first) second
+after-append m [] second = ap (λ (x : MachineState). after x second) (sym (after-nil m))
+after-append m (e ∷ first) second =
+    after-cons m e (first ++ second) ∙ after-append (event m e) first second ∙ ap (λ (x : MachineState). after x second) (sym (after-cons m e first))
+
+pub LeadsTo-on : (old m new : MachineState) → LeadsTo old m → LeadsWithoutTurn m new → LeadsTo old new
+LeadsTo-on old m new first second =
+    (first.0 ++ second.0, second.2 ∙ ap (λ (x : MachineState). after x second.0) first.1 ∙ sym (after-append old first.0 second.0))
+
+pub LeadsTo-turn : (old m new : MachineState) → LeadsTo old m → new ≡ event m Turn → LeadsTo old new
+LeadsTo-turn old m new so_far turned = (
+  so_far.0 ++ Turn ∷ [],
+  turned ∙ ap (λ (x : MachineState). event x Turn) so_far.1
+      ∙ sym (after-append old so_far.0 (Turn ∷ []) ∙ after-cons (after old so_far.0) Turn [] ∙ after-nil (event (after old so_far.0) Turn)),
+)
+
+-- events leave as many nodes as there were
+pub LeadsTo-length : (old new : MachineState) → LeadsTo old new → length new.nodes ≡ length old.nodes
+LeadsTo-length old new so_far =
+    let onward = onward_after old so_far.0 in
+    ap (λ (x : MachineState). length x.nodes) so_far.1 ∙ sym (length_all_zip (λ (o n : NodeState). o.ticks ≤ n.ticks) old.nodes (after old so_far.0).nodes onward.ticks)
+
+-- a call answers NoWorker only where that was refused
+pub worker_refused : (e : PoolError) (refusal : Refusal) (result : Result ⊤ PoolError) → result ≡ Err e → e ≡ error_of refusal → result ≡ Err error.NoWorker → refusal ≡ NoWorker
+worker_refused e NoWorker result is of refused = refl
+worker_refused e NoMemory result is of refused = let same : Err error.NoMemory ≡ Err error.NoWorker = sym (is ∙ ap Err of) ∙ refused in absurd cc

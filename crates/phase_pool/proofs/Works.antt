@@ -1,0 +1,83 @@
+-- Work on parts of a row, put together.
+use Rattle.std.proofs.Common.{◌≡◌, ℕ, ◌+◌, ◌<◌, ◌≤◌, ◌-◌, List, [], ◌∷◌, ◌++◌, length, get_or, take, drop, set, add-zero, Result, Ok, Err, refl, sym, ap, ap₂, ◌∙◌, arith}
+use Rattle.std.specs.Prelude.{IsOk, OnOk, ⊤}
+use Rattle.std.proofs.lemmas.List.{length-map, map-append, map_push, drop-drop, get_or-drop, take_all, take_more_set, take-append-drop}
+use Rattle.std.proofs.lemmas.List.Elements.{length_all_zip}
+use Rattle.node_core.specs.Node.{NodeState, PreparedNode, IsNode, local_steps, phase}
+use Rattle.node_core.proofs.Sound.{local_steps-end}
+use Rattle.node_core.proofs.Steps.{local_steps-past}
+use Rattle.bsp_exchange.specs.Exchange.{states}
+use Rattle.machine_core.specs.Events.{HaveStepped}
+use Rattle.bsp_exchange.proofs.Tallies.{states-more}
+use Rattle.phase_pool.specs.declared.error.Refusal.{Refusal}
+use Rattle.phase_pool.specs.Work.{IsWorked}
+
+HaveStepped-append : (input : List ℕ) (a a' b b' : List NodeState) → HaveStepped input a a' → HaveStepped input b b' → HaveStepped input (a ++ b) (a' ++ b')
+HaveStepped-append input [] [] b b' first second = second
+HaveStepped-append input [] (n ∷ a') b b' first second = absurd first
+HaveStepped-append input (o ∷ a) [] b b' first second = absurd first
+HaveStepped-append input (o ∷ a) (n ∷ a') b b' first second = (first.0, HaveStepped-append input a a' b b' first.1 second)
+
+of_ok : {E : Type 0} {P : Type 0} (r : Result ⊤ E) → IsOk r → OnOk r P → P
+of_ok (Ok x) ok holds = holds
+of_ok (Err e) ok holds = absurd cc
+
+on_ok : {E : Type 0} {P : Type 0} (r : Result ⊤ E) → (IsOk r → P) → OnOk r P
+on_ok (Ok x) holds = holds refl
+on_ok (Err e) holds = tt
+
+-- what holds at one Ok holds at another that comes of it
+pub on_ok_as : {E F : Type 0} (P : Type 0) (r : Result ⊤ E) (s : Result ⊤ F) → (IsOk s → IsOk r) → OnOk r P → OnOk s P
+on_ok_as P r s from holds = on_ok s (λ fine. of_ok r (from fine) holds)
+
+-- two parts, one behind the other
+pub IsWorked-append : (input : List ℕ) (a a' b b' : List NodeState) (r s both : Result ⊤ Refusal) → (IsOk both → IsOk r × IsOk s) → IsWorked input a a' r → IsWorked input b b' s → IsWorked input (a ++ b) (a' ++ b') both
+IsWorked-append input a a' b b' r s both ok first second = record {
+  stepped = HaveStepped-append input a a' b b' first.stepped second.stepped;
+  ok = on_ok both (λ fine. let each = ok fine in ap₂ ◌++◌ (of_ok r each.0 first.ok) (of_ok s each.1 second.ok) ∙ sym (map-append (phase input) a b));
+}
+
+-- the steps that a node has left are its local part, and no more steps than that change it
+pub phase-past : (input : List ℕ) (n : NodeState) (most : ℕ) → IsNode n → n.limit ≤ most → local_steps input most n ≡ phase input n
+phase-past input n most sound long = local_steps-past input (n.limit - n.ticks) most n (omega arith) (local_steps-end input (n.limit - n.ticks) n sound (omega arith))
+
+pub drop_one_more : {X : Type 0} (xs ys : List X) (i : ℕ) → drop i xs ≡ drop i ys → drop (i + 1) xs ≡ drop (i + 1) ys
+drop_one_more xs ys i same = sym (drop-drop 1 i xs) ∙ ap (drop 1) same ∙ drop-drop 1 i ys
+
+-- one node more, at the place i of a row of which the nodes before it have been worked on
+pub IsWorked-next : (input : List ℕ) (old row : List PreparedNode) (i : ℕ) (before after : PreparedNode) (r s both : Result ⊤ Refusal) → (IsOk both → IsOk r × IsOk s) → i < length old → length row ≡ length old → drop i row ≡ drop i old → before ≡ get_or row i before → (k : ℕ) × (after.node ≡ local_steps input k before.node) → OnOk s (after.node ≡ phase input before.node) → IsWorked input (states (take i old)) (states (take i row)) r → IsWorked input (states (take (i + 1) old)) (states (take (i + 1) (set row i after))) both
+IsWorked-next input old row i before after r s both ok within long rest is stepped done so_far =
+    let same : before ≡ get_or old i before =
+    is ∙ ap (λ j. get_or row j before) (sym (add-zero i)) ∙ sym (get_or-drop i row 0 before) ∙ ap (λ ps. get_or ps 0 before) rest ∙ get_or-drop i old 0 before ∙ ap (λ j. get_or old j before) (add-zero i) in
+    let first = states-more old i before within same in
+    let second : states (take (i + 1) (set row i after)) ≡ states (take i row) ++ after.node ∷ [] =
+    ap states (take_more_set row i after (omega (arith, long, within))) ∙ map_push (λ (p : PreparedNode). p.node) (take i row) after in
+    rw (first, second) (IsWorked-append input (states (take i old)) (states (take i row)) (before.node ∷ []) (after.node ∷ []) r s both ok so_far
+    record { stepped = (stepped, tt); ok = on_ok s (λ fine. ap (λ (n : NodeState). n ∷ []) (of_ok s fine done)) })
+
+-- all nodes, once each place is done
+pub IsWorked-all : (input : List ℕ) (old row : List PreparedNode) (i : ℕ) (r : Result ⊤ Refusal) → length row ≡ length old → length old ≤ i → IsWorked input (states (take i old)) (states (take i row)) r → IsWorked input (states old) (states row) r
+IsWorked-all input old row i r long past worked =
+    let first : take i old ≡ old = take_all i old past in
+    let second : take i row ≡ row = take_all i row (omega (arith, long, past)) in
+    rw (first, second) at worked
+
+-- work leaves as many nodes as there were
+pub IsWorked-length : (input : List ℕ) (old new : List PreparedNode) (answer : Result ⊤ Refusal) → IsWorked input (states old) (states new) answer → length new ≡ length old
+IsWorked-length input old new answer worked =
+    let same : length (states old) ≡ length (states new) = length_all_zip (λ (o n : NodeState). (k : ℕ) × (n ≡ local_steps input k o)) (states old) (states new) worked.stepped in
+    sym (length-map new (λ (p : PreparedNode). p.node)) ∙ sym same ∙ length-map old (λ (p : PreparedNode). p.node)
+
+-- the halves of a row, worked on and put together
+pub IsWorked-halves : (input : List ℕ) (a b a' b' whole : List PreparedNode) (r s both : Result ⊤ Refusal) → (IsOk both → IsOk r × IsOk s) → whole ≡ a' ++ b' → IsWorked input (states a) (states a') r → IsWorked input (states b) (states b') s → IsWorked input (states (a ++ b)) (states whole) both
+IsWorked-halves input a b a' b' whole r s both ok together first second =
+    let node = λ (p : PreparedNode). p.node in
+    let old : states (a ++ b) ≡ states a ++ states b = map-append node a b in
+    let new : states whole ≡ states a' ++ states b' = ap states together ∙ map-append node a' b' in
+    rw (old, new) (IsWorked-append input (states a) (states a') (states b) (states b') r s both ok first second)
+
+-- the halves that a row was split in are the row
+pub IsWorked-split : (input : List ℕ) (row a b : List PreparedNode) (end : ℕ) (new : List NodeState) (answer : Result ⊤ Refusal) → a ≡ take end row → b ≡ drop end row → IsWorked input (states (a ++ b)) new answer → IsWorked input (states row) new answer
+IsWorked-split input row a b end new answer first second worked =
+    let whole : a ++ b ≡ row = ap₂ ◌++◌ first second ∙ take-append-drop end row in
+    rw whole at worked

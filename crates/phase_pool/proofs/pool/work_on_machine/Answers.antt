@@ -1,0 +1,25 @@
+use Rattle.std.proofs.Common.{◌≡◌, List, length, sym, ap, ◌∙◌, arith}
+use Rattle.std.proofs.lemmas.List.{length-map}
+use Rattle.node_core.specs.Node.{NodeState, PreparedNode}
+use Rattle.bsp_exchange.specs.Exchange.{states}
+use Rattle.phase_pool.proofs.Phases.{worked_phases, worked_events}
+use Rattle.phase_pool.proofs.pool.work_on_machine.Goals as goal
+
+pub returns : goal.returns
+returns g c =
+    let m = c.args.machine in
+    let lender = c.lend-lender.result.0 in
+    let old = c.lend-lender.result.1 in
+    let input = c.input.result.now in
+    let row = states c.work_on-worked.result.nodes.items in
+    let answer = c.work_on-worked.result.answer in
+    let lent = c.lend-lender.ensures in
+    let work = c.work_on-worked.ensures.work in
+    record {
+      ok = worked_phases m lender c.take_back.result input (states old.items) row answer lent.rest lent.row c.input.ensures c.take_back.ensures work;
+      stepped = worked_events m lender c.take_back.result input (states old.items) row answer lent.rest lent.row c.input.ensures c.take_back.ensures work;
+      no_worker = λ refused.
+          let nodes : length old.items ≡ length m.nodes = sym (length-map old.items (λ (p : PreparedNode). p.node)) ∙ ap (λ (ns : List NodeState). length ns) lent.row in
+          let parts = c.work_on-worked.ensures.no_worker refused in
+          (omega (arith, parts, c.min-parts.ensures), omega (arith, parts, c.min-parts.ensures, c.len.ensures, old.ok.0, nodes));
+    }

@@ -1,0 +1,23 @@
+-- How far a call takes a machine.
+use Rattle.std.specs.Prelude.{◌≡◌, ℕ, ◌<◌, List, length, Result, OnOk, IsErrOf, ⊤}
+use Rattle.machine_core.specs.declared.event.Event.{Event}
+use Rattle.machine_core.specs.Events.{after, MakeNoTurn}
+use Rattle.machine_core.specs.Machine.{MachineState}
+use Rattle.machine_core.specs.Turn.{with_phases}
+use Rattle.phase_pool.specs.declared.error.Refusal.{Refusal}
+use Rattle.phase_pool.specs.declared.error.Refusal.TheVariants.{NoWorker}
+
+-- some events lead from one machine to another
+abbrev pub LeadsTo : MachineState → MachineState → Type 0
+LeadsTo old new = (events : List Event) × (new ≡ after old events)
+
+-- some events without a turn do
+abbrev pub LeadsWithoutTurn : MachineState → MachineState → Type 0
+LeadsWithoutTurn old new = (events : List Event) × MakeNoTurn old events × (new ≡ after old events)
+
+-- a machine after so many workers were to make its nodes' local parts of the superstep: all of them are made at Ok, and some of
+-- their steps otherwise. A thread is wanted only for a second worker and a second node
+pub record IsPhaseMade (workers : ℕ) (old new : MachineState) (answer : Result ⊤ Refusal) : Type 0 where
+  pub ok : OnOk answer (new ≡ with_phases old)
+  pub stepped : LeadsWithoutTurn old new
+  pub no_worker : IsErrOf answer NoWorker → (1 < workers) × (1 < length old.nodes)

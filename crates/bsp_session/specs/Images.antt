@@ -3,7 +3,6 @@ use Rattle.std.specs.Prelude.{◌≡◌, ℕ, ◌^◌, List, Option, None, optio
 use Rattle.node_memory.specs.Image.{Image}
 use Rattle.elf_image.specs.Presents.{Presents, raw_image}
 use Rattle.elf_image.specs.Faults.{file_fault}
-use Rattle.rv_asm.specs.declared.errors.AsmError.{AsmError}
 use Rattle.rv_asm.specs.Text.{IsImageOfText}
 use Rattle.rv_asm.specs.Faults.{text_fault}
 use Rattle.bsp_session.specs.declared.job.Format.{Format}

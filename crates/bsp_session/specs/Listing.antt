@@ -1,12 +1,10 @@
 -- The sessions that run nothing: a listing, and a saved image.
-use Rattle.std.specs.Prelude.{◌≡◌, ◌≢◌, ◌⊎◌, List, ℕ, Option, Some}
+use Rattle.std.specs.Prelude.{◌≡◌, List, ℕ, Option, Some}
 use Rattle.std.specs.Io.KnownBytes.{Appends}
 use Rattle.counted_io.specs.Transfers.{AppendsPrefix}
 use Rattle.node_memory.specs.Image.{Image}
-use Rattle.elf_image.specs.Spelling.{spelling_of}
-use Rattle.rv_listing.specs.Listing.{listing_of}
 use Rattle.bsp_session.specs.declared.errors.SessionError.{SessionError}
-use Rattle.bsp_session.specs.declared.errors.SessionError.TheVariants.{BadSettings, SegmentOutside, BadImage}
+use Rattle.bsp_session.specs.declared.errors.SessionError.TheVariants.{BadSettings, SegmentOutside, NoWorker}
 use Rattle.bsp_session.specs.declared.job.Format.{Format}
 use Rattle.bsp_session.specs.Images.{most_bytes, Gives, image_fault}
 use Rattle.bsp_session.specs.Readers.{Reader, ReadsWhole}
@@ -41,4 +39,5 @@ pub record IsRefusedImage (image : Reader) (format : Format) (e : SessionError) 
 abbrev pub IsErrorWithoutMachine : SessionError → Type 0
 IsErrorWithoutMachine (BadSettings cause) = ⊥
 IsErrorWithoutMachine SegmentOutside = ⊥
+IsErrorWithoutMachine NoWorker = ⊥
 IsErrorWithoutMachine _ = Unit {0}

@@ -13,16 +13,20 @@ use Rattle.machine_core.specs.declared.error.MachineError.{MachineError}
 use Rattle.machine_core.specs.declared.error.MachineError.TheVariants as machine
 use Rattle.machine_core.specs.declared.outcome.Outcome.{Outcome}
 use Rattle.machine_core.specs.declared.outcome.Outcome.TheVariants as outcome
+use Rattle.phase_pool.specs.declared.error.PoolError.{PoolError}
+use Rattle.phase_pool.specs.declared.error.PoolError.TheVariants as pool
 use Rattle.bsp_session.specs.declared.errors.BadSetting.{BadSetting}
-use Rattle.bsp_session.specs.declared.errors.BadSetting.TheVariants.{BadNodes, BadMemory, BadLimit}
+use Rattle.bsp_session.specs.declared.errors.BadSetting.TheVariants.{BadNodes, BadMemory, BadLimit, BadWorkers, BadSlice}
 use Rattle.bsp_session.specs.declared.errors.SessionError.{SessionError}
-use Rattle.bsp_session.specs.declared.errors.SessionError.TheVariants.{BadSettings, TooLong, Text, BadImage, SegmentOutside, ReadFault, WriteFault, NoMemory}
+use Rattle.bsp_session.specs.declared.errors.SessionError.TheVariants.{BadSettings, TooLong, Text, BadImage, SegmentOutside, ReadFault, WriteFault, NoWorker, NoMemory}
 
 -- what a bad setting is called in a line to the user
 abbrev pub name_of : BadSetting → List ℕ
 name_of BadNodes = codes "BadNodes"
 name_of BadMemory = codes "BadMemory"
 name_of BadLimit = codes "BadLimit"
+name_of BadWorkers = codes "BadWorkers"
+name_of BadSlice = codes "BadSlice"
 
 -- 2 for a fault or an abort, 3 for the limit. No node is stopped in any other state, which counts as the machine's refusal to go on
 abbrev pub status_of_stop : State → ℕ
@@ -40,7 +44,7 @@ status_of_outcome (outcome.NodeStopped rank state) = status_of_stop state
 status_of_outcome (outcome.Desync ended synced) = 4
 status_of_outcome (outcome.Refused fault) = 4
 
--- 1 for what was handed in, 6 for readers and writers, 5 for memory
+-- 1 for what was handed in, 6 for readers and writers, 5 for memory and threads
 abbrev pub status_of_error : SessionError → ℕ
 status_of_error (BadSettings _) = 1
 status_of_error TooLong = 1
@@ -49,6 +53,7 @@ status_of_error (BadImage _) = 1
 status_of_error SegmentOutside = 1
 status_of_error ReadFault = 6
 status_of_error WriteFault = 6
+status_of_error NoWorker = 5
 status_of_error NoMemory = 5
 
 -- the exit status of a session's answer
@@ -83,9 +88,17 @@ error_of_machine machine.BadLimit = BadSettings BadLimit
 error_of_machine machine.SegmentOutside = SegmentOutside
 error_of_machine machine.NoMemory = NoMemory
 
+-- what a session answers where the workers did not come to their end
+abbrev pub error_of_pool : PoolError → SessionError
+error_of_pool pool.BadWorkers = BadSettings BadWorkers
+error_of_pool pool.BadSlice = BadSettings BadSlice
+error_of_pool pool.NoWorker = NoWorker
+error_of_pool pool.NoMemory = NoMemory
+
 -- an error of a session once its image is understood
 abbrev pub IsErrorOfRun : SessionError → Type 0
 IsErrorOfRun SegmentOutside = Unit {0}
 IsErrorOfRun WriteFault = Unit {0}
+IsErrorOfRun NoWorker = Unit {0}
 IsErrorOfRun NoMemory = Unit {0}
 IsErrorOfRun _ = ⊥

@@ -1,5 +1,5 @@
 -- What a session reads, where the bytes of its readers are known.
-use Rattle.std.specs.Prelude.{◌≡◌, ℕ, ◌≤◌, ◌<◌, ◌⊎◌, List, length, Option, IfSome}
+use Rattle.std.specs.Prelude.{◌≡◌, ℕ, ◌≤◌, ◌<◌, List, length, Option, IfSome}
 use Rattle.std.specs.Io.KnownBytes.{Consumes}
 use Rattle.counted_io.specs.Counted.{CountedState, HasRisen}
 use Rattle.counted_io.specs.Transfers.{ConsumesWithin}

@@ -1,6 +1,7 @@
 -- A session over the bytes of its readers and its writer, where they are known. The order of the stages is an own rule:
 -- settings, image read, input read, image understood, machine made, run, report written.
-use Rattle.std.specs.Prelude.{◌≡◌, ℕ, ◌^◌, ◌⊎◌, false, true, List, Option, None, Some}
+use Rattle.std.specs.Prelude.{◌≡◌, ℕ, ◌^◌, ◌<◌, ◌⊎◌, false, true, List, Option, None, Some, option_map}
+use Rattle.std.specs.Option.{option_or}
 use Rattle.std.specs.Io.KnownBytes.{Appends}
 use Rattle.counted_io.specs.Transfers.{AppendsPrefix}
 use Rattle.node_memory.specs.Image.{Image, is_segment_outside}
@@ -8,9 +9,11 @@ use Rattle.machine_core.specs.declared.outcome.Outcome.{Outcome}
 use Rattle.machine_core.specs.declared.settings.Settings.{Settings}
 use Rattle.machine_core.specs.Machine.{MachineState, fresh, settings_fault}
 use Rattle.machine_core.specs.Turn.{end_of}
+use Rattle.phase_pool.specs.Numbers.{numbers_fault}
 use Rattle.bsp_session.specs.declared.errors.SessionError.{SessionError}
 use Rattle.bsp_session.specs.declared.job.Job.{Job}
 use Rattle.bsp_session.specs.Images.{most_bytes, Gives, image_fault}
+use Rattle.bsp_session.specs.Outcome.{error_of_machine, error_of_pool}
 use Rattle.bsp_session.specs.Readers.{Reader, IsUntouched, ReadsWhole, PassesLimit, HasFailed, IsCutShort}
 use Rattle.bsp_session.specs.Report.{report_of}
 
@@ -18,9 +21,15 @@ use Rattle.bsp_session.specs.Report.{report_of}
 abbrev pub most_input : ℕ
 most_input = 2 ^ 24
 
+-- the first setting that is out of its range: of the machine, and then of the workers
+abbrev pub job_fault : Job → Option SessionError
+job_fault job =
+    option_or (option_map error_of_machine (settings_fault job.settings))
+    (option_map error_of_pool (numbers_fault job.workers job.slice))
+
 -- the settings are good, and an image's file and an input were read
 pub record ReadsBoth (image input : Reader) (job : Job) (i n : List ℕ) : Type 0 where
-  pub settings : settings_fault job.settings ≡ None
+  pub settings : job_fault job ≡ None
   pub image_read : ReadsWhole image i (most_bytes job.format)
   pub input_read : ReadsWhole input n most_input
 
@@ -62,7 +71,7 @@ EndsAtReader cause image input job =
 
 -- the settings are good, and the session ended while it read
 pub record EndsReading (cause : ℕ → Reader → Type 0) (image input : Reader) (job : Job) : Type 0 where
-  pub settings : settings_fault job.settings ≡ None
+  pub settings : job_fault job ≡ None
   pub ended : EndsAtReader cause image input job
 
 -- the image, or after it the input, has more bytes than its limit
@@ -88,6 +97,15 @@ pub record IsOutside (image input : Reader) (job : Job) : Type 0 where
   pub read : ReadsBoth image input job i n
   pub gives : Gives job.format i m
   pub outside : is_segment_outside m job.settings.memory ≡ true
+
+-- a thread could not be started, which only a second worker and a second node want
+pub record LacksWorker (image input : Reader) (job : Job) : Type 0 where
+  pub i : List ℕ
+  pub n : List ℕ
+  pub m : Image
+  pub machine : HasMachine image input job i n m
+  pub workers : 1 < job.workers
+  pub nodes : 1 < job.settings.nodes
 
 -- what is known where memory was refused: the image or the input was being read, within its limit, or both were read
 abbrev pub IsOutOfMemory : Reader → Reader → Job → Type 0

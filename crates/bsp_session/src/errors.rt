@@ -7,6 +7,7 @@ use counted_io::{ReadError, WriteFault};
 use elf_image::ElfError;
 use machine_core::{MachineError, Outcome};
 use node_core::State;
+use phase_pool::PoolError;
 use rv_asm::{AsmError, AsmKind};
 use std::alloc::AllocError;
 use std::fmt;
@@ -21,6 +22,10 @@ pub enum BadSetting {
     BadMemory,
     /// The limit of ticks is not 1 to 2^40.
     BadLimit,
+    /// The number of workers is not 1 to 64.
+    BadWorkers,
+    /// The slice is not 1 to 1,048,576 steps.
+    BadSlice,
 }
 
 impl fmt::Display for BadSetting {
@@ -34,6 +39,8 @@ impl fmt::Display for BadSetting {
             BadSetting::BadNodes => "BadNodes",
             BadSetting::BadMemory => "BadMemory",
             BadSetting::BadLimit => "BadLimit",
+            BadSetting::BadWorkers => "BadWorkers",
+            BadSetting::BadSlice => "BadSlice",
         })
     }
 }
@@ -65,6 +72,9 @@ pub enum SessionError {
     /// A call of the writer failed. Some first bytes of what was to be written may have been, and not all.
     #[error("write failed")]
     WriteFault,
+    /// A thread could not be started.
+    #[error("no worker")]
+    NoWorker,
     /// A request for memory was refused.
     #[error("no memory")]
     NoMemory,
@@ -79,7 +89,7 @@ pub enum SessionError {
 /// | 2 | a node's fault or `abort` |
 /// | 3 | a node's limit of ticks |
 /// | 4 | nodes that wait for one that ended, or an exchange that is refused |
-/// | 5 | memory refused |
+/// | 5 | memory or a thread refused |
 /// | 6 | a read or a write failed |
 ///
 /// Where nodes were stopped, the state of the lowest of their ranks decides.
@@ -102,7 +112,7 @@ pub fn status(answer: &Result<Outcome, SessionError>) -> u8
             | SessionError::SegmentOutside,
         ) => 1,
         Err(SessionError::ReadFault | SessionError::WriteFault) => 6,
-        Err(SessionError::NoMemory) => 5,
+        Err(SessionError::NoWorker | SessionError::NoMemory) => 5,
     }
 }
 
@@ -119,6 +129,22 @@ impl From<MachineError> for SessionError {
             MachineError::BadLimit => SessionError::BadSettings(BadSetting::BadLimit),
             MachineError::SegmentOutside => SessionError::SegmentOutside,
             MachineError::NoMemory => SessionError::NoMemory,
+        }
+    }
+}
+
+impl From<PoolError> for SessionError {
+    ghost use Rattle.std.specs.Prelude.{◌≡◌};
+    ghost use Rattle.bsp_session.specs.Outcome.{error_of_pool};
+
+    ghost from_gives = { λ cause e. e ≡ error_of_pool cause };
+
+    fn from(cause: PoolError) -> SessionError {
+        match cause {
+            PoolError::BadWorkers => SessionError::BadSettings(BadSetting::BadWorkers),
+            PoolError::BadSlice => SessionError::BadSettings(BadSetting::BadSlice),
+            PoolError::NoWorker => SessionError::NoWorker,
+            PoolError::NoMemory => SessionError::NoMemory,
         }
     }
 }

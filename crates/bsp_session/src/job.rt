@@ -29,12 +29,16 @@ impl Format {
     }
 }
 
-/// How the image is read, the machine that runs it, and what is told of the run.
+/// How the image is read, the machine that runs it, by how many threads, and what is told of the run.
 #[derive(Clone, Copy, Debug, PartialEq, Eq)]
 pub struct Job {
     pub format: Format,
     /// Settings may be out of their ranges; a session then refuses them.
     pub settings: Settings,
+    /// How many threads run the nodes, the caller's among them: 1 to 64. It has no part in what is written.
+    pub workers: u32,
+    /// How many steps a node makes before it may go to another thread: 1 to 1,048,576. It has no effect yet.
+    pub slice: u64,
     /// Whether the costs of the supersteps, their total and the outcome follow the output.
     pub report: bool,
     /// The price of a byte of the h-relation, in ticks.

@@ -17,10 +17,12 @@
 //! - The report is whole before its first byte is written: every error but a fault of the writer leaves the writer as it
 //!   was, and after such a fault some first bytes of the report are written, and not all of them.
 //! - A fault of a reader or of the writer is answered only where more of its calls had failed than before.
-//! - [`SessionError::NoMemory`] is answered only where a request for memory was refused, and never for bad settings. No
-//!   clause counts refusals: the tests refuse each request in turn. It says nothing of the stages that come after.
+//! - [`SessionError::NoMemory`] is answered only where a request for memory was refused, [`SessionError::NoWorker`] only where a
+//!   thread could not be started, and neither for bad settings. No clause counts refusals: the tests refuse each request in turn.
+//!   `NoMemory` says nothing of the stages that come after.
+//! - Workers have no part in what is written: the report is that of the definitions, which know none.
 //!
-//! A session ends if the calls of its readers and its writer do: a node makes at most as many steps as its limit of
+//! A session waits for its own threads alone. It ends if these and the calls of its readers and its writer do: a node makes at most as many steps as its limit of
 //! ticks, there is at most one superstep more than that, and an interrupted call is tried again for a bounded number of times.
 //! It takes the memory of all nodes at once, and beside it that of the image's file, of the input twice, of the output, of a
 //! row of costs for each superstep, and where a report is asked for of a line for each of these.

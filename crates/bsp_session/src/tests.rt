@@ -4,7 +4,9 @@ use refusing_allocator::RefusingAllocator;
 use std::alloc::{AllocError, Allocator, Global};
 use std::io;
 use std::io::{ErrorKind, Read, Write};
+use std::sync::Wait;
 use std::test::Fail;
+use std::thread::Threads;
 
 mod images;
 
@@ -82,6 +84,8 @@ fn machine(nodes: u32, memory: u32, limit: u64) -> Job {
             memory,
             limit,
         },
+        workers: 2,
+        slice: 1 << 16,
         report: false,
         g: 1,
         l: 0,
@@ -104,7 +108,8 @@ fn image_of(alloc: Global, program: &[u32]) -> Result<Vec<u8>, AllocError> {
 }
 
 // A session over a writer of its own, whose bytes `holder` holds: its answer, and what it wrote.
-fn run<A: Allocator + Copy, I: Read + Drop, R: Read + Drop>(
+fn run<T: Threads + Wait + Sync, A: Allocator + Copy + Send, I: Read + Drop, R: Read + Drop>(
+    rt: &T,
     alloc: A,
     holder: Global,
     image: I,
@@ -114,7 +119,7 @@ fn run<A: Allocator + Copy, I: Read + Drop, R: Read + Drop>(
     let mut image = Counted::new(image);
     let mut input = Counted::new(input);
     let mut out = Counted::new(Vec::new(holder));
-    let answer = session(alloc, &mut image, &mut input, job, &mut out);
+    let answer = session(rt, alloc, &mut image, &mut input, job, &mut out);
     (answer, out.into_inner())
 }
 
@@ -128,7 +133,14 @@ fn an_image_may_come_in_pieces(rt: HostRuntime) -> Result<(), Fail> {
             step,
             fails: false,
         };
-        let (answer, written) = run(alloc, alloc, image, b"".as_slice(), &machine(3, 4096, 10));
+        let (answer, written) = run(
+            &rt,
+            alloc,
+            alloc,
+            image,
+            b"".as_slice(),
+            &machine(3, 4096, 10),
+        );
         assert_eq!(rt; answer, ENDED, "in steps of {step}");
         assert_eq!(rt; status(&answer), 0);
         assert_eq!(rt; written.as_slice(), b"012".as_slice(), "in steps of {step}");
@@ -151,7 +163,7 @@ fn a_reader_that_fails_is_a_read_fault(rt: HostRuntime) -> Result<(), Fail> {
             step: 8,
             fails: true,
         };
-        let (answer, written) = run(alloc, alloc, image, input, &machine(3, 4096, 10));
+        let (answer, written) = run(&rt, alloc, alloc, image, input, &machine(3, 4096, 10));
         assert_eq!(rt; answer, Err(SessionError::ReadFault), "after {bytes} bytes");
         assert!(rt; written.is_empty());
     }
@@ -178,7 +190,7 @@ fn a_writer_that_fails_keeps_what_it_took(rt: HostRuntime) -> Result<(), Fail> {
             held: Vec::new(rt.alloc()),
             room,
         });
-        let given = session(rt.alloc(), &mut image, &mut input, &job, &mut out);
+        let given = session(&rt, rt.alloc(), &mut image, &mut input, &job, &mut out);
         assert_eq!(rt; given, answer, "with room for {room}");
         assert_eq!(rt; out.inner().held.as_slice(), output.as_bytes());
     }
@@ -194,7 +206,14 @@ fn a_refused_request_is_no_memory(rt: HostRuntime) -> Result<(), Fail> {
     for request in 1..100 {
         // A refused growth may be followed by a smaller one, so all requests from one on are refused.
         heap.refuse_from_nth(request);
-        let (answer, written) = run(&heap, rt.alloc(), image.as_slice(), b"x".as_slice(), &job);
+        let (answer, written) = run(
+            &rt,
+            &heap,
+            rt.alloc(),
+            image.as_slice(),
+            b"x".as_slice(),
+            &job,
+        );
         if heap.refusals() == 0 {
             assert_eq!(rt; answer, ENDED);
             break;
@@ -204,7 +223,14 @@ fn a_refused_request_is_no_memory(rt: HostRuntime) -> Result<(), Fail> {
         met = request;
 
         heap.refuse_nth(0);
-        let (answer, written) = run(&heap, rt.alloc(), image.as_slice(), b"x".as_slice(), &job);
+        let (answer, written) = run(
+            &rt,
+            &heap,
+            rt.alloc(),
+            image.as_slice(),
+            b"x".as_slice(),
+            &job,
+        );
         assert_eq!(rt; answer, ENDED, "after request {request}");
         assert_eq!(rt; written.as_slice(), RANKS_REPORT.as_bytes());
     }

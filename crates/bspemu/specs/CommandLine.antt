@@ -55,6 +55,9 @@ g_rule = checked_rule (codes "g") in_32_bits (codes "1")
 abbrev pub l_rule : Rule
 l_rule = checked_rule (codes "l") in_32_bits (codes "0")
 
+abbrev pub workers_rule : Rule
+workers_rule = checked_rule (codes "workers") in_32_bits (codes "1")
+
 -- `NAME IMAGE` with what a machine is made of, and the prices of its costs
 abbrev pub machine_app : Text → NameList → App
 machine_app name formats =
@@ -64,7 +67,7 @@ machine_app name formats =
 
 -- `run IMAGE` with its options
 abbrev pub run_app : NameList → App
-run_app formats = with_rule (machine_app (codes "run") formats) (flag_rule (codes "report"))
+run_app formats = with_rule (with_rule (machine_app (codes "run") formats) (flag_rule (codes "report"))) workers_rule
 
 -- `list IMAGE` with its option
 abbrev pub list_app : NameList → App

@@ -48,6 +48,8 @@ pub record GivesRunOptions (rows : List Row) (o : RunOptions) : Type 0 where
   pub input : first_of (codes "input") rows ≡ option_map (λ path. path.now) o.input
   pub format : first_of (codes "format") rows ≡ Some (name_of_format o.job.format)
   pub settings : GivesSettings rows o.job.settings
+  pub workers : GivesNumber 32 (one_of (codes "workers") rows) o.job.workers
+  pub slice : o.job.slice ≡ 2 ^ 16
   pub report : GivesFlag (one_of (codes "report") rows) o.job.report
   pub g : GivesNumber 32 (one_of (codes "g") rows) o.job.g
   pub l : GivesNumber 32 (one_of (codes "l") rows) o.job.l

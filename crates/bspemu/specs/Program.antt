@@ -1,22 +1,20 @@
 -- How the program ends (own rules).
-use Rattle.std.specs.Prelude.{◌≡◌, ◌≢◌, ◌≤◌, ◌⊎◌, ◌++◌, false, length, ℕ, Option, None, List, Some, Result, Ok, Err, codes, option_map}
+use Rattle.std.specs.Prelude.{◌≡◌, ◌≢◌, ◌<◌, ◌≤◌, ◌⊎◌, ◌++◌, false, length, ℕ, Option, None, List, Some, Result, Ok, Err, codes}
 use Rattle.std.specs.Borrow.{Bor}
 use Rattle.clap.specs.Words.{Text, kind_of}
 use Rattle.clap.specs.declared.error.Error.{Error}
 use Rattle.clap.specs.declared.error.kind.ErrorKind.{ErrorKind}
 use Rattle.clap.specs.declared.error.kind.ErrorKind.TheVariants.{DisplayHelp, DisplayVersion, OutOfMemory}
 use Rattle.bsp_session.specs.declared.errors.SessionError.{SessionError}
-use Rattle.bsp_session.specs.declared.errors.SessionError.TheVariants.{BadSettings}
+use Rattle.bsp_session.specs.declared.errors.SessionError.TheVariants.{BadSettings, NoWorker}
 use Rattle.bsp_session.specs.declared.job.Job.{Job}
-use Rattle.machine_core.specs.Machine.{settings_fault}
 use Rattle.machine_core.specs.declared.outcome.Outcome.{Outcome}
 use Rattle.machine_core.specs.declared.outcome.Outcome.TheVariants.{Ended}
-use Rattle.machine_core.specs.declared.settings.Settings.{Settings}
 use Rattle.node_memory.specs.Image.{Image, is_segment_outside}
 use Rattle.bsp_session.specs.Images.{Gives, most_bytes}
 use Rattle.bsp_session.specs.Listing.{IsErrorWithoutMachine}
-use Rattle.bsp_session.specs.Outcome.{error_of_machine, status_of}
-use Rattle.bsp_session.specs.Session.{most_input, run_of}
+use Rattle.bsp_session.specs.Outcome.{status_of}
+use Rattle.bsp_session.specs.Session.{job_fault, most_input, run_of}
 use Rattle.bspemu.specs.declared.options.RunOptions.{RunOptions}
 use Rattle.bspemu.specs.declared.options.ListOptions.{ListOptions}
 use Rattle.bspemu.specs.declared.options.AsmOptions.{AsmOptions}
@@ -36,7 +34,7 @@ pub record HasOutcome (job : Job) (o : Outcome) : Type 0 where
   pub file : List ℕ
   pub input : List ℕ
   pub image : Image
-  pub settings : settings_fault job.settings ≡ None
+  pub settings : job_fault job ≡ None
   pub file_limited : length file ≤ most_bytes job.format
   pub input_limited : length input ≤ most_input
   pub gives : Gives job.format file image
@@ -47,16 +45,17 @@ pub record HasOutcome (job : Job) (o : Outcome) : Type 0 where
 abbrev pub NamesFile : RunOptions → Bor Text → Type 0
 NamesFile o path = ((o.image.now ≢ codes "-") × (o.image ≡ path)) ⊎ (o.input ≡ Some path)
 
--- an error of a session: only settings out of their ranges are refused as such
-abbrev pub IsSessionError : Settings → SessionError → Type 0
-IsSessionError s (BadSettings cause) = option_map error_of_machine (settings_fault s) ≡ Some (BadSettings cause)
-IsSessionError s _ = settings_fault s ≡ None
+-- an error of a session: only settings out of their ranges are refused as such, and only a second worker can be lacking
+abbrev pub IsSessionError : Job → SessionError → Type 0
+IsSessionError job (BadSettings cause) = job_fault job ≡ Some (BadSettings cause)
+IsSessionError job NoWorker = (job_fault job ≡ None) × (1 < job.workers) × (1 < job.settings.nodes)
+IsSessionError job _ = job_fault job ≡ None
 
 -- an answer that a run with these options can have
 abbrev pub IsAnswerOfRun : RunOptions → Result Outcome RunError → Type 0
 IsAnswerOfRun o (Ok outcome) = HasOutcome o.job outcome
 IsAnswerOfRun o (Err (CannotOpen path)) = NamesFile o path
-IsAnswerOfRun o (Err (Session error)) = IsSessionError o.job.settings error
+IsAnswerOfRun o (Err (Session error)) = IsSessionError o.job error
 
 -- an answer that a listing with these options can have
 abbrev pub IsAnswerOfList : ListOptions → Result Outcome RunError → Type 0

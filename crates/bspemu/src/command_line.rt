@@ -2,7 +2,7 @@
 
 ghost use Rattle.std.specs.Prelude.{IfOk, codes};
 ghost use Rattle.bspemu.specs.CommandLine.{HasApp, HasAppOfFormats, HasRule, asm_app, bspemu_app, file_rule, flag_rule, format_rule};
-ghost use Rattle.bspemu.specs.CommandLine.{g_rule, l_rule, limit_rule, list_app, machine_app, memory_rule, nodes_rule, option_rule, run_app};
+ghost use Rattle.bspemu.specs.CommandLine.{g_rule, l_rule, limit_rule, list_app, machine_app, memory_rule, nodes_rule, option_rule, run_app, workers_rule};
 
 use clap::{Arg, ArgAction, Command, value_parser};
 use std::alloc::{AllocError, Global};
@@ -24,7 +24,7 @@ const STATUSES: &str = "Exit status:
   2  a node was stopped by a fault, or by its own abort
   3  a node still ran at its limit
   4  nodes waited for one that had ended, or an exchange was refused
-  5  memory ran out
+  5  memory ran out, or a thread could not be started
   6  a file could not be opened, read or written";
 
 const ASM_AFTER_HELP: &str = "A text that is refused has a line `line N: NAME` on standard error:
@@ -62,7 +62,8 @@ fn run_command<'a>(alloc: Global, formats: &'a [&'a str]) -> Result<Command<'a>,
             "Run a program on every node, superstep by superstep, and write what the nodes write",
         )
         .after_help(STATUSES)
-        .arg(report(alloc))
+        .arg(report(alloc))?
+        .arg(workers(alloc))
 }
 
 /// A subcommand over a machine: the program, what the machine is made of, and the prices of its costs.
@@ -213,4 +214,15 @@ fn superstep_price<'a>(alloc: Global) -> Arg<'a>
         .value_parser(value_parser!(u32))
         .default_value("0")
         .help("Ticks that the end of a superstep costs in the report's total")
+}
+
+fn workers<'a>(alloc: Global) -> Arg<'a>
+    ensures { HasRule result workers_rule }
+{
+    Arg::new(alloc, "workers")
+        .long("workers")
+        .value_name("N")
+        .value_parser(value_parser!(u32))
+        .default_value("1")
+        .help("Threads that run the nodes, 1 to 64; what is written does not depend on it")
 }

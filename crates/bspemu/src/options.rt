@@ -12,6 +12,9 @@ use clap::{ArgMatches, Error};
 use std::alloc::{AllocError, Global};
 use std::convert::AsStr;
 
+/// How many steps a node makes before it may go to another thread.
+const SLICE: u64 = 1 << 16;
+
 /// What `bspemu run` was asked to do.
 #[derive(Debug, Drop)]
 pub struct RunOptions<'a> {
@@ -104,6 +107,8 @@ fn options_of_run<'a>(run: &ArgMatches<'a>) -> Option<RunOptions<'a>>
         job: Job {
             format: format_named(run.get_str("format")?)?,
             settings: settings_of_run(run)?,
+            workers: run.get_one("workers")?,
+            slice: SLICE,
             report: run.get_one("report")?,
             g: run.get_one("g")?,
             l: run.get_one("l")?,

@@ -14,6 +14,8 @@ use counted_io::Counted;
 use std::alloc::AllocError;
 use std::convert::AsStr;
 use std::rt::{Env, Files};
+use std::sync::Wait;
+use std::thread::Threads;
 use std::{env, fmt, io};
 
 /// The status where the command line is refused.
@@ -64,7 +66,9 @@ impl<'a> From<SessionError> for RunError<'a> {
 }
 
 /// Does what the command line asks for, and gives the exit status.
-pub fn program<R: AllocGlobal + Env + Files + Input + Print + Eprint>(rt: &R) -> u8
+pub fn program<R: AllocGlobal + Env + Files + Input + Print + Eprint + Threads + Wait + Sync>(
+    rt: &R,
+) -> u8
     ensures { EndsOnItsWords result }
 {
     match words(rt) {
@@ -89,10 +93,10 @@ fn words<R: AllocGlobal + Env>(rt: &R) -> Result<Vec<String>, Error>
 }
 
 /// Does what these words ask for, and gives the exit status.
-pub fn program_on<R: AllocGlobal + Files + Input + Print + Eprint, S: AsStr>(
-    rt: &R,
-    words: &[S],
-) -> u8
+pub fn program_on<
+    R: AllocGlobal + Files + Input + Print + Eprint + Threads + Wait + Sync,
+    S: AsStr,
+>(rt: &R, words: &[S]) -> u8
     ensures { Ends (map S.text words.now) result }
 {
     match action_of(rt.alloc(), words) {
@@ -102,7 +106,7 @@ pub fn program_on<R: AllocGlobal + Files + Input + Print + Eprint, S: AsStr>(
 }
 
 /// Does what was asked for. A listing and a saved image count as ended.
-fn perform<'a, R: AllocGlobal + Files + Input + Print>(
+fn perform<'a, R: AllocGlobal + Files + Input + Print + Threads + Wait + Sync>(
     rt: &R,
     action: &Action<'a>,
 ) -> Result<Outcome, RunError<'a>>
@@ -116,7 +120,7 @@ fn perform<'a, R: AllocGlobal + Files + Input + Print>(
 }
 
 /// Opens what the options name, first the image, and runs the session.
-fn run<'a, R: AllocGlobal + Files + Input + Print>(
+fn run<'a, R: AllocGlobal + Files + Input + Print + Threads + Wait + Sync>(
     rt: &R,
     options: &RunOptions<'a>,
 ) -> Result<Outcome, RunError<'a>>
@@ -125,7 +129,14 @@ fn run<'a, R: AllocGlobal + Files + Input + Print>(
     let mut image = Counted::new(open_image(rt, options.image)?);
     let mut input = Counted::new(open_input(rt, options.input)?);
     let mut out = Counted::new(io::writer(rt));
-    let outcome = session(rt.alloc(), &mut image, &mut input, &options.job, &mut out)?;
+    let outcome = session(
+        rt,
+        rt.alloc(),
+        &mut image,
+        &mut input,
+        &options.job,
+        &mut out,
+    )?;
     Ok(outcome)
 }
 

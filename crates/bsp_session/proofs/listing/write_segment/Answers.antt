@@ -1,7 +1,6 @@
 -- What is written, what stands in the block and the lines that are left make the listing at each step.
-use Rattle.std.proofs.Common.{◌≡◌, ◌≤◌, ◌<◌, ◌+◌, ◌∙◌, ap, refl, sym, List, [], ◌∷◌, ◌++◌, ℕ, length, string_bytes, append_assoc, append-nil, arith, length-append, Option}
+use Rattle.std.proofs.Common.{◌≡◌, ◌<◌, ◌∙◌, ap, sym, List, [], ◌∷◌, ◌++◌, ℕ, length, string_bytes, append_assoc, append-nil, arith, length-append}
 use Rattle.std.specs.List.{flat_map}
-use Rattle.std.specs.Io.KnownBytes.{Appends}
 use Rattle.std.proofs.KnownBytes.{Appends-trans, Appends-nil}
 use Rattle.std.proofs.lemmas.Result.{err_from_is_err_and}
 use Rattle.counted_io.proofs.TransfersLemmas.{AppendsPrefix-stopped}

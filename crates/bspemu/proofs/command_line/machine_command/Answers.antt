@@ -1,4 +1,4 @@
-use Rattle.std.proofs.Common.{codes, rules}
+use Rattle.std.proofs.Common.{rules}
 use Rattle.std.proofs.lemmas.Result.{IfOk-weaker}
 use Rattle.clap.specs.Words.{new_app}
 use Rattle.bspemu.specs.CommandLine.{HasApp}

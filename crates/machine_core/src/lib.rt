@@ -14,6 +14,9 @@
 //! - Only these three, [`Machine::turn`] and [`Machine::new`] take memory, and after the outcome none of them but `new` does. An event
 //!   that is refused memory has changed nothing. A run that is refused keeps the events that it made, and the call made again
 //!   leaves what it would have left.
+//! - [`Machine::lend`] hands out the nodes by value, for threads to step. The [`Lender`] that stays takes them back, each some steps of
+//!   its own further, and nothing else of the machine has changed then. Neither takes memory, and a row that was lent cannot be
+//!   lost: a `Lender` has no other end.
 //! - Whether memory was refused is all that no clause says: the tests refuse each request in turn.
 //!
 //! [`laws`] has what holds of every machine, and first that order does not matter: whatever events are made, a machine has the

@@ -1,6 +1,6 @@
 //! Parts of a row of nodes, each of which one thread takes through its local parts of the superstep.
 
-ghost use Rattle.std.specs.Prelude.{◌≡◌, ◌≢◌, ◌+◌, ◌-◌, ◌++◌, ◌<◌, ◌≤◌, ◌/◌, ℕ, Err, IsOk, OnOk, IsErrOf, vec_len, vec_capacity};
+ghost use Rattle.std.specs.Prelude.{◌≡◌, ◌≢◌, ◌↔◌, ◌⊎◌, ◌+◌, ◌-◌, ◌++◌, ◌<◌, ◌≤◌, ◌/◌, ℕ, Err, IsOk, OnOk, IsErrOf, vec_len, vec_capacity};
 ghost use Rattle.std.specs.Thread.{IsSend, IsSync};
 ghost use denote.Param.Send.{Frees};
 ghost use Rattle.node_core.specs.Node.{local_steps, phase};
@@ -136,6 +136,8 @@ fn put_together<A: Allocator>(first: Worked<A>, second: Worked<A>) -> Worked<A>
     requires { vec_len first.nodes + vec_len second.nodes ≤ vec_capacity first.nodes }
     ensures nodes { result.nodes.items ≡ first.nodes.items ++ second.nodes.items }
     ensures answer { IsOk result.answer → IsOk first.answer × IsOk second.answer }
+    ensures no_worker { IsErrOf result.answer Refusal.NoWorker
+        ↔ (IsErrOf first.answer Refusal.NoWorker ⊎ IsErrOf second.answer Refusal.NoWorker) }
     ensures room { vec_capacity first.nodes ≤ vec_capacity result.nodes }
 {
     let Worked { mut nodes, answer } = first;

@@ -4,7 +4,7 @@ use super::{PRINTS_AND_SYNCS, expect_equal, machine};
 use crate::{OpenGate, PoolError, run, run_phase};
 use node_core::State;
 use refusing_allocator::RefusingAllocator;
-use std::alloc::Global;
+use std::alloc::{AllocError, Global};
 use std::test::Fail;
 
 type Heap = RefusingAllocator<Global>;
@@ -53,5 +53,37 @@ fn nodes_that_need_no_memory_are_run_without_it(rt: HostRuntime) -> Result<(), F
     for node in machine.nodes() {
         assert_eq!(rt; (node.state(), node.ticks()), (State::Synced, 10));
     }
+    Ok(())
+}
+
+// Blocks that leave no room for a thread's stack in the address space: as many as are to be had, first of 8 GiB and at last of
+// 128 KiB.
+fn hoard(alloc: Global) -> Result<Vec<Vec<u8>>, AllocError> {
+    let mut blocks = Vec::with_capacity(alloc, 0x1_0000)?;
+    for size in [8 << 30, 1 << 30, 1 << 26, 1 << 22, 1 << 20, 1 << 17] {
+        for _ in 0..0x1_0000 {
+            let Ok(block) = Vec::with_capacity(alloc, size) else {
+                break;
+            };
+            blocks.push(block)?;
+        }
+    }
+    Ok(blocks)
+}
+
+#[test]
+fn a_half_without_a_thread_is_run_here(rt: HostRuntime) -> Result<(), Fail> {
+    let mut machine = machine(&rt, rt.alloc(), &PRINTS_AND_SYNCS, 2)?;
+    let spare = Vec::<u8>::with_capacity(rt.alloc(), 0x1_0000)?;
+    let blocks = hoard(rt.alloc())?;
+    drop(spare);
+    let answer = run_phase(&rt, &mut machine, 2, 1, &OpenGate);
+    drop(blocks);
+    assert_eq!(rt; answer, Err(PoolError::NoWorker));
+    for node in machine.nodes() {
+        assert_eq!(rt; (node.state(), node.ticks()), (State::Synced, 10));
+    }
+    assert_eq!(rt; run(&rt, &mut machine, 2, 1, &OpenGate), Ok(()));
+    assert_eq!(rt; machine.output(), b"01".as_slice());
     Ok(())
 }

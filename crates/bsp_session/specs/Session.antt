@@ -21,7 +21,7 @@ use Rattle.bsp_session.specs.Report.{report_of}
 abbrev pub most_input : ℕ
 most_input = 2 ^ 24
 
--- the first setting that is out of its range: of the machine, and then of the workers
+-- the first setting that is out of its range: of the machine, and then of the workers and the slice
 abbrev pub job_fault : Job → Option SessionError
 job_fault job =
     option_or (option_map error_of_machine (settings_fault job.settings))
@@ -98,7 +98,7 @@ pub record IsOutside (image input : Reader) (job : Job) : Type 0 where
   pub gives : Gives job.format i m
   pub outside : is_segment_outside m job.settings.memory ≡ true
 
--- a thread could not be started, which only a second worker and a second node want
+-- what is known where a thread could not be started: one is wanted only where there are several workers and several nodes
 pub record LacksWorker (image input : Reader) (job : Job) : Type 0 where
   pub i : List ℕ
   pub n : List ℕ

@@ -35,7 +35,7 @@ pub struct Job {
     pub format: Format,
     /// Settings may be out of their ranges; a session then refuses them.
     pub settings: Settings,
-    /// How many threads run the nodes, the caller's among them: 1 to 64. It has no part in what is written.
+    /// How many threads run the nodes at most, the caller's among them: 1 to 64. It has no part in what is written.
     pub workers: u32,
     /// How many steps a node makes before it may go to another thread: 1 to 1,048,576. It has no effect yet.
     pub slice: u64,

@@ -45,7 +45,8 @@ pub record HasOutcome (job : Job) (o : Outcome) : Type 0 where
 abbrev pub NamesFile : RunOptions → Bor Text → Type 0
 NamesFile o path = ((o.image.now ≢ codes "-") × (o.image ≡ path)) ⊎ (o.input ≡ Some path)
 
--- an error of a session: only settings out of their ranges are refused as such, and only a second worker can be lacking
+-- an error of a session: only settings out of their ranges are refused as such, and a thread can be lacking only where there are
+-- several workers and several nodes
 abbrev pub IsSessionError : Job → SessionError → Type 0
 IsSessionError job (BadSettings cause) = job_fault job ≡ Some (BadSettings cause)
 IsSessionError job NoWorker = (job_fault job ≡ None) × (1 < job.workers) × (1 < job.settings.nodes)

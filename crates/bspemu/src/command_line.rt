@@ -224,5 +224,5 @@ fn workers<'a>(alloc: Global) -> Arg<'a>
         .value_name("N")
         .value_parser(value_parser!(u32))
         .default_value("1")
-        .help("Threads that run the nodes, 1 to 64; what is written does not depend on it")
+        .help("Most threads that run the nodes, 1 to 64; what is written does not depend on it")
 }

@@ -1,26 +1,27 @@
 -- What work on its row makes of a machine.
-use Rattle.std.proofs.Common.{◌≡◌, ◌≤◌, ℕ, List, [], ◌∷◌, ◌++◌, length, map, Result, Err, refl, sym, ap, ap₂, subst, ◌∙◌}
+use Rattle.std.proofs.Common.{◌≡◌, ◌≤◌, ℕ, false, List, [], ◌∷◌, ◌++◌, length, map, Result, Err, refl, sym, ap, ap₂, subst, ◌∙◌, arith}
 use Rattle.std.specs.Prelude.{OnOk, IsSome, ⊤}
-use Rattle.std.proofs.lemmas.List.Elements.{length_all_zip}
+use Rattle.std.proofs.lemmas.Bool.{false≢true}
+use Rattle.std.proofs.lemmas.List.Elements.{All-nil, All-cons, length_all_zip}
 use Rattle.std.proofs.lemmas.Result.{on_ok_weaker}
-use Rattle.node_core.specs.Node.{NodeState, phase}
+use Rattle.node_core.specs.Node.{NodeState, is_running, phase}
 use Rattle.machine_core.specs.declared.event.Event.{Event}
 use Rattle.machine_core.specs.declared.event.Event.TheVariants.{Turn}
-use Rattle.machine_core.specs.Events.{HaveStepped, event, after}
+use Rattle.machine_core.specs.Events.{HaveStepped, some_runs, event, after}
 use Rattle.machine_core.specs.Machine.{MachineState}
 use Rattle.machine_core.specs.Sound.{IsSoundMachine}
 use Rattle.machine_core.specs.Turn.{with_phases}
 use Rattle.machine_core.proofs.Lent.{row_is_events}
 use Rattle.machine_core.proofs.Onward.{onward_after}
 use Rattle.machine_core.proofs.Phases.{map-phase-stopped}
-use Rattle.machine_core.proofs.Steps.{after-nil, after-cons}
+use Rattle.machine_core.proofs.Steps.{after-nil, after-cons, after-others}
 use Rattle.phase_pool.specs.declared.error.Refusal.{Refusal}
 use Rattle.phase_pool.specs.declared.error.Refusal.TheVariants.{NoWorker, NoMemory}
 use Rattle.phase_pool.specs.declared.error.PoolError.{PoolError}
 use Rattle.phase_pool.specs.declared.error.PoolError.TheVariants as error
 use Rattle.phase_pool.specs.Numbers.{error_of}
 use Rattle.phase_pool.specs.Phases.{LeadsTo, LeadsWithoutTurn}
-use Rattle.phase_pool.specs.Work.{IsWorked}
+use Rattle.phase_pool.specs.Work.{HasCome, HaveCome, IsWorked}
 
 -- a machine whose row was worked on, `lender` being the machine meanwhile
 module _ (m lender new : MachineState) (input : List ℕ) (old row : List NodeState) (answer : Result ⊤ Refusal) (lent : lender ≡ m) (same : old ≡ m.nodes) (read : input ≡ lender.input) (back : new ≡ record lender { nodes = row }) (worked : IsWorked input old row answer) where
@@ -41,6 +42,23 @@ module _ (m lender new : MachineState) (input : List ℕ) (old row : List NodeSt
       let each : HaveStepped m.input m.nodes row = subst (λ (i : List ℕ). HaveStepped i m.nodes row) inputs (subst (λ (ns : List NodeState). HaveStepped input ns row) same worked.stepped) in
       let events = row_is_events m row each in
       (events.0, events.1, backs ∙ sym events.2)
+
+  pub worked_come : HaveCome new.input new.nodes
+  worked_come =
+      let whole : HaveCome m.input row = subst (λ (i : List ℕ). HaveCome i row) inputs worked.come in
+      subst (λ (x : MachineState). HaveCome x.input x.nodes) (sym backs) whole
+
+-- nodes none of which runs have stopped
+HaveCome-stopped : (input : List ℕ) (nodes : List NodeState) → some_runs nodes ≡ false → HaveCome input nodes
+HaveCome-stopped input [] stopped = All-nil (HasCome input)
+HaveCome-stopped input (n ∷ rest) stopped =
+    let here : is_running n.state ≡ false = grind arith in
+    let there : some_runs rest ≡ false = grind arith in
+    All-cons (HasCome input) n rest (λ runs. absurd (false≢true (sym here ∙ runs))) (HaveCome-stopped input rest there)
+
+-- after the outcome no node runs
+pub HaveCome-over : (m : MachineState) → IsSoundMachine m → IsSome m.outcome → HaveCome m.input m.nodes
+HaveCome-over m sound over = HaveCome-stopped m.input m.nodes (sound.outcome over)
 
 pub no_events : (m : MachineState) → LeadsWithoutTurn m m
 no_events m = ([], tt, sym (after-nil m))
@@ -64,6 +82,11 @@ LeadsTo-turn old m new so_far turned = (
   turned ∙ ap (λ (x : MachineState). event x Turn) so_far.1
       ∙ sym (after-append old so_far.0 (Turn ∷ []) ∙ after-cons (after old so_far.0) Turn [] ∙ after-nil (event (after old so_far.0) Turn)),
 )
+
+-- without a turn there is no outcome that was not there
+pub LeadsWithoutTurn-outcome : (old new : MachineState) → LeadsWithoutTurn old new → new.outcome ≡ old.outcome
+LeadsWithoutTurn-outcome old new reached =
+    ap (λ (x : MachineState). x.outcome) reached.2 ∙ ap (λ (x : MachineState). x.outcome) (after-others old reached.0 reached.1)
 
 -- events leave as many nodes as there were
 pub LeadsTo-length : (old new : MachineState) → LeadsTo old new → length new.nodes ≡ length old.nodes

@@ -1,16 +1,17 @@
 -- Work on parts of a row, put together.
 use Rattle.std.proofs.Common.{◌≡◌, ℕ, ◌+◌, ◌<◌, ◌≤◌, ◌-◌, List, [], ◌∷◌, ◌++◌, length, get_or, take, drop, set, add-zero, Result, Ok, Err, refl, sym, ap, ap₂, ◌∙◌, arith}
-use Rattle.std.specs.Prelude.{IsOk, OnOk, ⊤}
+use Rattle.std.specs.Prelude.{IsOk, OnOk, OnErr, ⊤}
 use Rattle.std.proofs.lemmas.List.{length-map, map-append, map_push, drop-drop, get_or-drop, take_all, take_more_set, take-append-drop}
-use Rattle.std.proofs.lemmas.List.Elements.{length_all_zip}
-use Rattle.node_core.specs.Node.{NodeState, PreparedNode, IsNode, local_steps, phase}
+use Rattle.std.proofs.lemmas.Bool.{false≢true}
+use Rattle.std.proofs.lemmas.List.Elements.{All-nil, All-cons, All-append, length_all_zip}
+use Rattle.node_core.specs.Node.{NodeState, PreparedNode, IsNode, MayRefuseStep, is_running, local_steps, phase}
 use Rattle.node_core.proofs.Sound.{local_steps-end}
 use Rattle.node_core.proofs.Steps.{local_steps-past}
 use Rattle.bsp_exchange.specs.Exchange.{states}
 use Rattle.machine_core.specs.Events.{HaveStepped}
 use Rattle.bsp_exchange.proofs.Tallies.{states-more}
 use Rattle.phase_pool.specs.declared.error.Refusal.{Refusal}
-use Rattle.phase_pool.specs.Work.{IsWorked}
+use Rattle.phase_pool.specs.Work.{HasCome, IsWorked}
 
 HaveStepped-append : (input : List ℕ) (a a' b b' : List NodeState) → HaveStepped input a a' → HaveStepped input b b' → HaveStepped input (a ++ b) (a' ++ b')
 HaveStepped-append input [] [] b b' first second = second
@@ -35,25 +36,37 @@ pub IsWorked-append : (input : List ℕ) (a a' b b' : List NodeState) (r s both 
 IsWorked-append input a a' b b' r s both ok first second = record {
   stepped = HaveStepped-append input a a' b b' first.stepped second.stepped;
   ok = on_ok both (λ fine. let each = ok fine in ap₂ ◌++◌ (of_ok r each.0 first.ok) (of_ok s each.1 second.ok) ∙ sym (map-append (phase input) a b));
+  come = All-append (HasCome input) a' b' first.come second.come;
 }
 
 -- the steps that a node has left are its local part, and no more steps than that change it
 pub phase-past : (input : List ℕ) (n : NodeState) (most : ℕ) → IsNode n → n.limit ≤ most → local_steps input most n ≡ phase input n
 phase-past input n most sound long = local_steps-past input (n.limit - n.ticks) most n (omega arith) (local_steps-end input (n.limit - n.ticks) n sound (omega arith))
 
+-- a node that ran for as many steps as it has ticks left has stopped, and one that was refused memory may be refused its next step
+pub HasCome-run : {E : Type 0} (input : List ℕ) (old new : NodeState) (most : ℕ) (answer : Result ⊤ E) → IsNode old → old.limit ≤ most → OnOk answer (new ≡ local_steps input most old) → OnErr answer (MayRefuseStep input new) → HasCome input new
+HasCome-run input old new most (Ok x) sound long made refuses =
+    let stopped = ap (λ (n : NodeState). is_running n.state) made ∙ local_steps-end input most old sound (omega (arith, long)) in
+    λ runs. absurd (false≢true (sym stopped ∙ runs))
+HasCome-run input old new most (Err e) sound long made refuses = λ runs. refuses
+
 pub drop_one_more : {X : Type 0} (xs ys : List X) (i : ℕ) → drop i xs ≡ drop i ys → drop (i + 1) xs ≡ drop (i + 1) ys
 drop_one_more xs ys i same = sym (drop-drop 1 i xs) ∙ ap (drop 1) same ∙ drop-drop 1 i ys
 
 -- one node more, at the place i of a row of which the nodes before it have been worked on
-pub IsWorked-next : (input : List ℕ) (old row : List PreparedNode) (i : ℕ) (before after : PreparedNode) (r s both : Result ⊤ Refusal) → (IsOk both → IsOk r × IsOk s) → i < length old → length row ≡ length old → drop i row ≡ drop i old → before ≡ get_or row i before → (k : ℕ) × (after.node ≡ local_steps input k before.node) → OnOk s (after.node ≡ phase input before.node) → IsWorked input (states (take i old)) (states (take i row)) r → IsWorked input (states (take (i + 1) old)) (states (take (i + 1) (set row i after))) both
-IsWorked-next input old row i before after r s both ok within long rest is stepped done so_far =
+pub IsWorked-next : (input : List ℕ) (old row : List PreparedNode) (i : ℕ) (before after : PreparedNode) (r s both : Result ⊤ Refusal) → (IsOk both → IsOk r × IsOk s) → i < length old → length row ≡ length old → drop i row ≡ drop i old → before ≡ get_or row i before → (k : ℕ) × (after.node ≡ local_steps input k before.node) → OnOk s (after.node ≡ phase input before.node) → HasCome input after.node → IsWorked input (states (take i old)) (states (take i row)) r → IsWorked input (states (take (i + 1) old)) (states (take (i + 1) (set row i after))) both
+IsWorked-next input old row i before after r s both ok within long rest is stepped done come so_far =
     let same : before ≡ get_or old i before =
     is ∙ ap (λ j. get_or row j before) (sym (add-zero i)) ∙ sym (get_or-drop i row 0 before) ∙ ap (λ ps. get_or ps 0 before) rest ∙ get_or-drop i old 0 before ∙ ap (λ j. get_or old j before) (add-zero i) in
     let first = states-more old i before within same in
     let second : states (take (i + 1) (set row i after)) ≡ states (take i row) ++ after.node ∷ [] =
     ap states (take_more_set row i after (omega (arith, long, within))) ∙ map_push (λ (p : PreparedNode). p.node) (take i row) after in
     rw (first, second) (IsWorked-append input (states (take i old)) (states (take i row)) (before.node ∷ []) (after.node ∷ []) r s both ok so_far
-    record { stepped = (stepped, tt); ok = on_ok s (λ fine. ap (λ (n : NodeState). n ∷ []) (of_ok s fine done)) })
+    record {
+      stepped = (stepped, tt);
+      ok = on_ok s (λ fine. ap (λ (n : NodeState). n ∷ []) (of_ok s fine done));
+      come = All-cons (HasCome input) after.node [] come (All-nil (HasCome input));
+    })
 
 -- all nodes, once each place is done
 pub IsWorked-all : (input : List ℕ) (old row : List PreparedNode) (i : ℕ) (r : Result ⊤ Refusal) → length row ≡ length old → length old ≤ i → IsWorked input (states (take i old)) (states (take i row)) r → IsWorked input (states old) (states row) r

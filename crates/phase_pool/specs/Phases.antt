@@ -6,6 +6,7 @@ use Rattle.machine_core.specs.Machine.{MachineState}
 use Rattle.machine_core.specs.Turn.{with_phases}
 use Rattle.phase_pool.specs.declared.error.Refusal.{Refusal}
 use Rattle.phase_pool.specs.declared.error.Refusal.TheVariants.{NoWorker}
+use Rattle.phase_pool.specs.Work.{HaveCome}
 
 -- some events lead from one machine to another
 abbrev pub LeadsTo : MachineState → MachineState → Type 0
@@ -15,9 +16,11 @@ LeadsTo old new = (events : List Event) × (new ≡ after old events)
 abbrev pub LeadsWithoutTurn : MachineState → MachineState → Type 0
 LeadsWithoutTurn old new = (events : List Event) × MakeNoTurn old events × (new ≡ after old events)
 
--- a machine after so many workers were to make its nodes' local parts of the superstep: all of them are made at Ok, and some of
--- their steps otherwise. A thread is wanted only for a second worker and a second node
+-- a machine after so many workers were to make its nodes' local parts of the superstep: all of them are made at Ok, and otherwise
+-- each as far as memory allowed. A thread is wanted only where there are several workers and several
+-- nodes
 pub record IsPhaseMade (workers : ℕ) (old new : MachineState) (answer : Result ⊤ Refusal) : Type 0 where
   pub ok : OnOk answer (new ≡ with_phases old)
   pub stepped : LeadsWithoutTurn old new
+  pub come : HaveCome new.input new.nodes
   pub no_worker : IsErrOf answer NoWorker → (1 < workers) × (1 < length old.nodes)

@@ -4,7 +4,7 @@ ghost use Rattle.std.specs.Prelude.{◌≡◌, ◌↔◌, ◌⊎◌, IsOk, IsErr
 
 use std::alloc::AllocError;
 
-/// Why a call of the pool did nothing or did not come to its end, in the order in which the causes are tried (own rules).
+/// Why a call of the pool did not answer `Ok`, in the order in which the causes are tried (own rules).
 #[derive(Clone, Copy, Debug, PartialEq, Eq)]
 pub enum PoolError {
     /// The number of workers is not 1 to 64.

@@ -2,7 +2,7 @@
 //!
 //! Between two turns the nodes of a machine do not meet (BSP, Valiant 1990), so each thread can take some of them through their local
 //! parts of the superstep. [`run_phase`] does so for one superstep, and [`run`] up to the machine's outcome. The machine lends its row
-//! of nodes meanwhile. The row goes to the threads in contiguous parts of as many nodes, give or take one: it is halved, one half
+//! of nodes meanwhile. The row goes to the threads in contiguous parts of equal size, give or take one node: it is halved, one half
 //! goes to a thread that does the same with it, and each join hands back that thread's half, in its place and with the promise of what
 //! was done to it.
 //!
@@ -11,9 +11,10 @@
 //! - At `Ok` the machine is as one thread leaves it, whatever the number of workers: [`run_phase`] leaves each node at the end of its
 //!   local part and all else as it was, and [`run`] leaves the machine at its end.
 //! - Every thread that was started is joined before a call answers.
-//! - Nothing that is refused stops a node that did not need it. The half of a thread that cannot be started is run by the thread
-//!   that wanted it, and nodes for whose half no room is to be had stay with theirs. No turn is made after a refusal. Then the
-//!   machine is one that events lead to, and the call made again leaves what it would have left: see [`laws`].
+//! - A refusal stops no node that did not need what was refused: afterwards each node has stopped, or its next step may be refused
+//!   memory. The half of a thread that cannot be started is run by the thread that wanted it, and nodes for whose half no
+//!   room is to be had stay with theirs. No turn is made after a refusal. Then the machine is one that events lead to, and the
+//!   call made again leaves what it would have left: see [`laws`].
 //! - After the outcome both calls answer `Ok` and change nothing, as long as the numbers are within their ranges.
 //! - Both calls may wait, for their own threads alone; a gate that waits is its writer's affair. No thread of the pool waits for
 //!   another but to join it.

@@ -5,7 +5,7 @@ ghost use Rattle.std.specs.Thread.{IsSend, IsSync};
 ghost use denote.Param.Send.{Frees};
 ghost use Rattle.node_core.specs.Node.{local_steps, phase};
 ghost use Rattle.bsp_exchange.specs.Exchange.{states};
-ghost use Rattle.phase_pool.specs.Work.{IsWorked, AreHalves};
+ghost use Rattle.phase_pool.specs.Work.{HasCome, IsWorked, AreHalves};
 
 use crate::error::{Refusal, both};
 use crate::gate::Gate;
@@ -195,6 +195,7 @@ fn run_node<A: Allocator + Copy, G: Gate<A>>(
 ) -> Result<(), Refusal>
     ensures ok { OnOk result (node.new.node ≡ phase input.now node.old.node) }
     ensures stepped { (k : ℕ) × (node.new.node ≡ local_steps input.now k node.old.node) }
+    ensures come { HasCome input.now node.new.node }
     ensures no_worker { result ≢ Err Refusal.NoWorker }
 {
     if !node.state().is_running() {

@@ -6,6 +6,7 @@ ghost use denote.Param.Send.{Frees};
 ghost use Rattle.machine_core.specs.Turn.{with_phases, end_of};
 ghost use Rattle.phase_pool.specs.Numbers.{numbers_fault};
 ghost use Rattle.phase_pool.specs.Phases.{LeadsTo, LeadsWithoutTurn, IsPhaseMade};
+ghost use Rattle.phase_pool.specs.Work.{HaveCome};
 
 use crate::error::{PoolError, Refusal};
 use crate::gate::Gate;
@@ -43,7 +44,10 @@ pub fn run_phase<R: Threads + Wait + Sync, A: Allocator + Copy + Send, G: Gate<A
     ensures no_worker { IsErrOf result PoolError.NoWorker
         → (1 < workers) × (1 < length machine.old.nodes) }
     ensures err { OnErr result (LeadsWithoutTurn machine.old machine.new) }
-    ensures over { numbers_fault workers slice ≡ None → IsSome machine.old.outcome → IsOk result }
+    ensures over { numbers_fault workers slice ≡ None → IsSome machine.old.outcome
+        → IsOk result × (machine.new ≡ machine.old) }
+    ensures stopped { numbers_fault workers slice ≡ None
+        → HaveCome machine.new.input machine.new.nodes }
 {
     check_numbers(workers, slice)?;
     if machine.outcome().is_some() {
@@ -75,7 +79,11 @@ pub fn run<R: Threads + Wait + Sync, A: Allocator + Copy + Send, G: Gate<A> + Sy
     ensures no_worker { IsErrOf result PoolError.NoWorker
         → (1 < workers) × (1 < length machine.old.nodes) }
     ensures err { OnErr result (LeadsTo machine.old machine.new) }
-    ensures over { numbers_fault workers slice ≡ None → IsSome machine.old.outcome → IsOk result }
+    ensures over { numbers_fault workers slice ≡ None → IsSome machine.old.outcome
+        → IsOk result × (machine.new ≡ machine.old) }
+    ensures stopped { numbers_fault workers slice ≡ None
+        → HaveCome machine.new.input machine.new.nodes }
+    ensures going { numbers_fault workers slice ≡ None → OnErr result (machine.new.outcome ≡ None) }
 {
     check_numbers(workers, slice)?;
     while machine.outcome().is_none() {

@@ -83,8 +83,8 @@ impl<A: Allocator> Lender<A> {
         self.input.as_slice()
     }
 
-    /// The machine with its row again. Each node has made some steps of its own meanwhile, or none, and nothing else has
-    /// changed.
+    /// The machine with its row again. The caller's condition is that each node has made some steps of its own meanwhile, or none;
+    /// nothing else changes.
     pub fn take_back(self, row: Vec<Node<A>, A>) -> Machine<A>
         requires { HaveStepped self.input self.nodes (states row.items) }
         ensures { result ≡ record self { nodes = states row.items } }

@@ -12,7 +12,7 @@ loop-place-preserved g c =
     let after = c.run_node.new.node in
     record {
       work = IsWorked-next c.args.input.now old row i c.index_mut.result.now after c.loop-place.answer c.run_node.result c.both-answer.result
-          c.both-answer.ensures.ok.0 (omega (arith, c.loop-place-test.true, c.len-place-end.ensures, c.args.nodes.ok.0)) so_far.length so_far.rest c.index_mut.ensures.value c.run_node.ensures.stepped c.run_node.ensures.ok so_far.work;
+          c.both-answer.ensures.ok.0 (omega (arith, c.loop-place-test.true, c.len-place-end.ensures, c.args.nodes.ok.0)) so_far.length so_far.rest c.index_mut.ensures.value c.run_node.ensures.stepped c.run_node.ensures.ok c.run_node.ensures.come so_far.work;
       rest = drop-set-lt (i + 1) row i after (omega arith) ∙ drop_one_more row old i so_far.rest;
       length = length-set row i after ∙ so_far.length;
       no_worker = λ refused. elim (c.both-answer.ensures.no_worker.0 refused) [

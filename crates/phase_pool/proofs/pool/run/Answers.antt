@@ -7,9 +7,10 @@ use Rattle.machine_core.specs.Events.{event}
 use Rattle.machine_core.specs.Machine.{MachineState}
 use Rattle.machine_core.specs.Turn.{with_phases, end_of}
 use Rattle.machine_core.proofs.Ends.{end_of-superstep, end_of-there}
+use Rattle.machine_core.proofs.Options.{none_from}
 use Rattle.machine_core.proofs.Steps.{after-nil}
 use Rattle.machine_core.proofs.Supersteps.{superstep-made, rows_left}
-use Rattle.phase_pool.proofs.Phases.{worker_refused, LeadsTo-on, LeadsTo-turn, LeadsTo-length}
+use Rattle.phase_pool.proofs.Phases.{worker_refused, LeadsTo-on, LeadsTo-turn, LeadsTo-length, LeadsWithoutTurn-outcome, HaveCome-over}
 use Rattle.phase_pool.proofs.pool.run.Goals as goal
 
 pub returns-in_err-check_numbers-clause-err : goal.returns-in_err-check_numbers-clause-err
@@ -31,6 +32,13 @@ pub returns-in_err-make_local_parts-clause-err : goal.returns-in_err-make_local_
 returns-in_err-make_local_parts-clause-err g c =
     let p = err_from_is_err_and c.from_residual-in_err-make_local_parts.result c.from_residual-in_err-make_local_parts.ensures.1 in
     rw p.1 (LeadsTo-on c.args.machine.now c.loop-machine.machine c.make_local_parts.new.machine c.loop-machine.invariant.so_far c.make_local_parts.ensures.stepped)
+
+pub returns-in_err-make_local_parts-clause-going :
+    goal.returns-in_err-make_local_parts-clause-going
+returns-in_err-make_local_parts-clause-going g c within =
+    let p = err_from_is_err_and c.from_residual-in_err-make_local_parts.result c.from_residual-in_err-make_local_parts.ensures.1 in
+    let open_yet = ap is_some (sym c.outcome.ensures.value) ∙ c.is_none.ensures ∙ ap not c.loop-machine-test.true in
+    rw p.1 (LeadsWithoutTurn-outcome c.loop-machine.machine c.make_local_parts.new.machine c.make_local_parts.ensures.stepped ∙ none_from c.loop-machine.machine.outcome (λ x is. false≢true (sym open_yet ∙ ap is_some is)))
 
 pub loop-machine-smaller : goal.loop-machine-smaller
 loop-machine-smaller g c =
@@ -63,3 +71,7 @@ pub returns-clause-ok : goal.returns-clause-ok
 returns-clause-ok g c =
     let over = ap is_some (sym c.outcome.ensures.value) ∙ c.is_none.ensures ∙ ap not c.loop-machine-test.false in
     sym (end_of-there c.loop-machine.machine over) ∙ c.loop-machine.invariant.same_end
+
+pub returns-clause-stopped : goal.returns-clause-stopped
+returns-clause-stopped g c within =
+    HaveCome-over c.loop-machine.machine c.outcome.ensures.sound (ap is_some (sym c.outcome.ensures.value) ∙ c.is_none.ensures ∙ ap not c.loop-machine-test.false)

@@ -1,7 +1,7 @@
 use Rattle.std.proofs.Common.{sym, ap, ◌∙◌}
 use Rattle.std.specs.Prelude.{is_some}
 use Rattle.std.proofs.lemmas.Result.{err_from_is_err_and}
-use Rattle.phase_pool.proofs.Phases.{no_events, phases_over}
+use Rattle.phase_pool.proofs.Phases.{no_events, phases_over, HaveCome-over}
 use Rattle.phase_pool.proofs.pool.run_phase.Goals as goal
 
 pub returns-in_err-check_numbers-clause-err : goal.returns-in_err-check_numbers-clause-err
@@ -12,3 +12,7 @@ returns-in_err-check_numbers-clause-err g c =
 pub returns-then-is_some-clause-ok : goal.returns-then-is_some-clause-ok
 returns-then-is_some-clause-ok g c =
     phases_over c.args.machine.now c.outcome.ensures.sound (ap is_some (sym c.outcome.ensures.value) ∙ sym c.is_some.ensures ∙ c.if-is_some.true)
+
+pub returns-then-is_some-clause-stopped : goal.returns-then-is_some-clause-stopped
+returns-then-is_some-clause-stopped g c within =
+    HaveCome-over c.args.machine.now c.outcome.ensures.sound (ap is_some (sym c.outcome.ensures.value) ∙ sym c.is_some.ensures ∙ c.if-is_some.true)

@@ -2,7 +2,7 @@ use Rattle.std.proofs.Common.{◌≡◌, List, length, sym, ap, ◌∙◌, arith
 use Rattle.std.proofs.lemmas.List.{length-map}
 use Rattle.node_core.specs.Node.{NodeState, PreparedNode}
 use Rattle.bsp_exchange.specs.Exchange.{states}
-use Rattle.phase_pool.proofs.Phases.{worked_phases, worked_events}
+use Rattle.phase_pool.proofs.Phases.{worked_phases, worked_events, worked_come}
 use Rattle.phase_pool.proofs.pool.work_on_machine.Goals as goal
 
 pub returns : goal.returns
@@ -18,6 +18,7 @@ returns g c =
     record {
       ok = worked_phases m lender c.take_back.result input (states old.items) row answer lent.rest lent.row c.input.ensures c.take_back.ensures work;
       stepped = worked_events m lender c.take_back.result input (states old.items) row answer lent.rest lent.row c.input.ensures c.take_back.ensures work;
+      come = worked_come m lender c.take_back.result input (states old.items) row answer lent.rest lent.row c.input.ensures c.take_back.ensures work;
       no_worker = λ refused.
           let nodes : length old.items ≡ length m.nodes = sym (length-map old.items (λ (p : PreparedNode). p.node)) ∙ ap (λ (ns : List NodeState). length ns) lent.row in
           let parts = c.work_on-worked.ensures.no_worker refused in

@@ -54,14 +54,14 @@ pub drop_one_more : {X : Type 0} (xs ys : List X) (i : ℕ) → drop i xs ≡ dr
 drop_one_more xs ys i same = sym (drop-drop 1 i xs) ∙ ap (drop 1) same ∙ drop-drop 1 i ys
 
 -- one node more, at the place i of a row of which the nodes before it have been worked on
-pub IsWorked-next : (input : List ℕ) (old row : List PreparedNode) (i : ℕ) (before after : PreparedNode) (r s both : Result ⊤ Refusal) → (IsOk both → IsOk r × IsOk s) → i < length old → length row ≡ length old → drop i row ≡ drop i old → before ≡ get_or row i before → (k : ℕ) × (after.node ≡ local_steps input k before.node) → OnOk s (after.node ≡ phase input before.node) → HasCome input after.node → IsWorked input (states (take i old)) (states (take i row)) r → IsWorked input (states (take (i + 1) old)) (states (take (i + 1) (set row i after))) both
-IsWorked-next input old row i before after r s both ok within long rest is stepped done come so_far =
+pub IsWorked-next : (input : List ℕ) (old present : List PreparedNode) (i : ℕ) (before after : PreparedNode) (r s both : Result ⊤ Refusal) → (IsOk both → IsOk r × IsOk s) → i < length old → length present ≡ length old → drop i present ≡ drop i old → before ≡ get_or present i before → (k : ℕ) × (after.node ≡ local_steps input k before.node) → OnOk s (after.node ≡ phase input before.node) → HasCome input after.node → IsWorked input (states (take i old)) (states (take i present)) r → IsWorked input (states (take (i + 1) old)) (states (take (i + 1) (set present i after))) both
+IsWorked-next input old present i before after r s both ok within long rest is stepped done come so_far =
     let same : before ≡ get_or old i before =
-    is ∙ ap (λ j. get_or row j before) (sym (add-zero i)) ∙ sym (get_or-drop i row 0 before) ∙ ap (λ ps. get_or ps 0 before) rest ∙ get_or-drop i old 0 before ∙ ap (λ j. get_or old j before) (add-zero i) in
+    is ∙ ap (λ j. get_or present j before) (sym (add-zero i)) ∙ sym (get_or-drop i present 0 before) ∙ ap (λ ps. get_or ps 0 before) rest ∙ get_or-drop i old 0 before ∙ ap (λ j. get_or old j before) (add-zero i) in
     let first = states-more old i before within same in
-    let second : states (take (i + 1) (set row i after)) ≡ states (take i row) ++ after.node ∷ [] =
-    ap states (take_more_set row i after (omega (arith, long, within))) ∙ map_push (λ (p : PreparedNode). p.node) (take i row) after in
-    rw (first, second) (IsWorked-append input (states (take i old)) (states (take i row)) (before.node ∷ []) (after.node ∷ []) r s both ok so_far
+    let second : states (take (i + 1) (set present i after)) ≡ states (take i present) ++ after.node ∷ [] =
+    ap states (take_more_set present i after (omega (arith, long, within))) ∙ map_push (λ (p : PreparedNode). p.node) (take i present) after in
+    rw (first, second) (IsWorked-append input (states (take i old)) (states (take i present)) (before.node ∷ []) (after.node ∷ []) r s both ok so_far
     record {
       stepped = (stepped, tt);
       ok = on_ok s (λ fine. ap (λ (n : NodeState). n ∷ []) (of_ok s fine done));
@@ -69,10 +69,10 @@ IsWorked-next input old row i before after r s both ok within long rest is stepp
     })
 
 -- all nodes, once each place is done
-pub IsWorked-all : (input : List ℕ) (old row : List PreparedNode) (i : ℕ) (r : Result ⊤ Refusal) → length row ≡ length old → length old ≤ i → IsWorked input (states (take i old)) (states (take i row)) r → IsWorked input (states old) (states row) r
-IsWorked-all input old row i r long past worked =
+pub IsWorked-all : (input : List ℕ) (old present : List PreparedNode) (i : ℕ) (r : Result ⊤ Refusal) → length present ≡ length old → length old ≤ i → IsWorked input (states (take i old)) (states (take i present)) r → IsWorked input (states old) (states present) r
+IsWorked-all input old present i r long past worked =
     let first : take i old ≡ old = take_all i old past in
-    let second : take i row ≡ row = take_all i row (omega (arith, long, past)) in
+    let second : take i present ≡ present = take_all i present (omega (arith, long, past)) in
     rw (first, second) at worked
 
 -- work leaves as many nodes as there were

@@ -4,7 +4,7 @@ use Rattle.std.specs.List.{flat_map}
 use Rattle.std.specs.Io.KnownBytes.{Appends}
 use Rattle.std.proofs.KnownBytes.{Appends-trans}
 use Rattle.std.proofs.Math.Seq.{drop-cons, take-append-add}
-use Rattle.std.proofs.lemmas.List.{take-append-drop, take-append-le, take_more}
+use Rattle.std.proofs.lemmas.List.{take-append-drop, take-append-le}
 use Rattle.std.proofs.lemmas.Grind.{flat_map-append}
 use Rattle.counted_io.specs.Counted.{HasRisen}
 use Rattle.counted_io.specs.Transfers.{AppendsPrefix}
@@ -17,14 +17,6 @@ flat_map-at f xs i x within is =
     ap (flat_map f) (sym (take-append-drop i xs)) ∙ flat_map-append f (take i xs) (drop i xs)
     ∙ ap (λ ys. flat_map f (take i xs) ++ flat_map f ys)
     (drop-cons xs i x within ∙ ap (λ y. y ∷ drop (suc i) xs) (sym is))
-
--- one more
-pub flat_map-take_more : {X A : Type 0} (f : X → List A) (xs : List X) (i : ℕ) (x : X)
-    → i < length xs → x ≡ get_or xs i x
-    → flat_map f (take (i + 1) xs) ≡ flat_map f (take i xs) ++ (f x ++ [])
-flat_map-take_more f xs i x within is =
-    ap (flat_map f) (take_more xs i x within) ∙ flat_map-append f (take i xs) (get_or xs i x ∷ [])
-    ∙ ap (λ y. flat_map f (take i xs) ++ (f y ++ [])) (sym is)
 
 -- a prefix of what comes next, after what was written, is a prefix of all
 pub AppendsPrefix-behind : (done next rest whole : List ℕ) (a b c : Option (List ℕ)) → whole ≡ done ++ (next ++ rest)

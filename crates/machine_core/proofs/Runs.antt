@@ -1,16 +1,18 @@
 -- Steps of one node of a machine.
-use Rattle.std.proofs.Common.{◌≡◌, ℕ, zero, suc, List, replicate, sym, ap, ap₂, ◌∙◌}
+use Rattle.std.proofs.Common.{◌≡◌, ℕ, zero, suc, ◌<◌, ◌≤◌, false, List, length, replicate, Option, sym, ap, ap₂, ◌∙◌}
 use Rattle.std.specs.Prelude.{slice_get, IsSomeAnd}
+use Rattle.std.specs.Option.{option_map_or}
+use Rattle.std.proofs.lemmas.Option.{slice_get_past}
 use Rattle.std.specs.declared.result.Result.{Result}
 use Rattle.std.proofs.Common.{Ok, Err, OnOk, OnErr}
 use Rattle.node_core.specs.Node.{NodeState, MayRefuseStep}
 use Rattle.machine_core.specs.declared.event.Event.{Event}
 use Rattle.machine_core.specs.declared.event.Event.TheVariants.{Step}
 use Rattle.machine_core.specs.Machine.{MachineState}
-use Rattle.machine_core.specs.Events.{stepped, stepped_often, event, after}
+use Rattle.machine_core.specs.Events.{runs, is_enabled, stepped, stepped_often, event, after}
 use Rattle.machine_core.specs.Sound.{IsSoundMachine}
 use Rattle.machine_core.proofs.Sound.{IsSoundMachine-event, IsSoundMachine-after}
-use Rattle.machine_core.proofs.Steps.{after-nil, after-cons, event-step}
+use Rattle.machine_core.proofs.Steps.{after-nil, after-cons, event-step, event-disabled}
 
 -- so many steps of one rank
 abbrev pub steps_of : ℕ → ℕ → List Event
@@ -22,6 +24,13 @@ after-often (suc k) m rank =
     after-cons m (Step rank) (steps_of rank k)
     ∙ ap (λ (x : MachineState). after x (steps_of rank k)) (event-step m rank)
     ∙ after-often k (record m { nodes = stepped m.input rank m.nodes }) rank
+
+-- a rank that is absent makes no step
+pub steps-absent : (k : ℕ) (m : MachineState) (rank : ℕ) → length m.nodes ≤ rank → m ≡ after m (steps_of rank k)
+steps-absent zero m rank past = sym (after-nil m)
+steps-absent (suc k) m rank past =
+    let off : is_enabled m (Step rank) ≡ false = ap (λ (o : Option NodeState). option_map_or runs o false) (slice_get_past m.nodes rank past) in
+    steps-absent k m rank past ∙ sym (after-cons m (Step rank) (steps_of rank k) ∙ ap (λ (x : MachineState). after x (steps_of rank k)) (event-disabled m (Step rank) off))
 
 -- a machine whose row and input were handed out, and which got `row` back
 module _ (m : MachineState) (input : List ℕ) (old new row : List NodeState) (rank : ℕ) (input_is : input ≡ m.input) (old_is : old ≡ m.nodes) (row_is : row ≡ new) where
@@ -42,9 +51,9 @@ module _ (m : MachineState) (input : List ℕ) (old new row : List NodeState) (r
   sound-step (Ok x) sound ok err = rw (with-step ok) (IsSoundMachine-event m (Step rank) sound)
   sound-step (Err e) sound ok err = rw (with-none err) sound
 
-  pub sound-steps : {T E : Type 0} (r : Result T E) (most : ℕ) → IsSoundMachine m → OnOk r (new ≡ stepped_often input rank most old) → OnErr r ((k : ℕ) × (new ≡ stepped_often input rank k old)) → IsSoundMachine (record m { nodes = row })
+  pub sound-steps : {T E : Type 0} (r : Result T E) (most : ℕ) → IsSoundMachine m → OnOk r (new ≡ stepped_often input rank most old) → OnErr r ((k : ℕ) × (k < most) × (new ≡ stepped_often input rank k old)) → IsSoundMachine (record m { nodes = row })
   sound-steps (Ok x) most sound ok err = rw (with-steps most ok) (IsSoundMachine-after m (steps_of rank most) sound)
-  sound-steps (Err e) most sound ok err = rw (with-steps err.0 err.1) (IsSoundMachine-after m (steps_of rank err.0) sound)
+  sound-steps (Err e) most sound ok err = rw (with-steps err.0 err.2) (IsSoundMachine-after m (steps_of rank err.0) sound)
 
 -- the next step of a rank may be refused, by the input and the row as they are now
 pub may_refuse : (input input' : List ℕ) (nodes nodes' : List NodeState) (rank : ℕ) → input ≡ input' → nodes' ≡ nodes → IsSomeAnd (slice_get nodes rank) (λ n. MayRefuseStep input n) → IsSomeAnd (slice_get nodes' rank) (λ n. MayRefuseStep input' n)

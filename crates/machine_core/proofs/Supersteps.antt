@@ -44,7 +44,7 @@ IsOnPhase-phases m sound =
     let long : length all.now.nodes ≤ m.settings.nodes = rw (length-nodes all.now all.phasing.sound, all.settings) (omega arith) in
     rw (← IsPhasing-done m all.now m.settings.nodes sound long all.phasing) all.phasing.on
 
-none_is_lowest : (nodes : List NodeState) → some_runs nodes ≡ false → lowest is_running nodes ≡ None
+pub none_is_lowest : (nodes : List NodeState) → some_runs nodes ≡ false → lowest is_running nodes ≡ None
 none_is_lowest [] stopped = refl
 none_is_lowest (n ∷ rest) stopped =
     let here : is_running n.state ≡ false = grind arith in

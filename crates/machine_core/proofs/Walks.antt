@@ -25,15 +25,15 @@ walk-suc : (k : ℕ) (m : MachineState) → walk (suc k) m ≡ option_map_or (λ
 unfolding walk
 walk-suc k m = refl
 
-walk-zero : (m : MachineState) → walk zero m ≡ []
+pub walk-zero : (m : MachineState) → walk zero m ≡ []
 unfolding walk
 walk-zero m = refl
 
-walk-none : (k : ℕ) (m : MachineState) → next_event m ≡ None → walk k m ≡ []
+pub walk-none : (k : ℕ) (m : MachineState) → next_event m ≡ None → walk k m ≡ []
 walk-none zero m none = walk-zero m
 walk-none (suc k) m none = walk-suc k m ∙ ap (λ (o : Option Event). option_map_or (λ e. e ∷ walk k (event m e)) o []) none
 
-walk-some : (k : ℕ) (m : MachineState) (e : Event) → next_event m ≡ Some e → walk (suc k) m ≡ e ∷ walk k (event m e)
+pub walk-some : (k : ℕ) (m : MachineState) (e : Event) → next_event m ≡ Some e → walk (suc k) m ≡ e ∷ walk k (event m e)
 walk-some k m e some = walk-suc k m ∙ ap (λ (o : Option Event). option_map_or (λ e. e ∷ walk k (event m e)) o []) some
 
 pub walked-zero : (m : MachineState) → walked 0 m ≡ m
@@ -42,7 +42,7 @@ walked-zero m = ap (after m) (walk-zero m) ∙ after-nil m
 pub walked-some : (k : ℕ) (m : MachineState) (e : Event) → next_event m ≡ Some e → walked (suc k) m ≡ walked k (event m e)
 walked-some k m e some = ap (after m) (walk-some k m e some) ∙ after-cons m e (walk k (event m e))
 
-walked-none : (k : ℕ) (m : MachineState) → next_event m ≡ None → walked k m ≡ m
+pub walked-none : (k : ℕ) (m : MachineState) → next_event m ≡ None → walked k m ≡ m
 walked-none k m none = ap (after m) (walk-none k m none) ∙ after-nil m
 
 -- after the outcome nothing is left
@@ -107,7 +107,7 @@ some_of (Some n) here = (n, refl)
 
 module _ (m : MachineState) where
   -- a node stands at the place of its rank
-  rank-at : (rank : ℕ) (n : NodeState) → IsSoundMachine m → slice_get m.nodes rank ≡ Some n → n.hart.rank ≡ rank
+  pub rank-at : (rank : ℕ) (n : NodeState) → IsSoundMachine m → slice_get m.nodes rank ≡ Some n → n.hart.rank ≡ rank
   rank-at rank n sound found =
       let within = slice_get_within m.nodes rank n found in
       let long = length-nodes m sound in
@@ -118,7 +118,7 @@ module _ (m : MachineState) where
       let there = slice_get-get_or all rank 0 (rw (length-range_with_len 0 m.settings.nodes) below) in
       same_Some n.hart.rank rank (sym here ∙ there ∙ ap (λ k. Some k) (get_or-range_with_len 0 m.settings.nodes rank 0 below ∙ zero-add rank))
 
-  next_event-step : (rank : ℕ) → IsSoundMachine m → is_enabled m (Step rank) ≡ true → ((j : ℕ) → j < rank → is_enabled m (Step j) ≡ false) → next_event m ≡ Some (Step rank)
+  pub next_event-step : (rank : ℕ) → IsSoundMachine m → is_enabled m (Step rank) ≡ true → ((j : ℕ) → j < rank → is_enabled m (Step j) ≡ false) → next_event m ≡ Some (Step rank)
   next_event-step rank sound enabled before =
       let found = lowest_running m.nodes rank enabled before in
       let open_yet = enabled_open m (Step rank) sound enabled in
@@ -136,7 +136,7 @@ module _ (m : MachineState) where
       }
 
   -- a step changes nothing at another rank
-  enabled-other : (rank j : ℕ) → rank ≢ j → is_enabled (event m (Step rank)) (Step j) ≡ is_enabled m (Step j)
+  pub enabled-other : (rank j : ℕ) → rank ≢ j → is_enabled (event m (Step rank)) (Step j) ≡ is_enabled m (Step j)
   enabled-other rank j other =
       ap (λ (x : MachineState). is_enabled x (Step j)) (event-step m rank)
       ∙ ap (λ (o : Option NodeState). option_map_or runs o false) (slice_get-stepped_other m.input j rank m.nodes other)

@@ -138,13 +138,6 @@ impl<A: Allocator + Copy> Machine<A> {
         Ok(true)
     }
 
-    /// Whether the turn is enabled: no node runs, and there is no outcome.
-    fn can_turn(&self) -> bool
-        ensures { result ≡ is_enabled self.now the_turn }
-    {
-        self.outcome.is_none() && !row::some_runs(&self.nodes)
-    }
-
     /// Makes the turn. All memory is asked for before the exchange, so that nothing can be refused after it.
     fn make_turn(&mut self) -> Result<(), AllocError>
         requires { is_enabled self.old the_turn ≡ true }
@@ -189,22 +182,38 @@ impl<A: Allocator + Copy> Machine<A> {
             (λ n. MayRefuseStep self.new.input n)) }
     {
         for rank in 0..self.nodes.len() {
-            self.run_node(rank)?;
+            let limit = self.settings.limit;
+            self.run_at(rank, limit)?;
         }
         Ok(())
     }
 
-    /// Runs the node of a rank until it stops.
-    fn run_node(&mut self, rank: usize) -> Result<(), AllocError>
+    /// Makes at most `most` steps of the node of a rank, while it runs. Of a rank that is absent there are none.
+    ///
+    /// # Errors
+    /// Where memory is refused in a step. The steps before it are made, fewer than `most`, and the node still runs.
+    pub fn run_node(&mut self, rank: u32, most: u64) -> Result<(), AllocError>
+        ensures ok { OnOk result (self.new ≡ after self.old (replicate most (step_of rank))) }
+        ensures err { OnErr result ((k : ℕ) × (k < most)
+            × (self.new ≡ after self.old (replicate k (step_of rank)))) }
+        ensures refuses { OnErr result (MayRefuseEvent self.new (step_of rank)) }
+    {
+        if rank as usize >= self.nodes.len() {
+            return Ok(());
+        }
+        self.run_at(rank as usize, most)
+    }
+
+    /// Makes at most `most` steps of the node at a place of the row, while it runs.
+    fn run_at(&mut self, rank: usize, most: u64) -> Result<(), AllocError>
         requires { rank < length self.old.nodes }
-        ensures ok { OnOk result
-            (self.new ≡ after self.old (replicate self.old.settings.limit (step_of rank))) }
-        ensures err { OnErr result
-            ((k : ℕ) × (self.new ≡ after self.old (replicate k (step_of rank)))) }
+        ensures ok { OnOk result (self.new ≡ after self.old (replicate most (step_of rank))) }
+        ensures err { OnErr result ((k : ℕ) × (k < most)
+            × (self.new ≡ after self.old (replicate k (step_of rank)))) }
         ensures refuses { OnErr result (MayRefuseEvent self.new (step_of rank)) }
         ensures sound { IsSoundMachine self.old }
     {
-        row::run_at(&mut self.nodes, rank, self.settings.limit, &self.input)
+        row::run_at(&mut self.nodes, rank, most, &self.input)
     }
 
     /// Runs the machine to its outcome, superstep by superstep. After the outcome nothing is left to run.
@@ -233,6 +242,13 @@ impl<A: Allocator> Machine<A> {
         ensures sound { IsSoundMachine self.now }
     {
         self.outcome
+    }
+
+    /// Whether the turn is enabled: no node runs, and there is no outcome.
+    pub fn can_turn(&self) -> bool
+        ensures { result ≡ is_enabled self.now the_turn }
+    {
+        self.outcome.is_none() && !row::some_runs(&self.nodes)
     }
 
     /// What the nodes wrote in the supersteps that are over, rank by rank in each.
@@ -280,7 +296,8 @@ impl<A: Allocator> Machine<A> {
 
     /// What the machine is made of.
     pub fn settings(&self) -> Settings
-        ensures { result ≡ self.now.settings }
+        ensures value { result ≡ self.now.settings }
+        ensures sound { IsSoundMachine self.now }
     {
         self.settings
     }

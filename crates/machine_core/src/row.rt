@@ -57,7 +57,7 @@ pub(crate) fn run_at<A: Allocator + Copy>(
     ensures ok { OnOk result
         (states nodes.new ≡ stepped_often input.now rank most (states nodes.old)) }
     ensures err { OnErr result
-        ((k : ℕ) × (states nodes.new ≡ stepped_often input.now rank k (states nodes.old))) }
+        ((k : ℕ) × (k < most) × (states nodes.new ≡ stepped_often input.now rank k (states nodes.old))) }
     ensures refuses { OnErr result
         (IsSomeAnd (slice_get (states nodes.new) rank) (λ n. MayRefuseStep input.now n)) }
 {

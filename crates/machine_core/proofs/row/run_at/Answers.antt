@@ -11,7 +11,7 @@ returns-clause-ok g c =
 pub returns-clause-err : goal.returns-clause-err
 returns-clause-err g c =
     on_err_weaker c.run.result
-    (λ made. (made.0, states-often c.args.input.now c.args.nodes.now c.args.rank c.index-nodes-rank.result c.run.new.self c.requires c.index-nodes-rank.is made.0 made.2))
+    (λ made. (made.0, made.1, states-often c.args.input.now c.args.nodes.now c.args.rank c.index-nodes-rank.result c.run.new.self c.requires c.index-nodes-rank.is made.0 made.2))
     c.run.ensures.err
 
 pub returns-clause-refuses : goal.returns-clause-refuses

@@ -1,0 +1,9 @@
+pub mod Again
+pub mod Counts
+pub mod Entries
+pub mod Going
+pub mod Phases
+pub mod PointOrder
+pub mod Stops
+pub mod Traces
+pub mod Ways

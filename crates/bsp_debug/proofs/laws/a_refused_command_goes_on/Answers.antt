@@ -1,0 +1,5 @@
+use Rattle.bsp_debug.proofs.Again.{again}
+use Rattle.bsp_debug.proofs.laws.a_refused_command_goes_on.Goals as goal
+
+pub returns : goal.returns
+returns c points m command part rest reply sound some made = again points m command part rest reply sound some made

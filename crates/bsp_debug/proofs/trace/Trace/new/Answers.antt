@@ -1,0 +1,9 @@
+use Rattle.std.proofs.Common.{◌≡◌, sym, ap, ◌∙◌}
+use Rattle.machine_core.proofs.Steps.{after-nil}
+use Rattle.bsp_debug.specs.Made.{events_of, AreFew}
+use Rattle.machine_core.specs.Events.{after}
+use Rattle.bsp_debug.proofs.trace.Trace.new.Goals as goal
+
+pub invariant_of-result : goal.invariant_of-result
+invariant_of-result g c =
+    rw (c.of.ensures, c.new.ensures.items) (record { machine = sym (after-nil c.args.machine); few = tt })

@@ -1,0 +1,9 @@
+pub mod Debugger
+pub mod Errors
+pub mod Going
+pub mod Inside
+pub mod Made
+pub mod Points
+pub mod Reply
+pub mod Stops
+pub mod Trace

@@ -1,0 +1,23 @@
+//! What a debugger is asked for.
+
+/// What a debugger does with its machine, or reads of it.
+#[derive(Clone, Copy, Debug, PartialEq, Eq)]
+pub enum Command {
+    /// At most `count` steps of the node of a rank, while it runs. Points are not looked at.
+    Step { rank: u32, count: u64 },
+    /// Each running node in rank order until it stops. Points are not looked at.
+    Phase,
+    /// The turn, where no node runs.
+    Turn,
+    /// Each running node in rank order until it stops, then the turn, and again, until a point or the outcome is met. A point
+    /// that stands before the command's first event does not count.
+    Go,
+    /// The registers of the node of a rank, its pc, its ticks and its state.
+    Regs { rank: u32 },
+    /// `len` bytes of the memory of the node of a rank, from the address `addr` on.
+    Bytes { rank: u32, addr: u32, len: u32 },
+    /// The messages that the node of a rank has received and not moved yet.
+    Queue { rank: u32 },
+    /// What the supersteps that are over cost.
+    Costs,
+}

@@ -1,0 +1,228 @@
+//! The debugger.
+
+ghost use Rattle.std.specs.Prelude.{◌≡◌, ◌+◌, ◌⊎◌, [], length, slice_get, true, false, Some, None, IsSome, is_none, Err, IfOk, IfErr, OnOk, OnErr, if◌then◌else◌};
+ghost use Rattle.machine_core.specs.Events.{after};
+ghost use Rattle.bsp_debug.specs.declared.command.Command.TheVariants.{Bytes as bytes_command};
+ghost use Rattle.bsp_debug.specs.declared.error.DebugError.{DebugError as DebugErrorValue};
+ghost use Rattle.bsp_debug.specs.Debugger.{has_rank, add_fault, remove_fault, command_fault, Makes, MakesPart};
+ghost use Rattle.bsp_debug.specs.Made.{events_of, AreFew};
+ghost use Rattle.bsp_debug.specs.Points.{is_set, HasAlso, HasNoMore};
+ghost use Rattle.bsp_debug.specs.Reply.{answer};
+
+use crate::command::Command;
+use crate::error::DebugError;
+use crate::made::Made;
+use crate::point::Point;
+use crate::points::Points;
+use crate::reads::{bytes_of, costs_of, queue_of, registers_of};
+use crate::reply::Reply;
+use crate::trace::Trace;
+use machine_core::Machine;
+use node_core::Node;
+use std::alloc::Allocator;
+use std::marker::Model;
+
+/// The most points that can be set (own limit).
+const MOST_POINTS: usize = 1024;
+
+/// A machine that is stepped by commands, and the points at which it stops.
+///
+/// Contracts see it as a `DebuggerState`: the machine, the set of points, and the events that the last command made.
+#[derive(Drop)]
+pub struct Debugger<A: Allocator> {
+    alloc: A,
+    trace: Trace<A>,
+    points: Points<A>,
+}
+
+impl<A: Allocator> Model for Debugger<A> {
+    ghost use Rattle.bsp_debug.specs.Debugger.{DebuggerState};
+
+    ghost Value = { DebuggerState };
+
+    ghost use Rattle.bsp_debug.specs.Inside.{debugger_view};
+
+    ghost view = { debugger_view };
+}
+
+impl<A: Allocator + Copy> Debugger<A> {
+    /// A debugger of a machine, as it stands, without a point. No memory is taken.
+    pub fn new(alloc: A, machine: Machine<A>) -> Self
+        ensures { result ≡ record { machine = machine; points = []; last = [] } }
+    {
+        Debugger {
+            alloc,
+            trace: Trace::new(alloc, machine),
+            points: Points::new(alloc),
+        }
+    }
+
+    /// Sets a point. One that is set already stays so.
+    ///
+    /// # Errors
+    /// The first that applies of [`DebugError::BadRank`], where the point names a node that there is not,
+    /// [`DebugError::TooMany`], where it is not set and 1,024 points are, and [`DebugError::NoMemory`]. Nothing has changed then.
+    pub fn add(&mut self, point: Point) -> Result<(), DebugError>
+        ensures set { OnOk result (HasAlso point self.old.points self.new.points) }
+        ensures count { OnOk result (length self.new.points
+            ≡ length self.old.points + (if is_set self.old.points point then 0 else 1)) }
+        ensures others { self.new ≡ record self.old { points = self.new.points } }
+        ensures ok { OnOk result (add_fault self.old.points self.old.machine point ≡ None) }
+        ensures refused { IfErr result (λ e. (e ≡ DebugError.NoMemory)
+            ⊎ (add_fault self.old.points self.old.machine point ≡ Some e)) }
+        ensures no_memory { result ≡ Err DebugError.NoMemory
+            → add_fault self.old.points self.old.machine point ≡ None }
+        ensures err { OnErr result (self.new ≡ self.old) }
+    {
+        if let Point::Address { rank, .. } = point {
+            self.check_rank(rank)?;
+        }
+        if !self.points.has(point) && self.points.len() >= MOST_POINTS {
+            return Err(DebugError::TooMany);
+        }
+        self.points.add(point)?;
+        Ok(())
+    }
+
+    /// Takes a point away. No memory is taken.
+    ///
+    /// # Errors
+    /// [`DebugError::NoSuchBreak`] where it is not set. Nothing has changed then.
+    pub fn remove(&mut self, point: Point) -> Result<(), DebugError>
+        ensures set { OnOk result (HasNoMore point self.old.points self.new.points) }
+        ensures count { OnOk result (length self.new.points + 1 ≡ length self.old.points) }
+        ensures others { self.new ≡ record self.old { points = self.new.points } }
+        ensures ok { OnOk result (remove_fault self.old.points point ≡ None) }
+        ensures refused { IfErr result (λ e. remove_fault self.old.points point ≡ Some e) }
+        ensures err { OnErr result (self.new ≡ self.old) }
+    {
+        if !self.points.has(point) {
+            return Err(DebugError::NoSuchBreak);
+        }
+        self.points.remove(point);
+        Ok(())
+    }
+
+    /// Does what a command says, and answers it. The events that it made are those of [`Debugger::events_of_last`].
+    ///
+    /// # Errors
+    /// The first that applies of [`DebugError::BadRank`], [`DebugError::BadRange`] and [`DebugError::Over`], at which no event
+    /// was made; then [`DebugError::NoMemory`], after some first of the command's events, of [`Command::Turn`] and [`Command::Go`]
+    /// not all of them. The command given again goes on from there: it leaves what it would have left, [`Command::Step`] with as
+    /// many steps less as were made.
+    pub fn command(&mut self, command: Command) -> Result<Reply<A>, DebugError>
+        ensures machine { self.new.machine ≡ after self.old.machine (events_of self.new.last) }
+        ensures few { AreFew self.new.last }
+        ensures points { self.new.points ≡ self.old.points }
+        ensures ok { IfOk result (λ reply.
+            Makes self.old.points self.old.machine command (events_of self.new.last) (answer reply)) }
+        ensures faultless { OnOk result (command_fault self.old.machine command ≡ None) }
+        ensures refused { IfErr result (λ e. (e ≡ DebugError.NoMemory)
+            ⊎ (command_fault self.old.machine command ≡ Some e)) }
+        ensures unmade { IsSome (command_fault self.old.machine command) → self.new.last ≡ [] }
+        ensures no_memory { result ≡ Err DebugError.NoMemory
+            → (command_fault self.old.machine command ≡ None)
+            × MakesPart self.old.points self.old.machine command (events_of self.new.last) }
+    {
+        self.trace.forget();
+        self.check(command)?;
+        Ok(match command {
+            Command::Step { rank, count } => Reply::Moved(self.trace.steps(rank, count)?),
+            Command::Phase => Reply::Moved(self.trace.phase()?),
+            Command::Turn => self.trace.turn_with_reply()?,
+            Command::Go => self.trace.go(&self.points)?,
+            Command::Regs { rank } => registers_of(self.node(rank)),
+            Command::Bytes { rank, addr, len } => {
+                bytes_of(self.alloc, self.node(rank), addr, len)?
+            }
+            Command::Queue { rank } => queue_of(self.alloc, self.node(rank))?,
+            Command::Costs => costs_of(self.alloc, self.machine())?,
+        })
+    }
+
+    /// Whether a command is to be refused.
+    fn check(&self, command: Command) -> Result<(), DebugError>
+        ensures ok { OnOk result (command_fault self.now.machine command ≡ None) }
+        ensures err { IfErr result (λ e. command_fault self.now.machine command ≡ Some e) }
+    {
+        match command {
+            Command::Step { rank, .. } => {
+                self.check_rank(rank)?;
+                self.check_open()
+            }
+            Command::Phase | Command::Turn | Command::Go => self.check_open(),
+            Command::Regs { rank } | Command::Queue { rank } => self.check_rank(rank),
+            Command::Bytes { rank, addr, len } => self.check_range(rank, addr, len),
+            Command::Costs => Ok(()),
+        }
+    }
+
+    /// Whether there is a node of a rank.
+    fn check_rank(&self, rank: u32) -> Result<(), DebugError>
+        ensures ok { OnOk result (has_rank self.now.machine rank ≡ true) }
+        ensures err { IfErr result (λ e. (e ≡ DebugError.BadRank) × (has_rank self.now.machine rank ≡ false)) }
+    {
+        match self.machine().node(rank) {
+            Some(_) => Ok(()),
+            None => Err(DebugError::BadRank),
+        }
+    }
+
+    /// The node of a rank that there is.
+    fn node(&self, rank: u32) -> &Node<A>
+        requires { has_rank self.now.machine rank ≡ true }
+        ensures { slice_get self.now.machine.nodes rank ≡ Some result.now.node }
+    {
+        match self.machine().node(rank) {
+            Some(node) => node,
+            None => unreachable!(),
+        }
+    }
+
+    /// Whether a range lies in the memory of the node of a rank.
+    fn check_range(&self, rank: u32, addr: u32, len: u32) -> Result<(), DebugError>
+        ensures ok { OnOk result (command_fault self.now.machine (bytes_command rank addr len) ≡ None) }
+        ensures err { IfErr result (λ e. command_fault self.now.machine (bytes_command rank addr len) ≡ Some e) }
+    {
+        match self.machine().node(rank) {
+            None => Err(DebugError::BadRank),
+            Some(node) if node.memory().fits(addr, len) => Ok(()),
+            Some(_) => Err(DebugError::BadRange),
+        }
+    }
+
+    /// Whether the machine has no outcome yet.
+    fn check_open(&self) -> Result<(), DebugError>
+        ensures ok { OnOk result (is_none self.now.machine.outcome ≡ true) }
+        ensures err { IfErr result (λ e. (e ≡ DebugError.Over) × (is_none self.now.machine.outcome ≡ false)) }
+    {
+        match self.machine().outcome() {
+            None => Ok(()),
+            Some(_) => Err(DebugError::Over),
+        }
+    }
+}
+
+impl<A: Allocator> Debugger<A> {
+    /// The machine, as it stands.
+    pub fn machine(&self) -> &Machine<A>
+        ensures { result.now ≡ self.now.machine }
+    {
+        self.trace.machine()
+    }
+
+    /// The machine, as it stands.
+    pub fn into_machine(self) -> Machine<A>
+        ensures { result ≡ self.machine }
+    {
+        self.trace.into_machine()
+    }
+
+    /// The events that the last command made, those of one rank in a row as one entry. None were made before the first command, by
+    /// a command that reads, or by one that was refused anything but memory. Setting points and taking them away has no part in it.
+    pub fn events_of_last(&self) -> &[Made]
+        ensures { result.now ≡ self.now.last }
+    {
+        self.trace.made()
+    }
+}

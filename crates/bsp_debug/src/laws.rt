@@ -1,0 +1,41 @@
+//! Laws of what a debugger does, each the contract of a function that does nothing.
+
+ghost use Rattle.std.specs.Prelude.{◌≡◌, ◌++◌, List, IsSome};
+ghost use Rattle.machine_core.specs.declared.event.Event.{Event};
+ghost use Rattle.machine_core.specs.Events.{after};
+ghost use Rattle.machine_core.specs.Machine.{MachineState};
+ghost use Rattle.machine_core.specs.Sound.{IsSoundMachine};
+ghost use Rattle.machine_core.specs.Turn.{end_of};
+ghost use Rattle.bsp_debug.specs.declared.command.Command.{Command};
+ghost use Rattle.bsp_debug.specs.declared.made.Made.{Made};
+ghost use Rattle.bsp_debug.specs.declared.point.Point.{Point};
+ghost use Rattle.bsp_debug.specs.Debugger.{Makes, MakesPart, rest_of};
+ghost use Rattle.bsp_debug.specs.Made.{events_of};
+ghost use Rattle.bsp_debug.specs.Reply.{Answer};
+ghost use Rattle.bsp_debug.specs.Stops.{Goes};
+
+/// A command that was refused memory goes on: given again, `Step` with as many steps less as were made, it makes together with what
+/// it made before just what it would have made at once.
+pub fn a_refused_command_goes_on()
+    ensures { (points : List Point) (m : MachineState) (command : Command) (part rest : List Event) (reply : Answer)
+        → IsSoundMachine m → MakesPart points m command part
+        → Makes points (after m part) (rest_of command part) rest reply
+        → (whole : Answer) × Makes points m command (part ++ rest) whole }
+{}
+
+/// `Go` has one way to go: its events and its stop are determined by the machine and the points.
+pub fn go_has_one_way()
+    ensures events { (points : List Point) (m : MachineState) (one other : List Event) (stop end : Answer)
+        → Goes points m one stop → Goes points m other end → one ≡ other }
+    ensures stop { (points : List Point) (m : MachineState) (one other : List Event) (stop end : Answer)
+        → Goes points m one stop → Goes points m other end → stop ≡ end }
+{}
+
+/// Nothing that a debugger does changes how a run ends: after the events that a command reports, a sound machine has the end that it
+/// had before; and where it has its outcome, it is at that end.
+pub fn a_debugger_changes_no_end()
+    ensures same { (m : MachineState) (entries : List Made)
+        → IsSoundMachine m → end_of (after m (events_of entries)) ≡ end_of m }
+    ensures there { (m : MachineState) (entries : List Made)
+        → IsSoundMachine m → IsSome (after m (events_of entries)).outcome → after m (events_of entries) ≡ end_of m }
+{}

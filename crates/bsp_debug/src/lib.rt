@@ -1,0 +1,45 @@
+//! A debugger: the machine, stepped by commands.
+//!
+//! A [`Debugger`] has a machine and a set of [`Point`]s at which [`Command::Go`] stops. Its model is the machine, the points, and the
+//! events that the last command made. A command makes events of the machine, which are steps of single nodes and turns, and no
+//! others; or it only reads. So the debugger is one more scheduler of the machine, and since the order of events does not
+//! matter, nothing that it does changes how a run ends.
+//!
+//! Callers may rely on this:
+//!
+//! - After a command the machine is what the events that [`Debugger::events_of_last`] reports lead to. They are reported whole and in
+//!   order, those of one rank in a row as one entry.
+//! - `Step`, `Phase` and `Turn` make just the events of which they speak. Those of `Go` are the first events of the machine's walk up
+//!   to the first that leads to a stop, one event at least: its outcome, or else a superstep with a point, or else a next step with
+//!   a point. They are determined ([`laws::go_has_one_way`]).
+//! - A reply is what the definitions give for the machine before and after the command.
+//! - Each refusal but [`DebugError::NoMemory`] is answered exactly where it is due, and then no event was made.
+//! - Where memory is refused, some first events of the command stand, of `Turn` and `Go` not all of them. The command can be given
+//!   again, and goes on ([`laws::a_refused_command_goes_on`]).
+//!
+//! Where no point is set, `Go` runs at the speed of the machine's own run. Where some are, each step looks its address up among
+//! them, which takes time in the logarithm of their number.
+//!
+//! No contract counts refusals of memory; the tests refuse each request in turn.
+#![tactic(auto)]
+
+mod command;
+mod debugger;
+mod error;
+mod go;
+pub mod laws;
+mod made;
+mod point;
+mod points;
+mod reads;
+mod reply;
+#[cfg(test)]
+mod tests;
+mod trace;
+
+pub use command::Command;
+pub use debugger::Debugger;
+pub use error::DebugError;
+pub use made::Made;
+pub use point::Point;
+pub use reply::Reply;

@@ -9,6 +9,7 @@
 //! - [`Lines`] goes over the lines of a segment in order, without memory: each [`Line`] displays as its text. So whoever
 //!   writes a listing needs room for one line at a time. The listing of an image is the lines of its segments in their
 //!   order, each ended by a line feed.
+//! - [`TwoDigits`] and [`EightDigits`] display bytes and words as listings write them, for other texts that show such.
 //! - The text of a word does not rest on the words beside it, and says nothing of labels, sections or pseudo-instructions.
 //!
 //! Source: The RISC-V Instruction Set Manual, Volume I: Unprivileged ISA, 20191213, the listings of chapter 24 and the
@@ -20,6 +21,7 @@ mod numerals;
 mod statement;
 
 pub use lines::{Line, Lines};
+pub use numerals::{EightDigits, TwoDigits};
 pub use statement::{Statement, list};
 
 #[cfg(test)]

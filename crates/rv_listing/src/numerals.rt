@@ -2,9 +2,9 @@
 
 use std::fmt;
 
-/// A byte in two digits.
-#[derive(Clone, Copy)]
-pub(crate) struct TwoDigits(pub u8);
+/// A byte. Its text has two lower-case hexadecimal digits.
+#[derive(Clone, Copy, Debug)]
+pub struct TwoDigits(pub u8);
 
 impl fmt::Display for TwoDigits {
     ghost use Rattle.std.specs.Prelude.{Some};
@@ -19,9 +19,9 @@ impl fmt::Display for TwoDigits {
     }
 }
 
-/// A word in eight digits.
-#[derive(Clone, Copy)]
-pub(crate) struct EightDigits(pub u32);
+/// A word. Its text has eight lower-case hexadecimal digits.
+#[derive(Clone, Copy, Debug)]
+pub struct EightDigits(pub u32);
 
 impl fmt::Display for EightDigits {
     ghost use Rattle.std.specs.Prelude.{Some};

@@ -4,10 +4,9 @@ ghost use Rattle.std.specs.Prelude.{◌≡◌, ◌++◌, ◌≤◌, IfOk, OnOk, 
 ghost use Rattle.std.specs.Io.KnownBytes.{Appends};
 ghost use Rattle.counted_io.specs.Counted.{HasRisen};
 ghost use Rattle.counted_io.specs.Transfers.{AppendsPrefix};
-ghost use Rattle.bsp_session.specs.Report.{costs_and_outcome as costs_and_outcome_of, report_lines as report_lines_of, superstep_lines as superstep_lines_of};
+ghost use Rattle.bsp_session.specs.Report.{costs_and_outcome as costs_and_outcome_of, report_lines as report_lines_of};
 
 use crate::job::Job;
-use cost_ledger::CostRow;
 use counted_io::{Counted, WriteFault, write_whole};
 use machine_core::Machine;
 use std::alloc::{AllocError, Allocator};
@@ -28,7 +27,7 @@ pub(crate) fn report_lines<A: Allocator + Copy>(
     }
 }
 
-/// A line for each superstep, one for their total, and one for the outcome.
+/// The lines of the ledger, and one for the outcome.
 fn costs_and_outcome<A: Allocator + Copy>(
     alloc: A,
     machine: &Machine<A>,
@@ -37,22 +36,9 @@ fn costs_and_outcome<A: Allocator + Copy>(
 ) -> Result<String<A>, AllocError>
     ensures { IfOk result (λ text. string_bytes text ≡ costs_and_outcome_of g l machine.now) }
 {
-    let mut text = superstep_lines(alloc, machine.ledger().rows())?;
-    let total = machine.ledger().total(g, l);
-    writeln!(text, "total {total}")?;
+    let mut text = machine.ledger().lines(alloc, g, l)?;
     if let Some(outcome) = machine.outcome() {
         writeln!(text, "{outcome}")?;
-    }
-    Ok(text)
-}
-
-/// A line for each superstep.
-fn superstep_lines<A: Allocator>(alloc: A, rows: &[CostRow]) -> Result<String<A>, AllocError>
-    ensures { IfOk result (λ text. string_bytes text ≡ superstep_lines_of rows.now) }
-{
-    let mut text = String::new(alloc);
-    for (superstep, row) in rows.iter().enumerate() {
-        writeln!(text, "superstep {superstep}: {row}")?;
     }
     Ok(text)
 }

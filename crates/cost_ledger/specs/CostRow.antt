@@ -1,6 +1,7 @@
 -- The cost of supersteps (w + g h + l for each: the cost model of BSPlib, Hill and others 1998).
 use Rattle.std.specs.Prelude.{◌≡◌, ℕ, ◌+◌, ◌*◌, ◌^◌, ◌<◌, ◌≤◌, Bool, if◌then◌else◌, List, ◌++◌, codes, sum_by}
 use Rattle.std.specs.Fmt.{decimal}
+use Rattle.std.specs.List.{flat_map, enumerate_from}
 use Rattle.std.specs.List.Sorted.{IsPermutation}
 use Rattle.cost_ledger.specs.declared.CostRow.{CostRow}
 
@@ -30,3 +31,19 @@ pub record PreparedRows : Type 0 where
 abbrev pub row_text : CostRow → List ℕ
 row_text row =
     codes "w " ++ decimal row.w ++ codes " h " ++ decimal row.h ++ codes " " ++ (if row.turned then codes "turned" else codes "last")
+
+-- the line of a superstep, by its number
+abbrev pub superstep_line : ℕ × CostRow → List ℕ
+superstep_line at = codes "superstep " ++ decimal at.0 ++ codes ": " ++ row_text at.1 ++ codes "\n"
+
+-- those of the supersteps, numbered from 0
+abbrev pub superstep_lines : List CostRow → List ℕ
+superstep_lines rows = flat_map superstep_line (enumerate_from 0 rows)
+
+-- the line of what all of them cost
+abbrev pub total_line : ℕ → ℕ → List CostRow → List ℕ
+total_line g l rows = codes "total " ++ decimal (total_cost g l rows) ++ codes "\n"
+
+-- the lines that tell of costs
+abbrev pub cost_lines : ℕ → ℕ → List CostRow → List ℕ
+cost_lines g l rows = superstep_lines rows ++ total_line g l rows

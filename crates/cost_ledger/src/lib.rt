@@ -9,12 +9,16 @@
 //! - A refused [`add`](Ledger::add) or [`prepare`](Ledger::prepare) changes nothing. No other call takes memory.
 //! - After `prepare` a row can be added without being refused, by [`add_prepared`](Ledger::add_prepared).
 //! - A total is exact: under the conditions of `add` no sum of costs passes 128 bits.
+//! - The lines that tell of rows are those of the definitions ([`cost_lines`], [`Ledger::lines`]).
 //! - The order of the rows does not change a total ([`total_ignores_order`]).
 #![tactic(auto)]
 
-ghost use Rattle.std.specs.Prelude.{◌≡◌, ◌^◌, ◌<◌, ◌≤◌, true, false, [], ◌∷◌, ◌++◌, length, IsTrue, OnOk, OnErr};
-ghost use Rattle.cost_ledger.specs.CostRow.{IsBounded, cost_of, total_cost, TotalIgnoresOrder};
+mod lines;
 
+ghost use Rattle.std.specs.Prelude.{◌≡◌, ◌^◌, ◌<◌, ◌≤◌, true, false, [], ◌∷◌, ◌++◌, length, string_bytes, IsTrue, IfOk, OnOk, OnErr};
+ghost use Rattle.cost_ledger.specs.CostRow.{IsBounded, cost_of, total_cost, cost_lines as cost_lines_of, TotalIgnoresOrder};
+
+pub use lines::cost_lines;
 use std::alloc::{AllocError, Allocator};
 use std::fmt;
 use std::marker::Model;
@@ -116,6 +120,15 @@ impl<A: Allocator> Ledger<A> {
         ensures { result ≡ total_cost g l self.now.rows }
     {
         sum_of_costs(&self.rows, g, l)
+    }
+
+    /// The lines that tell of all rows, and of their total at `g` a byte and `l` a superstep. It is an error only where memory is
+    /// refused.
+    #[tactic(auto, using(crate::proofs::Totals::total_fits))]
+    pub fn lines<B: Allocator>(&self, alloc: B, g: u32, l: u32) -> Result<String<B>, AllocError>
+        ensures { IfOk result (λ text. string_bytes text ≡ cost_lines_of g l self.now.rows) }
+    {
+        cost_lines(alloc, &self.rows, g, l)
     }
 }
 

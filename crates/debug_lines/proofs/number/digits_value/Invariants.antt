@@ -1,0 +1,7 @@
+use Rattle.std.proofs.Common.{◌≡◌, ◌<◌, ◌^◌, drop}
+use Rattle.std.specs.Str.Parse.{digits_value, digits_value_after}
+use Rattle.debug_lines.proofs.number.digits_value.Given as goal
+
+abbrev pub invariant-loop-digit : goal.invariant-loop-digit
+invariant-loop-digit l =
+    (l.value < 2 ^ 64) × (digits_value_after l.radix l.value (drop l.digit-index l.digits) ≡ digits_value l.radix l.digits)

@@ -1,0 +1,11 @@
+-- The bytes so far have been written.
+use Rattle.std.proofs.Common.{take}
+use Rattle.std.specs.Fmt.{HasWritten, IsPlainFormatter}
+use Rattle.std.specs.List.{flat_map}
+use Rattle.rv_listing.specs.Numerals.{two_digits}
+use Rattle.debug_lines.proofs.octets.OctetsDisplay.fmt.Given as goal
+
+abbrev pub invariant-loop-byte : goal.invariant-loop-byte
+invariant-loop-byte g l =
+    IsPlainFormatter l.initial.f
+    → HasWritten g.W.Write.write_str_gives l.initial.f (flat_map two_digits (take l.byte-index l.bytes)) l.f

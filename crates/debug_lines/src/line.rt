@@ -1,0 +1,154 @@
+//! What a line asks for.
+
+ghost use Rattle.std.specs.Prelude.{◌≡◌};
+ghost use Rattle.debug_lines.specs.Lines.{line_of, line_of_words, line_of_one, command_of_one, line_of_two, line_of_three, line_of_four, point_of, step_of, bytes_of};
+ghost use Rattle.debug_lines.specs.Words.{words};
+
+use crate::number::{u32_of, u64_of};
+use crate::word::split_word;
+use bsp_debug::{Command, Point};
+
+/// What a line asks for.
+#[derive(Clone, Copy, Debug, PartialEq, Eq)]
+pub enum Line {
+    /// To set a point: `break RANK ADDR` or `break superstep K`.
+    Break(Point),
+    /// To take a point away: `clear RANK ADDR` or `clear superstep K`.
+    Clear(Point),
+    /// A command of the debugger: `step RANK COUNT`, `phase`, `turn`, `go`, `regs RANK`, `bytes RANK ADDR LEN`, `queue RANK`
+    /// or `costs`.
+    Command(Command),
+    /// What the nodes wrote: `output`.
+    Output,
+    /// To end: `quit`.
+    Quit,
+    /// Nothing: spaces at most.
+    Empty,
+    /// Nothing that there is: its words are those of none of these, or a number is too great for its place.
+    Unknown,
+}
+
+/// What a line asks for. It is given without the line feed that ends it.
+#[tactic(auto, unfolding(crate::specs::Lines::line_of))]
+pub fn parse_line(line: &[u8]) -> Line
+    ensures { result ≡ line_of line.now }
+{
+    match known_line(line) {
+        Some(known) => known,
+        None => Line::Unknown,
+    }
+}
+
+/// What a line asks for, if its words are those of some line.
+fn known_line(line: &[u8]) -> Option<Line>
+    ensures { result ≡ line_of_words (words line.now) }
+{
+    let Some((word, rest)) = split_word(line) else {
+        return Some(Line::Empty);
+    };
+    let Some((first, rest)) = split_word(rest) else {
+        return line_of_one(word);
+    };
+    let Some((second, rest)) = split_word(rest) else {
+        return line_of_two(word, first);
+    };
+    let Some((third, rest)) = split_word(rest) else {
+        return line_of_three(word, first, second);
+    };
+    match split_word(rest) {
+        Some(_) => None,
+        None => line_of_four(word, first, second, third),
+    }
+}
+
+/// A line of one word.
+fn line_of_one(word: &[u8]) -> Option<Line>
+    ensures { result ≡ line_of_one word.now }
+{
+    if word == b"output".as_slice() {
+        Some(Line::Output)
+    } else if word == b"quit".as_slice() {
+        Some(Line::Quit)
+    } else {
+        Some(Line::Command(command_of_one(word)?))
+    }
+}
+
+/// A command of one word.
+fn command_of_one(word: &[u8]) -> Option<Command>
+    ensures { result ≡ command_of_one word.now }
+{
+    match word {
+        b"phase" => Some(Command::Phase),
+        b"turn" => Some(Command::Turn),
+        b"go" => Some(Command::Go),
+        b"costs" => Some(Command::Costs),
+        _ => None,
+    }
+}
+
+/// A line of two words.
+fn line_of_two(word: &[u8], rank: &[u8]) -> Option<Line>
+    ensures { result ≡ line_of_two word.now rank.now }
+{
+    let rank = u32_of(rank)?;
+    match word {
+        b"regs" => Some(Line::Command(Command::Regs { rank })),
+        b"queue" => Some(Line::Command(Command::Queue { rank })),
+        _ => None,
+    }
+}
+
+/// A line of three words.
+fn line_of_three(word: &[u8], first: &[u8], second: &[u8]) -> Option<Line>
+    ensures { result ≡ line_of_three word.now first.now second.now }
+{
+    match word {
+        b"break" => Some(Line::Break(point_of(first, second)?)),
+        b"clear" => Some(Line::Clear(point_of(first, second)?)),
+        b"step" => step_of(first, second),
+        _ => None,
+    }
+}
+
+/// A line of four words.
+fn line_of_four(word: &[u8], rank: &[u8], addr: &[u8], len: &[u8]) -> Option<Line>
+    ensures { result ≡ line_of_four word.now rank.now addr.now len.now }
+{
+    match word {
+        b"bytes" => bytes_of(rank, addr, len),
+        _ => None,
+    }
+}
+
+/// A point as its two words name it.
+fn point_of(first: &[u8], second: &[u8]) -> Option<Point>
+    ensures { result ≡ point_of first.now second.now }
+{
+    if first == b"superstep".as_slice() {
+        Some(Point::Superstep(u64_of(second)?))
+    } else {
+        let rank = u32_of(first)?;
+        let addr = u32_of(second)?;
+        Some(Point::Address { rank, addr })
+    }
+}
+
+/// A command to step, by its words behind the first.
+fn step_of(rank: &[u8], count: &[u8]) -> Option<Line>
+    ensures { result ≡ step_of rank.now count.now }
+{
+    let rank = u32_of(rank)?;
+    let count = u64_of(count)?;
+    Some(Line::Command(Command::Step { rank, count }))
+}
+
+/// A command to read memory, by its words behind the first.
+fn bytes_of(rank: &[u8], addr: &[u8], len: &[u8]) -> Option<Line>
+    ensures { result ≡ bytes_of rank.now addr.now len.now }
+{
+    let rank = u32_of(rank)?;
+    let addr = u32_of(addr)?;
+    let len = u32_of(len)?;
+    Some(Line::Command(Command::Bytes { rank, addr, len }))
+}

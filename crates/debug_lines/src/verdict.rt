@@ -1,0 +1,30 @@
+//! What a line is answered that has no reply.
+
+use bsp_debug::DebugError;
+use std::fmt;
+
+/// What a line is answered that no [`Reply`](bsp_debug::Reply) answers. It displays as a line, with the line feed that ends it.
+#[derive(Clone, Copy, Debug, PartialEq, Eq)]
+pub enum Verdict {
+    /// A point was set or taken away: `ok`.
+    Done,
+    /// The debugger refused it: `refused: BadRank`.
+    Refused(DebugError),
+    /// It asks for nothing that there is: `refused: BadCommand`.
+    BadCommand,
+}
+
+impl fmt::Display for Verdict {
+    ghost use Rattle.std.specs.Prelude.{Some};
+    ghost use Rattle.debug_lines.specs.Verdicts.{verdict_text};
+
+    ghost output = { λ verdict. Some (verdict_text verdict) };
+
+    fn fmt<W: fmt::Write>(&self, f: &mut fmt::Formatter<W>) -> fmt::Result {
+        match self {
+            Verdict::Done => write!(f, "ok\n"),
+            Verdict::Refused(error) => write!(f, "refused: {error}\n"),
+            Verdict::BadCommand => write!(f, "refused: BadCommand\n"),
+        }
+    }
+}

@@ -1,0 +1,186 @@
+/* BSPlib's functions over the machine's calls. */
+#include "bsp.h"
+#include "machine.h"
+
+extern void *malloc(size_t size);
+extern void free(void *place);
+__attribute__((noreturn)) extern void exit(int status);
+
+/* A test for each function, so that a program which calls one outside its place is told by name. */
+static inline void must_be_within(const char *name_and_rest)
+{
+    if (bsp_part != BSP_WITHIN)
+        bsp_stop(name_and_rest);
+}
+#define MUST_BE_WITHIN(name) must_be_within(name " is called outside bsp_begin and bsp_end")
+
+void bsp_init(void (*spmd)(void), int argc, char **argv)
+{
+    (void)argc;
+    (void)argv;
+    if (bsp_part != BSP_BEFORE)
+        bsp_stop("bsp_init is called after bsp_begin");
+    if (bsp_pid() != 0) {
+        spmd();
+        exit(0);
+    }
+}
+
+void bsp_begin(int maxprocs)
+{
+    if (bsp_part != BSP_BEFORE)
+        bsp_stop("bsp_begin is called twice");
+    if (bsp_nprocs() > maxprocs) {
+        /* One line is enough. */
+        if (bsp_pid() == 0)
+            bsp_stop_with("bsp_begin takes ", maxprocs, " processes at most: give --nodes a number that is no greater");
+        for (;;)
+            machine_call_2(CALL_ABORT, 0, 0);
+    }
+    bsp_part = BSP_WITHIN;
+}
+
+void bsp_end(void)
+{
+    MUST_BE_WITHIN("bsp_end");
+    bsp_stdio_flush();
+    bsp_part = BSP_AFTER;
+}
+
+int bsp_nprocs(void)
+{
+    return machine_call_0(CALL_NPROCS);
+}
+
+int bsp_pid(void)
+{
+    return machine_call_0(CALL_PID);
+}
+
+/* The tag sizes of this superstep and the next one, and of the messages that are in the queue. */
+static int tag_size = 0, next_tag_size = 0, received_tag_size = 0;
+
+/* The messages of this superstep that bsp_hpmove gave out. It is kept, since the next superstep may want as much. */
+static struct {
+    char *bytes;
+    size_t size;
+    char *next; /* NULL where this superstep has not used it */
+} room;
+
+void bsp_sync(void)
+{
+    MUST_BE_WITHIN("bsp_sync");
+    /* What was printed belongs to this superstep. */
+    bsp_stdio_flush();
+    machine_call_0(CALL_SYNC);
+    received_tag_size = tag_size;
+    tag_size = next_tag_size;
+    room.next = NULL;
+}
+
+void bsp_push_reg(const void *ident, int size)
+{
+    MUST_BE_WITHIN("bsp_push_reg");
+    machine_call_2(CALL_PUSH_REG, (long)ident, size);
+}
+
+void bsp_pop_reg(const void *ident)
+{
+    MUST_BE_WITHIN("bsp_pop_reg");
+    machine_call_2(CALL_POP_REG, (long)ident, 0);
+}
+
+void bsp_put(int pid, const void *src, void *dst, int offset, int nbytes)
+{
+    MUST_BE_WITHIN("bsp_put");
+    machine_call(CALL_PUT, pid, (long)src, (long)dst, offset, nbytes);
+}
+
+void bsp_hpput(int pid, const void *src, void *dst, int offset, int nbytes)
+{
+    MUST_BE_WITHIN("bsp_hpput");
+    machine_call(CALL_HPPUT, pid, (long)src, (long)dst, offset, nbytes);
+}
+
+void bsp_get(int pid, const void *src, int offset, void *dst, int nbytes)
+{
+    MUST_BE_WITHIN("bsp_get");
+    machine_call(CALL_GET, pid, (long)src, offset, (long)dst, nbytes);
+}
+
+void bsp_hpget(int pid, const void *src, int offset, void *dst, int nbytes)
+{
+    MUST_BE_WITHIN("bsp_hpget");
+    machine_call(CALL_HPGET, pid, (long)src, offset, (long)dst, nbytes);
+}
+
+void bsp_set_tagsize(int *tag_nbytes)
+{
+    int wanted;
+    MUST_BE_WITHIN("bsp_set_tagsize");
+    wanted = *tag_nbytes;
+    machine_call_2(CALL_SET_TAGSIZE, (long)tag_nbytes, 0);
+    next_tag_size = wanted;
+}
+
+void bsp_send(int pid, const void *tag, const void *payload, int payload_nbytes)
+{
+    MUST_BE_WITHIN("bsp_send");
+    machine_call(CALL_SEND, pid, (long)tag, (long)payload, payload_nbytes, 0);
+}
+
+void bsp_qsize(int *nmessages, int *accum_nbytes)
+{
+    int messages, bytes;
+    MUST_BE_WITHIN("bsp_qsize");
+    machine_call_2(CALL_QSIZE, (long)(nmessages ? nmessages : &messages), (long)(accum_nbytes ? accum_nbytes : &bytes));
+}
+
+void bsp_get_tag(int *status, void *tag)
+{
+    MUST_BE_WITHIN("bsp_get_tag");
+    machine_call_2(CALL_GET_TAG, (long)status, (long)tag);
+}
+
+void bsp_move(void *payload, int reception_nbytes)
+{
+    MUST_BE_WITHIN("bsp_move");
+    /* The machine would take it for a number above 2^31, and so for the whole payload. */
+    if (reception_nbytes < 0)
+        bsp_stop("bsp_move is called with a negative size");
+    machine_call_2(CALL_MOVE, (long)payload, reception_nbytes);
+}
+
+static size_t rounded(size_t size)
+{
+    return (size + 7) & ~(size_t)7;
+}
+
+int bsp_hpmove(void **tag_ptr, void **payload_ptr)
+{
+    unsigned messages, bytes;
+    int status;
+    MUST_BE_WITHIN("bsp_hpmove");
+    machine_call_2(CALL_QSIZE, (long)&messages, (long)&bytes);
+    if (messages == 0)
+        return -1;
+    if (room.next == NULL) {
+        /* All that is left in the queue, each tag and each payload at a multiple of 8. */
+        unsigned long long wanted = bytes + messages * (unsigned long long)(rounded(received_tag_size) + 7);
+        if (wanted > room.size) {
+            free(room.bytes);
+            room.bytes = wanted < 0x7fffffff ? malloc((size_t)wanted) : NULL;
+            room.size = (size_t)wanted;
+            if (room.bytes == NULL)
+                bsp_stop("bsp_hpmove has no memory for the messages");
+        }
+        room.next = room.bytes;
+    }
+    *tag_ptr = room.next;
+    machine_call_2(CALL_GET_TAG, (long)&status, (long)room.next);
+    room.next += rounded(received_tag_size);
+    *payload_ptr = room.next;
+    machine_call_2(CALL_MOVE, (long)room.next, status);
+    room.next += rounded(status);
+    return status;
+}

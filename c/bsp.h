@@ -1,0 +1,71 @@
+/* BSPlib (Hill and others, 1998) for the nodes of bspemu.
+ *
+ * Names, types and meanings are BSPlib's. What differs, and what BSPlib leaves open:
+ *
+ * - Each of the p nodes that --nodes gives starts the program by itself. So bsp_begin starts no processes: all p nodes
+ *   take part, and where p is above maxprocs the run is aborted with a line that says so. bsp_nprocs and bsp_pid can be
+ *   called anywhere.
+ * - What stands before bsp_begin and after bsp_end is run by every node, unless bsp_init was called: then rank 0 alone
+ *   returns from it, and every other rank calls spmd and ends.
+ * - bsp_end does not end the node; main has to return 0, or call exit(0). What was asked for after the last bsp_sync
+ *   does not come about, and the messages left in the queue are gone.
+ * - An area is named by its address. Each rank has to make the same pushes and pops, in the same order, between two
+ *   calls of bsp_sync; bsp_push_reg(NULL, 0) registers an area of no bytes.
+ * - bsp_hpput and bsp_hpget copy as bsp_put and bsp_get do, at the same times.
+ * - bsp_hpmove copies too, into a buffer of this library which it takes from malloc. What it gave can be read and
+ *   written until the next bsp_sync.
+ * - bsp_abort stops its own node; the others run on to the end of the superstep, in which the run is then stopped.
+ * - bsp_time is missing, since the machine has no clock: the report gives the cost of each superstep.
+ * - A negative size is refused: bsp_move aborts, bsp_set_tagsize stops the node with fault BadSize, and every other
+ *   call with fault RangeOutside. A rank that there is not is fault BadRank, and an area that was not registered when
+ *   the superstep began is fault NotRegistered. A put or a get that passes the end of its area, or whose offset is
+ *   negative, is refused by the exchange: OutsideArea.
+ * - A call outside bsp_begin and bsp_end aborts with a line that says so. So does a program that ends between them.
+ */
+#ifndef BSP_H
+#define BSP_H
+
+#ifdef __cplusplus
+extern "C" {
+#endif
+
+/* Start and end. */
+void bsp_init(void (*spmd)(void), int argc, char **argv);
+void bsp_begin(int maxprocs);
+void bsp_end(void);
+__attribute__((noreturn, format(printf, 1, 2))) void bsp_abort(const char *format, ...);
+
+/* Where am I? */
+int bsp_nprocs(void);
+int bsp_pid(void);
+
+/* The end of a superstep. */
+void bsp_sync(void);
+
+/* Registration, in effect from the next superstep on. */
+void bsp_push_reg(const void *ident, int size);
+void bsp_pop_reg(const void *ident);
+
+/* Direct remote memory access. */
+void bsp_put(int pid, const void *src, void *dst, int offset, int nbytes);
+void bsp_hpput(int pid, const void *src, void *dst, int offset, int nbytes);
+void bsp_get(int pid, const void *src, int offset, void *dst, int nbytes);
+void bsp_hpget(int pid, const void *src, int offset, void *dst, int nbytes);
+
+/* Messages. bsp_set_tagsize leaves the size in effect in *tag_nbytes. Either pointer of bsp_qsize may be NULL. */
+void bsp_set_tagsize(int *tag_nbytes);
+void bsp_send(int pid, const void *tag, const void *payload, int payload_nbytes);
+void bsp_qsize(int *nmessages, int *accum_nbytes);
+void bsp_get_tag(int *status, void *tag);
+void bsp_move(void *payload, int reception_nbytes);
+int bsp_hpmove(void **tag_ptr, void **payload_ptr);
+
+/* Declared so that its use fails, with a reason. */
+__attribute__((error("the machine has no clock: the report (--report) gives the cost of each superstep")))
+double bsp_time(void);
+
+#ifdef __cplusplus
+}
+#endif
+
+#endif

@@ -1,0 +1,61 @@
+/* The memory of a node: from 0 on the stack, which grows down, so that one which is too deep leaves the memory and stops its
+   node; then code and data; then the heap, up to the memory's size. */
+ENTRY(_start)
+
+PHDRS
+{
+    code PT_LOAD FLAGS(5);
+    data PT_LOAD FLAGS(6);
+    tls PT_TLS FLAGS(4);
+}
+
+SECTIONS
+{
+    __stack_size = DEFINED(__stack_size) ? __stack_size : 131072;
+    . = ALIGN(__stack_size, 16);
+    __stack_top = .;
+
+    .text : {
+        KEEP(*(.text.start))
+        *(.text.unlikely .text.unlikely.* .text.startup .text.startup.* .text .text.* .gnu.linkonce.t.*)
+    } :code
+    .rodata : { *(.rodata .rodata.* .gnu.linkonce.r.* .srodata .srodata.*) } :code
+    .init_array : {
+        __preinit_array_start = .;
+        KEEP(*(.preinit_array))
+        __preinit_array_end = .;
+        __init_array_start = .;
+        KEEP(*(SORT_BY_INIT_PRIORITY(.init_array.*) .init_array))
+        __init_array_end = .;
+        __fini_array_start = .;
+        KEEP(*(SORT_BY_INIT_PRIORITY(.fini_array.*) .fini_array))
+        __fini_array_end = .;
+    } :code
+
+    . = ALIGN(16);
+    .data : {
+        *(.data .data.* .gnu.linkonce.d.*)
+        . = ALIGN(8);
+        __global_pointer$ = . + 0x800;
+        *(.sdata .sdata.* .gnu.linkonce.s.*)
+        . = ALIGN(16);
+    } :data
+    /* Variables of a thread, of which a node has one: they stay where they are loaded. */
+    .tdata : {
+        __tls_base = .;
+        *(.tdata .tdata.* .gnu.linkonce.td.*)
+    } :data :tls
+    .tbss (NOLOAD) : { *(.tbss .tbss.* .gnu.linkonce.tb.* .tcommon) } :data :tls
+    /* The linker gives .tbss no room of its own. */
+    .tbss_room (NOLOAD) : { . = . + SIZEOF(.tbss); . = ALIGN(16); } :data
+    .bss (NOLOAD) : {
+        *(.sbss .sbss.* .gnu.linkonce.sb.* .scommon)
+        *(.bss .bss.* .gnu.linkonce.b.* COMMON)
+        . = ALIGN(16);
+    } :data
+    __heap_start = .;
+    _end = .;
+    end = .;
+
+    /DISCARD/ : { *(.comment .note .note.* .eh_frame .eh_frame.*) }
+}

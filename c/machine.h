@@ -1,0 +1,56 @@
+/* The machine's environment calls, and what the files of this library share. docs/MACHINE.md has the calls' rules. */
+#ifndef BSP_MACHINE_H
+#define BSP_MACHINE_H
+
+#include <stddef.h>
+
+enum {
+    CALL_END = 1, CALL_NPROCS, CALL_PID, CALL_SYNC, CALL_PUSH_REG, CALL_POP_REG, CALL_PUT, CALL_GET, CALL_HPPUT,
+    CALL_HPGET, CALL_SET_TAGSIZE, CALL_SEND, CALL_QSIZE, CALL_GET_TAG, CALL_MOVE, CALL_ABORT, CALL_WRITE, CALL_READ
+};
+
+/* A call reads and writes memory that its operands name, so the compiler has to have everything in its place. */
+static inline int machine_call(int number, long a, long b, long c, long d, long e)
+{
+    register long a0 __asm__("a0") = a;
+    register long a1 __asm__("a1") = b;
+    register long a2 __asm__("a2") = c;
+    register long a3 __asm__("a3") = d;
+    register long a4 __asm__("a4") = e;
+    register long a7 __asm__("a7") = number;
+    __asm__ volatile("ecall" : "+r"(a0) : "r"(a1), "r"(a2), "r"(a3), "r"(a4), "r"(a7) : "memory");
+    return a0;
+}
+
+static inline int machine_call_0(int number)
+{
+    register long a0 __asm__("a0");
+    register long a7 __asm__("a7") = number;
+    __asm__ volatile("ecall" : "=r"(a0) : "r"(a7) : "memory");
+    return a0;
+}
+
+static inline int machine_call_2(int number, long a, long b)
+{
+    register long a0 __asm__("a0") = a;
+    register long a1 __asm__("a1") = b;
+    register long a7 __asm__("a7") = number;
+    __asm__ volatile("ecall" : "+r"(a0) : "r"(a1), "r"(a7) : "memory");
+    return a0;
+}
+
+/* Standard output is one buffer, which goes to the machine at the end of each line and where it is full. */
+int bsp_stdio_put(char byte);
+void bsp_stdio_flush(void);
+
+/* The next byte of the input, or -1. */
+int bsp_stdio_get(void);
+
+/* Writes "bsp: rank R: ", the text, the number where the text is followed by one, and the rest, and stops this node. */
+__attribute__((noreturn)) void bsp_stop(const char *text);
+__attribute__((noreturn)) void bsp_stop_with(const char *text, int number, const char *rest);
+
+/* Where the program is: before bsp_begin, between it and bsp_end, or after that. */
+extern enum bsp_part { BSP_BEFORE, BSP_WITHIN, BSP_AFTER } bsp_part;
+
+#endif

@@ -10,12 +10,15 @@ static int deep(int n)
     return deep(n + 1) + room[0];
 }
 
+static void (*volatile nothing)(void) = NULL;
+
 int main(void)
 {
     int size = -1, word = 0;
     (void)size;
     (void)word;
     (void)deep;
+    (void)nothing;
     printf("begun\n");
 #if END == 1
     return 3;
@@ -72,6 +75,21 @@ int main(void)
     bsp_sync();
     bsp_put(0, &word, &word, -1, 4);
     bsp_sync();
+#elif END == 18
+    bsp_begin(2);
+    if (bsp_pid() == 0)
+        bsp_push_reg(&word, sizeof word);
+    bsp_sync();
+#elif END == 19
+    bsp_begin(2);
+    size = bsp_pid();
+    bsp_set_tagsize(&size);
+    bsp_sync();
+#elif END == 20
+    nothing();
+#elif END == 21
+    while (!nothing)
+        word++;
 #endif
     return 0;
 }

@@ -1,15 +1,18 @@
-//! Whole inputs and whole outputs, over readers and writers whose failures are counted.
+//! Whole inputs, inputs line by line, and whole outputs, over readers and writers whose failures are counted.
 //!
 //! A [`Counted`] reader or writer passes each call on and counts the calls that fail. A contract sees it as the reader
 //! or writer inside and that count.
 //!
-//! [`read_at_most`] reads an input to its end, with a limit on its bytes, and [`write_whole`] writes an output.
-//! Both end on every reader and writer, and callers may rely on this:
+//! [`read_at_most`] reads an input to its end, with a limit on its bytes, and [`write_whole`] writes an output. A
+//! [`LineReader`] gives an input's lines one by one, for those who answer a line before the next one comes: it reads only
+//! where no whole line waits. All of these end on every reader and writer, and callers may rely on this:
 //!
-//! - Where the reader's bytes are known to contracts, `Ok` has read all of them, `TooLong` says that they are more than
-//!   the limit, and a refusal has taken a prefix of them.
+//! - Where the reader's bytes are known to contracts, `Ok` of a whole input has read all of them, `TooLong` says that they
+//!   are more than the limit, and a refusal has taken a prefix of them.
 //! - Where the writer's bytes are known, `Ok` has appended all of the output, and a fault a prefix that lacks some.
 //! - A fault of the reader or the writer is answered only where the count rose in that call.
+//! - The lines that were given are those of the bytes that were read, in their order. No byte is lost at an error, but
+//!   the one by which the input passes its limit: so the next line can be asked for again.
 //! - `NoMemory` is answered only where a growth was refused, for bytes within the limit. No clause can count refusals:
 //!   the tests refuse each growth in turn. That an interruption is tried again, and how often, is shown by tests too.
 #![tactic(auto)]
@@ -259,6 +262,10 @@ fn write_retrying<W: Write>(to: &mut Counted<W>, bytes: &[u8]) -> Result<usize, 
     }
     Err(WriteFault)
 }
+
+mod lines;
+
+pub use lines::LineReader;
 
 #[cfg(test)]
 mod tests;

@@ -101,3 +101,77 @@ fn a_refused_growth_is_no_fault_of_the_reader(rt: HostRuntime) {
     }
     assert!(rt; refused > 0 && refused < 7);
 }
+
+// Gives the next part of a text at each read.
+#[derive(Drop)]
+struct Typed<'a> {
+    parts: &'a [&'a [u8]],
+    reads: usize,
+}
+
+impl Read for Typed<'_> {
+    fn read(&mut self, buf: &mut [u8]) -> io::Result<usize> {
+        let part = match self.parts.get(self.reads) {
+            Some(part) => *part,
+            None => return Ok(0),
+        };
+        self.reads = self.reads.saturating_add(1);
+        let mut rest = part;
+        rest.read(buf)
+    }
+}
+
+#[test]
+fn a_line_is_given_by_the_read_that_brings_its_line_feed(rt: HostRuntime) {
+    let parts = [b"go\n".as_slice(), b"st", b"ep\nbr", b"eak\n\nen", b"d"];
+    let mut from = Counted::new(Typed {
+        parts: &parts,
+        reads: 0,
+    });
+    let mut lines = LineReader::new(rt.alloc(), 18);
+    for (line, reads) in [
+        (b"go".as_slice(), 1),
+        (b"step", 3),
+        (b"break", 4),
+        (b"", 4),
+        (b"end", 5),
+    ] {
+        assert!(rt;
+            lines.next_line(&mut from) == Ok(true),
+            "line after {reads} reads"
+        );
+        assert!(rt; lines.line() == line && from.inner().reads == reads);
+    }
+    assert!(rt; lines.next_line(&mut from) == Ok(false) && lines.line().is_empty());
+    assert!(rt; lines.finish(&mut from) == Ok(()));
+}
+
+#[test]
+fn lines_within_the_limit_come_before_a_fault(rt: HostRuntime) {
+    for (most, fault) in [(5, None), (4, Some(ReadError::TooLong))] {
+        let mut from = Counted::new(b"go\non".as_slice());
+        let mut lines = LineReader::new(rt.alloc(), most);
+        assert!(rt; lines.next_line(&mut from) == Ok(true) && lines.line() == b"go".as_slice());
+        assert!(rt; lines.next_line(&mut from).err() == fault, "limit {most}");
+    }
+}
+
+#[test]
+fn a_refused_growth_loses_no_byte_of_a_line(rt: HostRuntime) {
+    let heap = RefusingAllocator::new(rt.alloc());
+    let mut text = [7; 9000];
+    text[8999] = b'\n';
+    let mut refused = 0u32;
+    for request in 1..8 {
+        heap.refuse_nth(request);
+        let mut from = Counted::new(text.as_slice());
+        let mut lines = LineReader::new(&heap, 9000);
+        let mut is_line = lines.next_line(&mut from);
+        if is_line == Err(ReadError::NoMemory) {
+            refused = refused.saturating_add(1);
+            is_line = lines.next_line(&mut from);
+        }
+        assert!(rt; is_line == Ok(true) && lines.line() == &text[..8999]);
+    }
+    assert!(rt; refused > 0 && refused < 7);
+}

@@ -1,0 +1,48 @@
+-- The line feed that was found, or the end, ends the line.
+use Rattle.std.proofs.Common.{◌≡◌, ◌<◌, ◌≤◌, ◌+◌, ◌∙◌, Ok, nat_lt, ap, inl, inr, drop, length, subst, sym, true, arith}
+use Rattle.std.proofs.lemmas.Bool.{ltb-true, lt-ltb}
+use Rattle.std.specs.List.{slice_index, slice_range}
+use Rattle.counted_io.specs.Lines.{HasFeed, IsFirstFeed}
+use Rattle.counted_io.proofs.LineLemmas.{feed_of_rest, gives_last, gives_line}
+use Rattle.counted_io.proofs.lines.LineReader.next_line.Goals as goal
+use Rattle.counted_io.proofs.lines.LineReader.next_line.Goals.{in-Some, in-None}
+
+pub returns-in_err-found-clause-waiting : goal.returns-in_err-found-clause-waiting
+returns-in_err-found-clause-waiting g c = λ feed.
+    let (at, behind, within, is) = feed_of_rest _ _ (subst (λ s. HasFeed (drop s.given s.read)) (sym c.self.view_is) feed) in
+    let denied = (c.in_err-found.ensures.waiting at behind within is).0 in
+    absurd (cc)
+
+pub returns-clause-line : goal.returns-clause-line
+returns-clause-line g c = λ is_line.
+    let given : c.args.self.now.given ≡ c.self.inside.given = ap (λ s. s.given) (sym c.self.view_is) in
+    let text = c.find_line_feed.new.text.items in
+    elim c.match-found.branch [
+      | in-Some w ↦ inl (gives_line _ _ c.self.inside.given w.in-Some.at given (rw w.in-Some.is at c.in_ok-found.ensures.found)
+          (ap (λ e. slice_range text c.self.inside.given e.0) w.end-is) (ap (λ e. e.1) w.end-is))
+      | in-None w ↦
+          let absent = rw w.in-None.is at c.in_ok-found.ensures.absent in
+          let end : w.len.result ≡ length text = omega arith in
+          let after : w.len-in-None.result ≡ length text = omega arith in
+          let some : nat_lt c.self.inside.given c.match-found.end.1 ≡ true = cc in
+          inr (
+            gives_last _ _ c.self.inside.given given absent.0 (ap (λ e. slice_range text c.self.inside.given e.0) w.end-is ∙ ap (slice_range text c.self.inside.given) end)
+                (ap (λ e. e.1) w.end-is ∙ after) (ltb-true _ _ some),
+            absent.1,
+          )
+    ]
+
+pub returns-clause-waiting : goal.returns-clause-waiting
+returns-clause-waiting g c = λ feed.
+    let (at, behind, within, is) = feed_of_rest _ _ (subst (λ s. HasFeed (drop s.given s.read)) (sym c.self.view_is) feed) in
+    let unread = c.in_ok-found.ensures.waiting at behind within is in
+    elim c.match-found.branch [
+      | in-Some w ↦
+          let first : IsFirstFeed c.find_line_feed.new.text.items c.self.inside.given w.in-Some.at = rw w.in-Some.is at c.in_ok-found.ensures.found in
+          let begun : c.self.inside.given ≤ w.in-Some.at = first.from in
+          let after : c.match-found.end.1 ≡ w.in-Some.at + 1 = ap (λ e. e.1) w.end-is in
+          (ap Ok (lt-ltb _ _ (omega arith)), unread.1, unread.2 ∙ ap (λ s. s.read) c.self.view_is)
+      | in-None w ↦
+          let absent = rw w.in-None.is at c.in_ok-found.ensures.absent in
+          absurd (absent.0 at behind (subst (λ t. at < length t) (sym unread.2) within) (ap (λ t. slice_index t at) unread.2 ∙ is))
+    ]

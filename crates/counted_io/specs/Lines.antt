@@ -1,6 +1,6 @@
 -- The lines of a text that is read as they are wanted.
-use Rattle.std.specs.Prelude.{ℕ, ◌≡◌, ◌≢◌, ◌+◌, ◌<◌, ◌≤◌, List, [], ◌∷◌, ◌++◌, length, drop, slice_index, All, Option}
-use Rattle.std.specs.Io.KnownBytes.{Consumes}
+use Rattle.std.specs.Prelude.{ℕ, ◌≡◌, ◌≢◌, ◌+◌, ◌<◌, ◌≤◌, ◌⊎◌, Bool, true, List, [], ◌∷◌, ◌++◌, length, drop, slice_index, All, Option}
+use Rattle.std.specs.Io.KnownBytes.{Consumes, IsAtEnd}
 
 -- what a contract sees of a `LineReader`
 pub record LineReaderState : Type 0 where
@@ -12,6 +12,8 @@ pub record LineReaderState : Type 0 where
   pub line : List ℕ
   -- the most bytes that the text may have
   pub most : ℕ
+  -- whether the reader came to its end: nothing more is read then
+  pub ended : Bool
 
 -- no byte is a line feed
 abbrev pub LacksFeed : List ℕ → Type 0
@@ -39,6 +41,11 @@ pub record GivesNone (old new : LineReaderState) : Type 0 where
   pub none : drop old.given new.read ≡ []
   pub line : new.line ≡ []
   pub given : new.given ≡ old.given
+
+-- the text is at its end, and stays there: the reader came to its end in this call, or before
+pub record IsOver (rest : Option (List ℕ)) (old new : LineReaderState) : Type 0 where
+  pub ended : new.ended ≡ true
+  pub at_end : (old.ended ≡ true) ⊎ IsAtEnd rest
 
 -- what a reader lost was appended to what was read
 abbrev pub ReadsOn : Option (List ℕ) → Option (List ℕ) → List ℕ → List ℕ → Type 0

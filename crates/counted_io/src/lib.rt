@@ -223,6 +223,24 @@ pub fn write_whole<W: Write>(to: &mut Counted<W>, bytes: &[u8]) -> Result<(), Wr
     Ok(())
 }
 
+/// Flushes a writer.
+///
+/// An interrupted call is tried again; 65,536 interruptions in a row are a fault of the writer.
+pub fn flush_whole<W: Write>(to: &mut Counted<W>) -> Result<(), WriteFault>
+    ensures bytes { Keeps (W.contents to.old.inner) (W.contents to.new.inner) }
+    ensures fault { OnErr result (HasRisen to.old.failures to.new.failures) }
+    ensures never_falls { to.old.failures ≤ to.new.failures }
+{
+    for _ in 0..TRIES {
+        match to.flush() {
+            Ok(()) => return Ok(()),
+            Err(e) if e.kind() == ErrorKind::Interrupted => {}
+            Err(_) => return Err(WriteFault),
+        }
+    }
+    Err(WriteFault)
+}
+
 /// One read, tried again while it is interrupted.
 fn read_retrying<R: Read>(from: &mut Counted<R>, chunk: &mut [u8]) -> Result<usize, ReadError>
     ensures bound { ReadsAtMost result chunk.new }

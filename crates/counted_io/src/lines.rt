@@ -3,7 +3,7 @@
 ghost use Rattle.std.specs.Prelude.{◌≡◌, ◌≢◌, ◌+◌, ◌<◌, ◌≤◌, ◌⊎◌, ◌∷◌, [], IfErr, IfNone, IfOk, IfSome, IsOk, OnErr, OnOk, Ok, drop, false, length, slice_index, true, ℕ};
 ghost use Rattle.std.specs.Io.KnownBytes.{Consumes, IsAtEnd, Keeps};
 ghost use Rattle.counted_io.specs.Counted.{HasRisen};
-ghost use Rattle.counted_io.specs.Lines.{GivesLast, GivesLine, GivesNone, HasFeed, IsFirstFeed, LacksFeed, LacksFeedWithin, PassesLimit, ReadsOn};
+ghost use Rattle.counted_io.specs.Lines.{GivesLast, GivesLine, GivesNone, HasFeed, IsFirstFeed, IsOver, LacksFeed, LacksFeedWithin, PassesLimit, ReadsOn};
 ghost use Rattle.counted_io.specs.Transfers.{ConsumesPrefix};
 
 use crate::{CHUNK, Counted, ReadError, read_retrying};
@@ -23,6 +23,8 @@ pub struct LineReader<A: Allocator> {
     start: usize,
     end: usize,
     most: usize,
+    // Whether the reader came to its end.
+    ended: bool,
 }
 
 impl<A: Allocator> Model for LineReader<A> {
@@ -36,6 +38,7 @@ impl<A: Allocator> Model for LineReader<A> {
       given = l.given;
       line = slice_range l.text.items l.start l.end;
       most = l.most;
+      ended = l.ended;
     } };
 
     ghost invariant = { λ l. (l.given ≤ length l.text.items) × (length l.text.items ≤ l.most)
@@ -45,7 +48,7 @@ impl<A: Allocator> Model for LineReader<A> {
 impl<A: Allocator> LineReader<A> {
     /// The lines of a text of which nothing was read.
     pub fn new(alloc: A, most: usize) -> Self
-        ensures { result ≡ record { read = []; given = 0; line = []; most = most } }
+        ensures { result ≡ record { read = []; given = 0; line = []; most = most; ended = false } }
     {
         LineReader {
             text: Vec::new(alloc),
@@ -53,20 +56,26 @@ impl<A: Allocator> LineReader<A> {
             start: 0,
             end: 0,
             most,
+            ended: false,
         }
     }
 
     /// Goes on to the next line, and says whether there is one: [`line`](LineReader::line) gives it.
     ///
     /// A line ends by a line feed, or by the end of the text where it has some bytes. Nothing is read where a whole line
-    /// waits, and nothing after the read that brought its line feed. A text of more than `most` bytes is `TooLong` once
-    /// the lines that end within them were given. At an error nothing is given; what was read is kept, but for the one
-    /// byte after the limit.
+    /// waits, nothing after the read that brought its line feed, and nothing once the reader came to its end: there the text ends,
+    /// even if a terminal would give more. A text of more than `most` bytes is `TooLong` once the lines that end within them were
+    /// given. At an error nothing is given; what was read is kept, but for the one byte after the limit.
     pub fn next_line<R: Read>(&mut self, from: &mut Counted<R>) -> Result<bool, ReadError>
         ensures line { result ≡ Ok true → GivesLine self.old self.new
-            ⊎ (GivesLast self.old self.new × IsAtEnd (R.remaining from.new.inner)) }
+            ⊎ (GivesLast self.old self.new × IsOver (R.remaining from.new.inner) self.old self.new) }
         ensures end { result ≡ Ok false → GivesNone self.old self.new
-            × IsAtEnd (R.remaining from.new.inner) }
+            × IsOver (R.remaining from.new.inner) self.old self.new }
+        // Whether the text ended is known once and for all.
+        ensures over { self.old.ended ≡ true → (self.new.ended ≡ true)
+            × (from.new ≡ from.old) × (self.new.read ≡ self.old.read) }
+        ensures ends { self.new.ended ≡ true → (self.old.ended ≡ true)
+            ⊎ IsAtEnd (R.remaining from.new.inner) }
         ensures bytes { OnOk result (ReadsOn (R.remaining from.old.inner) (R.remaining from.new.inner)
             self.old.read self.new.read) }
         // A line that waits is given without a read.
@@ -92,19 +101,21 @@ impl<A: Allocator> LineReader<A> {
 
         ensures most { self.new.most ≡ self.old.most }
         ensures limit { length self.new.read ≤ self.new.most }
+        ensures within { self.new.given ≤ length self.new.read }
         ensures never_falls { from.old.failures ≤ from.new.failures }
     {
         self.start = 0;
         self.end = 0;
-        let found = find_line_feed(&mut self.text, self.given, self.most, from)?;
-        let (end, given) = match found {
-            Some(at) => (at, at + 1),
-            None => (self.text.len(), self.text.len()),
+        let found = find_line_feed(&mut self.text, self.given, self.most, self.ended, from)?;
+        let (end, given, ended) = match found {
+            Some(at) => (at, at + 1, self.ended),
+            None => (self.text.len(), self.text.len(), true),
         };
         let is_line = self.given < given;
         self.start = self.given;
         self.end = end;
         self.given = given;
+        self.ended = ended;
         Ok(is_line)
     }
 
@@ -146,12 +157,13 @@ impl<A: Allocator> LineReader<A> {
     }
 }
 
-/// Where the first line feed of a text from `given` on stands; none where the reader ends before it comes. The text is
-/// read on until then.
+/// Where the first line feed of a text from `given` on stands; none where the text ends before it comes. The text is read on
+/// until then, unless it has ended.
 fn find_line_feed<A: Allocator, R: Read>(
     text: &mut Vec<u8, A>,
     given: usize,
     most: usize,
+    ended: bool,
     from: &mut Counted<R>,
 ) -> Result<Option<usize>, ReadError>
     requires given { given ≤ length text.old.items }
@@ -160,7 +172,8 @@ fn find_line_feed<A: Allocator, R: Read>(
         IsFirstFeed text.new.items given at)) }
     ensures absent { IfOk result (λ found. IfNone found
         (LacksFeedWithin text.new.items given (length text.new.items)
-        × IsAtEnd (R.remaining from.new.inner))) }
+        × ((ended ≡ true) ⊎ IsAtEnd (R.remaining from.new.inner)))) }
+    ensures over { ended ≡ true → (from.new ≡ from.old) × (text.new.items ≡ text.old.items) }
     ensures bytes { OnOk result (ReadsOn (R.remaining from.old.inner) (R.remaining from.new.inner)
         text.old.items text.new.items) }
     ensures waiting { (at : ℕ) → given ≤ at → at < length text.old.items → slice_index text.old.items at ≡ 10
@@ -187,6 +200,9 @@ fn find_line_feed<A: Allocator, R: Read>(
     loop {
         if let Some(at) = line_feed_from(text.as_slice(), searched) {
             return Ok(Some(at));
+        }
+        if ended {
+            return Ok(None);
         }
         searched = text.len();
         if !read_more(text, most, from)? {

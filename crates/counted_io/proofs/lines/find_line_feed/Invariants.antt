@@ -1,5 +1,5 @@
 -- What was searched has no line feed, and all that the reader lost is in the text.
-use Rattle.std.proofs.Common.{◌≡◌, ◌≤◌, ◌-◌, ◌<◌, ℕ, length, slice_index}
+use Rattle.std.proofs.Common.{◌≡◌, ◌≤◌, ◌-◌, ◌<◌, ℕ, length, slice_index, true}
 use Rattle.counted_io.specs.Lines.{LacksFeedWithin, ReadsOn}
 use Rattle.counted_io.proofs.lines.find_line_feed.Given as goal
 
@@ -12,6 +12,7 @@ invariant-loop-at g l = record {
   absent : LacksFeedWithin l.text.items l.fn.given l.searched;
   bytes : ReadsOn (g.R.Read.remaining l.initial.from.inner) (g.R.Read.remaining l.from.inner) l.initial.text.items l.text.items;
   untouched : (at : ℕ) → l.fn.given ≤ at → at < length l.initial.text.items → slice_index l.initial.text.items at ≡ 10 → (l.from ≡ l.initial.from) × (l.text.items ≡ l.initial.text.items);
+  over : l.fn.ended ≡ true → (l.from ≡ l.initial.from) × (l.text.items ≡ l.initial.text.items);
   failures : l.initial.from.failures ≤ l.from.failures;
 }
 

@@ -1,9 +1,11 @@
 -- The line feed that was found, or the end, ends the line.
-use Rattle.std.proofs.Common.{◌≡◌, ◌<◌, ◌≤◌, ◌+◌, ◌∙◌, Ok, nat_lt, ap, inl, inr, drop, length, subst, sym, true, arith}
+use Rattle.std.proofs.Common.{refl, ◌⊎◌, ◌≡◌, ◌<◌, ◌≤◌, ◌+◌, ◌∙◌, Ok, nat_lt, ap, inl, inr, drop, length, subst, sym, true, arith}
 use Rattle.std.proofs.lemmas.Bool.{ltb-true, lt-ltb}
+use Rattle.std.proofs.lemmas.Result.{err_from_is_err_and}
+use Rattle.std.specs.Io.KnownBytes.{IsAtEnd}
 use Rattle.std.specs.List.{slice_index, slice_range}
-use Rattle.counted_io.specs.Lines.{HasFeed, IsFirstFeed}
-use Rattle.counted_io.proofs.LineLemmas.{feed_of_rest, gives_last, gives_line}
+use Rattle.counted_io.specs.Lines.{HasFeed, IsFirstFeed, LineReaderState}
+use Rattle.counted_io.proofs.LineLemmas.{LacksFeed-rest, feed_of_rest, gives_last, gives_line}
 use Rattle.counted_io.proofs.lines.LineReader.next_line.Goals as goal
 use Rattle.counted_io.proofs.lines.LineReader.next_line.Goals.{in-Some, in-None}
 
@@ -28,7 +30,7 @@ returns-clause-line g c = λ is_line.
           inr (
             gives_last _ _ c.self.inside.given given absent.0 (ap (λ e. slice_range text c.self.inside.given e.0) w.end-is ∙ ap (slice_range text c.self.inside.given) end)
                 (ap (λ e. e.1) w.end-is ∙ after) (ltb-true _ _ some),
-            absent.1,
+            record { ended = ap (λ e. e.2) w.end-is; at_end = subst (λ (s : LineReaderState). (s.ended ≡ true) ⊎ IsAtEnd (g.R.Read.remaining c.find_line_feed.new.from.inner)) c.self.view_is absent.1 },
           )
     ]
 
@@ -45,4 +47,24 @@ returns-clause-waiting g c = λ feed.
       | in-None w ↦
           let absent = rw w.in-None.is at c.in_ok-found.ensures.absent in
           absurd (absent.0 at behind (subst (λ t. at < length t) (sym unread.2) within) (ap (λ t. slice_index t at) unread.2 ∙ is))
+    ]
+
+pub returns-in_err-found-clause-over : goal.returns-in_err-found-clause-over
+returns-in_err-found-clause-over g c = λ over.
+    let ended : c.self.inside.ended ≡ true = ap (λ s. s.ended) c.self.view_is ∙ over in
+    let still = c.in_err-found.ensures.over ended in
+    (ended, still.0, still.1 ∙ ap (λ s. s.read) c.self.view_is)
+
+pub returns-in_err-found-clause-err : goal.returns-in_err-found-clause-err
+returns-in_err-found-clause-err g c =
+    let exit = err_from_is_err_and c.from_residual.result c.from_residual.ensures.1 in
+    rw exit.1 (ap (λ s. s.given) c.self.view_is, refl, LacksFeed-rest _ _ c.in_err-found.ensures.err)
+
+pub returns-clause-over : goal.returns-clause-over
+returns-clause-over g c = λ over.
+    let ended : c.self.inside.ended ≡ true = ap (λ s. s.ended) c.self.view_is ∙ over in
+    let still = c.in_ok-found.ensures.over ended in
+    elim c.match-found.branch [
+      | in-Some w ↦ (ap (λ e. e.2) w.end-is ∙ ended, still.0, still.1 ∙ ap (λ s. s.read) c.self.view_is)
+      | in-None w ↦ (ap (λ e. e.2) w.end-is, still.0, still.1 ∙ ap (λ s. s.read) c.self.view_is)
     ]

@@ -39,7 +39,8 @@ mod sessions;
 mod tests;
 
 pub use errors::{BadSetting, SessionError, status};
+pub use images::image_of;
 pub use job::{Format, Job};
 pub use listing::{asm_session, list_session};
 pub use machine_core::{Outcome, Settings};
-pub use sessions::session;
+pub use sessions::{INPUT_BYTES, session};

@@ -29,7 +29,7 @@ use std::sync::Wait;
 use std::thread::Threads;
 
 /// The most bytes of an input (own rule).
-const INPUT_BYTES: usize = 1 << 24;
+pub const INPUT_BYTES: usize = 1 << 24;
 
 /// Runs the program that `image` gives on every node of the machine, each with the bytes of `input` as its input, superstep
 /// by superstep to the outcome, and writes the report to `out`: what the nodes wrote, superstep by superstep and in rank order

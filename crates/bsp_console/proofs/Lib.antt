@@ -1,0 +1,4 @@
+pub mod Costs
+pub mod Errors
+pub mod Scripts
+pub mod Talking

@@ -69,6 +69,10 @@ machine_app name formats =
 abbrev pub run_app : NameList → App
 run_app formats = with_rule (with_rule (machine_app (codes "run") formats) (flag_rule (codes "report"))) workers_rule
 
+-- `debug IMAGE` with its options
+abbrev pub debug_app : NameList → App
+debug_app formats = machine_app (codes "debug") formats
+
 -- `list IMAGE` with its option
 abbrev pub list_app : NameList → App
 list_app formats = with_rule (with_rule (new_app (codes "list")) (file_rule (codes "image"))) (format_rule formats)
@@ -83,8 +87,8 @@ bspemu_shape = record (new_app (codes "bspemu")).top { has_version = true; arg_r
 
 abbrev pub bspemu_app : NameList → App
 bspemu_app formats =
-    with_subcommand (with_subcommand (with_subcommand (record { top = bspemu_shape; subs = [] })
-    (run_app formats).top) (list_app formats).top) asm_app.top
+    with_subcommand (with_subcommand (with_subcommand (with_subcommand (record { top = bspemu_shape; subs = [] })
+    (run_app formats).top) (debug_app formats).top) (list_app formats).top) asm_app.top
 
 -- an argument that clap reads by this rule
 pub record HasRule (arg : Arg) (rule : Rule) : Type 0 where

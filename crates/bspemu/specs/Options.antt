@@ -7,7 +7,7 @@ use Rattle.clap.specs.declared.error.kind.ErrorKind.TheVariants.{MissingSubcomma
 use Rattle.bsp_session.specs.declared.job.Format.{Format}
 use Rattle.bsp_session.specs.declared.job.Format.TheVariants.{Elf, Raw, Asm}
 use Rattle.machine_core.specs.declared.settings.Settings.{Settings}
-use Rattle.bspemu.specs.declared.options.RunOptions.{RunOptions}
+use Rattle.bspemu.specs.declared.options.MachineOptions.{MachineOptions}
 use Rattle.bspemu.specs.declared.options.ListOptions.{ListOptions}
 use Rattle.bspemu.specs.declared.options.AsmOptions.{AsmOptions}
 use Rattle.bspemu.specs.declared.options.Action.{Action}
@@ -36,23 +36,33 @@ abbrev pub GivesFlag : Option Text → Bool → Type 0
 GivesFlag value true = value ≡ Some (codes "true")
 GivesFlag value false = value ≡ Some (codes "false")
 
--- the matches of `run` give these settings, each from the value of its own id
+-- the matches of a subcommand over a machine give these settings, each from the value of its own id
 pub record GivesSettings (rows : List Row) (s : Settings) : Type 0 where
   pub nodes : GivesNumber 32 (one_of (codes "nodes") rows) s.nodes
   pub memory : GivesNumber 32 (one_of (codes "memory") rows) s.memory
   pub limit : GivesNumber 64 (one_of (codes "limit") rows) s.limit
 
--- and these options
-pub record GivesRunOptions (rows : List Row) (o : RunOptions) : Type 0 where
+-- and these options, whatever the workers and the report
+pub record GivesMachineOptions (rows : List Row) (o : MachineOptions) : Type 0 where
   pub image : first_of (codes "image") rows ≡ Some o.image.now
   pub input : first_of (codes "input") rows ≡ option_map (λ path. path.now) o.input
   pub format : first_of (codes "format") rows ≡ Some (name_of_format o.job.format)
   pub settings : GivesSettings rows o.job.settings
-  pub workers : GivesNumber 32 (one_of (codes "workers") rows) o.job.workers
   pub slice : o.job.slice ≡ 2 ^ 16
-  pub report : GivesFlag (one_of (codes "report") rows) o.job.report
   pub g : GivesNumber 32 (one_of (codes "g") rows) o.job.g
   pub l : GivesNumber 32 (one_of (codes "l") rows) o.job.l
+
+-- the matches of `run` give these options
+pub record GivesRunOptions (rows : List Row) (o : MachineOptions) : Type 0 where
+  pub machine : GivesMachineOptions rows o
+  pub workers : GivesNumber 32 (one_of (codes "workers") rows) o.job.workers
+  pub report : GivesFlag (one_of (codes "report") rows) o.job.report
+
+-- the matches of `debug` give these options
+pub record GivesDebugOptions (rows : List Row) (o : MachineOptions) : Type 0 where
+  pub machine : GivesMachineOptions rows o
+  pub workers : o.job.workers ≡ 1
+  pub report : o.job.report ≡ false
 
 -- the matches of `list` give these options
 pub record GivesListOptions (rows : List Row) (o : ListOptions) : Type 0 where
@@ -67,6 +77,7 @@ pub record GivesAsmOptions (rows : List Row) (o : AsmOptions) : Type 0 where
 -- the matches of a subcommand of this name give this action
 abbrev pub GivesAction : Text → List Row → Action → Type 0
 GivesAction name rows (action.Run o) = (name ≡ codes "run") × GivesRunOptions rows o
+GivesAction name rows (action.Debug o) = (name ≡ codes "debug") × GivesDebugOptions rows o
 GivesAction name rows (action.List o) = (name ≡ codes "list") × GivesListOptions rows o
 GivesAction name rows (action.Asm o) = (name ≡ codes "asm") × GivesAsmOptions rows o
 

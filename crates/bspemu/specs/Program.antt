@@ -15,7 +15,7 @@ use Rattle.bsp_session.specs.Images.{Gives, most_bytes}
 use Rattle.bsp_session.specs.Listing.{IsErrorWithoutMachine}
 use Rattle.bsp_session.specs.Outcome.{status_of}
 use Rattle.bsp_session.specs.Session.{job_fault, most_input, run_of}
-use Rattle.bspemu.specs.declared.options.RunOptions.{RunOptions}
+use Rattle.bspemu.specs.declared.options.MachineOptions.{MachineOptions}
 use Rattle.bspemu.specs.declared.options.ListOptions.{ListOptions}
 use Rattle.bspemu.specs.declared.options.AsmOptions.{AsmOptions}
 use Rattle.bspemu.specs.declared.options.Action.{Action}
@@ -42,7 +42,7 @@ pub record HasOutcome (job : Job) (o : Outcome) : Type 0 where
   pub outcome : (run_of image input job.settings).outcome ≡ Some o
 
 -- the options name this file: as the image, which is not standard input, or as the input
-abbrev pub NamesFile : RunOptions → Bor Text → Type 0
+abbrev pub NamesFile : MachineOptions → Bor Text → Type 0
 NamesFile o path = ((o.image.now ≢ codes "-") × (o.image ≡ path)) ⊎ (o.input ≡ Some path)
 
 -- an error of a session: only settings out of their ranges are refused as such, and a thread can be lacking only where there are
@@ -53,10 +53,16 @@ IsSessionError job NoWorker = (job_fault job ≡ None) × (1 < job.workers) × (
 IsSessionError job _ = job_fault job ≡ None
 
 -- an answer that a run with these options can have
-abbrev pub IsAnswerOfRun : RunOptions → Result Outcome RunError → Type 0
+abbrev pub IsAnswerOfRun : MachineOptions → Result Outcome RunError → Type 0
 IsAnswerOfRun o (Ok outcome) = HasOutcome o.job outcome
 IsAnswerOfRun o (Err (CannotOpen path)) = NamesFile o path
 IsAnswerOfRun o (Err (Session error)) = IsSessionError o.job error
+
+-- an answer that a debugger with these options can have
+abbrev pub IsAnswerOfDebug : MachineOptions → Result Outcome RunError → Type 0
+IsAnswerOfDebug o (Ok outcome) = outcome ≡ Ended
+IsAnswerOfDebug o (Err (CannotOpen path)) = NamesFile o path
+IsAnswerOfDebug o (Err (Session error)) = Unit {0}
 
 -- an answer that a listing with these options can have
 abbrev pub IsAnswerOfList : ListOptions → Result Outcome RunError → Type 0
@@ -73,6 +79,7 @@ IsAnswerOfAsm o (Err (Session error)) = IsErrorWithoutMachine error
 -- an answer that an action can have
 abbrev pub IsAnswer : Action → Result Outcome RunError → Type 0
 IsAnswer (action.Run o) answer = IsAnswerOfRun o answer
+IsAnswer (action.Debug o) answer = IsAnswerOfDebug o answer
 IsAnswer (action.List o) answer = IsAnswerOfList o answer
 IsAnswer (action.Asm o) answer = IsAnswerOfAsm o answer
 

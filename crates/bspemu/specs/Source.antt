@@ -1,4 +1,4 @@
--- Where the bytes of an image or an input come from.
+-- Where the bytes of an image, an input or a debugger's lines come from.
 use Rattle.std.specs.Prelude.{ℕ, List, [], Option, Some, None, if◌then◌else◌, codes}
 use Rattle.std.specs.Str.{bytes_eq}
 use Rattle.std.specs.Borrow.{Bor}
@@ -25,6 +25,10 @@ image_place path = if bytes_eq path (codes "-") then standard_input else file
 abbrev pub input_place : Option (Bor (List ℕ)) → Place
 input_place None = nowhere
 input_place (Some path) = file
+
+-- the place of a debugger's lines, by the path of its image: standard input, where that is not the image
+abbrev pub lines_place : List ℕ → Place
+lines_place path = if bytes_eq path (codes "-") then nowhere else standard_input
 
 -- the bytes that a source has left, where its reader says: nowhere has none
 abbrev pub bytes_left : {F I : Type 0} → (F → Option (List ℕ)) → (I → Option (List ℕ)) → Source F I → Option (List ℕ)

@@ -1,7 +1,7 @@
 //! The rules of the command line: subcommands, their arguments and options, and their help.
 
 ghost use Rattle.std.specs.Prelude.{IfOk, codes};
-ghost use Rattle.bspemu.specs.CommandLine.{HasApp, HasAppOfFormats, HasRule, asm_app, bspemu_app, file_rule, flag_rule, format_rule};
+ghost use Rattle.bspemu.specs.CommandLine.{HasApp, HasAppOfFormats, HasRule, asm_app, bspemu_app, debug_app, file_rule, flag_rule, format_rule};
 ghost use Rattle.bspemu.specs.CommandLine.{g_rule, l_rule, limit_rule, list_app, machine_app, memory_rule, nodes_rule, option_rule, run_app, workers_rule};
 
 use clap::{Arg, ArgAction, Command, value_parser};
@@ -19,7 +19,8 @@ const FORMAT: &str =
     "Format of IMAGE: elf, an ELF executable; raw, the bytes of memory from address 0; asm, an assembly text";
 
 const STATUSES: &str = "Exit status:
-  0  every node ended; a listing or an image was written; help or the version was asked for
+  0  every node ended; the debugger's lines were answered; a listing or an image was written; help or the version was
+     asked for
   1  the command line, a setting or the program was refused
   2  a node was stopped by a fault, or by its own abort
   3  a node still ran at its limit
@@ -37,6 +38,34 @@ const ASM_AFTER_HELP: &str = "A text that is refused has a line `line N: NAME` o
   TooLarge         the statement ends past 16777216 bytes
 docs/ASSEMBLY.md has the whole language.";
 
+const DEBUG_AFTER_HELP: &str = "Lines of standard input; each is answered before the next one is read:
+  break RANK ADDR      set a point: go stops before this rank makes a step at this address
+  break superstep K    set a point: go stops where superstep K begins
+  clear RANK ADDR      take away the point at this address
+  clear superstep K    take away the point at this superstep
+  step RANK N          make N steps of this rank, or fewer if it stops; points are not looked at
+  phase                run each rank until it stops, in rank order; points are not looked at
+  turn                 end the superstep, if no rank is running
+  go                   run on to the next point, or to the end
+  regs RANK            show where this rank is, its ticks, its state and its registers
+  bytes RANK ADDR LEN  show LEN bytes of the memory of this rank
+  queue RANK           show the messages that wait in the queue of this rank
+  costs                show the costs of the supersteps so far, and their total
+  output               show what was written in the supersteps so far
+  quit                 end
+Numbers are decimal, or hexadecimal as in 0x1f. All lines together may have 1048576 bytes. Where IMAGE is -, there are
+no lines.
+
+A line that is refused changes nothing, and is answered `refused: NAME`:
+  BadCommand   the line is none of these, or a number in it is too great
+  BadRank      there is no such rank
+  BadRange     not all of these bytes lie in the memory
+  TooMany      1024 other points are set
+  NoSuchBreak  the point is not set
+  Over         the run has ended
+The exit status is 0 whatever was refused and however the run ended; only an error ends it with 1, 5 or 6.
+docs/DEBUGGER.md has an example of each line.";
+
 /// The command line of the program.
 pub fn command<'a>(alloc: Global) -> Result<Command<'a>, AllocError>
     ensures { IfOk result (λ command. HasAppOfFormats command bspemu_app) }
@@ -50,6 +79,7 @@ pub fn command<'a>(alloc: Global) -> Result<Command<'a>, AllocError>
         .subcommand_required(true)
         .arg_required_else_help(true)
         .subcommand(run_command(alloc, formats)?)?
+        .subcommand(debug_command(alloc, formats)?)?
         .subcommand(list_command(alloc, formats)?)?
         .subcommand(asm_command(alloc)?)
 }
@@ -64,6 +94,19 @@ fn run_command<'a>(alloc: Global, formats: &'a [&'a str]) -> Result<Command<'a>,
         .after_help(STATUSES)
         .arg(report(alloc))?
         .arg(workers(alloc))
+}
+
+fn debug_command<'a>(alloc: Global, formats: &'a [&'a str]) -> Result<Command<'a>, AllocError>
+    ensures { IfOk result (λ command. HasApp command (debug_app formats.entry)) }
+{
+    let command = machine_command(alloc, "debug", formats)?;
+    Ok(
+        command
+            .about(
+                "Run a program piece by piece: do what each line of standard input says, and write the answer",
+            )
+            .after_help(DEBUG_AFTER_HELP),
+    )
 }
 
 /// A subcommand over a machine: the program, what the machine is made of, and the prices of its costs.
@@ -202,7 +245,7 @@ fn byte_price<'a>(alloc: Global) -> Arg<'a>
         .value_name("TICKS")
         .value_parser(value_parser!(u32))
         .default_value("1")
-        .help("Ticks that a byte of the h-relation costs in the report's total")
+        .help("Ticks that a byte of the h-relation costs in the total")
 }
 
 fn superstep_price<'a>(alloc: Global) -> Arg<'a>
@@ -213,7 +256,7 @@ fn superstep_price<'a>(alloc: Global) -> Arg<'a>
         .value_name("TICKS")
         .value_parser(value_parser!(u32))
         .default_value("0")
-        .help("Ticks that the end of a superstep costs in the report's total")
+        .help("Ticks that the end of a superstep costs in the total")
 }
 
 fn workers<'a>(alloc: Global) -> Arg<'a>

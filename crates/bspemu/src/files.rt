@@ -3,7 +3,7 @@
 ghost use Rattle.std.specs.Prelude.{◌≡◌, IfOk, IfErr, IsErr, IsOk, None, codes};
 ghost use Rattle.std.specs.Io.{ReadsAtMost};
 ghost use Rattle.std.specs.Io.KnownBytes.{ReadConsumes};
-ghost use Rattle.bspemu.specs.Source.{bytes_left, image_place, file, input_place, place_of, standard_input};
+ghost use Rattle.bspemu.specs.Source.{bytes_left, image_place, file, input_place, lines_place, place_of, standard_input};
 
 use std::io::{ErrorKind, Read};
 use std::rt::Files;
@@ -73,6 +73,16 @@ pub fn open_input<'a, R: Files + Input>(
     match path {
         Some(path) => Ok(Source::File(open_file(rt, path)?)),
         None => Ok(Source::Empty),
+    }
+}
+
+/// The lines that a debugger answers, where the image is at `path`: standard input, or nothing where that is the image.
+pub fn open_lines<R: Files + Input>(rt: &R, path: &str) -> Source<R::File, R::Reader>
+    ensures { place_of result ≡ lines_place path.now }
+{
+    match path {
+        "-" => Source::Empty,
+        _ => open_standard(rt),
     }
 }
 

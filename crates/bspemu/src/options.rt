@@ -2,8 +2,8 @@
 
 ghost use Rattle.std.specs.Prelude.{◌≡◌, IfOk, IfErr, IfNone, IfSome, map};
 ghost use Rattle.clap.specs.Words.{found_of, kind_of, rows_of, subcommand_rows_of};
-ghost use Rattle.bspemu.specs.Options.{AsksFor, Gives, GivesAction, GivesAsmOptions, GivesListOptions, GivesRunOptions};
-ghost use Rattle.bspemu.specs.Options.{GivesSettings, IsFaultOf, IsNeverMet, name_of_format};
+ghost use Rattle.bspemu.specs.Options.{AsksFor, Gives, GivesAction, GivesAsmOptions, GivesDebugOptions, GivesListOptions, GivesMachineOptions};
+ghost use Rattle.bspemu.specs.Options.{GivesRunOptions, GivesSettings, IsFaultOf, IsNeverMet, name_of_format};
 
 use crate::command_line::command;
 use bsp_session::{Format, Job, Settings};
@@ -15,9 +15,9 @@ use std::convert::AsStr;
 /// How many steps a node makes before it may go to another thread.
 const SLICE: u64 = 1 << 16;
 
-/// What `bspemu run` was asked to do.
+/// What `bspemu run` or `bspemu debug` was asked to do.
 #[derive(Debug, Drop)]
-pub struct RunOptions<'a> {
+pub struct MachineOptions<'a> {
     /// The file of the program; `-` is standard input.
     pub image: &'a str,
     /// The file of the nodes' input; with none the input is empty.
@@ -46,7 +46,9 @@ pub struct AsmOptions<'a> {
 #[derive(Debug, Drop)]
 pub enum Action<'a> {
     /// Run a program.
-    Run(RunOptions<'a>),
+    Run(MachineOptions<'a>),
+    /// Run a program as lines say, and answer them.
+    Debug(MachineOptions<'a>),
     /// Write the listing of a program.
     List(ListOptions<'a>),
     /// Assemble a text, and save it.
@@ -91,27 +93,51 @@ fn action_named<'a>(name: &str, found: &ArgMatches<'a>) -> Option<Action<'a>>
 {
     match name {
         "run" => Some(Action::Run(options_of_run(found)?)),
+        "debug" => Some(Action::Debug(options_of_debug(found)?)),
         "list" => Some(Action::List(options_of_list(found)?)),
         "asm" => Some(Action::Asm(options_of_asm(found)?)),
         _ => None,
     }
 }
 
-fn options_of_run<'a>(run: &ArgMatches<'a>) -> Option<RunOptions<'a>>
+fn options_of_run<'a>(run: &ArgMatches<'a>) -> Option<MachineOptions<'a>>
     ensures some { IfSome result (GivesRunOptions (rows_of (found_of run.now))) }
     ensures none { IfNone result (IsNeverMet (GivesRunOptions (rows_of (found_of run.now)))) }
 {
-    Some(RunOptions {
-        image: run.get_str("image")?,
-        input: run.get_str("input"),
+    let workers = run.get_one("workers")?;
+    let report = run.get_one("report")?;
+    options_of_machine(run, workers, report)
+}
+
+/// A debugger has no other thread, and tells costs where a line asks for them.
+fn options_of_debug<'a>(debug: &ArgMatches<'a>) -> Option<MachineOptions<'a>>
+    ensures some { IfSome result (GivesDebugOptions (rows_of (found_of debug.now))) }
+    ensures none { IfNone result (IsNeverMet (GivesDebugOptions (rows_of (found_of debug.now)))) }
+{
+    options_of_machine(debug, 1, false)
+}
+
+/// What `run` and `debug` share, with the rest as it is given.
+fn options_of_machine<'a>(
+    found: &ArgMatches<'a>,
+    workers: u32,
+    report: bool,
+) -> Option<MachineOptions<'a>>
+    ensures some { IfSome result (GivesMachineOptions (rows_of (found_of found.now))) }
+    ensures rest { IfSome result (λ o. (o.job.workers ≡ workers) × (o.job.report ≡ report)) }
+    ensures none { IfNone result (IsNeverMet (GivesMachineOptions (rows_of (found_of found.now)))) }
+{
+    Some(MachineOptions {
+        image: found.get_str("image")?,
+        input: found.get_str("input"),
         job: Job {
-            format: format_named(run.get_str("format")?)?,
-            settings: settings_of_run(run)?,
-            workers: run.get_one("workers")?,
+            format: format_named(found.get_str("format")?)?,
+            settings: settings_of_machine(found)?,
+            workers,
             slice: SLICE,
-            report: run.get_one("report")?,
-            g: run.get_one("g")?,
-            l: run.get_one("l")?,
+            report,
+            g: found.get_one("g")?,
+            l: found.get_one("l")?,
         },
     })
 }
@@ -136,14 +162,14 @@ fn options_of_asm<'a>(asm: &ArgMatches<'a>) -> Option<AsmOptions<'a>>
     })
 }
 
-fn settings_of_run(run: &ArgMatches<'_>) -> Option<Settings>
-    ensures some { IfSome result (GivesSettings (rows_of (found_of run.now))) }
-    ensures none { IfNone result (IsNeverMet (GivesSettings (rows_of (found_of run.now)))) }
+fn settings_of_machine(found: &ArgMatches<'_>) -> Option<Settings>
+    ensures some { IfSome result (GivesSettings (rows_of (found_of found.now))) }
+    ensures none { IfNone result (IsNeverMet (GivesSettings (rows_of (found_of found.now)))) }
 {
     Some(Settings {
-        nodes: run.get_one("nodes")?,
-        memory: run.get_one("memory")?,
-        limit: run.get_one("limit")?,
+        nodes: found.get_one("nodes")?,
+        memory: found.get_one("memory")?,
+        limit: found.get_one("limit")?,
     })
 }
 

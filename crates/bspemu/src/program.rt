@@ -2,11 +2,12 @@
 
 ghost use Rattle.std.specs.Prelude.{◌≡◌, ◌⊎◌, IfErr, map};
 ghost use Rattle.clap.specs.Words.{kind_of};
-ghost use Rattle.bspemu.specs.Program.{Ends, EndsOnItsWords, IsAnswer, IsAnswerOfAsm, IsAnswerOfList, IsAnswerOfRun};
-ghost use Rattle.bspemu.specs.Program.{IsStatusOfKind, status_of_answer};
+ghost use Rattle.bspemu.specs.Program.{Ends, EndsOnItsWords, IsAnswer, IsAnswerOfAsm, IsAnswerOfDebug, IsAnswerOfList};
+ghost use Rattle.bspemu.specs.Program.{IsAnswerOfRun, IsStatusOfKind, status_of_answer};
 
-use crate::files::{CannotOpen, create, open_file, open_image, open_input};
-use crate::options::{Action, AsmOptions, ListOptions, RunOptions, action_of, refusal};
+use crate::files::{CannotOpen, create, open_file, open_image, open_input, open_lines};
+use crate::options::{Action, AsmOptions, ListOptions, MachineOptions, action_of, refusal};
+use bsp_console::debug_session;
 use bsp_session::{Outcome, SessionError, asm_session, list_session, session, status};
 use clap::Error;
 use clap::error::ErrorKind;
@@ -105,7 +106,7 @@ pub fn program_on<
     }
 }
 
-/// Does what was asked for. A listing and a saved image count as ended.
+/// Does what was asked for. A listing, a saved image and lines that were answered count as ended.
 fn perform<'a, R: AllocGlobal + Files + Input + Print + Threads + Wait + Sync>(
     rt: &R,
     action: &Action<'a>,
@@ -114,6 +115,7 @@ fn perform<'a, R: AllocGlobal + Files + Input + Print + Threads + Wait + Sync>(
 {
     match action {
         Action::Run(options) => run(rt, options),
+        Action::Debug(options) => debug(rt, options),
         Action::List(options) => list(rt, options),
         Action::Asm(options) => assemble(rt, options),
     }
@@ -122,7 +124,7 @@ fn perform<'a, R: AllocGlobal + Files + Input + Print + Threads + Wait + Sync>(
 /// Opens what the options name, first the image, and runs the session.
 fn run<'a, R: AllocGlobal + Files + Input + Print + Threads + Wait + Sync>(
     rt: &R,
-    options: &RunOptions<'a>,
+    options: &MachineOptions<'a>,
 ) -> Result<Outcome, RunError<'a>>
     ensures { IsAnswerOfRun options.now result }
 {
@@ -138,6 +140,29 @@ fn run<'a, R: AllocGlobal + Files + Input + Print + Threads + Wait + Sync>(
         &mut out,
     )?;
     Ok(outcome)
+}
+
+/// Opens what the options name, first the image, and answers the lines of standard input. Whether there is a standard input shows
+/// only before a file is open.
+fn debug<'a, R: AllocGlobal + Files + Input + Print>(
+    rt: &R,
+    options: &MachineOptions<'a>,
+) -> Result<Outcome, RunError<'a>>
+    ensures { IsAnswerOfDebug options.now result }
+{
+    let mut lines = Counted::new(open_lines(rt, options.image));
+    let mut image = Counted::new(open_image(rt, options.image)?);
+    let mut input = Counted::new(open_input(rt, options.input)?);
+    let mut out = Counted::new(io::writer(rt));
+    debug_session(
+        rt.alloc(),
+        &mut image,
+        &mut input,
+        &options.job,
+        &mut lines,
+        &mut out,
+    )?;
+    Ok(Outcome::Ended)
 }
 
 /// Opens the image, and writes its listing.

@@ -1,11 +1,11 @@
 use Rattle.std.proofs.Common.{codes}
 use Rattle.clap.specs.Words.{found_of}
 use Rattle.bspemu.proofs.Getters.{no_number_of_getter, number_of_getter}
-use Rattle.bspemu.proofs.options.settings_of_run.Goals as goal
+use Rattle.bspemu.proofs.options.settings_of_machine.Goals as goal
 
 pub returns-clause-some : goal.returns-clause-some
 returns-clause-some c =
-    let found = found_of c.args.run.now in
+    let found = found_of c.args.found.now in
     record {
       nodes = number_of_getter 32 _ found (codes "nodes") c.in_ok-get_one.ensures.none c.in_ok-get_one.ensures.value;
       memory = number_of_getter 32 _ found (codes "memory") c.in_ok-get_one-2.ensures.none c.in_ok-get_one-2.ensures.value;
@@ -15,14 +15,14 @@ returns-clause-some c =
 pub returns-in_err-get_one-clause-none : goal.returns-in_err-get_one-clause-none
 returns-in_err-get_one-clause-none c =
     rw c.from_residual.ensures
-    (λ s gives. no_number_of_getter 32 s.nodes (found_of c.args.run.now) (codes "nodes") c.in_err-get_one.ensures.value gives.nodes)
+    (λ s gives. no_number_of_getter 32 s.nodes (found_of c.args.found.now) (codes "nodes") c.in_err-get_one.ensures.value gives.nodes)
 
 pub returns-in_err-get_one-2-clause-none : goal.returns-in_err-get_one-2-clause-none
 returns-in_err-get_one-2-clause-none c =
     rw c.from_residual-in_err-get_one-2.ensures
-    (λ s gives. no_number_of_getter 32 s.memory (found_of c.args.run.now) (codes "memory") c.in_err-get_one-2.ensures.value gives.memory)
+    (λ s gives. no_number_of_getter 32 s.memory (found_of c.args.found.now) (codes "memory") c.in_err-get_one-2.ensures.value gives.memory)
 
 pub returns-in_err-get_one-3-clause-none : goal.returns-in_err-get_one-3-clause-none
 returns-in_err-get_one-3-clause-none c =
     rw c.from_residual-in_err-get_one-3.ensures
-    (λ s gives. no_number_of_getter 64 s.limit (found_of c.args.run.now) (codes "limit") c.in_err-get_one-3.ensures.value gives.limit)
+    (λ s gives. no_number_of_getter 64 s.limit (found_of c.args.found.now) (codes "limit") c.in_err-get_one-3.ensures.value gives.limit)

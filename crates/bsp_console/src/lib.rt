@@ -23,3 +23,6 @@ mod session;
 mod talk;
 
 pub use session::debug_session;
+
+#[cfg(test)]
+mod tests;

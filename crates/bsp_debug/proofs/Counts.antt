@@ -126,6 +126,7 @@ ticks_at-steps n m rank = ap (λ (x : MachineState). ticks_at x rank - ticks_at 
   where
     ticks_in : Option NodeState → ℕ
     ticks_in o = option_map_or (λ (s : NodeState). s.ticks) o 0
+
     by : (o : Option NodeState) → slice_get m.nodes rank ≡ o → ticks_at (record m { nodes = stepped_often m.input rank n m.nodes }) rank - ticks_at m rank ≡ steps_at m rank n
     by None is = rw (often-none m.input n rank m.nodes is, is) (omega arith)
     by (Some s) is = rw (often-found m.input n rank m.nodes s is, slice_get-slice_set m.nodes rank s (local_steps m.input n s) is, is) refl

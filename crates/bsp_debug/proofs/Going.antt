@@ -94,12 +94,12 @@ module _ (points : List Point) (t : Traced) (rank : ℕ) (trace : IsTrace t) (so
       let m = t.machine in
       let before = after_steps m rank c in
       let on_way = IsWay-steps points t.start rank c m (events_of t.made) sound open_yet below
-          (λ j within. on.runs j (omega (arith, within))) (λ j some within. on.passes j some (omega (arith, within))) way in
+      (λ j within. on.runs j (omega (arith, within))) (λ j some within. on.passes j some (omega (arith, within))) way in
       let last = IsWay-step points t.start rank before (events_of t.made ++ replicate c (Step rank)) (sound-steps c) (open-steps c) (below-steps c) (on.runs c (omega arith)) on_way in
       let here : event before (Step rank) ≡ after_steps m rank (suc c) = sym (after_steps-last c m rank) ∙ ap (after_steps m rank) (add-one c) in
       let events : (events_of t.made ++ replicate c (Step rank)) ++ Step rank ∷ [] ≡ events_of (with_steps t.made rank (suc c)) =
-          append_assoc (events_of t.made) (replicate c (Step rank)) (Step rank ∷ []) ∙ ap (λ xs. events_of t.made ++ xs) (replicate-last c (Step rank))
-          ∙ sym (events_of-steps t.made rank (suc c)) in
+      append_assoc (events_of t.made) (replicate c (Step rank)) (Step rank ∷ []) ∙ ap (λ xs. events_of t.made ++ xs) (replicate-last c (Step rank))
+      ∙ sym (events_of-steps t.made rank (suc c)) in
       let stop : stop_at points (Step rank) (after_steps m rank (suc c)) ≡ address_stop points (after_steps m rank (suc c)) = stop_at-step points rank (after_steps m rank (suc c)) (open-steps (suc c)) in
       last-going points (stepped rank (suc c) t) (steps-some t.made rank c) (rw stop at rw events at rw here at last)
 
@@ -139,12 +139,14 @@ module _ (points : List Point) (t : Traced) (rank : ℕ) (trace : IsTrace t) (so
       where
         still : r.count ≡ 0 → new ≡ t
         still none = is ∙ ap (λ k. stepped rank k t) none ∙ ap (λ (x : MachineState). record t { machine = x }) (after_steps-zero t.machine rank)
+
         none-here : r.count ≡ 0 → point_at points new.machine rank ≡ None
         none-here none = point_at-stopped points new.machine rank (off (is_enabled new.machine (Step rank)) refl)
           where
             off : (enabled : Bool) → is_enabled new.machine (Step rank) ≡ enabled → is_enabled new.machine (Step rank) ≡ false
             off false is_off = is_off
             off true is_on = absurd (let some = r.some (ap (λ (x : Traced). is_enabled x.machine (Step rank)) (sym (still none)) ∙ is_on) in omega (arith, some, none))
+
         gone : (p : Option Point) → o ≡ p → IsBeforeAddress points new → HasGone {E = E} points new (Ok p)
         gone None none last = inr last
         gone (Some p) some last =
@@ -153,6 +155,7 @@ module _ (points : List Point) (t : Traced) (rank : ℕ) (trace : IsTrace t) (so
             let sound_new : IsSoundMachine new.machine = rw machine-is (sound-steps r.count) in
             let below_new : HaveStoppedBelow rank new.machine = rw machine-is (below-steps r.count) in
             IsGoing-stop points new (stopped p) (inr last) last.some (address_stop-at points new.machine rank sound_new below_new on ∙ ap (option_map stopped) at)
+
         by : (k : ℕ) → r.count ≡ k → HasGone {E = E} points new (Ok o)
         by zero none = rw (found ∙ none-here none) (rw (still none) going)
         by (suc c) some =
@@ -166,21 +169,21 @@ module _ (points : List Point) (t : Traced) (rank : ℕ) (trace : IsTrace t) (so
   node-refused new r is way =
       let m = t.machine in
       let runs : (j : ℕ) → j ≤ r.count → is_enabled (after_steps m rank j) (Step rank) ≡ true =
-          (λ j within. elim (cases_order j r.count) [
-            | inl same ↦ ap (λ k. is_enabled (after_steps m rank k) (Step rank)) same ∙ ap (λ (x : MachineState). is_enabled x (Step rank)) (sym r.is) ∙ r.runs
-            | inr other ↦ elim other [
-              | inl before ↦ r.on.runs j before
-              | inr past ↦ absurd (omega (arith, within, past))
-            ]
-          ]) in
+      (λ j within. elim (cases_order j r.count) [
+        | inl same ↦ ap (λ k. is_enabled (after_steps m rank k) (Step rank)) same ∙ ap (λ (x : MachineState). is_enabled x (Step rank)) (sym r.is) ∙ r.runs
+        | inr other ↦ elim other [
+          | inl before ↦ r.on.runs j before
+          | inr past ↦ absurd (omega (arith, within, past))
+        ]
+      ]) in
       let passes : (j : ℕ) → 0 < j → j ≤ r.count → point_at points (after_steps m rank j) rank ≡ None =
-          (λ j some within. elim (cases_order j r.count) [
-            | inl same ↦ ap (λ k. point_at points (after_steps m rank k) rank) same ∙ ap (λ (x : MachineState). point_at points x rank) (sym r.is) ∙ r.passes (omega (arith, some, same))
-            | inr other ↦ elim other [
-              | inl before ↦ r.on.passes j some before
-              | inr past ↦ absurd (omega (arith, within, past))
-            ]
-          ]) in
+      (λ j some within. elim (cases_order j r.count) [
+        | inl same ↦ ap (λ k. point_at points (after_steps m rank k) rank) same ∙ ap (λ (x : MachineState). point_at points x rank) (sym r.is) ∙ r.passes (omega (arith, some, same))
+        | inr other ↦ elim other [
+          | inl before ↦ r.on.passes j some before
+          | inr past ↦ absurd (omega (arith, within, past))
+        ]
+      ]) in
       let first : is_enabled m (Step rank) ≡ true = sym (ap (λ (x : MachineState). is_enabled x (Step rank)) (after_steps-zero m rank)) ∙ runs 0 (omega arith) in
       let on_way = IsWay-steps points t.start rank r.count m (events_of t.made) sound open_yet below runs passes (way first) in
       let part = IsWay-part points t.start (after_steps m rank r.count) (events_of t.made ++ replicate r.count (Step rank)) on_way in

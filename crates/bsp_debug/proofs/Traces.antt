@@ -65,6 +65,7 @@ point_at-none m rank = by (slice_get m.nodes rank)
     test : (running : Bool) (p : Point) → (if running && false then Some p else None) ≡ None
     test true p = refl
     test false p = refl
+
     by : (o : Option NodeState) → option_and_then (λ (n : NodeState). if runs n && is_set [] (Address rank n.hart.pc) then Some (Address rank n.hart.pc) else None) o ≡ None
     by None = refl
     by (Some n) = test (runs n) (Address rank n.hart.pc)

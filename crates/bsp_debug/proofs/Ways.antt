@@ -91,7 +91,7 @@ module _ (points : List Point) (start : MachineState) where
         let last = IsWay-step m events sound open_yet below first way in
         let way' = IsLast-way next (events ++ Step rank ∷ []) (rw no_stop at last) in
         let rest = IsWay-steps count next (events ++ Step rank ∷ []) sound' open' below'
-            (λ j within. ap (λ (x : MachineState). is_enabled x (Step rank)) (sym (after_steps-suc m rank j)) ∙ enabled (suc j) (omega (arith, within)))
-            (λ j some within. ap (λ (x : MachineState). point_at points x rank) (sym (after_steps-suc m rank j)) ∙ passes (suc j) (omega arith) (omega (arith, within)))
-            way' in
+        (λ j within. ap (λ (x : MachineState). is_enabled x (Step rank)) (sym (after_steps-suc m rank j)) ∙ enabled (suc j) (omega (arith, within)))
+        (λ j some within. ap (λ (x : MachineState). point_at points x rank) (sym (after_steps-suc m rank j)) ∙ passes (suc j) (omega arith) (omega (arith, within)))
+        way' in
         rw (after_steps-suc m rank count, ← append_assoc events (Step rank ∷ []) (replicate count (Step rank))) rest

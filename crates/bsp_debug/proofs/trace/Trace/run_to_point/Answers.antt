@@ -12,14 +12,16 @@ use Rattle.bsp_debug.proofs.trace.Trace.run_to_point.Goals as goal
 pub returns-then-not-runs-clause-ok : goal.returns-then-not-runs-clause-ok
 returns-then-not-runs-clause-ok g c =
     let m = c.args.self.now.machine in
-    let off : is_enabled m (Step c.args.rank) ≡ false = ap (λ (t : Traced). is_enabled t.machine (Step c.args.rank)) (sym c.self.view_is) ∙ sym c.runs.ensures ∙ c.if-not-runs.true in
-    (record {
-      count = 0;
-      is = sym (after_steps-zero m c.args.rank);
-      on = RunsOn-none c.args.points.now m c.args.rank;
-      some = λ enabled. absurd (false≢true (sym off ∙ enabled));
-      arrived = λ enabled. absurd (false≢true (sym off ∙ enabled));
-    }, sym (ap (λ (x : MachineState). record c.args.self.now { machine = x }) (after_steps-zero m c.args.rank)))
+    let off : is_enabled m (Step c.args.rank) ≡ false = ap (λ (t : Traced). is_enabled t.machine (Step c.args.rank)) (sym c.self.view_is) ∙ sym c.runs.ensures ∙ c.if-not-runs.true in (
+      record {
+        count = 0;
+        is = sym (after_steps-zero m c.args.rank);
+        on = RunsOn-none c.args.points.now m c.args.rank;
+        some = λ enabled. absurd (false≢true (sym off ∙ enabled));
+        arrived = λ enabled. absurd (false≢true (sym off ∙ enabled));
+      },
+      sym (ap (λ (x : MachineState). record c.args.self.now { machine = x }) (after_steps-zero m c.args.rank)),
+    )
 
 pub returns-in_err-reserve-clause-err : goal.returns-in_err-reserve-clause-err
 returns-in_err-reserve-clause-err g c =
@@ -27,13 +29,16 @@ returns-in_err-reserve-clause-err g c =
     let m = c.args.self.now.machine in
     let on : is_enabled c.self.inside.machine (Step c.args.rank) ≡ true = sym c.runs.ensures ∙ c.if-not-runs.false in
     let same : c.self.inside.machine ≡ m = ap (λ (t : Traced). t.machine) c.self.view_is in
-    rw p.1 (record {
-      count = 0;
-      is = same ∙ sym (after_steps-zero m c.args.rank);
-      on = RunsOn-none c.args.points.now m c.args.rank;
-      runs = on;
-      passes = λ some. absurd (omega (arith, some));
-    }, rw (c.in_err-reserve.ensures.items) (c.self.view_is ∙ sym (ap (λ (x : MachineState). record c.args.self.now { machine = x }) (after_steps-zero m c.args.rank))))
+    rw p.1 (
+      record {
+        count = 0;
+        is = same ∙ sym (after_steps-zero m c.args.rank);
+        on = RunsOn-none c.args.points.now m c.args.rank;
+        runs = on;
+        passes = λ some. absurd (omega (arith, some));
+      },
+      rw (c.in_err-reserve.ensures.items) (c.self.view_is ∙ sym (ap (λ (x : MachineState). record c.args.self.now { machine = x }) (after_steps-zero m c.args.rank))),
+    )
 
 pub invariant_of-self-2 : goal.invariant_of-self-2
 invariant_of-self-2 g c =

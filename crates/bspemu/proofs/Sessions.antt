@@ -1,23 +1,28 @@
--- What an error of a session says of its settings.
-use Rattle.std.proofs.Common.{◌≡◌, ◌<◌, arith, refl, Option, Some, None, Result, Err}
+-- What an answer of a session says of its settings.
+use Rattle.std.proofs.Common.{◌≡◌, ◌<◌, arith, refl, Option, Some, None, Result, Err, Ok}
 use Rattle.std.specs.Prelude.{IsErrOf, ◌↔◌}
 use Rattle.machine_core.specs.declared.outcome.Outcome.{Outcome}
+use Rattle.bsp_console.specs.Console.{console_fault}
 use Rattle.bsp_session.specs.declared.errors.BadSetting.{BadSetting}
 use Rattle.bsp_session.specs.declared.errors.SessionError.{SessionError}
 use Rattle.bsp_session.specs.declared.errors.SessionError.TheVariants.{BadSettings, TooLong, Text, BadImage, SegmentOutside, ReadFault, WriteFault, NoWorker, NoMemory}
 use Rattle.bsp_session.specs.declared.job.Job.{Job}
 use Rattle.bsp_session.specs.Session.{job_fault}
-use Rattle.bspemu.specs.Program.{IsSessionError}
+use Rattle.bspemu.specs.Program.{IsDebugError, IsSessionError}
 
-abbrev RefusesSettings : Job → Result Outcome SessionError → Type 0
-RefusesSettings job r = (cause : BadSetting) → IsErrOf r (BadSettings cause) ↔ (job_fault job ≡ Some (BadSettings cause))
+-- settings with this fault are refused for it, and no others are
+abbrev RefusesSettings : {X : Type 0} → Option SessionError → Result X SessionError → Type 0
+RefusesSettings fault r = (cause : BadSetting) → IsErrOf r (BadSettings cause) ↔ (fault ≡ Some (BadSettings cause))
 
 -- what a job is refused for is a setting
 abbrev IsSetting : SessionError → Type 0
 IsSetting (BadSettings cause) = Unit {0}
 IsSetting _ = ⊥
 
-is_setting : (job : Job) (e : SessionError) → job_fault job ≡ Some e → IsSetting e
+abbrev IsOfSettings : Option SessionError → Type 0
+IsOfSettings fault = (e : SessionError) → fault ≡ Some e → IsSetting e
+
+is_setting : (job : Job) → IsOfSettings (job_fault job)
 is_setting job (BadSettings cause) f = tt
 is_setting job TooLong f = absurd (grind arith)
 is_setting job (Text fault) f = absurd (grind arith)
@@ -28,31 +33,32 @@ is_setting job WriteFault f = absurd (grind arith)
 is_setting job NoWorker f = absurd (grind arith)
 is_setting job NoMemory f = absurd (grind arith)
 
--- where another error was answered, no setting was out of its range
-no_fault : (job : Job) (r : Result Outcome SessionError) (e : SessionError) → r ≡ Err e → RefusesSettings job r
-    → ((cause : BadSetting) → e ≡ BadSettings cause → ⊥) → job_fault job ≡ None
-no_fault job r e is refuses other = go (job_fault job) refl
+is_console_setting : (job : Job) → IsOfSettings (console_fault job)
+is_console_setting job e f = is_setting job e (rw f refl)
+
+-- where another error was answered, or none, no setting was out of its range
+no_fault : {X : Type 0} (fault : Option SessionError) (r : Result X SessionError) → IsOfSettings fault → RefusesSettings fault r
+    → ((cause : BadSetting) → r ≡ Err (BadSettings cause) → ⊥) → fault ≡ None
+no_fault None r settings refuses other = refl
+no_fault (Some e) r settings refuses other = refused e (settings e refl) refuses
   where
-    refused : (fault : SessionError) → IsSetting fault → job_fault job ≡ Some fault → job_fault job ≡ None
-    refused (BadSettings cause) setting f =
-        let bad : r ≡ Err (BadSettings cause) = (refuses cause).1 f in
-        absurd (other cause cc)
-    refused _ setting f = absurd setting
+    refused : (e : SessionError) → IsSetting e → RefusesSettings (Some e) r → Some e ≡ None
+    refused (BadSettings cause) setting refuses = absurd (other cause ((refuses cause).1 refl))
+    refused _ setting refuses = absurd setting
 
-    go : (fault : Option SessionError) → job_fault job ≡ fault → job_fault job ≡ None
-    go None f = f
-    go (Some fault) f = refused fault (is_setting job fault f) f
-
-pub session_error : (job : Job) (r : Result Outcome SessionError) (e : SessionError) → r ≡ Err e → RefusesSettings job r
+pub session_error : (job : Job) (r : Result Outcome SessionError) (e : SessionError) → r ≡ Err e → RefusesSettings (job_fault job) r
     → (e ≡ NoWorker → (1 < job.workers) × (1 < job.settings.nodes)) → IsSessionError job e
 session_error job r (BadSettings cause) is refuses lacks = (refuses cause).0 is
 session_error job r NoWorker is refuses lacks =
     let wanted = lacks refl in
-    (no_fault job r NoWorker is refuses (λ cause e. cc), wanted.0, wanted.1)
-session_error job r TooLong is refuses lacks = no_fault job r TooLong is refuses (λ cause e. cc)
-session_error job r (Text fault) is refuses lacks = no_fault job r (Text fault) is refuses (λ cause e. cc)
-session_error job r (BadImage fault) is refuses lacks = no_fault job r (BadImage fault) is refuses (λ cause e. cc)
-session_error job r SegmentOutside is refuses lacks = no_fault job r SegmentOutside is refuses (λ cause e. cc)
-session_error job r ReadFault is refuses lacks = no_fault job r ReadFault is refuses (λ cause e. cc)
-session_error job r WriteFault is refuses lacks = no_fault job r WriteFault is refuses (λ cause e. cc)
-session_error job r NoMemory is refuses lacks = no_fault job r NoMemory is refuses (λ cause e. cc)
+    (no_fault (job_fault job) r (is_setting job) refuses (λ cause bad. cc), wanted.0, wanted.1)
+session_error job r _ is refuses lacks = no_fault (job_fault job) r (is_setting job) refuses (λ cause bad. cc)
+
+pub debug_error : {X : Type 0} (job : Job) (r : Result X SessionError) (e : SessionError) → r ≡ Err e → RefusesSettings (console_fault job) r
+    → IsDebugError job e
+debug_error job r (BadSettings cause) is refuses = (refuses cause).0 is
+debug_error job r _ is refuses = no_fault (console_fault job) r (is_console_setting job) refuses (λ cause bad. cc)
+
+pub debug_settings : {X : Type 0} (job : Job) (r : Result X SessionError) (x : X) → r ≡ Ok x → RefusesSettings (console_fault job) r
+    → console_fault job ≡ None
+debug_settings job r x is refuses = no_fault (console_fault job) r (is_console_setting job) refuses (λ cause bad. cc)

@@ -5,6 +5,7 @@ use Rattle.clap.specs.Words.{Text, kind_of}
 use Rattle.clap.specs.declared.error.Error.{Error}
 use Rattle.clap.specs.declared.error.kind.ErrorKind.{ErrorKind}
 use Rattle.clap.specs.declared.error.kind.ErrorKind.TheVariants.{DisplayHelp, DisplayVersion, OutOfMemory}
+use Rattle.bsp_console.specs.Console.{console_fault}
 use Rattle.bsp_session.specs.declared.errors.SessionError.{SessionError}
 use Rattle.bsp_session.specs.declared.errors.SessionError.TheVariants.{BadSettings, NoWorker}
 use Rattle.bsp_session.specs.declared.job.Job.{Job}
@@ -58,11 +59,16 @@ IsAnswerOfRun o (Ok outcome) = HasOutcome o.job outcome
 IsAnswerOfRun o (Err (CannotOpen path)) = NamesFile o path
 IsAnswerOfRun o (Err (Session error)) = IsSessionError o.job error
 
+-- an error of a session with the debugger: only settings of the machine out of their ranges are refused as such
+abbrev pub IsDebugError : Job → SessionError → Type 0
+IsDebugError job (BadSettings cause) = console_fault job ≡ Some (BadSettings cause)
+IsDebugError job _ = console_fault job ≡ None
+
 -- an answer that a debugger with these options can have
 abbrev pub IsAnswerOfDebug : MachineOptions → Result Outcome RunError → Type 0
-IsAnswerOfDebug o (Ok outcome) = outcome ≡ Ended
+IsAnswerOfDebug o (Ok outcome) = (outcome ≡ Ended) × (console_fault o.job ≡ None)
 IsAnswerOfDebug o (Err (CannotOpen path)) = NamesFile o path
-IsAnswerOfDebug o (Err (Session error)) = Unit {0}
+IsAnswerOfDebug o (Err (Session error)) = IsDebugError o.job error
 
 -- an answer that a listing with these options can have
 abbrev pub IsAnswerOfList : ListOptions → Result Outcome RunError → Type 0

@@ -38,7 +38,8 @@ const ASM_AFTER_HELP: &str = "A text that is refused has a line `line N: NAME` o
   TooLarge         the statement ends past 16777216 bytes
 docs/ASSEMBLY.md has the whole language.";
 
-const DEBUG_AFTER_HELP: &str = "Lines of standard input; each is answered before the next one is read:
+const DEBUG_AFTER_HELP: &str =
+    "Lines of standard input; each is answered before the next one is read:
   break RANK ADDR      set a point: go stops before this rank makes a step at this address
   break superstep K    set a point: go stops where superstep K begins
   clear RANK ADDR      take away the point at this address

@@ -40,6 +40,7 @@ what
 quit
 step
 ";
+
 const REPLIES: &str = "ok
 stopped at rank 1 pc 00000008
 moved 0
@@ -107,7 +108,10 @@ fn each_refused_request_leaves_first_replies(rt: HostRuntime) -> Result<(), Fail
         } else {
             assert!(rt; written.as_slice() == REPLIES.as_bytes());
         }
-        assert!(rt; REPLIES.as_bytes().starts_with(&written), "request {request}");
+        assert!(rt;
+            REPLIES.as_bytes().starts_with(&written),
+            "request {request}"
+        );
     }
     assert!(rt; refused > 20 && refused < 399);
     Ok(())

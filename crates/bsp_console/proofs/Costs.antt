@@ -1,5 +1,5 @@
 -- Only `Costs` is answered with costs, and those are the ledger's.
-use Rattle.std.proofs.Common.{◌≡◌, ◌≢◌, ℕ, Bool, true, false, List, [], ◌∷◌, Option, Some, None, refl, sym, ap, ◌∙◌, option_map, cond}
+use Rattle.std.proofs.Common.{◌≡◌, ℕ, Bool, true, false, List, [], Option, Some, None, sym, option_map, cond}
 use Rattle.std.specs.Prelude.{slice_get}
 use Rattle.std.specs.Option.{option_or, option_and_then}
 use Rattle.node_core.specs.Node.{NodeState, is_running}
@@ -17,7 +17,7 @@ use Rattle.bsp_debug.specs.declared.point.Point.{Point}
 use Rattle.bsp_debug.specs.declared.point.Point.TheVariants.{Address, Superstep}
 use Rattle.bsp_debug.specs.Points.{is_set}
 use Rattle.bsp_debug.specs.Reply.{Answer, stopped, finished, turned, costs}
-use Rattle.bsp_debug.specs.Stops.{stop_if_set, superstep_stop, address_stop, stop_at, stop_after, Goes}
+use Rattle.bsp_debug.specs.Stops.{stop_if_set, superstep_stop, stop_at, stop_after}
 use Rattle.bsp_debug.specs.Debugger.{Makes, turn_answer}
 
 -- an answer that is not costs

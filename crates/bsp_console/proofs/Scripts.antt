@@ -1,12 +1,12 @@
 -- The lines of a script, as they are cut off its front.
-use Rattle.std.proofs.Common.{not, ◌≡◌, ◌≢◌, ℕ, suc, ◌+◌, ◌-◌, ◌<◌, ◌≤◌, Bool, true, false, cond, eqb, List, [], ◌∷◌, ◌++◌, length, take, drop, get_or, refl, sym, ap, ◌∙◌, arith, append-nil, append_assoc, length-append}
-use Rattle.std.specs.List.{slice_split, onto_first, take_while, prefix_len}
+use Rattle.std.proofs.Common.{not, ◌≡◌, ℕ, suc, ◌+◌, ◌<◌, Bool, true, false, cond, eqb, List, [], ◌∷◌, ◌++◌, length, refl, ap, arith}
+use Rattle.std.specs.List.{onto_first, take_while, prefix_len}
 use Rattle.std.proofs.lemmas.Bool.{ne_eqb}
 use Rattle.counted_io.specs.Lines.{LacksFeed}
 use Rattle.debug_lines.specs.declared.line.Line.{Line}
 use Rattle.debug_lines.specs.declared.line.Line.TheVariants.{Break, Clear, Command, Output, Quit, Empty, Unknown}
 use Rattle.debug_lines.specs.Lines.{line_of}
-use Rattle.bsp_console.specs.Talk.{is_line_feed, is_quit, lines_of, goes_on, answered_lines, HasQuit}
+use Rattle.bsp_console.specs.Talk.{is_quit, lines_of, goes_on}
 
 LacksFeed-rest : (b : ℕ) (bs : List ℕ) → LacksFeed (b ∷ bs) → LacksFeed bs
 LacksFeed-rest b bs lacks = λ k d within. lacks (suc k) d (omega arith)

@@ -1,6 +1,6 @@
 -- A session that answers line by line: what holds between two lines.
-use Rattle.std.proofs.Common.{◌≡◌, ◌≢◌, ℕ, ◌+◌, ◌-◌, ◌^◌, ◌<◌, ◌≤◌, ◌⊎◌, inl, inr, Bool, true, false, List, [], ◌∷◌, ◌++◌, length, take, drop, get_or, Option, Some, None, IfSome, refl, sym, ap, subst, ◌∙◌, arith, append-nil, append_assoc, length-append, length-drop, take-append-drop}
-use Rattle.std.proofs.lemmas.List.{take-append-le, take_all, drop_at, drop_all, take_at, drop-append-le, append_cancel_left, length-take-le, get_or_at, get_or-take}
+use Rattle.std.proofs.Common.{◌≡◌, ℕ, ◌+◌, ◌-◌, ◌<◌, ◌≤◌, ◌⊎◌, inl, inr, true, false, List, [], ◌∷◌, ◌++◌, length, take, drop, get_or, Option, Some, None, IfSome, refl, sym, ap, subst, ◌∙◌, arith, append-nil, append_assoc, length-append, length-drop, take-append-drop}
+use Rattle.std.proofs.lemmas.List.{take-append-le, take_at, length-take-le, get_or_at, get_or-take}
 use Rattle.std.specs.Io.KnownBytes.{Appends, Consumes, IsAtEnd}
 use Rattle.std.proofs.KnownBytes.{Appends-trans, Appends-nil, Consumes-nil, Consumes-trans}
 use Rattle.std.specs.List.{take_while}
@@ -10,13 +10,13 @@ use Rattle.counted_io.specs.declared.ReadError.{ReadError}
 use Rattle.counted_io.specs.declared.ReadError.TheVariants as read
 use Rattle.counted_io.specs.Lines.{PassesLimit as PassesLineLimit}
 use Rattle.bsp_session.specs.Outcome.{error_of_read}
-use Rattle.counted_io.specs.Lines.{LineReaderState, LacksFeed, GivesLine, GivesLast, GivesNone, ReadsOn, IsOver}
+use Rattle.counted_io.specs.Lines.{LineReaderState, GivesLine, GivesLast, GivesNone, ReadsOn, IsOver}
 use Rattle.bsp_debug.specs.Debugger.{DebuggerState}
-use Rattle.debug_lines.specs.declared.line.Line.TheVariants.{Quit, Empty}
+use Rattle.debug_lines.specs.declared.line.Line.TheVariants.{Quit}
 use Rattle.debug_lines.specs.Lines.{line_of}
 use Rattle.bsp_session.specs.Readers.{Reader}
 use Rattle.bsp_console.specs.Talk.{Answered, Talks, lines_of, goes_on, answered_lines, HasQuit}
-use Rattle.bsp_console.specs.Console.{most_script, BeginsScript, TalksFirst, HasTalked, HasTalkedFirst, FailsTalking, IsErrorOfTalk}
+use Rattle.bsp_console.specs.Console.{most_script, TalksFirst, HasTalked, HasTalkedFirst, FailsTalking, IsErrorOfTalk}
 use Rattle.bsp_console.proofs.Scripts.{AllGoOn, AllGoOn-push, lines_of-line, lines_of-last, take_while-through, take_while-quit, length-lines_of, line_of-nil, quit-ends, other-goes_on}
 
 -- one more line is answered

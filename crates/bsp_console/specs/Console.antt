@@ -1,7 +1,7 @@
 -- A session with the debugger over the bytes of its readers and its writer, where they are known. The order of its stages is an own
 -- rule: settings, image read, input read, image understood, machine made, and then line by line. Where there is no machine the
 -- script is read to its end first, so that a script that cannot be read, or is too long, is answered before a bad image.
-use Rattle.std.specs.Prelude.{◌≡◌, ℕ, ◌^◌, ◌≤◌, ◌⊎◌, false, true, List, [], ◌∷◌, ◌++◌, length, take, Option, None, Some, option_map, IfSome}
+use Rattle.std.specs.Prelude.{◌≡◌, ℕ, ◌^◌, ◌≤◌, ◌⊎◌, false, true, List, [], ◌++◌, length, take, Option, None, Some, option_map, IfSome}
 use Rattle.std.specs.Io.KnownBytes.{Appends, Consumes, IsAtEnd}
 use Rattle.node_memory.specs.Image.{Image, is_segment_outside}
 use Rattle.machine_core.specs.declared.settings.Settings.{Settings}
@@ -9,7 +9,6 @@ use Rattle.machine_core.specs.Machine.{fresh, settings_fault}
 use Rattle.bsp_debug.specs.Debugger.{DebuggerState}
 use Rattle.bsp_session.specs.declared.errors.SessionError.{SessionError}
 use Rattle.bsp_session.specs.declared.errors.SessionError.TheVariants.{BadSettings, TooLong, Text, BadImage, SegmentOutside, ReadFault, WriteFault, NoWorker, NoMemory}
-use Rattle.bsp_session.specs.declared.job.Format.{Format}
 use Rattle.bsp_session.specs.declared.job.Job.{Job}
 use Rattle.bsp_session.specs.Images.{most_bytes, Gives, image_fault}
 use Rattle.bsp_session.specs.Outcome.{error_of_machine}

@@ -1,5 +1,5 @@
 -- The lines begin with the debugger of the image and the input that were read.
-use Rattle.std.proofs.Common.{rules, subst}
+use Rattle.std.proofs.Common.{rules}
 use Rattle.std.proofs.lemmas.Result.{IfErr-weaker, on_ok_weaker}
 use Rattle.bsp_session.specs.Readers.{reader}
 use Rattle.bsp_console.specs.Console.{Answers, Begins, Console, HasTalked, IsDebuggerOf, IsErrorOfTalk, console_of}

@@ -6,7 +6,6 @@ use Rattle.machine_core.specs.declared.error.MachineError.TheVariants.{SegmentOu
 use Rattle.machine_core.specs.Machine.{MachineState, settings_fault}
 use Rattle.node_memory.specs.Image.{is_segment_outside}
 use Rattle.bsp_debug.specs.Debugger.{DebuggerState}
-use Rattle.bsp_session.specs.declared.errors.SessionError.{SessionError}
 use Rattle.bsp_session.specs.Outcome.{error_of_machine}
 use Rattle.bsp_console.proofs.session.debugger_of.Goals as goal
 

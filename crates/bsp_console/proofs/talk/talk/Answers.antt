@@ -1,7 +1,6 @@
 -- Each line is answered by the debugger that the lines before it left.
-use Rattle.std.proofs.Common.{◌≡◌, ◌≤◌, ◌<◌, ◌∙◌, Ok, Err, true, false, length, ap, sym, subst, arith, refl}
+use Rattle.std.proofs.Common.{◌≡◌, ◌≤◌, ◌<◌, ◌∙◌, Ok, Err, true, false, length, ap, sym, subst, arith}
 use Rattle.std.proofs.lemmas.Result.{err_from_is_err_and}
-use Rattle.counted_io.specs.declared.ReadError.TheVariants.{TooLong}
 use Rattle.debug_lines.specs.declared.line.Line.TheVariants.{Quit}
 use Rattle.debug_lines.specs.Lines.{line_of}
 use Rattle.bsp_session.specs.Readers.{reader}

@@ -7,6 +7,9 @@ A case is a folder with some of these files:
             status 0; what all of them wrote is compared, and the last one's status
   written   what the file `{temp}/written` must hold afterwards
   stdin     standard input, empty where it is missing
+  stdin.repeat    a line with a number, and a text that follows so many times after what `stdin` has
+  dialogue  what is said in turns, in the place of `stdin` and `stdout`: each line that begins with `> ` is sent without these
+            two once the lines before it have come, and standard input stays open until the program ends
   closed    a file that says that standard output is closed before the program starts
   terminal  a file that says that the script `bspemu` is run in the program's place, with a terminal as standard error
   address_space    how many bytes of address space the program may have, all that it wants where it is missing
@@ -26,12 +29,18 @@ import resource
 import subprocess
 import sys
 import tempfile
+import threading
 
 SECONDS = 60
 
 
 def read(path, missing=b""):
     return path.read_bytes() if path.exists() else missing
+
+
+def standard_input(case):
+    times, _, text = read(case / "stdin.repeat", b"0\n").partition(b"\n")
+    return read(case / "stdin") + text * int(times)
 
 
 def arguments(path, places):
@@ -63,7 +72,7 @@ def at_terminal(case, command):
     ours, theirs = pty.openpty()
     try:
         done = subprocess.run(
-            command, input=read(case / "stdin"), stdout=subprocess.PIPE, stderr=theirs, timeout=SECONDS, check=False
+            command, input=standard_input(case), stdout=subprocess.PIPE, stderr=theirs, timeout=SECONDS, check=False
         )
     finally:
         os.close(theirs)
@@ -76,15 +85,42 @@ def at_terminal(case, command):
     return done
 
 
+def converse(case, command):
+    """Runs a command that answers each line before the next one is sent, and gives what was said by both."""
+    talk = subprocess.Popen(command, stdin=subprocess.PIPE, stdout=subprocess.PIPE, stderr=subprocess.PIPE)
+    deadline = threading.Timer(SECONDS, talk.kill)  # a reply that never comes is an end of standard output then
+    deadline.start()
+    said = b""
+    try:
+        for line in read(case / "dialogue").splitlines(keepends=True):
+            if line.startswith(b"> "):
+                talk.stdin.write(line[2:])
+                talk.stdin.flush()
+                said += line
+            else:
+                said += talk.stdout.readline()
+    except BrokenPipeError:
+        pass  # it ended too early
+    said += talk.stdout.read()
+    late = not deadline.is_alive()
+    deadline.cancel()
+    if late:
+        raise subprocess.TimeoutExpired(command, SECONDS)
+    _, stderr = talk.communicate()
+    return subprocess.CompletedProcess(command, talk.returncode, said, stderr)
+
+
 def run(program, case, words):
     if (case / "terminal").exists():
         return at_terminal(case, [str(case.parent.parent.parent / "bspemu"), *words])
     command = [str(program), *words]
+    if (case / "dialogue").exists():
+        return converse(case, command)
     if (case / "closed").exists():
         command = ["/bin/sh", "-c", 'exec "$@" >&-', "sh", *command]
     return subprocess.run(
         command,
-        input=read(case / "stdin"),
+        input=standard_input(case),
         capture_output=True,
         timeout=SECONDS,
         check=False,
@@ -106,7 +142,8 @@ def run_case(program, case, repo):
     found = [] if status == wanted else [f"status is {status} and not {wanted}"]
     if (case / "written").exists() and written != read(case / "written"):
         found.append("the file that it wrote is another one")
-    return found + faults(case, "stdout", stdout) + faults(case, "stderr", stderr)
+    replies = "dialogue" if (case / "dialogue").exists() else "stdout"
+    return found + faults(case, replies, stdout) + faults(case, "stderr", stderr)
 
 
 def main():

@@ -1,0 +1,2 @@
+# A byte more than the memory has.
+    .space 4097

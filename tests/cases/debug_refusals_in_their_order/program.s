@@ -1,0 +1,3 @@
+# Two nodes end at once.
+    li    a7, 1             # end()
+    ecall

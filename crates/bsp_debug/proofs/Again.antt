@@ -1,13 +1,12 @@
 -- A command that was refused memory, given again.
-use Rattle.std.proofs.Common.{◌≡◌, ℕ, zero, suc, ◌+◌, ◌-◌, ◌<◌, ◌≤◌, inl, inr, Bool, true, false, List, [], ◌∷◌, ◌++◌, length, replicate, Option, Some, None, refl, sym, ap, ap₂, ◌∙◌, subst, arith}
+use Rattle.std.proofs.Common.{◌≡◌, ℕ, zero, suc, ◌+◌, ◌-◌, ◌<◌, ◌≤◌, inl, inr, Bool, true, false, List, [], ◌∷◌, ◌++◌, length, replicate, Some, None, refl, sym, ap, ap₂, ◌∙◌, subst, arith}
 use Rattle.std.specs.Option.{option_and_then}
 use Rattle.std.proofs.lemmas.Bool.{cases_order}
-use Rattle.std.proofs.lemmas.List.{append_assoc, length-append, length-replicate}
+use Rattle.std.proofs.lemmas.List.{length-replicate}
 use Rattle.machine_core.specs.declared.event.Event.{Event}
 use Rattle.machine_core.specs.declared.event.Event.TheVariants as event
 use Rattle.machine_core.specs.Machine.{MachineState}
-use Rattle.machine_core.specs.Turn.{with_phases}
-use Rattle.machine_core.specs.Events.{is_enabled, after, MakeNoTurn}
+use Rattle.machine_core.specs.Events.{is_enabled, after}
 use Rattle.machine_core.specs.Events.{event as event_of}
 use Rattle.machine_core.specs.Sound.{IsSoundMachine}
 use Rattle.machine_core.specs.Walk.{next_event, walk, walked}
@@ -19,7 +18,7 @@ use Rattle.bsp_debug.specs.declared.command.Command.TheVariants.{Step, Phase, Tu
 use Rattle.bsp_debug.specs.declared.point.Point.{Point}
 use Rattle.bsp_debug.specs.Debugger.{steps_at, IsWithinPhases, MakesPhases, Makes, MakesPart, rest_of}
 use Rattle.bsp_debug.specs.Reply.{Answer, moved}
-use Rattle.bsp_debug.specs.Stops.{stop_at, stop_after, Passes, Goes, IsOnTheWay}
+use Rattle.bsp_debug.specs.Stops.{stop_at, stop_after, Goes, IsOnTheWay}
 use Rattle.bsp_debug.specs.Trace.{after_steps}
 use Rattle.bsp_debug.proofs.Counts.{after_steps-zero, after_steps-suc, steps_at-zero, steps_at-disabled, steps_at-suc}
 use Rattle.bsp_debug.proofs.Entries.{after-append}

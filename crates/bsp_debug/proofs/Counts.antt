@@ -1,5 +1,5 @@
 -- How many steps a node makes.
-use Rattle.std.proofs.Common.{◌≡◌, ℕ, zero, suc, ◌+◌, ◌-◌, ◌<◌, ◌≤◌, Bool, true, false, List, [], ◌∷◌, length, replicate, Option, Some, None, option_map, refl, sym, ap, ◌∙◌, arith}
+use Rattle.std.proofs.Common.{◌≡◌, ℕ, zero, suc, ◌-◌, ◌<◌, ◌≤◌, Bool, true, false, List, replicate, Option, Some, None, option_map, refl, sym, ap, ◌∙◌, arith}
 use Rattle.std.specs.Prelude.{slice_get}
 use Rattle.std.specs.Option.{option_map_or}
 use Rattle.std.proofs.lemmas.Bool.{false≢true}
@@ -8,7 +8,7 @@ use Rattle.node_core.proofs.Steps.{local_steps-zero, local_steps-suc, local_step
 use Rattle.node_core.proofs.Sound.{local_step-ticks, IsLater-local_steps}
 use Rattle.machine_core.specs.declared.event.Event.TheVariants.{Step}
 use Rattle.machine_core.specs.Machine.{MachineState}
-use Rattle.machine_core.specs.Events.{runs, is_enabled, event, after, stepped_often}
+use Rattle.machine_core.specs.Events.{runs, is_enabled, event, stepped_often}
 use Rattle.machine_core.proofs.Rows.{slice_get-stepped}
 use Rattle.machine_core.proofs.Runs.{after-often}
 use Rattle.machine_core.proofs.States.{often-found, often-none, slice_get-slice_set}

@@ -1,5 +1,5 @@
 -- Entries for events, and one more at their end.
-use Rattle.std.proofs.Common.{◌≡◌, ℕ, zero, suc, ◌+◌, ◌<◌, ◌≤◌, List, [], ◌∷◌, ◌++◌, length, replicate, refl, sym, ap, ◌∙◌, arith, append-nil}
+use Rattle.std.proofs.Common.{◌≡◌, ℕ, zero, suc, ◌+◌, ◌<◌, List, [], ◌∷◌, ◌++◌, replicate, refl, sym, ap, ◌∙◌, arith, append-nil}
 use Rattle.std.proofs.lemmas.Bool.{ne_eqb}
 use Rattle.std.proofs.lemmas.Grind.{flat_map-append}
 use Rattle.machine_core.specs.declared.event.Event.{Event}
@@ -9,7 +9,7 @@ use Rattle.machine_core.specs.Events.{after, event as event_of}
 use Rattle.machine_core.proofs.Steps.{after-nil, after-cons}
 use Rattle.bsp_debug.specs.declared.made.Made.{Made}
 use Rattle.bsp_debug.specs.declared.made.Made.TheVariants.{Steps, Turn}
-use Rattle.bsp_debug.specs.Made.{events_of_entry, events_of, StandsForSome, IsApart, AreFew}
+use Rattle.bsp_debug.specs.Made.{events_of_entry, events_of, IsApart, AreFew}
 use Rattle.bsp_debug.specs.Trace.{Traced, IsTrace, with_steps, after_steps, stepped, turned, IsBelow, EndsBelow}
 
 pub after-append : (m : MachineState) (xs ys : List Event) → after m (xs ++ ys) ≡ after (after m xs) ys

@@ -1,15 +1,12 @@
 -- `Go` through one node, and through the turn.
-use Rattle.std.proofs.Common.{◌≡◌, ◌≢◌, ℕ, zero, suc, ◌+◌, ◌-◌, ◌<◌, ◌≤◌, ◌⊎◌, inl, inr, Bool, true, false, List, [], ◌∷◌, ◌++◌, replicate, Option, Some, None, option_map, Ok, Err, refl, sym, ap, subst, ◌∙◌, arith, zero-add, suc-add, add-one}
+use Rattle.std.proofs.Common.{◌≡◌, ◌≢◌, ℕ, zero, suc, ◌+◌, ◌-◌, ◌<◌, ◌≤◌, inl, inr, Bool, true, false, List, [], ◌∷◌, ◌++◌, replicate, Option, Some, None, option_map, Ok, refl, sym, ap, subst, ◌∙◌, arith, zero-add, suc-add, add-one}
 use Rattle.std.specs.Prelude.{if◌then◌else◌}
-use Rattle.std.specs.Option.{option_map_or, option_or}
 use Rattle.std.proofs.lemmas.Bool.{cases_order, false≢true}
 use Rattle.std.proofs.lemmas.List.{append_assoc}
-use Rattle.node_core.specs.Node.{NodeState, is_running}
 use Rattle.machine_core.specs.declared.event.Event.{Event}
 use Rattle.machine_core.specs.declared.event.Event.TheVariants.{Step, Turn}
 use Rattle.machine_core.specs.declared.outcome.Outcome.{Outcome}
 use Rattle.machine_core.specs.Machine.{MachineState}
-use Rattle.machine_core.specs.Turn.{lowest}
 use Rattle.machine_core.specs.Events.{some_runs, is_enabled, event, after}
 use Rattle.machine_core.specs.Sound.{IsSoundMachine}
 use Rattle.machine_core.specs.Walk.{next_event}
@@ -26,7 +23,7 @@ use Rattle.bsp_debug.specs.Going.{IsBeforeAddress, IsGoing, HaveStoppedBelow, Ha
 use Rattle.bsp_debug.specs.Made.{events_of}
 use Rattle.bsp_debug.specs.Points.{is_set}
 use Rattle.bsp_debug.specs.Reply.{Answer, stopped, finished}
-use Rattle.bsp_debug.specs.Stops.{stop_if_set, superstep_stop, address_stop, stop_at, Goes, IsOnTheWay}
+use Rattle.bsp_debug.specs.Stops.{address_stop, stop_at, Goes, IsOnTheWay}
 use Rattle.bsp_debug.specs.Trace.{Traced, IsTrace, with_steps, after_steps, stepped, turned, EndsBelow, point_at, RunsOn, RunsToPoint, RunsOnTo}
 use Rattle.bsp_debug.proofs.Counts.{after_steps-zero, after_steps-suc, after_steps-disabled}
 use Rattle.bsp_debug.proofs.Entries.{with_some, events_of-steps, events_of-more, EndsBelow-steps}

@@ -1,5 +1,5 @@
 -- The local parts of a superstep, taken down.
-use Rattle.std.proofs.Common.{◌≡◌, ℕ, zero, suc, ◌+◌, ◌<◌, ◌≤◌, Bool, true, false, List, [], ◌∷◌, ◌++◌, length, replicate, refl, sym, ap, ap₂, ◌∙◌, arith}
+use Rattle.std.proofs.Common.{◌≡◌, ℕ, zero, suc, ◌+◌, ◌≤◌, Bool, true, false, List, [], ◌∷◌, ◌++◌, replicate, refl, sym, ap, ap₂, ◌∙◌, arith}
 use Rattle.machine_core.specs.declared.event.Event.{Event}
 use Rattle.machine_core.specs.declared.event.Event.TheVariants.{Step}
 use Rattle.machine_core.specs.Machine.{MachineState}
@@ -11,7 +11,6 @@ use Rattle.machine_core.proofs.Steps.{after-nil, after-cons}
 use Rattle.machine_core.proofs.Walks.{walk-zero, walk-some, next_event-step, enabled-other}
 use Rattle.bsp_debug.specs.Debugger.{steps_at, IsWithinPhases}
 use Rattle.bsp_debug.specs.Going.{HaveStoppedBelow}
-use Rattle.bsp_debug.specs.Trace.{after_steps}
 use Rattle.bsp_debug.proofs.Counts.{steps_at-zero, steps_at-disabled, steps_at-suc}
 use Rattle.bsp_debug.proofs.Stops.{walk-add}
 

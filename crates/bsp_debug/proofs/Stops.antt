@@ -1,14 +1,13 @@
 -- The walk and its stops, event by event.
-use Rattle.std.proofs.Common.{◌≡◌, ℕ, zero, suc, ◌+◌, ◌<◌, ◌⊎◌, inl, inr, true, false, cond, List, [], ◌∷◌, ◌++◌, Option, Some, None, option_map, refl, sym, ap, ap₂, ◌∙◌, arith, zero-add, suc-add}
-use Rattle.std.specs.Prelude.{slice_get, ◌&&◌, if◌then◌else◌, is_some}
-use Rattle.std.specs.Option.{option_map_or, option_or, option_and_then}
+use Rattle.std.proofs.Common.{◌≡◌, ℕ, zero, suc, ◌+◌, inl, inr, true, false, List, [], ◌∷◌, ◌++◌, Option, Some, None, option_map, refl, sym, ap, ap₂, ◌∙◌, arith, zero-add, suc-add}
+use Rattle.std.specs.Prelude.{slice_get, ◌&&◌, if◌then◌else◌}
+use Rattle.std.specs.Option.{option_map_or, option_and_then}
 use Rattle.std.proofs.lemmas.Bool.{cases_order}
-use Rattle.node_core.specs.Node.{NodeState, is_running}
+use Rattle.node_core.specs.Node.{NodeState}
 use Rattle.machine_core.specs.declared.event.Event.{Event}
-use Rattle.machine_core.specs.declared.event.Event.TheVariants.{Step, Turn}
+use Rattle.machine_core.specs.declared.event.Event.TheVariants.{Step}
 use Rattle.machine_core.specs.Machine.{MachineState}
-use Rattle.machine_core.specs.Turn.{lowest}
-use Rattle.machine_core.specs.Events.{runs, some_runs, is_enabled, event, after}
+use Rattle.machine_core.specs.Events.{runs, some_runs, is_enabled, event}
 use Rattle.machine_core.specs.Sound.{IsSoundMachine}
 use Rattle.machine_core.specs.Walk.{next_event, walk, walked}
 use Rattle.machine_core.proofs.Supersteps.{none_is_lowest}
@@ -17,7 +16,7 @@ use Rattle.bsp_debug.specs.declared.point.Point.{Point}
 use Rattle.bsp_debug.specs.declared.point.Point.TheVariants.{Address}
 use Rattle.bsp_debug.specs.Going.{HaveStoppedBelow}
 use Rattle.bsp_debug.specs.Points.{is_set}
-use Rattle.bsp_debug.specs.Reply.{Answer, stopped}
+use Rattle.bsp_debug.specs.Reply.{stopped}
 use Rattle.bsp_debug.specs.Stops.{stop_if_set, address_stop, stop_at, stop_after, Passes}
 use Rattle.bsp_debug.specs.Trace.{point_at}
 

@@ -1,13 +1,13 @@
 -- Runs of one node, taken down.
-use Rattle.std.proofs.Common.{◌≡◌, ◌≢◌, ℕ, zero, suc, ◌+◌, ◌-◌, ◌<◌, ◌≤◌, inl, inr, Bool, true, false, List, [], ◌∷◌, ◌++◌, length, replicate, Option, Some, None, Ok, Err, OnOk, OnErr, refl, sym, ap, ◌∙◌, arith, suc-add}
+use Rattle.std.proofs.Common.{◌≡◌, ◌≢◌, ℕ, zero, suc, ◌+◌, ◌-◌, ◌<◌, ◌≤◌, inl, inr, Bool, true, false, List, [], ◌∷◌, length, Option, Some, None, Ok, Err, OnOk, OnErr, refl, sym, ap, ◌∙◌, arith, suc-add}
 use Rattle.std.specs.Prelude.{slice_get, ◌==◌, ◌&&◌, if◌then◌else◌}
-use Rattle.std.specs.Option.{option_map_or, option_and_then}
+use Rattle.std.specs.Option.{option_and_then}
 use Rattle.std.specs.declared.result.Result.{Result}
 use Rattle.std.proofs.lemmas.Bool.{cases_order, false≢true, eqb-true}
 use Rattle.node_core.specs.Node.{NodeState}
 use Rattle.machine_core.specs.declared.event.Event.TheVariants.{Step}
 use Rattle.machine_core.specs.Machine.{MachineState}
-use Rattle.machine_core.specs.Events.{runs, is_enabled, event, after, MayRefuseEvent}
+use Rattle.machine_core.specs.Events.{runs, is_enabled, event, MayRefuseEvent}
 use Rattle.machine_core.specs.Sound.{IsSoundMachine}
 use Rattle.machine_core.proofs.Phased.{enabled_from}
 use Rattle.machine_core.proofs.Walks.{stopped-after}
@@ -19,7 +19,6 @@ use Rattle.bsp_debug.specs.Points.{is_set}
 use Rattle.bsp_debug.specs.Trace.{Traced, IsTrace, with_steps, after_steps, stepped, EndsBelow, point_at, RunsOn, RunsToPoint, RunsOnTo}
 use Rattle.bsp_debug.proofs.Counts.{ticks_at, after_steps-zero, after_steps-suc, steps_at-suc, after_steps-made, enabled-before, steps_at-le, steps_at-all, ticks_at-steps}
 use Rattle.bsp_debug.proofs.Entries.{IsTrace-steps}
-use Rattle.bsp_debug.proofs.Stops.{point_at-stopped}
 
 -- the last of k + 1 steps
 pub after_steps-last : (k : ℕ) (m : MachineState) (rank : ℕ) → after_steps m rank (k + 1) ≡ event (after_steps m rank k) (Step rank)

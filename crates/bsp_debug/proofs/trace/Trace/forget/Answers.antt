@@ -1,4 +1,4 @@
-use Rattle.std.proofs.Common.{◌≡◌, sym, ap, ◌∙◌}
+use Rattle.std.proofs.Common.{sym}
 use Rattle.machine_core.proofs.Steps.{after-nil}
 use Rattle.bsp_debug.proofs.trace.Trace.forget.Goals as goal
 

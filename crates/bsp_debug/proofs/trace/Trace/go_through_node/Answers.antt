@@ -1,17 +1,15 @@
-use Rattle.std.proofs.Common.{◌≡◌, ◌≢◌, true, false, [], Some, None, Ok, option_map, sym, ap, ◌∙◌}
+use Rattle.std.proofs.Common.{◌≡◌, ◌≢◌, true, [], Some, None, option_map, sym, ap, ◌∙◌}
 use Rattle.std.specs.declared.alloc.AllocError.{AllocError}
 use Rattle.std.proofs.lemmas.Result.{err_from_is_err_and}
 use Rattle.machine_core.specs.declared.event.Event.TheVariants.{Step}
 use Rattle.machine_core.specs.Machine.{MachineState}
 use Rattle.machine_core.specs.Events.{is_enabled}
-use Rattle.bsp_debug.specs.Made.{events_of}
 use Rattle.bsp_debug.specs.Reply.{stopped}
 use Rattle.bsp_debug.specs.Stops.{address_stop}
-use Rattle.bsp_debug.specs.Trace.{Traced, point_at}
+use Rattle.bsp_debug.specs.Trace.{point_at}
 use Rattle.bsp_debug.proofs.Going.{IsGoing-way, IsGoing-stop, node-whole, node-order, node-gone, node-refused}
 use Rattle.bsp_debug.proofs.Stops.{address_stop-at, point_at-enabled}
 use Rattle.bsp_debug.proofs.Traces.{no_items, some_items}
-use Rattle.bsp_debug.proofs.Ways.{IsWay}
 use Rattle.bsp_debug.proofs.trace.Trace.go_through_node.Goals.{then-not-is_empty+in_default, else-not-is_empty}
 use Rattle.bsp_debug.proofs.trace.Trace.go_through_node.Goals as goal
 

@@ -1,12 +1,11 @@
-use Rattle.std.proofs.Common.{◌≡◌, ◌+◌, ◌<◌, ◌≤◌, Some, None, Ok, refl, sym, ap, ◌∙◌, subst, arith}
-use Rattle.std.proofs.lemmas.Result.{err_from_is_err_and}
+use Rattle.std.proofs.Common.{◌≡◌, None, Ok, refl, ap, ◌∙◌, subst, arith}
 use Rattle.machine_core.specs.declared.settings.Settings.{Settings}
 use Rattle.machine_core.specs.Machine.{MachineState}
 use Rattle.machine_core.specs.Sound.{IsSoundMachine}
 use Rattle.machine_core.proofs.Phased.{IsPhasing-start, IsPhasing-more, IsPhasing-done}
 use Rattle.machine_core.proofs.Runs.{after-often}
 use Rattle.machine_core.proofs.Sound.{length-nodes}
-use Rattle.bsp_debug.specs.Trace.{Traced, after_steps}
+use Rattle.bsp_debug.specs.Trace.{after_steps}
 use Rattle.bsp_debug.proofs.trace.Trace.go_through_phase.Goals as goal
 
 pub loop-rank-init : goal.loop-rank-init

@@ -1,7 +1,5 @@
-use Rattle.std.proofs.Common.{◌≡◌, sym, ap, ◌∙◌}
+use Rattle.std.proofs.Common.{sym}
 use Rattle.machine_core.proofs.Steps.{after-nil}
-use Rattle.bsp_debug.specs.Made.{events_of, AreFew}
-use Rattle.machine_core.specs.Events.{after}
 use Rattle.bsp_debug.proofs.trace.Trace.new.Goals as goal
 
 pub invariant_of-result : goal.invariant_of-result

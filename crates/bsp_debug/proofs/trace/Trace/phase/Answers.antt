@@ -1,4 +1,4 @@
-use Rattle.std.proofs.Common.{◌≡◌, ℕ, ◌+◌, ◌*◌, ◌<◌, ◌≤◌, ◌^◌, [], ◌++◌, length, replicate, refl, sym, ap, ◌∙◌, subst, arith}
+use Rattle.std.proofs.Common.{◌≡◌, ℕ, ◌+◌, ◌≤◌, ◌^◌, ◌++◌, length, replicate, refl, sym, ap, ◌∙◌, subst, arith}
 use Rattle.std.proofs.lemmas.List.{length-append, length-replicate}
 use Rattle.std.proofs.lemmas.Result.{err_from_is_err_and}
 use Rattle.machine_core.specs.declared.event.Event.TheVariants.{Step}
@@ -10,10 +10,10 @@ use Rattle.machine_core.proofs.Phased.{IsPhasing-start, IsPhasing-more, IsPhasin
 use Rattle.machine_core.proofs.Runs.{after-often}
 use Rattle.machine_core.proofs.Sound.{length-nodes}
 use Rattle.machine_core.proofs.Steps.{after-nil}
-use Rattle.bsp_debug.specs.Debugger.{steps_at, IsWithinPhases}
+use Rattle.bsp_debug.specs.Debugger.{steps_at}
 use Rattle.bsp_debug.specs.Made.{events_of}
 use Rattle.bsp_debug.specs.Trace.{Traced, with_steps, after_steps, stepped}
-use Rattle.bsp_debug.proofs.Counts.{after_steps-made, steps_at-most}
+use Rattle.bsp_debug.proofs.Counts.{after_steps-made}
 use Rattle.bsp_debug.proofs.Entries.{after-append, events_of-steps, EndsBelow-steps}
 use Rattle.bsp_debug.proofs.Phases.{within-none, within-steps}
 use Rattle.bsp_debug.proofs.trace.Trace.phase.Goals as goal

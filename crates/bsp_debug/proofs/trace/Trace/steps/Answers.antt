@@ -1,7 +1,7 @@
-use Rattle.std.proofs.Common.{◌≡◌, ◌-◌, ◌≤◌, [], sym, ap, ap₂, ◌∙◌, arith}
+use Rattle.std.proofs.Common.{◌-◌, sym, ap, ap₂, ◌∙◌, arith}
 use Rattle.std.proofs.lemmas.Result.{err_from_is_err_and}
 use Rattle.machine_core.specs.Machine.{MachineState}
-use Rattle.bsp_debug.specs.Trace.{Traced, with_steps, after_steps, stepped}
+use Rattle.bsp_debug.specs.Trace.{Traced, with_steps}
 use Rattle.bsp_debug.proofs.Counts.{after_steps-zero, steps_at-most}
 use Rattle.bsp_debug.proofs.Traces.{count-is, stepped-is, trace-is, part-is}
 use Rattle.bsp_debug.proofs.trace.Trace.steps.Goals as goal

@@ -23,6 +23,3 @@ mod session;
 mod talk;
 
 pub use session::debug_session;
-
-#[cfg(test)]
-mod tests;

@@ -33,8 +33,6 @@ mod point;
 mod points;
 mod reads;
 mod reply;
-#[cfg(test)]
-mod tests;
 mod trace;
 
 pub use command::Command;

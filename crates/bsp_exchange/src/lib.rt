@@ -38,6 +38,3 @@ mod traffic;
 pub use barrier::{Traffic, exchange};
 pub use fault::{ExchangeError, ExchangeFault};
 pub use sync::are_at_sync;
-
-#[cfg(test)]
-mod tests;

@@ -19,8 +19,6 @@
 mod inbox;
 mod request;
 mod requests;
-#[cfg(test)]
-mod tests;
 
 pub use inbox::{Inbox, Message};
 pub use request::{Get, Outgoing, Put, Request};

@@ -35,8 +35,6 @@ mod job;
 mod listing;
 mod report;
 mod sessions;
-#[cfg(test)]
-mod tests;
 
 pub use errors::{BadSetting, SessionError, status};
 pub use images::image_of;

@@ -24,8 +24,6 @@ mod area;
 mod change;
 pub mod laws;
 mod slots;
-#[cfg(test)]
-mod tests;
 
 pub use area::Area;
 pub use slots::{MAX_ENTRIES, MAX_PUSHES, PopError, PushError, Slots};

@@ -284,6 +284,3 @@ fn write_retrying<W: Write>(to: &mut Counted<W>, bytes: &[u8]) -> Result<usize, 
 mod lines;
 
 pub use lines::LineReader;
-
-#[cfg(test)]
-mod tests;

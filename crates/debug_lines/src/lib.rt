@@ -26,6 +26,3 @@ mod word;
 pub use line::{Line, parse_line};
 pub use reply::reply_text;
 pub use verdict::Verdict;
-
-#[cfg(test)]
-mod tests;

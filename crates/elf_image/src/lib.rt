@@ -25,6 +25,3 @@ mod writer;
 pub use error::ElfError;
 pub use loader::{load, raw};
 pub use writer::save;
-
-#[cfg(test)]
-mod tests;

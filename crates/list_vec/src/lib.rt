@@ -58,23 +58,3 @@ impl<T, A: Allocator> ListVec<T, A> {
         self.items.is_empty()
     }
 }
-
-#[cfg(test)]
-mod tests {
-    use super::*;
-    use std::test::Fail;
-
-    #[test]
-    fn keeps_the_elements_and_their_memory(rt: HostRuntime) -> Result<(), Fail> {
-        let items = vec![in rt.alloc(); 7u8, 8, 9]?;
-        let capacity = items.capacity();
-        let list = ListVec::from_vec(items);
-        assert_eq!(rt; list.len(), 3);
-        assert!(rt; !list.is_empty());
-        assert_eq!(rt; list.as_slice(), [7u8, 8, 9].as_slice());
-        let items = list.into_vec();
-        assert_eq!(rt; items.as_slice(), [7u8, 8, 9].as_slice());
-        assert_eq!(rt; items.capacity(), capacity);
-        Ok(())
-    }
-}

@@ -32,8 +32,6 @@ mod outcome;
 mod row;
 mod settings;
 mod start;
-#[cfg(test)]
-mod tests;
 
 pub use error::MachineError;
 pub use event::Event;

@@ -76,6 +76,3 @@ mod state;
 pub use call::Call;
 pub use node::Node;
 pub use state::{Fault, State};
-
-#[cfg(test)]
-mod tests;

@@ -8,8 +8,6 @@
 
 mod image;
 mod memory;
-#[cfg(test)]
-mod tests;
 
 pub use image::{Image, Segment};
 pub use memory::{Memory, MemoryError, Outside, ReadError, is_memory_size};

@@ -29,8 +29,6 @@ pub mod laws;
 mod numbers;
 mod part;
 mod pool;
-#[cfg(test)]
-mod tests;
 
 pub use error::PoolError;
 pub use gate::{Gate, OpenGate};

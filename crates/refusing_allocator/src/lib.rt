@@ -130,6 +130,3 @@ fn is_refused(number: u64, first_refused: u64, last_refused: u64) -> bool
 {
     first_refused <= number && number <= last_refused
 }
-
-#[cfg(test)]
-mod tests;

@@ -32,6 +32,3 @@ mod writer;
 
 pub use assembler::assemble;
 pub use errors::{AsmError, AsmKind};
-
-#[cfg(test)]
-mod tests;

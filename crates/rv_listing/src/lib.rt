@@ -23,6 +23,3 @@ mod statement;
 pub use lines::{Line, Lines};
 pub use numerals::{EightDigits, TwoDigits};
 pub use statement::{Statement, list};
-
-#[cfg(test)]
-mod tests;

@@ -33,6 +33,3 @@ pub use instr::{BranchOp, Form, IOp, Instr, LoadOp, PlainOp, ROp, Row, ShiftOp, 
 pub use mnemonics::mnemonic;
 pub use registers::reg_number;
 pub use table::rows;
-
-#[cfg(test)]
-mod tests;

@@ -1,0 +1,99 @@
+//! Tests of `phase_pool`.
+
+use crate::programs::{self, PRINTS_ITS_RANK};
+use machine_core::{Machine, MachineError};
+use node_core::Node;
+use phase_pool::{OpenGate, run};
+use std::alloc::Allocator;
+use std::process::Abort;
+use std::test::Fail;
+
+mod gates;
+mod refusals;
+
+// `PRINTS_ITS_RANK` with `sync()` before `end()`.
+const PRINTS_AND_SYNCS: [u32; 12] = [
+    0x0030_0893, // addi x17,x0,3
+    0x0000_0073, // ecall
+    0x0305_0513, // addi x10,x10,48
+    0x10A0_2023, // sw x10,256(x0)
+    0x1000_0513, // addi x10,x0,256
+    0x0010_0593, // addi x11,x0,1
+    0x0110_0893, // addi x17,x0,17
+    0x0000_0073, // ecall
+    0x0040_0893, // addi x17,x0,4
+    0x0000_0073, // ecall
+    0x0010_0893, // addi x17,x0,1
+    0x0000_0073, // ecall
+];
+
+// `pid()`, and `end()` unless the rank is 0, where no instruction has the word.
+const FAULTS_AT_RANK_0: [u32; 6] = [
+    0x0030_0893, // addi x17,x0,3
+    0x0000_0073, // ecall
+    0x0005_1463, // bne x10,x0,16
+    0x0000_0000,
+    0x0010_0893, // addi x17,x0,1
+    0x0000_0073, // ecall
+];
+
+// A machine of so many nodes that run `words`, with 100 ticks each.
+fn machine<A: Allocator + Copy>(
+    rt: &impl Abort,
+    alloc: A,
+    words: &[u32],
+    nodes: u32,
+) -> Result<Machine<A>, MachineError> {
+    programs::machine(rt, alloc, words, nodes, 100)
+}
+
+// Whether two nodes show the same: their registers, state and ticks, and a word of memory.
+fn are_equal<A: Allocator, B: Allocator>(node: &Node<A>, other: &Node<B>) -> bool {
+    for register in 0..32 {
+        if node.reg(register) != other.reg(register) {
+            return false;
+        }
+    }
+    node.rank() == other.rank()
+        && node.state() == other.state()
+        && node.ticks() == other.ticks()
+        && node.pc() == other.pc()
+        && node.memory().load32(0x100) == other.memory().load32(0x100)
+}
+
+// Two machines show the same: outcome, output, costs and nodes.
+fn expect_equal<A: Allocator, B: Allocator>(
+    rt: &impl Abort,
+    machine: &Machine<A>,
+    other: &Machine<B>,
+    at: &str,
+) {
+    assert!(rt;
+        machine.outcome() == other.outcome() && machine.output() == other.output(),
+        "{at}"
+    );
+    assert!(rt; machine.ledger().rows() == other.ledger().rows(), "{at}");
+    assert!(rt; machine.nodes().len() == other.nodes().len(), "{at}");
+    for (node, other) in machine.nodes().iter().zip(other.nodes()) {
+        assert!(rt; are_equal(node, other), "{at}");
+    }
+}
+
+#[test]
+fn any_number_of_workers_leaves_what_one_thread_leaves(rt: HostRuntime) -> Result<(), Fail> {
+    let alloc = rt.alloc();
+    for words in [
+        PRINTS_ITS_RANK.as_slice(),
+        PRINTS_AND_SYNCS.as_slice(),
+        FAULTS_AT_RANK_0.as_slice(),
+    ] {
+        let mut plain = machine(&rt, alloc, words, 3)?;
+        plain.run_plain()?;
+        for workers in [1, 2, 3, 64] {
+            let mut pooled = machine(&rt, alloc, words, 3)?;
+            assert_eq!(rt; run(&rt, &mut pooled, workers, 1, &OpenGate), Ok(()));
+            expect_equal(&rt, &pooled, &plain, "run");
+        }
+    }
+    Ok(())
+}

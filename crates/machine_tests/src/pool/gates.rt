@@ -1,0 +1,135 @@
+//! Gates that hold nodes back until others have come or gone, which a pool that runs one node after another fails.
+
+use super::machine;
+use crate::programs::PRINTS_ITS_RANK;
+use node_core::{Node, State};
+use phase_pool::{Gate, run, run_phase};
+use std::alloc::Allocator;
+use std::sync::atomic::{AtomicBool, AtomicU64, Ordering};
+use std::test::Fail;
+
+// How often a gate looks before it gives up.
+const LOOKS: u64 = 1_000_000_000;
+
+// Whether a counter comes to a number before a gate gives up.
+fn comes_to(counter: &AtomicU64, number: u64) -> bool {
+    (0..LOOKS).any(|_| counter.load(Ordering::SeqCst) >= number)
+}
+
+// Whether the node of a program that prints its rank is at its end.
+fn is_done<A: Allocator>(rank: u32, node: &Node<A>) -> bool {
+    node.rank() == rank && node.state() == State::Ended && node.ticks() == 10
+}
+
+// Two nodes of which neither is stepped before the other has come: how often each of them came and went.
+#[derive(Drop)]
+struct PairGate {
+    entered: (AtomicU64, AtomicU64),
+    left: (AtomicU64, AtomicU64),
+    failed: AtomicBool,
+}
+
+impl PairGate {
+    fn new() -> PairGate {
+        PairGate {
+            entered: (AtomicU64::new(0), AtomicU64::new(0)),
+            left: (AtomicU64::new(0), AtomicU64::new(0)),
+            failed: AtomicBool::new(false),
+        }
+    }
+}
+
+impl<A: Allocator> Gate<A> for PairGate {
+    fn enter(&self, rank: u32) {
+        let (own, other) = if rank == 0 {
+            (&self.entered.0, &self.entered.1)
+        } else {
+            (&self.entered.1, &self.entered.0)
+        };
+        own.fetch_add(1, Ordering::SeqCst);
+        if !comes_to(other, 1) {
+            self.failed.store(true, Ordering::SeqCst);
+        }
+    }
+
+    fn leave(&self, rank: u32, node: &Node<A>) {
+        let own = if rank == 0 {
+            &self.left.0
+        } else {
+            &self.left.1
+        };
+        own.fetch_add(1, Ordering::SeqCst);
+        if !is_done(rank, node) {
+            self.failed.store(true, Ordering::SeqCst);
+        }
+    }
+}
+
+#[test]
+fn two_workers_run_two_nodes_at_once(rt: HostRuntime) -> Result<(), Fail> {
+    for by_phase in [false, true] {
+        let mut machine = machine(&rt, rt.alloc(), &PRINTS_ITS_RANK, 2)?;
+        let gate = PairGate::new();
+        if by_phase {
+            assert_eq!(rt; run_phase(&rt, &mut machine, 2, 65_536, &gate), Ok(()));
+            assert_eq!(rt; machine.turn(), Ok(true));
+        } else {
+            assert_eq!(rt; run(&rt, &mut machine, 2, 65_536, &gate), Ok(()));
+        }
+        assert_eq!(rt; machine.output(), b"01".as_slice());
+        assert!(rt; !gate.failed.load(Ordering::SeqCst));
+        let calls = [&gate.entered.0, &gate.entered.1, &gate.left.0, &gate.left.1].map(
+            |calls| calls.load(Ordering::SeqCst),
+        );
+        assert_eq!(rt; calls, [1; 4]);
+    }
+    Ok(())
+}
+
+// Three nodes that leave in a given order.
+#[derive(Drop)]
+struct OrderGate {
+    place: [u64; 3],
+    left: AtomicU64,
+    failed: AtomicBool,
+}
+
+impl<A: Allocator> Gate<A> for OrderGate {
+    fn enter(&self, _rank: u32) {}
+
+    fn leave(&self, rank: u32, node: &Node<A>) {
+        let place = match rank {
+            0 => self.place[0],
+            1 => self.place[1],
+            _ => self.place[2],
+        };
+        if !comes_to(&self.left, place) || !is_done(rank, node) {
+            self.failed.store(true, Ordering::SeqCst);
+        }
+        self.left.fetch_add(1, Ordering::SeqCst);
+    }
+}
+
+#[test]
+fn nodes_may_leave_in_any_order(rt: HostRuntime) -> Result<(), Fail> {
+    for place in [
+        [0, 1, 2],
+        [0, 2, 1],
+        [1, 0, 2],
+        [1, 2, 0],
+        [2, 0, 1],
+        [2, 1, 0],
+    ] {
+        let mut machine = machine(&rt, rt.alloc(), &PRINTS_ITS_RANK, 3)?;
+        let gate = OrderGate {
+            place,
+            left: AtomicU64::new(0),
+            failed: AtomicBool::new(false),
+        };
+        assert_eq!(rt; run(&rt, &mut machine, 3, 1, &gate), Ok(()));
+        assert_eq!(rt; machine.output(), b"012".as_slice());
+        assert!(rt; !gate.failed.load(Ordering::SeqCst), "{place:?}");
+        assert_eq!(rt; gate.left.load(Ordering::SeqCst), 3);
+    }
+    Ok(())
+}

@@ -1,0 +1,222 @@
+//! Tests of `bsp_session`.
+
+use crate::programs::{PRINTS_ITS_RANK, bytes_of};
+use bsp_session::{Format, Job, SessionError, asm_session, list_session, session, status};
+use counted_io::Counted;
+use machine_core::{Outcome, Settings};
+use refusing_allocator::RefusingAllocator;
+use std::alloc::{Allocator, Global};
+use std::io;
+use std::io::{ErrorKind, Read, Write};
+use std::sync::Wait;
+use std::test::Fail;
+use std::thread::Threads;
+
+mod images;
+
+const ENDED: Result<Outcome, SessionError> = Ok(Outcome::Ended);
+
+// What PRINTS_ITS_RANK gives on three nodes, with its costs.
+const RANKS_REPORT: &str = "012superstep 0: w 10 h 0 last
+total 10
+ended
+";
+
+// Gives its text in reads of at most `step` bytes; after the text it fails, or it has ended.
+#[derive(Drop)]
+struct Source<'a> {
+    text: &'a [u8],
+    step: usize,
+    fails: bool,
+}
+
+impl Read for Source<'_> {
+    fn read(&mut self, buf: &mut [u8]) -> io::Result<usize> {
+        if self.text.is_empty() && self.fails {
+            return Err(io::Error::from(ErrorKind::Other));
+        }
+        let count = self.step.min(buf.len()).min(self.text.len());
+        let text = self.text;
+        buf[..count].copy_from_slice(&text[..count]);
+        self.text = &text[count..];
+        Ok(count)
+    }
+}
+
+// Takes at most `room` bytes, and then fails.
+#[derive(Drop)]
+struct Sink {
+    held: Vec<u8>,
+    room: usize,
+}
+
+impl Write for Sink {
+    fn write(&mut self, buf: &[u8]) -> io::Result<usize> {
+        let count = self.room.min(buf.len());
+        if count == 0 {
+            return Err(io::Error::from(ErrorKind::Other));
+        }
+        self.held.extend_from_slice(&buf[..count])?;
+        self.room -= count;
+        Ok(count)
+    }
+
+    fn flush(&mut self) -> io::Result<()> {
+        Ok(())
+    }
+}
+
+fn machine(nodes: u32, memory: u32, limit: u64) -> Job {
+    Job {
+        format: Format::Raw,
+        settings: Settings {
+            nodes,
+            memory,
+            limit,
+        },
+        workers: 2,
+        slice: 1 << 16,
+        report: false,
+        g: 1,
+        l: 0,
+    }
+}
+
+fn reported(job: Job) -> Job {
+    Job {
+        report: true,
+        ..job
+    }
+}
+
+// A session over a writer of its own, whose bytes `holder` holds: its answer, and what it wrote.
+fn run<T: Threads + Wait + Sync, A: Allocator + Copy + Send, I: Read + Drop, R: Read + Drop>(
+    rt: &T,
+    alloc: A,
+    holder: Global,
+    image: I,
+    input: R,
+    job: &Job,
+) -> (Result<Outcome, SessionError>, Vec<u8>) {
+    let mut image = Counted::new(image);
+    let mut input = Counted::new(input);
+    let mut out = Counted::new(Vec::new(holder));
+    let answer = session(rt, alloc, &mut image, &mut input, job, &mut out);
+    (answer, out.into_inner())
+}
+
+#[test]
+fn an_image_may_come_in_pieces(rt: HostRuntime) -> Result<(), Fail> {
+    let alloc = rt.alloc();
+    let image = bytes_of(alloc, &PRINTS_ITS_RANK)?;
+    for step in [1, 39, 40] {
+        let image = Source {
+            text: &image,
+            step,
+            fails: false,
+        };
+        let (answer, written) = run(
+            &rt,
+            alloc,
+            alloc,
+            image,
+            b"".as_slice(),
+            &machine(3, 4096, 10),
+        );
+        assert_eq!(rt; answer, ENDED, "in steps of {step}");
+        assert_eq!(rt; status(&answer), 0);
+        assert_eq!(rt; written.as_slice(), b"012".as_slice(), "in steps of {step}");
+    }
+    Ok(())
+}
+
+#[test]
+fn a_reader_that_fails_is_a_read_fault(rt: HostRuntime) -> Result<(), Fail> {
+    let alloc = rt.alloc();
+    let image = bytes_of(alloc, &PRINTS_ITS_RANK)?;
+    for (bytes, fails) in [(39, true), (40, false)] {
+        let image = Source {
+            text: image.get(..bytes).unwrap_or(b""),
+            step: 8,
+            fails,
+        };
+        let input = Source {
+            text: b"x",
+            step: 8,
+            fails: true,
+        };
+        let (answer, written) = run(&rt, alloc, alloc, image, input, &machine(3, 4096, 10));
+        assert_eq!(rt; answer, Err(SessionError::ReadFault), "after {bytes} bytes");
+        assert!(rt; written.is_empty());
+    }
+    Ok(())
+}
+
+#[test]
+fn a_writer_that_fails_keeps_what_it_took(rt: HostRuntime) -> Result<(), Fail> {
+    let image = bytes_of(rt.alloc(), &PRINTS_ITS_RANK)?;
+    let fault = Err(SessionError::WriteFault);
+    let plain = machine(3, 4096, 10);
+    let long = reported(plain);
+    for (job, room, answer, output) in [
+        (plain, 0, fault, ""),
+        (plain, 2, fault, "01"),
+        (plain, 3, ENDED, "012"),
+        (long, 2, fault, "01"),
+        (long, 12, fault, "012superstep"),
+        (long, 45, ENDED, RANKS_REPORT),
+    ] {
+        let mut image = Counted::new(image.as_slice());
+        let mut input = Counted::new(b"".as_slice());
+        let mut out = Counted::new(Sink {
+            held: Vec::new(rt.alloc()),
+            room,
+        });
+        let given = session(&rt, rt.alloc(), &mut image, &mut input, &job, &mut out);
+        assert_eq!(rt; given, answer, "with room for {room}");
+        assert_eq!(rt; out.inner().held.as_slice(), output.as_bytes());
+    }
+    Ok(())
+}
+
+#[test]
+fn a_refused_request_is_no_memory(rt: HostRuntime) -> Result<(), Fail> {
+    let heap = RefusingAllocator::new(rt.alloc());
+    let image = bytes_of(rt.alloc(), &PRINTS_ITS_RANK)?;
+    let job = reported(machine(3, 4096, 10));
+    let mut met = 0;
+    for request in 1..100 {
+        // A refused growth may be followed by a smaller one, so all requests from one on are refused.
+        heap.refuse_from_nth(request);
+        let (answer, written) = run(
+            &rt,
+            &heap,
+            rt.alloc(),
+            image.as_slice(),
+            b"x".as_slice(),
+            &job,
+        );
+        if heap.refusals() == 0 {
+            assert_eq!(rt; answer, ENDED);
+            break;
+        }
+        assert_eq!(rt; answer, Err(SessionError::NoMemory), "at request {request}");
+        assert!(rt; written.is_empty(), "at request {request}");
+        met = request;
+
+        heap.refuse_nth(0);
+        let (answer, written) = run(
+            &rt,
+            &heap,
+            rt.alloc(),
+            image.as_slice(),
+            b"x".as_slice(),
+            &job,
+        );
+        assert_eq!(rt; answer, ENDED, "after request {request}");
+        assert_eq!(rt; written.as_slice(), RANKS_REPORT.as_bytes());
+    }
+    // The image, the input, the image's segment, the list of nodes, and each node's memory and output.
+    assert!(rt; met >= 10 && met < 99, "{met} requests were refused");
+    Ok(())
+}

@@ -1,0 +1,86 @@
+//! Tests of `elf_image`.
+
+use elf_image::{ElfError, load, raw, save};
+use node_memory::Image;
+use refusing_allocator::RefusingAllocator;
+use std::alloc::Global;
+use std::test::Fail;
+
+// Eight bytes, to lie at 0x100 with four zeros after them.
+const ONE_SEGMENT: [u8; 92] = [
+    0x7F, 0x45, 0x4C, 0x46, 1, 1, 1, 0, 0, 0, 0, 0, 0, 0, 0, 0, 2, 0, 0xF3, 0, 1, 0, 0, 0, //
+    0, 0, 0, 0, 52, 0, 0, 0, 0, 0, 0, 0, 0, 0, 0, 0, 52, 0, 32, 0, 1, 0, 0, 0, 0, 0, 0, 0, //
+    1, 0, 0, 0, 84, 0, 0, 0, 0, 1, 0, 0, 0, 1, 0, 0, 8, 0, 0, 0, 12, 0, 0, 0, 5, 0, 0, 0, 1, 0, 0,
+    0, 11, 12, 13, 14, 15, 16, 17, 18,
+];
+
+// Ten instructions: a program of its own.
+const WORDS: [u8; 40] = [
+    0x93, 0x08, 0x30, 0, 0x73, 0, 0, 0, 0x13, 0x05, 0x05, 0x03, 0x23, 0x20, 0xA0, 0x10, //
+    0x13, 0x05, 0, 0x10, 0x93, 0x05, 0x10, 0, 0x93, 0x08, 0x10, 0x01, 0x73, 0, 0, 0, //
+    0x93, 0x08, 0x10, 0, 0x73, 0, 0, 0,
+];
+
+// Whether an image starts at 0 and has this segment alone.
+fn has_segment(image: &Image<Global>, addr: u32, bytes: &[u8], size: u32) -> bool {
+    match image.segments.as_slice() {
+        [segment] => {
+            image.entry == 0
+                && segment.addr == addr
+                && segment.bytes.as_slice() == bytes
+                && segment.size == size
+        }
+        _ => false,
+    }
+}
+
+#[test]
+fn a_segment_is_loaded(rt: HostRuntime) -> Result<(), Fail> {
+    let image = load(rt.alloc(), &ONE_SEGMENT)?;
+    assert!(rt; has_segment(&image, 0x100, &[11, 12, 13, 14, 15, 16, 17, 18], 12));
+    Ok(())
+}
+
+#[test]
+fn raw_bytes_are_saved_and_loaded_again(rt: HostRuntime) -> Result<(), Fail> {
+    let file = save(rt.alloc(), &raw(rt.alloc(), &WORDS)?)?;
+    assert_eq!(rt; file.len(), 124);
+    let image = load(rt.alloc(), &file)?;
+    assert!(rt; has_segment(&image, 0, &WORDS, 40));
+    Ok(())
+}
+
+// As many headers as there can be, over the same bytes. That takes no more time than the headers and the bytes have.
+#[test]
+fn headers_that_share_bytes_are_loaded_one_by_one(rt: HostRuntime) -> Result<(), Fail> {
+    let mut header = ONE_SEGMENT;
+    header[44..46].copy_from_slice(&65_534u16.to_le_bytes());
+    let mut file = Vec::from_slice(rt.alloc(), &header[..52])?;
+    for _ in 0..65_534 {
+        file.extend_from_slice(&header[52..84])?;
+    }
+    assert!(rt; file.len() <= 0x200_0000);
+    assert_eq!(rt; load(rt.alloc(), &file)?.segments.len(), 65_534);
+    Ok(())
+}
+
+#[test]
+fn each_request_for_memory_may_be_refused(rt: HostRuntime) -> Result<(), Fail> {
+    let heap = RefusingAllocator::new(rt.alloc());
+    for n in 1..=2 {
+        heap.refuse_nth(n);
+        assert!(rt; load(&heap, &ONE_SEGMENT).err() == Some(ElfError::NoMemory));
+        heap.refuse_nth(n);
+        assert!(rt; raw(&heap, &WORDS).is_err());
+    }
+    let image = load(&heap, &ONE_SEGMENT)?;
+    let mut refused = 0u64;
+    for n in 1..=20 {
+        heap.refuse_nth(n);
+        if save(&heap, &image).is_err() {
+            refused = n;
+        }
+    }
+    assert!(rt; 0 < refused && refused < 20, "{refused} requests");
+    Ok(())
+}

@@ -1,0 +1,28 @@
+//! Tests of the crates up to `node_core`, and of those that read, write and assemble. They stand outside of the crates that they
+//! test, as users of what these export, since a crate that has tests is proved twice.
+#![tactic(auto)]
+
+#[cfg(test)]
+mod allocator;
+#[cfg(test)]
+mod assembler;
+#[cfg(test)]
+mod counted;
+#[cfg(test)]
+mod elf;
+#[cfg(test)]
+mod ledger;
+#[cfg(test)]
+mod listing;
+#[cfg(test)]
+mod lists;
+#[cfg(test)]
+mod memory;
+#[cfg(test)]
+mod node;
+#[cfg(test)]
+mod requests;
+#[cfg(test)]
+mod slots;
+#[cfg(test)]
+mod tables;

@@ -1,6 +1,6 @@
 //! The operands of a statement.
 
-ghost use Rattle.std.specs.Prelude.{false, ◌≡◌, ◌≤ℤ◌, ◌*◌, ◌^◌, pos, neg_ℤ, min, map, unwrap_or, IfSome, IfOk};
+ghost use Rattle.std.specs.Prelude.{true, false, ◌≡◌, ◌≤ℤ◌, ◌*◌, ◌^◌, pos, neg_ℤ, min, map, unwrap_or, IfOk};
 ghost use Rattle.std.specs.Option.{option_map};
 ghost use Rattle.rv_tables.specs.Operands.{IsRegister, IsImmediate};
 ghost use Rattle.asm_syntax.specs.Faults.{judged, if_ok};
@@ -32,13 +32,13 @@ struct NumberAndBase<'a> {
 }
 
 /// A register by its name.
-pub(crate) fn register(operand: &[Token<'_>]) -> Option<u8>
-    ensures value { result ≡ register_in (map token_value operand.now) }
-    ensures register { IfSome result IsRegister }
+pub(crate) fn register(operand: &[Token<'_>]) -> Result<u8, LineError>
+    ensures value { result ≡ judged (λ _. true) (register_in (map token_value operand.now)) }
+    ensures register { IfOk result IsRegister }
 {
     match operand {
-        [Token::Name(name)] => reg_number(name),
-        _ => None,
+        [Token::Name(name)] => reg_number(name).ok_or(LineError::BadOperand),
+        _ => Err(LineError::BadOperand),
     }
 }
 

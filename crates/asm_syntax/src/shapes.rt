@@ -3,13 +3,13 @@
 //! Each call answers the operands of one shape, or `BadOperand` where there are not so many or one is not of its kind, or
 //! else `OutOfRange` where a number is not in its range.
 
-ghost use Rattle.std.specs.Prelude.{true, false, ◌≡◌, ◌≤ℤ◌, ◌^◌, pos, neg_ℤ, IfOk};
+ghost use Rattle.std.specs.Prelude.{true, false, ◌≡◌, ◌≤ℤ◌, ◌^◌, pos, neg_ℤ, map, IfOk};
 ghost use Rattle.rv_tables.specs.Operands.{IsRegister, IsImmediate};
 ghost use Rattle.asm_syntax.specs.Faults.{judged, if_ok};
-ghost use Rattle.asm_syntax.specs.Forms.{none, one, two, three};
+ghost use Rattle.asm_syntax.specs.Forms.{none, one, two, three, with_both};
 ghost use Rattle.asm_syntax.specs.Operands.{register_in, number_in, address_in, target_in, text_in, is_within, fits_immediate, fits_target};
 ghost use Rattle.asm_syntax.specs.Ranges.{IsWithin, IsTarget};
-ghost use Rattle.asm_syntax.specs.TokenViews.{operand_values, register_address_value, unescaped};
+ghost use Rattle.asm_syntax.specs.TokenViews.{operand_values, register_address_value, token_value, unescaped};
 ghost use Rattle.asm_syntax.specs.Views.{target_value, register_target_value, registers_target_value};
 
 use crate::error::LineError;
@@ -35,7 +35,7 @@ pub(crate) fn register(operands: &[&[Token<'_>]]) -> Result<u8, LineError>
     let [first] = operands else {
         return Err(LineError::BadOperand);
     };
-    operand::register(first).ok_or(LineError::BadOperand)
+    operand::register(first)
 }
 
 /// `rd,rs`.
@@ -46,9 +46,19 @@ pub(crate) fn two_registers(operands: &[&[Token<'_>]]) -> Result<(u8, u8), LineE
     let [first, second] = operands else {
         return Err(LineError::BadOperand);
     };
-    let rd = operand::register(first).ok_or(LineError::BadOperand)?;
-    let rs = operand::register(second).ok_or(LineError::BadOperand)?;
-    Ok((rd, rs))
+    both_registers(first, second)
+}
+
+/// Two operands that are registers.
+fn both_registers(first: &[Token<'_>], second: &[Token<'_>]) -> Result<(u8, u8), LineError>
+    ensures value { result
+        ≡ judged (λ _. true)
+        (with_both (register_in (map token_value first.now)) (register_in (map token_value second.now)) (λ x y. (x, y))) }
+    ensures in_range { IfOk result (λ o. IsRegister o.0 × IsRegister o.1) }
+{
+    let first = operand::register(first)?;
+    let second = operand::register(second)?;
+    Ok((first, second))
 }
 
 /// `rd,rs1,rs2`.
@@ -60,9 +70,8 @@ pub(crate) fn three_registers(operands: &[&[Token<'_>]]) -> Result<(u8, u8, u8),
     let [first, second, third] = operands else {
         return Err(LineError::BadOperand);
     };
-    let rd = operand::register(first).ok_or(LineError::BadOperand)?;
-    let rs1 = operand::register(second).ok_or(LineError::BadOperand)?;
-    let rs2 = operand::register(third).ok_or(LineError::BadOperand)?;
+    let (rd, rs1) = both_registers(first, second)?;
+    let rs2 = operand::register(third)?;
     Ok((rd, rs1, rs2))
 }
 
@@ -80,7 +89,6 @@ pub(crate) fn number(operands: &[&[Token<'_>]], low: i64, high: i64) -> Result<i
 }
 
 /// `rd,n`, with the number from `low` to `high`.
-#[tactic(auto, using(crate::proofs::Judged::judged_second))]
 pub(crate) fn register_number(
     operands: &[&[Token<'_>]],
     low: i64,
@@ -95,13 +103,12 @@ pub(crate) fn register_number(
     let [first, second] = operands else {
         return Err(LineError::BadOperand);
     };
-    let rd = operand::register(first).ok_or(LineError::BadOperand)?;
+    let rd = operand::register(first)?;
     let number = operand::number_within(second, low, high)?;
     Ok((rd, number))
 }
 
 /// `rd,rs1,n`, with the number from `low` to `high`.
-#[tactic(auto, using(crate::proofs::Judged::judged_third))]
 pub(crate) fn two_registers_number(
     operands: &[&[Token<'_>]],
     low: i64,
@@ -117,14 +124,12 @@ pub(crate) fn two_registers_number(
     let [first, second, third] = operands else {
         return Err(LineError::BadOperand);
     };
-    let rd = operand::register(first).ok_or(LineError::BadOperand)?;
-    let rs1 = operand::register(second).ok_or(LineError::BadOperand)?;
+    let (rd, rs1) = both_registers(first, second)?;
     let number = operand::number_within(third, low, high)?;
     Ok((rd, rs1, number))
 }
 
 /// `r,imm(rs1)`.
-#[tactic(auto, using(crate::proofs::Judged::judged_second))]
 pub(crate) fn register_address(operands: &[&[Token<'_>]]) -> Result<(u8, Address), LineError>
     ensures value { if_ok register_address_value result
         ≡ judged (λ o. fits_immediate o.1.offset) (two register_in address_in (operand_values operands.now)) }
@@ -133,7 +138,7 @@ pub(crate) fn register_address(operands: &[&[Token<'_>]]) -> Result<(u8, Address
     let [first, second] = operands else {
         return Err(LineError::BadOperand);
     };
-    let register = operand::register(first).ok_or(LineError::BadOperand)?;
+    let register = operand::register(first)?;
     let address = operand::memory_address(second)?;
     Ok((register, address))
 }
@@ -150,7 +155,6 @@ pub(crate) fn target<'a>(operands: &[&[Token<'a>]]) -> Result<Target<'a>, LineEr
 }
 
 /// `r,target`.
-#[tactic(auto, using(crate::proofs::Judged::judged_second))]
 pub(crate) fn register_target<'a>(operands: &[&[Token<'a>]]) -> Result<(u8, Target<'a>), LineError>
     ensures value { if_ok register_target_value result
         ≡ judged (λ o. fits_target o.1) (two register_in target_in (operand_values operands.now)) }
@@ -159,13 +163,12 @@ pub(crate) fn register_target<'a>(operands: &[&[Token<'a>]]) -> Result<(u8, Targ
     let [first, second] = operands else {
         return Err(LineError::BadOperand);
     };
-    let register = operand::register(first).ok_or(LineError::BadOperand)?;
+    let register = operand::register(first)?;
     let target = operand::target(second)?;
     Ok((register, target))
 }
 
 /// `rs1,rs2,target`.
-#[tactic(auto, using(crate::proofs::Judged::judged_third))]
 pub(crate) fn two_registers_target<'a>(
     operands: &[&[Token<'a>]],
 ) -> Result<(u8, u8, Target<'a>), LineError>
@@ -177,8 +180,7 @@ pub(crate) fn two_registers_target<'a>(
     let [first, second, third] = operands else {
         return Err(LineError::BadOperand);
     };
-    let rs1 = operand::register(first).ok_or(LineError::BadOperand)?;
-    let rs2 = operand::register(second).ok_or(LineError::BadOperand)?;
+    let (rs1, rs2) = both_registers(first, second)?;
     let target = operand::target(third)?;
     Ok((rs1, rs2, target))
 }

@@ -1,6 +1,6 @@
 -- Tokens, one at a time.
-use Rattle.std.proofs.Common.{◌≡◌, ℕ, zero, suc, ◌+◌, ◌++◌, Bool, true, append_assoc, Some, None, ◌<◌, ◌-◌, List, [], ◌∷◌, length, get_or, take, drop, length-drop, Option, refl, sym, ap, ◌∙◌, arith}
-use Rattle.std.proofs.lemmas.List.{take_all, drop-drop}
+use Rattle.std.proofs.Common.{◌≡◌, ℕ, zero, suc, ◌+◌, ◌++◌, Bool, true, append_assoc, append-nil, map, Some, None, ◌<◌, ◌-◌, List, [], ◌∷◌, length, get_or, take, drop, length-drop, Option, refl, sym, ap, ◌∙◌, arith}
+use Rattle.std.proofs.lemmas.List.{take_all, drop-drop, map-append}
 use Rattle.std.specs.List.{prefix_len, take_while}
 use Rattle.std.specs.Option.{option_map}
 use Rattle.asm_syntax.specs.Tokens.{Token, Head, head_of, bytes_behind, tokens_with, tokens_behind}
@@ -24,10 +24,18 @@ tokens_behind-step line at h within is next goes_on =
     first_step (drop at line) h (omega (arith, length-drop at line)) (rw all at is)
     ∙ ap (λ s. tokens_with h (tokens_behind 0 s)) (ap (drop (bytes_behind h)) (drop-drop 1 at line) ∙ drop-drop (bytes_behind h) _ line ∙ ap (λ k. drop k line) (omega arith))
 
--- a list of tokens, grown by one
-pub grown : (done : List Token) (t : Token) (o : Option (List Token)) → option_map (λ ts. (done ++ (t ∷ [])) ++ ts) o ≡ option_map (λ ts. done ++ ts) (option_map (λ ts. t ∷ ts) o)
-grown done t None = refl
-grown done t (Some ts) = ap Some (append_assoc done (t ∷ []) ts)
+-- the tokens so far, and what is left of the line: a token more, the end, or no token
+pub further : {X : Type 0} (value : X → Token) (done items : List X) (t : X) (rest here whole : Option (List Token)) → items ≡ done ++ (t ∷ []) → here ≡ option_map (λ ts. value t ∷ ts) rest → option_map (λ ts. map value done ++ ts) here ≡ whole → option_map (λ ts. map value items ++ ts) rest ≡ whole
+further value done items t None here whole grown step is = rw step at is
+further value done items t (Some ts) here whole grown step is =
+    let all : Some (map value done ++ (value t ∷ ts)) ≡ whole = rw step at is in
+    rw (grown, map-append value done (t ∷ [])) (ap Some (append_assoc (map value done) (value t ∷ []) ts) ∙ all)
+
+pub ended : (done : List Token) (here whole : Option (List Token)) → here ≡ Some [] → option_map (λ ts. done ++ ts) here ≡ whole → whole ≡ Some done
+ended done here whole end is = sym (rw end at is) ∙ ap Some (append-nil done)
+
+pub refused : (done : List Token) (here whole : Option (List Token)) → here ≡ None → option_map (λ ts. done ++ ts) here ≡ whole → whole ≡ None
+refused done here whole none is = sym (rw none at is)
 
 -- the word that a line begins with
 pub word_parts : (p : ℕ → Bool) (line : List ℕ) (n : ℕ) → 0 < length line → p (get_or line 0 0) ≡ true → n ≡ prefix_len p line → (get_or (take n line) 0 0 ≡ get_or line 0 0) × (drop 1 (take n line) ≡ take_while p (drop 1 line)) × (n ≡ prefix_len p (drop 1 line) + 1)

@@ -2,7 +2,7 @@
 use Rattle.std.proofs.Common.{◌≡◌, ◌≢◌, ℕ, ◌+◌, ◌<◌, ◌≤◌, Bool, true, false, List, [], ◌∷◌, ◌++◌, length, get_or, drop, Option, Some, None, Result, Ok, Err, refl, sym, ap, ◌∙◌, inl, inr, ◌⊎◌, append_assoc, Bor, map, arith}
 use Rattle.std.specs.List.{list_all}
 use Rattle.std.proofs.lemmas.Bool.{cases_Bool}
-use Rattle.std.proofs.lemmas.List.{at_drop_more, at_drop_all}
+use Rattle.std.proofs.lemmas.List.{at_drop_more, at_drop_all, map-append}
 use Rattle.asm_syntax.specs.declared.error.LineError.{LineError}
 use Rattle.asm_syntax.specs.declared.error.LineError.TheVariants.{BadOperand, OutOfRange}
 use Rattle.asm_syntax.specs.declared.token.Token.{Token as TokenCode}
@@ -79,6 +79,15 @@ gathered-out fits read ops i d so_far done within h =
 pub gathered-fault : {X : Type 0} (fits : X → Bool) (read : List Token → Option X) (ops : List (Bor (List TokenCode))) (i : ℕ) (d : Bor (List TokenCode)) (so_far : Bool) (done : List X) (e : LineError) → i < length ops → judged fits (read (map token_value (get_or ops i d).now)) ≡ Err e → e ≢ OutOfRange → behind (gathered fits read (drop i ops)) so_far done ≡ Err e
 gathered-fault fits read ops i d so_far done e within h other =
     at_drop_more (λ os. behind (gathered fits read os) so_far done) ops i d within ∙ fault_step fits _ (all_of read (operand_values (drop (i + 1) ops))) so_far done e h other
+
+-- the same of a list of values of the code that stand for what is gathered
+pub pushed : {T X : Type 0} (value : T → X) (fits : X → Bool) (read : List Token → Option X) (ops : List (Bor (List TokenCode))) (i : ℕ) (d : Bor (List TokenCode)) (so_far : Bool) (done items : List T) (t : T) (whole : Result (List X) LineError) → i < length ops → items ≡ done ++ (t ∷ []) → Ok (value t) ≡ judged fits (read (map token_value (get_or ops i d).now)) → behind (gathered fits read (drop i ops)) so_far (map value done) ≡ whole → behind (gathered fits read (drop (i + 1) ops)) so_far (map value items) ≡ whole
+pushed value fits read ops i d so_far done items t whole within grown found is =
+    rw (grown, map-append value done (t ∷ [])) (gathered-ok fits read ops i d so_far (map value done) (value t) within (sym found) ∙ is)
+
+pub skipped : {X : Type 0} (fits : X → Bool) (read : List Token → Option X) (ops : List (Bor (List TokenCode))) (i : ℕ) (d : Bor (List TokenCode)) (so_far : Bool) (done : List X) (e : LineError) (whole : Result (List X) LineError) → i < length ops → e ≡ OutOfRange → Err e ≡ judged fits (read (map token_value (get_or ops i d).now)) → behind (gathered fits read (drop i ops)) so_far done ≡ whole → behind (gathered fits read (drop (i + 1) ops)) false done ≡ whole
+skipped fits read ops i d so_far done e whole within out found is =
+    gathered-out fits read ops i d so_far done within (sym (rw out at found)) ∙ is
 
 -- before the first, and behind the last
 pub gathered-first : {X : Type 0} (fits : X → Bool) (read : List Token → Option X) (ops : List (Bor (List TokenCode))) → behind (gathered fits read ops) true [] ≡ gathered fits read ops

@@ -1,12 +1,10 @@
-use Rattle.std.proofs.Common.{◌≡◌, ◌≢◌, Err, [], ◌∷◌, ◌++◌, get_or, map, sym, ap, ◌∙◌, rules}
-use Rattle.std.proofs.lemmas.List.{map-append}
+use Rattle.std.proofs.Common.{◌≡◌, ◌≢◌, map, sym, ap, ◌∙◌, rules}
 use Rattle.std.specs.List.{list_all}
 use Rattle.asm_syntax.specs.declared.error.LineError.TheVariants.{OutOfRange}
 use Rattle.asm_syntax.specs.Faults.{judged}
 use Rattle.asm_syntax.specs.Operands.{target_in, fits_target}
-use Rattle.asm_syntax.specs.TokenViews.{token_value}
 use Rattle.asm_syntax.specs.Views.{target_value}
-use Rattle.asm_syntax.proofs.Gathered.{gathered-ok, gathered-out, gathered-fault, each_of-all}
+use Rattle.asm_syntax.proofs.Gathered.{pushed, skipped, gathered-fault, each_of-all}
 use Rattle.asm_syntax.proofs.data.targets.Goals as goal
 use Rattle.asm_syntax.proofs.data.targets.Goals.{in-Ok+in_ok-push-in-Ok, in-Err+else-ne}
 
@@ -24,12 +22,9 @@ loop-operand-preserved g c =
       c.loop-operand.invariant.0,
       elim c.match-target.branch [
         | in-Ok+in_ok-push-in-Ok w ↦
-            let items : map target_value w.push.new.self.items ≡ map target_value c.loop-operand.targets.items ++ (target_value w.in-Ok.target ∷ []) =
-            ap (map target_value) w.in_ok-push-in-Ok.ensures.items ∙ map-append target_value c.loop-operand.targets.items (w.in-Ok.target ∷ []) in
-            rw (w.fits-is, w.targets-is, items) (gathered-ok fits_target target_in ops c.loop-operand.operand-index _ c.loop-operand.fits (map target_value c.loop-operand.targets.items) (target_value w.in-Ok.target) c.loop-operand-test.true (sym w.in-Ok.ensures.value) ∙ c.loop-operand.invariant.1)
+            rw (w.fits-is, w.targets-is) (pushed target_value fits_target target_in ops c.loop-operand.operand-index _ c.loop-operand.fits c.loop-operand.targets.items w.push.new.self.items w.in-Ok.target _ c.loop-operand-test.true w.in_ok-push-in-Ok.ensures.items w.in-Ok.ensures.value c.loop-operand.invariant.1)
         | in-Err+else-ne w ↦
             let out : w.in-Err.fault ≡ OutOfRange = search rules in
-            let found : judged fits_target (target_in (map token_value (get_or ops c.loop-operand.operand-index _).now)) ≡ Err w.in-Err.fault = sym w.in-Err.ensures.value in
-            rw (w.fits-is, w.targets-is) (gathered-out fits_target target_in ops c.loop-operand.operand-index _ c.loop-operand.fits (map target_value c.loop-operand.targets.items) c.loop-operand-test.true (found ∙ ap Err out) ∙ c.loop-operand.invariant.1)
+            rw (w.fits-is, w.targets-is) (skipped fits_target target_in ops c.loop-operand.operand-index _ c.loop-operand.fits (map target_value c.loop-operand.targets.items) w.in-Err.fault _ c.loop-operand-test.true out w.in-Err.ensures.value c.loop-operand.invariant.1)
       ],
     )

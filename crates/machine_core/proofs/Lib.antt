@@ -8,6 +8,7 @@ pub mod Onward
 pub mod Options
 pub mod Phased
 pub mod Phases
+pub mod Refusals
 pub mod Resume
 pub mod Rows
 pub mod Runs

@@ -4,3 +4,4 @@ pub mod Outcome
 pub mod Readers
 pub mod Report
 pub mod Session
+pub mod Stages

@@ -1,19 +1,21 @@
 //! The session that runs a program.
 
-ghost use Rattle.std.specs.Prelude.{◌≡◌, ◌≢◌, ◌↔◌, ◌⊎◌, ◌<◌, true, false, length, Some, None, Err, IfOk, IfErr, OnOk, IsErrOf};
+ghost use Rattle.std.specs.Prelude.{◌≡◌, ◌≢◌, ◌↔◌, ◌⊎◌, ◌<◌, ◌≤◌, length, string_bytes, Some, None, Err, IfOk, IfErr, OnOk, IsErrOf};
 ghost use Rattle.std.specs.Io.KnownBytes.{Appends};
 ghost use Rattle.counted_io.specs.Counted.{HasRisen};
 ghost use Rattle.counted_io.specs.Transfers.{AppendsPrefix};
 ghost use Rattle.elf_image.specs.declared.error.ElfError.{ElfError as ElfErrorValue};
 ghost use Rattle.rv_asm.specs.declared.errors.AsmError.{AsmError as AsmErrorValue};
-ghost use Rattle.node_memory.specs.Image.{is_segment_outside};
+ghost use Rattle.node_memory.specs.Image.{Image};
+ghost use Rattle.machine_core.specs.Machine.{fresh};
 ghost use Rattle.machine_core.specs.Turn.{end_of};
 ghost use Rattle.phase_pool.specs.Numbers.{numbers_fault};
 ghost use Rattle.bsp_session.specs.declared.errors.BadSetting.{BadSetting as BadSettingCause};
-ghost use Rattle.bsp_session.specs.Outcome.{IsErrorOfRun};
+ghost use Rattle.bsp_session.specs.Images.{most_bytes};
 ghost use Rattle.bsp_session.specs.Readers.{reader};
-ghost use Rattle.bsp_session.specs.Report.{report_of};
-ghost use Rattle.bsp_session.specs.Session.{Answers, job_fault, run_of, IsTooLong, IsReadFault, IsRefused, IsOutside, IsOutOfMemory, LacksWorker, WritesPrefix};
+ghost use Rattle.bsp_session.specs.Report.{report_lines as report_lines_of, report_of};
+ghost use Rattle.bsp_session.specs.Session.{Answers, job_fault, run_of, ReadsBoth, IsTooLong, IsReadFault, IsRefused, IsOutside, IsOutOfMemory, LacksWorker, WritesPrefix};
+ghost use Rattle.bsp_session.specs.Stages.{HasImage, EndsUnread, EndsUnrun};
 
 use crate::errors::SessionError;
 use crate::images::image_of;
@@ -21,7 +23,6 @@ use crate::job::Job;
 use crate::report::{report_lines, write_report};
 use counted_io::{Counted, read_at_most};
 use machine_core::{Machine, Outcome};
-use node_memory::Image;
 use phase_pool::{OpenGate, PoolError, check_numbers, run};
 use std::alloc::Allocator;
 use std::io::{Read, Write};
@@ -95,11 +96,28 @@ pub fn session<T: Threads + Wait + Sync, A: Allocator + Copy + Send, I: Read, R:
     ensures nothing_written { IfErr result (λ e.
         e ≢ SessionError.WriteFault → out.new ≡ out.old) }
 {
+    let (file, input) = read_both(alloc, image, input, job)?;
+    run_and_report(rt, alloc, file.as_slice(), input.as_slice(), job, out)
+}
+
+/// Reads the file of an image and an input, where the settings of the job are within their ranges.
+fn read_both<A: Allocator + Copy, I: Read, R: Read>(
+    alloc: A,
+    image: &mut Counted<I>,
+    input: &mut Counted<R>,
+    job: &Job,
+) -> Result<(Vec<u8, A>, Vec<u8, A>), SessionError>
+    ensures ok { IfOk result (λ read. ReadsBoth (reader I.remaining image.old image.new)
+        (reader R.remaining input.old input.new) job.now read.0.items read.1.items) }
+    ensures err { IfErr result (λ e. EndsUnread (reader I.remaining image.old image.new)
+        (reader R.remaining input.old input.new) job.now e) }
+    ensures settings_first { job_fault job.now ≢ None
+        → (image.new ≡ image.old) × (input.new ≡ input.old) }
+{
     check_job(job)?;
     let file = read_at_most(alloc, image, job.format.most_bytes())?;
     let input = read_at_most(alloc, input, INPUT_BYTES)?;
-    let image = image_of(alloc, job.format, file.as_slice())?;
-    run_and_report(rt, alloc, &image, input.as_slice(), job, out)
+    Ok((file, input))
 }
 
 /// Whether the settings of a job are within their ranges; else the first that is not.
@@ -112,70 +130,74 @@ fn check_job(job: &Job) -> Result<(), SessionError>
     Ok(())
 }
 
-/// Makes the machine of an image and an input, runs it, and writes its report.
+/// Runs the program that the bytes of a file give, and then writes its report.
 fn run_and_report<T: Threads + Wait + Sync, A: Allocator + Copy + Send, W: Write>(
     rt: &T,
     alloc: A,
-    image: &Image<A>,
+    file: &[u8],
     input: &[u8],
     job: &Job,
     out: &mut Counted<W>,
 ) -> Result<Outcome, SessionError>
-    requires { job_fault job.now ≡ None }
-    ensures fits { OnOk result (is_segment_outside image.now job.now.settings.memory ≡ false) }
-    ensures outcome { IfOk result (λ outcome.
-        (run_of image.now input.now job.now.settings).outcome ≡ Some outcome) }
-    ensures written { OnOk result (Appends (W.contents out.old.inner) (W.contents out.new.inner)
-        (report_of job.now (run_of image.now input.now job.now.settings))) }
-    ensures kinds { IfErr result IsErrorOfRun }
-    ensures outside { result ≡ Err SessionError.SegmentOutside
-        → is_segment_outside image.now job.now.settings.memory ≡ true }
-    ensures fitted { result ≡ Err SessionError.WriteFault
-        → is_segment_outside image.now job.now.settings.memory ≡ false }
-    ensures lacking { result ≡ Err SessionError.NoWorker
-        → is_segment_outside image.now job.now.settings.memory ≡ false }
-    ensures no_worker { result ≡ Err SessionError.NoWorker
-        → (1 < job.now.workers) × (1 < job.now.settings.nodes) }
+    requires settings { job_fault job.now ≡ None }
+    requires limit { length file.now ≤ most_bytes job.now.format }
+    ensures ok { IfOk result (λ outcome. (m : Image) × HasImage job.now file.now m
+        × ((run_of m input.now job.now.settings).outcome ≡ Some outcome)
+        × Appends (W.contents out.old.inner) (W.contents out.new.inner)
+        (report_of job.now (run_of m input.now job.now.settings))) }
+    ensures err { IfErr result (λ e. (e ≡ SessionError.WriteFault) ⊎ EndsUnrun job.now file.now e) }
     ensures prefix { result ≡ Err SessionError.WriteFault
-        → AppendsPrefix (W.contents out.old.inner) (W.contents out.new.inner)
-        (report_of job.now (run_of image.now input.now job.now.settings)) }
+        → (m : Image) × HasImage job.now file.now m
+        × AppendsPrefix (W.contents out.old.inner) (W.contents out.new.inner)
+        (report_of job.now (run_of m input.now job.now.settings)) }
     ensures write_failed { result ≡ Err SessionError.WriteFault
         → HasRisen out.old.failures out.new.failures }
     ensures nothing_written { IfErr result (λ e.
         e ≢ SessionError.WriteFault → out.new ≡ out.old) }
 {
-    let mut machine = Machine::new(alloc, image, input, job.settings)?;
-    finish(rt, alloc, &mut machine, job, out)
-}
-
-/// Runs a machine to its outcome, and writes its report.
-fn finish<T: Threads + Wait + Sync, A: Allocator + Copy + Send, W: Write>(
-    rt: &T,
-    alloc: A,
-    machine: &mut Machine<A>,
-    job: &Job,
-    out: &mut Counted<W>,
-) -> Result<Outcome, SessionError>
-    requires { numbers_fault job.now.workers job.now.slice ≡ None }
-    ensures outcome { IfOk result (λ outcome. (end_of machine.old).outcome ≡ Some outcome) }
-    ensures written { OnOk result (Appends (W.contents out.old.inner) (W.contents out.new.inner)
-        (report_of job.now (end_of machine.old))) }
-    ensures kinds { IfErr result (λ e.
-        (e ≡ SessionError.NoWorker) ⊎ (e ≡ SessionError.NoMemory) ⊎ (e ≡ SessionError.WriteFault)) }
-    ensures no_worker { result ≡ Err SessionError.NoWorker
-        → (1 < job.now.workers) × (1 < length machine.old.nodes) }
-    ensures prefix { result ≡ Err SessionError.WriteFault
-        → AppendsPrefix (W.contents out.old.inner) (W.contents out.new.inner)
-        (report_of job.now (end_of machine.old)) }
-    ensures write_failed { result ≡ Err SessionError.WriteFault
-        → HasRisen out.old.failures out.new.failures }
-    ensures nothing_written { IfErr result (λ e.
-        e ≢ SessionError.WriteFault → out.new ≡ out.old) }
-{
-    let outcome = run_to_outcome(rt, machine, job)?;
-    let lines = report_lines(alloc, machine, job)?;
+    let (outcome, machine, lines) = run_file(rt, alloc, file, input, job)?;
     write_report(machine.output(), lines.as_bytes(), out)?;
     Ok(outcome)
+}
+
+/// Runs the program that the bytes of a file give: its outcome, the machine at its end, and the lines that follow the
+/// machine's output in the report.
+fn run_file<T: Threads + Wait + Sync, A: Allocator + Copy + Send>(
+    rt: &T,
+    alloc: A,
+    file: &[u8],
+    input: &[u8],
+    job: &Job,
+) -> Result<(Outcome, Machine<A>, String<A>), SessionError>
+    requires settings { job_fault job.now ≡ None }
+    requires limit { length file.now ≤ most_bytes job.now.format }
+    ensures machine { IfOk result (λ ran. (m : Image) × HasImage job.now file.now m
+        × (ran.1 ≡ run_of m input.now job.now.settings)) }
+    ensures outcome { IfOk result (λ ran. ran.1.outcome ≡ Some ran.0) }
+    ensures lines { IfOk result (λ ran. string_bytes ran.2 ≡ report_lines_of job.now ran.1) }
+    ensures err { IfErr result (λ e. EndsUnrun job.now file.now e) }
+{
+    let mut machine = machine_of(alloc, file, input, job)?;
+    let outcome = run_to_outcome(rt, &mut machine, job)?;
+    let lines = report_lines(alloc, &machine, job)?;
+    Ok((outcome, machine, lines))
+}
+
+/// The machine of a file and an input, at its start.
+fn machine_of<A: Allocator + Copy>(
+    alloc: A,
+    file: &[u8],
+    input: &[u8],
+    job: &Job,
+) -> Result<Machine<A>, SessionError>
+    requires settings { job_fault job.now ≡ None }
+    requires limit { length file.now ≤ most_bytes job.now.format }
+    ensures ok { IfOk result (λ machine. (m : Image) × HasImage job.now file.now m
+        × (machine ≡ fresh m input.now job.now.settings)) }
+    ensures err { IfErr result (λ e. EndsUnrun job.now file.now e) }
+{
+    let image = image_of(alloc, job.format, file)?;
+    Ok(Machine::new(alloc, &image, input, job.settings)?)
 }
 
 /// Runs a machine to its outcome, in as many threads as the job has workers.

@@ -1,18 +1,41 @@
-use Rattle.std.proofs.Common.{◌∙◌, ap, length}
+use Rattle.std.proofs.Common.{◌≡◌, ◌∙◌, ap, sym, refl, subst, string_bytes, List, ℕ, ◌++◌}
+use Rattle.std.specs.Io.KnownBytes.{Appends}
+use Rattle.std.proofs.lemmas.Result.{err_from_is_err_and}
+use Rattle.counted_io.specs.Transfers.{AppendsPrefix}
 use Rattle.machine_core.specs.Machine.{MachineState}
-use Rattle.bsp_session.proofs.Jobs.{length-fresh, numbers_are_in_range}
+use Rattle.bsp_session.specs.declared.job.Job.{Job}
+use Rattle.bsp_session.specs.Report.{report_lines, report_of}
+use Rattle.bsp_session.specs.Session.{run_of}
 use Rattle.bsp_session.proofs.sessions.run_and_report.Goals as goal
 
--- the machine that was run is the fresh one
-pub returns-clause-prefix : goal.returns-clause-prefix
-returns-clause-prefix g c = λ failed. rw c.in_ok-machine.ensures.ok at (c.finish.ensures.prefix failed)
+-- the output of a machine at its end and the lines after it are its report
+is_report : (job : Job) (m end : MachineState) (output lines text : List ℕ) → output ≡ m.output → lines ≡ text
+    → text ≡ report_lines job m → m ≡ end → output ++ lines ≡ report_of job end
+is_report job m end output lines text out written told ended =
+    ap (λ xs. xs ++ lines) out ∙ ap (λ ys. m.output ++ ys) (written ∙ told) ∙ ap (report_of job) ended
 
--- it has as many nodes as its settings say
-pub returns-clause-no_worker : goal.returns-clause-no_worker
-returns-clause-no_worker g c = λ lacking.
-    let known = c.finish.ensures.no_worker lacking in
-    let all = ap (λ (m : MachineState). length m.nodes) c.in_ok-machine.ensures.ok ∙ length-fresh c.args.image.now c.args.input.now c.args.job.now.settings in
-    (known.0, rw all at known.1)
+-- no stage before the report has the writer
+pub returns-in_err-outcome-clause-nothing_written : goal.returns-in_err-outcome-clause-nothing_written
+returns-in_err-outcome-clause-nothing_written g c =
+    let p = err_from_is_err_and c.from_residual.result c.from_residual.ensures.1 in
+    rw p.1 (λ other. refl)
 
-pub finish-requires-after_bounds : goal.finish-requires-after_bounds
-finish-requires-after_bounds g c = λ lifetimes bounds. numbers_are_in_range c.args.job.now c.requires
+pub returns-in_err-write_report-clause-write_failed : goal.returns-in_err-write_report-clause-write_failed
+returns-in_err-write_report-clause-write_failed g c = λ failed. c.in_err-write_report.ensures.fault
+
+pub returns-in_err-write_report-clause-prefix : goal.returns-in_err-write_report-clause-prefix
+returns-in_err-write_report-clause-prefix g c = λ failed.
+    let ran = c.in_ok-outcome.ensures.machine in
+    (ran.0, ran.1, subst (AppendsPrefix (g.W.Write.contents c.args.out.now.inner) (g.W.Write.contents c.write_report.new.out.inner))
+    (is_report c.args.job.now c.in_ok-outcome.machine (run_of ran.0 c.args.input.now c.args.job.now.settings)
+    c.output.result.now c.as_bytes.result.now (string_bytes c.in_ok-outcome.lines) c.output.ensures c.as_bytes.ensures.value c.in_ok-outcome.ensures.lines ran.2)
+    c.in_err-write_report.ensures.err)
+
+pub returns-clause-ok : goal.returns-clause-ok
+returns-clause-ok g c =
+    let ran = c.in_ok-outcome.ensures.machine in
+    (ran.0, ran.1, sym (ap (λ (m : MachineState). m.outcome) {y = run_of ran.0 c.args.input.now c.args.job.now.settings} ran.2) ∙ c.in_ok-outcome.ensures.outcome,
+    subst (Appends (g.W.Write.contents c.args.out.now.inner) (g.W.Write.contents c.write_report.new.out.inner))
+    (is_report c.args.job.now c.in_ok-outcome.machine (run_of ran.0 c.args.input.now c.args.job.now.settings)
+    c.output.result.now c.as_bytes.result.now (string_bytes c.in_ok-outcome.lines) c.output.ensures c.as_bytes.ensures.value c.in_ok-outcome.ensures.lines ran.2)
+    c.in_ok-write_report.ensures.ok)

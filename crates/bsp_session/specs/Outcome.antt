@@ -94,11 +94,3 @@ error_of_pool pool.BadWorkers = BadSettings BadWorkers
 error_of_pool pool.BadSlice = BadSettings BadSlice
 error_of_pool pool.NoWorker = NoWorker
 error_of_pool pool.NoMemory = NoMemory
-
--- an error of a session once its image is understood
-abbrev pub IsErrorOfRun : SessionError → Type 0
-IsErrorOfRun SegmentOutside = Unit {0}
-IsErrorOfRun WriteFault = Unit {0}
-IsErrorOfRun NoWorker = Unit {0}
-IsErrorOfRun NoMemory = Unit {0}
-IsErrorOfRun _ = ⊥

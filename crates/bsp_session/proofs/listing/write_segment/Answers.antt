@@ -47,7 +47,7 @@ pub returns-in_err-write_whole-clause-err : goal.returns-in_err-write_whole-clau
 returns-in_err-write_whole-clause-err g c =
     let p = err_from_is_err_and c.from_residual-in_err-write_whole.result c.from_residual-in_err-write_whole.ensures.1 in
     let w = c.loop-line.invariant.written in
-    let is = moved _ w.0 _ _ c.in-Some.line _ _ w.2 c.in-Some.ensures.steps c.in_ok-writeln.ensures.bytes in
+    let is = moved (listing_of_segment c.args.segment.now) w.0 (string_bytes c.loop-line.block) (string_bytes c.writeln.new.self) c.in-Some.line c.loop-line.line-iterator c.next.new.self w.2 c.in-Some.ensures.steps c.in_ok-writeln.ensures.bytes in
     rw p.1 (AppendsPrefix-behind w.0 (string_bytes c.writeln.new.self) (flat_map ended_text c.next.new.self) (listing_of_segment c.args.segment.now) _ _ _ is w.1 (rw c.as_bytes.ensures.value at c.in_err-write_whole.ensures.err))
 
 pub returns-in_err-write_whole-clause-fault : goal.returns-in_err-write_whole-clause-fault
@@ -56,7 +56,7 @@ returns-in_err-write_whole-clause-fault g c = λ _. HasRisen-above _ _ _ c.loop-
 pub loop-line-preserved-then-len-ge-BLOCK : goal.loop-line-preserved-then-len-ge-BLOCK
 loop-line-preserved-then-len-ge-BLOCK g c =
     let w = c.loop-line.invariant.written in
-    let is = moved _ w.0 _ _ c.in-Some.line _ _ w.2 c.in-Some.ensures.steps c.in_ok-writeln.ensures.bytes in
+    let is = moved (listing_of_segment c.args.segment.now) w.0 (string_bytes c.loop-line.block) (string_bytes c.writeln.new.self) c.in-Some.line c.loop-line.line-iterator c.next.new.self w.2 c.in-Some.ensures.steps c.in_ok-writeln.ensures.bytes in
     record {
       written = (
         w.0 ++ string_bytes c.writeln.new.self,
@@ -70,7 +70,7 @@ pub loop-line-preserved : goal.loop-line-preserved
 loop-line-preserved g c =
     let w = c.loop-line.invariant.written in
     record {
-      written = (w.0, w.1, moved _ w.0 _ _ c.in-Some.line _ _ w.2 c.in-Some.ensures.steps c.in_ok-writeln.ensures.bytes);
+      written = (w.0, w.1, moved (listing_of_segment c.args.segment.now) w.0 (string_bytes c.loop-line.block) (string_bytes c.writeln.new.self) c.in-Some.line c.loop-line.line-iterator c.next.new.self w.2 c.in-Some.ensures.steps c.in_ok-writeln.ensures.bytes);
       rises = c.loop-line.invariant.rises;
     }
 

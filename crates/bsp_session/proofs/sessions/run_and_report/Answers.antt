@@ -25,17 +25,23 @@ returns-in_err-write_report-clause-write_failed g c = λ failed. c.in_err-write_
 
 pub returns-in_err-write_report-clause-prefix : goal.returns-in_err-write_report-clause-prefix
 returns-in_err-write_report-clause-prefix g c = λ failed.
-    let ran = c.in_ok-outcome.ensures.machine in
-    (ran.0, ran.1, subst (AppendsPrefix (g.W.Write.contents c.args.out.now.inner) (g.W.Write.contents c.write_report.new.out.inner))
-    (is_report c.args.job.now c.in_ok-outcome.machine (run_of ran.0 c.args.input.now c.args.job.now.settings)
-    c.output.result.now c.as_bytes.result.now (string_bytes c.in_ok-outcome.lines) c.output.ensures c.as_bytes.ensures.value c.in_ok-outcome.ensures.lines ran.2)
-    c.in_err-write_report.ensures.err)
+    let ran = c.in_ok-outcome.ensures.machine in (
+      ran.0,
+      ran.1,
+      subst (AppendsPrefix (g.W.Write.contents c.args.out.now.inner) (g.W.Write.contents c.write_report.new.out.inner))
+          (is_report c.args.job.now c.in_ok-outcome.machine (run_of ran.0 c.args.input.now c.args.job.now.settings)
+          c.output.result.now c.as_bytes.result.now (string_bytes c.in_ok-outcome.lines) c.output.ensures c.as_bytes.ensures.value c.in_ok-outcome.ensures.lines ran.2)
+          c.in_err-write_report.ensures.err,
+    )
 
 pub returns-clause-ok : goal.returns-clause-ok
 returns-clause-ok g c =
-    let ran = c.in_ok-outcome.ensures.machine in
-    (ran.0, ran.1, sym (ap (λ (m : MachineState). m.outcome) {y = run_of ran.0 c.args.input.now c.args.job.now.settings} ran.2) ∙ c.in_ok-outcome.ensures.outcome,
-    subst (Appends (g.W.Write.contents c.args.out.now.inner) (g.W.Write.contents c.write_report.new.out.inner))
-    (is_report c.args.job.now c.in_ok-outcome.machine (run_of ran.0 c.args.input.now c.args.job.now.settings)
-    c.output.result.now c.as_bytes.result.now (string_bytes c.in_ok-outcome.lines) c.output.ensures c.as_bytes.ensures.value c.in_ok-outcome.ensures.lines ran.2)
-    c.in_ok-write_report.ensures.ok)
+    let ran = c.in_ok-outcome.ensures.machine in (
+      ran.0,
+      ran.1,
+      sym (ap (λ (m : MachineState). m.outcome) {y = run_of ran.0 c.args.input.now c.args.job.now.settings} ran.2) ∙ c.in_ok-outcome.ensures.outcome,
+      subst (Appends (g.W.Write.contents c.args.out.now.inner) (g.W.Write.contents c.write_report.new.out.inner))
+          (is_report c.args.job.now c.in_ok-outcome.machine (run_of ran.0 c.args.input.now c.args.job.now.settings)
+          c.output.result.now c.as_bytes.result.now (string_bytes c.in_ok-outcome.lines) c.output.ensures c.as_bytes.ensures.value c.in_ok-outcome.ensures.lines ran.2)
+          c.in_ok-write_report.ensures.ok,
+    )

@@ -16,5 +16,5 @@ returns-in_err-outcome-clause-err g c =
     let all = ap (λ (m : MachineState). length m.nodes) made.2 ∙ length-fresh made.0 c.args.input.now c.args.job.now.settings in
     rw (p.1, p.2) (EndsUnrun-of_pool c.args.job.now c.args.file.now c.in_err-outcome.field-0.0 c.in_err-outcome.ensures.kinds
     (λ is.
-      let known = c.in_err-outcome.ensures.no_worker (ap (λ (e : PoolError). Err e) is) in
-      record { m = made.0; image = made.1; workers = known.0; nodes = rw all at known.1 }))
+    let known = c.in_err-outcome.ensures.no_worker (ap (λ (e : PoolError). Err e) is) in
+    record { m = made.0; image = made.1; workers = known.0; nodes = rw all at known.1 }))

@@ -16,3 +16,12 @@ run_at-requires g c =
     let long : c.len.result ≡ length c.args.self.now.nodes =
     c.len.ensures ∙ c.self.inside.nodes.ok.0 ∙ sym (length-map c.self.inside.nodes.items (λ (p : PreparedNode). p.node)) ∙ ap (λ (m : MachineState). length m.nodes) c.self.view_is in
     omega (arith, long, c.if-rank-len.false)
+
+pub returns-clause-ok : goal.returns-clause-ok
+returns-clause-ok g c = c.run_at.ensures.ok
+
+pub returns-clause-err : goal.returns-clause-err
+returns-clause-err g c = c.run_at.ensures.err
+
+pub returns-clause-refuses : goal.returns-clause-refuses
+returns-clause-refuses g c = c.run_at.ensures.refuses

@@ -14,11 +14,6 @@ use std::alloc::{AllocError, Global};
 use std::process::Abort;
 use std::test::Fail;
 
-const BYTES: &str = "\
-ff 00 00 00 00 00 00 00 00 00 00 00 00 00 00 00
-00
-";
-
 const QUEUE: &str = "\
 count 2 bytes 2
 from 3 tag 0a00 payload -
@@ -58,14 +53,6 @@ fn message(
         tag: ListVec::from_vec(Vec::from_slice(alloc, tag)?),
         payload: ListVec::from_vec(Vec::from_slice(alloc, payload)?),
     })
-}
-
-#[test]
-fn bytes_are_lines_or_refused_memory(rt: HostRuntime) -> Result<(), Fail> {
-    let mut bytes = [0u8; 17];
-    bytes[0] = 0xFF;
-    let bytes = ListVec::from_vec(Vec::from_slice(rt.alloc(), &bytes)?);
-    expect_text(&rt, rt.alloc(), &Reply::Bytes(bytes), BYTES)
 }
 
 #[test]

@@ -1,7 +1,7 @@
 //! Tests of `bsp_session`.
 
 use crate::programs::{PRINTS_ITS_RANK, bytes_of};
-use bsp_session::{Format, Job, SessionError, asm_session, list_session, session, status};
+use bsp_session::{Format, Job, SessionError, asm_session, list_session, session};
 use counted_io::Counted;
 use machine_core::{Outcome, Settings};
 use refusing_allocator::RefusingAllocator;
@@ -103,31 +103,6 @@ fn run<T: Threads + Wait + Sync, A: Allocator + Copy + Send, I: Read + Drop, R: 
     let mut out = Counted::new(Vec::new(holder));
     let answer = session(rt, alloc, &mut image, &mut input, job, &mut out);
     (answer, out.into_inner())
-}
-
-#[test]
-fn an_image_may_come_in_pieces(rt: HostRuntime) -> Result<(), Fail> {
-    let alloc = rt.alloc();
-    let image = bytes_of(alloc, &PRINTS_ITS_RANK)?;
-    for step in [1, 39, 40] {
-        let image = Source {
-            text: &image,
-            step,
-            fails: false,
-        };
-        let (answer, written) = run(
-            &rt,
-            alloc,
-            alloc,
-            image,
-            b"".as_slice(),
-            &machine(3, 4096, 10),
-        );
-        assert_eq!(rt; answer, ENDED, "in steps of {step}");
-        assert_eq!(rt; status(&answer), 0);
-        assert_eq!(rt; written.as_slice(), b"012".as_slice(), "in steps of {step}");
-    }
-    Ok(())
 }
 
 #[test]

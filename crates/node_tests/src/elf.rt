@@ -1,9 +1,7 @@
 //! Tests of `elf_image`.
 
 use elf_image::{ElfError, load, raw, save};
-use node_memory::Image;
 use refusing_allocator::RefusingAllocator;
-use std::alloc::Global;
 use std::test::Fail;
 
 // Eight bytes, to lie at 0x100 with four zeros after them.
@@ -20,35 +18,6 @@ const WORDS: [u8; 40] = [
     0x13, 0x05, 0, 0x10, 0x93, 0x05, 0x10, 0, 0x93, 0x08, 0x10, 0x01, 0x73, 0, 0, 0, //
     0x93, 0x08, 0x10, 0, 0x73, 0, 0, 0,
 ];
-
-// Whether an image starts at 0 and has this segment alone.
-fn has_segment(image: &Image<Global>, addr: u32, bytes: &[u8], size: u32) -> bool {
-    match image.segments.as_slice() {
-        [segment] => {
-            image.entry == 0
-                && segment.addr == addr
-                && segment.bytes.as_slice() == bytes
-                && segment.size == size
-        }
-        _ => false,
-    }
-}
-
-#[test]
-fn a_segment_is_loaded(rt: HostRuntime) -> Result<(), Fail> {
-    let image = load(rt.alloc(), &ONE_SEGMENT)?;
-    assert!(rt; has_segment(&image, 0x100, &[11, 12, 13, 14, 15, 16, 17, 18], 12));
-    Ok(())
-}
-
-#[test]
-fn raw_bytes_are_saved_and_loaded_again(rt: HostRuntime) -> Result<(), Fail> {
-    let file = save(rt.alloc(), &raw(rt.alloc(), &WORDS)?)?;
-    assert_eq!(rt; file.len(), 124);
-    let image = load(rt.alloc(), &file)?;
-    assert!(rt; has_segment(&image, 0, &WORDS, 40));
-    Ok(())
-}
 
 // As many headers as there can be, over the same bytes. That takes no more time than the headers and the bytes have.
 #[test]

@@ -5,42 +5,6 @@ use refusing_allocator::RefusingAllocator;
 use std::test::Fail;
 
 #[test]
-fn a_total_is_summed_over_turned_and_other_rows(rt: HostRuntime) -> Result<(), Fail> {
-    let turned = CostRow {
-        w: 10,
-        h: 4,
-        turned: true,
-    };
-    let last = CostRow {
-        w: 7,
-        h: 0,
-        turned: false,
-    };
-    let mut ledger = Ledger::new(rt.alloc());
-    assert_eq!(rt; ledger.total(3, 100), 0);
-    ledger.add(turned)?;
-    ledger.add(last)?;
-    assert_eq!(rt; ledger.rows(), [turned, last].as_slice());
-    assert_eq!(rt; ledger.total(3, 100), 229);
-    Ok(())
-}
-
-#[test]
-fn the_greatest_costs_are_exact(rt: HostRuntime) -> Result<(), Fail> {
-    let mut ledger = Ledger::new(rt.alloc());
-    ledger.add(CostRow {
-        w: 1_099_511_627_776,
-        h: 281_474_976_710_655,
-        turned: true,
-    })?;
-    assert_eq!(rt;
-        ledger.total(u32::MAX, u32::MAX),
-        1_208_925_819_334_253_709_623_296
-    );
-    Ok(())
-}
-
-#[test]
 fn each_growth_may_be_refused(rt: HostRuntime) -> Result<(), Fail> {
     let heap = RefusingAllocator::new(rt.alloc());
     let mut ledger = Ledger::new(&heap);

@@ -15,8 +15,6 @@ mod ledger;
 #[cfg(test)]
 mod listing;
 #[cfg(test)]
-mod lists;
-#[cfg(test)]
 mod memory;
 #[cfg(test)]
 mod node;

@@ -1,7 +1,7 @@
 //! Tests of `node_memory`.
 
 use list_vec::ListVec;
-use node_memory::{Image, Memory, MemoryError, ReadError, is_memory_size};
+use node_memory::{Image, Memory, MemoryError, ReadError};
 use refusing_allocator::RefusingAllocator;
 use std::alloc::Allocator;
 use std::test::Fail;
@@ -11,25 +11,6 @@ fn empty_image<A: Allocator>(alloc: A) -> Image<A> {
         entry: 0,
         segments: ListVec::from_vec(Vec::new(alloc)),
     }
-}
-
-#[test]
-fn bytes_are_read_as_written(rt: HostRuntime) -> Result<(), Fail> {
-    let alloc = rt.alloc();
-    let mut memory = Memory::new(alloc, &empty_image(alloc), 4096)?;
-    assert!(rt; is_memory_size(memory.size()) && memory.fits(4095, 1));
-    memory.store8(0, 1)?;
-    memory.store16(1, 0x0302)?;
-    memory.store32(3, 0x0706_0504)?;
-    memory.write_range(7, &[8])?;
-    assert_eq!(rt;
-        (memory.load8(0), memory.load16(1), memory.load32(4)),
-        (Some(1), Some(0x0302), Some(0x0807_0605))
-    );
-    let mut bytes = Vec::from_slice(alloc, &[0])?;
-    memory.append_range(0, 9, &mut bytes)?;
-    assert!(rt; bytes.as_slice() == [0, 1, 2, 3, 4, 5, 6, 7, 8, 0].as_slice());
-    Ok(())
 }
 
 #[test]

@@ -2,7 +2,7 @@
 
 ghost use Rattle.std.specs.Prelude.{◌≡◌, IfOk};
 
-use bsp_requests::{AddError, Get, Inbox, Message, Outgoing, Put, Request, Requests};
+use bsp_requests::{AddError, Get, Outgoing, Put, Requests};
 use list_vec::ListVec;
 use refusing_allocator::RefusingAllocator;
 use std::alloc::{AllocError, Allocator, Global};
@@ -60,34 +60,6 @@ fn add<A: Allocator + Copy>(
     }
 }
 
-// 0 for a put, 1 for a get and 2 for a send, as above.
-fn kind_of<A: Allocator>(request: Option<&Request<A>>) -> u32 {
-    match request {
-        Some(Request::Put(_)) => 0,
-        Some(Request::Get(_)) => 1,
-        Some(Request::Send(_)) => 2,
-        None => 3,
-    }
-}
-
-#[test]
-fn requests_of_all_kinds_stand_in_issue_order(rt: HostRuntime) -> Result<(), Fail> {
-    let alloc = rt.alloc();
-    let mut requests = Requests::new(alloc);
-    for kind in 0..4 {
-        add(&mut requests, alloc, kind)?;
-    }
-    assert_eq!(rt; (requests.len(), requests.bytes()), (3, 12));
-    for kind in 0..4u32 {
-        assert_eq!(rt; kind_of(requests.at(kind as usize)), kind);
-    }
-    assert!(rt; requests.is_full_for(16_777_205) && !requests.is_full_for(16_777_204));
-    assert!(rt; requests.output() == b"out".as_slice());
-    requests.clear();
-    assert_eq!(rt; (requests.len(), requests.bytes()), (0, 0));
-    Ok(())
-}
-
 // Only the growths of a list are refused, since what is added has its memory from elsewhere.
 #[test]
 fn each_growth_can_be_refused_and_made_again(rt: HostRuntime) -> Result<(), Fail> {
@@ -110,36 +82,5 @@ fn each_growth_can_be_refused_and_made_again(rt: HostRuntime) -> Result<(), Fail
         );
         assert_eq!(rt; requests.bytes(), 300);
     }
-    Ok(())
-}
-
-fn payload_of<'a, A: Allocator>(message: Option<&'a Message<A>>) -> &'a [u8] {
-    match message {
-        Some(message) => message.payload.as_slice(),
-        None => b"none",
-    }
-}
-
-#[test]
-fn an_inbox_takes_no_memory(rt: HostRuntime) -> Result<(), Fail> {
-    let heap = Heap::new(rt.alloc());
-    let first = Message {
-        sender: 0,
-        tag: list(&heap, b"")?,
-        payload: list(&heap, b"first")?,
-    };
-    let second = Message {
-        sender: 2,
-        tag: list(&heap, b"")?,
-        payload: list(&heap, b"at 1")?,
-    };
-    let messages = vec![in &heap; first, second]?;
-    heap.refuse_from_nth(1);
-    let mut inbox = Inbox::of(messages);
-    assert!(rt; payload_of(inbox.first()) == b"first".as_slice());
-    assert!(rt; payload_of(inbox.at(1)) == b"at 1".as_slice());
-    assert!(rt; payload_of(inbox.take_first().as_ref()) == b"first".as_slice());
-    assert_eq!(rt; (inbox.count(), inbox.bytes()), (1, 4));
-    assert_eq!(rt; heap.requests(), 0);
     Ok(())
 }

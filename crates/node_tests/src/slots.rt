@@ -16,20 +16,6 @@ fn next_superstep<A: Allocator + Copy>(slots: &mut Slots<A>) -> Result<(), Alloc
     Ok(())
 }
 
-#[test]
-fn a_registration_counts_from_the_next_superstep_on(rt: HostRuntime) -> Result<(), Fail> {
-    let mut slots = Slots::new(rt.alloc());
-    slots.push(AREA)?;
-    slots.push(AREA)?;
-    slots.pop(0x2000)?;
-    assert!(rt; !slots.ready() && !slots.same_shape(&Slots::new(rt.alloc())));
-    assert_eq!(rt; (slots.count(), slots.find(0x2000)), (0, None));
-    next_superstep(&mut slots)?;
-    assert_eq!(rt; (slots.count(), slots.find(0x2000)), (1, Some(0)));
-    assert_eq!(rt; slots.area(0), Some(AREA));
-    Ok(())
-}
-
 // Whether a call is refused memory: each third one is a pop, the others are pushes.
 fn is_refused<A: Allocator + Copy>(slots: &mut Slots<A>, call: u32) -> bool {
     if call % 3 == 2 {

@@ -3,6 +3,7 @@ pub mod FormatWords
 pub mod Judging
 pub mod LabelSteps
 pub mod Laying
+pub mod Loops
 pub mod NeverMemory
 pub mod OneImage
 pub mod OnlyLabels

@@ -1,6 +1,7 @@
 //! What is wrong with a text.
 
 ghost use Rattle.std.specs.Prelude.{◌≡◌, ◌≢◌};
+ghost use Rattle.rv_asm.specs.ErrorTexts.{kind_name};
 ghost use Rattle.rv_asm.specs.Faults.{kind_of};
 ghost use Rattle.rv_asm.specs.declared.errors.AsmKind.TheVariants.{NoMemory};
 
@@ -36,6 +37,23 @@ pub enum AsmKind {
 pub struct AsmError {
     pub line: u32,
     pub kind: AsmKind,
+}
+
+impl AsmKind {
+    fn name(self) -> &'static str
+        ensures { result.now ≡ kind_name self }
+    {
+        match self {
+            AsmKind::BadToken => "BadToken",
+            AsmKind::UnknownMnemonic => "UnknownMnemonic",
+            AsmKind::BadOperand => "BadOperand",
+            AsmKind::OutOfRange => "OutOfRange",
+            AsmKind::DuplicateLabel => "DuplicateLabel",
+            AsmKind::UndefinedLabel => "UndefinedLabel",
+            AsmKind::TooLarge => "TooLarge",
+            AsmKind::NoMemory => "NoMemory",
+        }
+    }
 }
 
 impl From<LineError> for AsmKind {
@@ -101,16 +119,7 @@ impl fmt::Display for AsmKind {
     ghost output = { λ kind. Some (kind_name kind) };
 
     fn fmt<W: fmt::Write>(&self, f: &mut fmt::Formatter<W>) -> fmt::Result {
-        f.write_str(match self {
-            AsmKind::BadToken => "BadToken",
-            AsmKind::UnknownMnemonic => "UnknownMnemonic",
-            AsmKind::BadOperand => "BadOperand",
-            AsmKind::OutOfRange => "OutOfRange",
-            AsmKind::DuplicateLabel => "DuplicateLabel",
-            AsmKind::UndefinedLabel => "UndefinedLabel",
-            AsmKind::TooLarge => "TooLarge",
-            AsmKind::NoMemory => "NoMemory",
-        })
+        f.write_str(self.name())
     }
 }
 

@@ -1,6 +1,7 @@
 pub mod BranchWord
 pub mod EachRow
 pub mod Finds
+pub mod JumpWord
 pub mod Lookup
 pub mod Masks
 pub mod NoRow

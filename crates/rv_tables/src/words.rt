@@ -94,8 +94,17 @@ pub fn j_word(value: u32, rd: u8, imm: i32) -> Option<u32>
     if rd >= 32 || !(-0x10_0000..0x10_0000).contains(&imm) || imm % 2 != 0 {
         return None;
     }
+    Some(value + (u32::from(rd) << 7) + j_bits(imm))
+}
+
+/// The bits of a J-type word in which its offset stands.
+fn j_bits(imm: i32) -> u32
+    requires { IsJumpOffset imm }
+    ensures offset { Fields.j_immediate result ≡ imm }
+    ensures alone { result ≡ Fields.bits result 31 12 * 2 ^ 12 }
+{
     let field = imm.cast_unsigned();
     let high = (bits(field, 20, 20) << 31) + (bits(field, 10, 1) << 21);
     let low = (bits(field, 11, 11) << 20) + (bits(field, 19, 12) << 12);
-    Some(value + (u32::from(rd) << 7) + high + low)
+    high + low
 }

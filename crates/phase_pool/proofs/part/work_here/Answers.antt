@@ -26,3 +26,9 @@ pub returns-clause-work : goal.returns-clause-work
 returns-clause-work g c =
     let so_far = c.loop-place.invariant in
     IsWorked-all c.args.input.now c.args.nodes.items c.loop-place.nodes.items c.loop-place.place c.loop-place.answer so_far.length (omega (arith, c.loop-place-test.false, c.len-place-end.ensures, c.args.nodes.ok.0)) so_far.work
+
+pub returns-clause-no_worker : goal.returns-clause-no_worker
+returns-clause-no_worker g c = c.loop-place.invariant.no_worker
+
+pub returns-clause-room : goal.returns-clause-room
+returns-clause-room g c = c.loop-place.invariant.room

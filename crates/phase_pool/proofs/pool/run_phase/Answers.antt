@@ -16,3 +16,9 @@ returns-then-is_some-clause-ok g c =
 pub returns-then-is_some-clause-stopped : goal.returns-then-is_some-clause-stopped
 returns-then-is_some-clause-stopped g c within =
     HaveCome-over c.args.machine.now c.outcome.ensures.sound (ap is_some (sym c.outcome.ensures.value) ∙ sym c.is_some.ensures ∙ c.if-is_some.true)
+
+pub returns-clause-ok : goal.returns-clause-ok
+returns-clause-ok g c = c.in_ok-make_local_parts.ensures.ok
+
+pub returns-clause-stopped : goal.returns-clause-stopped
+returns-clause-stopped g c within = c.make_local_parts.ensures.come

@@ -1,9 +1,10 @@
 //! The rules of the command line: subcommands, their arguments and options, and their help.
 
 ghost use Rattle.std.specs.Prelude.{IfOk, codes};
-ghost use Rattle.bspemu.specs.CommandLine.{HasApp, HasAppOfFormats, HasRule, asm_app, bspemu_app, debug_app, file_rule, flag_rule, format_rule};
+ghost use Rattle.bspemu.specs.CommandLine.{HasApp, HasAppOfFormats, HasRule, asm_app, bspemu_app, checked_rule, debug_app, file_rule, flag_rule, format_rule};
 ghost use Rattle.bspemu.specs.CommandLine.{g_rule, l_rule, limit_rule, list_app, machine_app, memory_rule, nodes_rule, option_rule, run_app, workers_rule};
 
+use clap::builder::ValueParser;
 use clap::{Arg, ArgAction, Command, value_parser};
 use std::alloc::{AllocError, Global};
 
@@ -178,46 +179,73 @@ fn saved_image<'a>(alloc: Global) -> Arg<'a>
 fn format<'a>(alloc: Global, formats: &'a [&'a str]) -> Arg<'a>
     ensures { HasRule result (format_rule formats.entry) }
 {
-    Arg::new(alloc, "format")
-        .long("format")
-        .value_name("FORMAT")
-        .value_parser(formats)
-        .default_value("elf")
-        .hide_possible_values(true)
-        .help(FORMAT)
+    checked_option(
+        alloc,
+        "format",
+        "FORMAT",
+        ValueParser::from(formats),
+        "elf",
+        FORMAT,
+    )
+    .hide_possible_values(true)
+}
+
+/// An option whose values are checked, and that has a default.
+fn checked_option<'a>(
+    alloc: Global,
+    name: &'a str,
+    value_name: &'a str,
+    parser: ValueParser<'a>,
+    default: &'a str,
+    help: &'a str,
+) -> Arg<'a>
+    ensures { HasRule result (checked_rule name.entry.now parser.entry default.entry.now) }
+{
+    Arg::new(alloc, name)
+        .long(name)
+        .value_name(value_name)
+        .value_parser(parser)
+        .default_value(default)
+        .help(help)
 }
 
 fn nodes<'a>(alloc: Global) -> Arg<'a>
     ensures { HasRule result nodes_rule }
 {
-    Arg::new(alloc, "nodes")
-        .long("nodes")
-        .value_name("N")
-        .value_parser(value_parser!(u32))
-        .default_value("1")
-        .help("Nodes of the machine, 1 to 256")
+    checked_option(
+        alloc,
+        "nodes",
+        "N",
+        value_parser!(u32),
+        "1",
+        "Nodes of the machine, 1 to 256",
+    )
 }
 
 fn memory<'a>(alloc: Global) -> Arg<'a>
     ensures { HasRule result memory_rule }
 {
-    Arg::new(alloc, "memory")
-        .long("memory")
-        .value_name("BYTES")
-        .value_parser(value_parser!(u32))
-        .default_value("1048576")
-        .help("Bytes of memory of each node, a multiple of 4096 from 4096 to 16777216")
+    checked_option(
+        alloc,
+        "memory",
+        "BYTES",
+        value_parser!(u32),
+        "1048576",
+        "Bytes of memory of each node, a multiple of 4096 from 4096 to 16777216",
+    )
 }
 
 fn limit<'a>(alloc: Global) -> Arg<'a>
     ensures { HasRule result limit_rule }
 {
-    Arg::new(alloc, "limit")
-        .long("limit")
-        .value_name("TICKS")
-        .value_parser(value_parser!(u64))
-        .default_value("1000000")
-        .help("Most ticks of each node, one per instruction, 1 to 1099511627776")
+    checked_option(
+        alloc,
+        "limit",
+        "TICKS",
+        value_parser!(u64),
+        "1000000",
+        "Most ticks of each node, one per instruction, 1 to 1099511627776",
+    )
 }
 
 fn input<'a>(alloc: Global) -> Arg<'a>
@@ -241,32 +269,38 @@ fn report<'a>(alloc: Global) -> Arg<'a>
 fn byte_price<'a>(alloc: Global) -> Arg<'a>
     ensures { HasRule result g_rule }
 {
-    Arg::new(alloc, "g")
-        .long("g")
-        .value_name("TICKS")
-        .value_parser(value_parser!(u32))
-        .default_value("1")
-        .help("Ticks that a byte of the h-relation costs in the total")
+    checked_option(
+        alloc,
+        "g",
+        "TICKS",
+        value_parser!(u32),
+        "1",
+        "Ticks that a byte of the h-relation costs in the total",
+    )
 }
 
 fn superstep_price<'a>(alloc: Global) -> Arg<'a>
     ensures { HasRule result l_rule }
 {
-    Arg::new(alloc, "l")
-        .long("l")
-        .value_name("TICKS")
-        .value_parser(value_parser!(u32))
-        .default_value("0")
-        .help("Ticks that the end of a superstep costs in the total")
+    checked_option(
+        alloc,
+        "l",
+        "TICKS",
+        value_parser!(u32),
+        "0",
+        "Ticks that the end of a superstep costs in the total",
+    )
 }
 
 fn workers<'a>(alloc: Global) -> Arg<'a>
     ensures { HasRule result workers_rule }
 {
-    Arg::new(alloc, "workers")
-        .long("workers")
-        .value_name("N")
-        .value_parser(value_parser!(u32))
-        .default_value("1")
-        .help("Most threads that run the nodes, 1 to 64; what is written does not depend on it")
+    checked_option(
+        alloc,
+        "workers",
+        "N",
+        value_parser!(u32),
+        "1",
+        "Most threads that run the nodes, 1 to 64; what is written does not depend on it",
+    )
 }

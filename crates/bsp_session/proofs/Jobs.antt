@@ -22,7 +22,6 @@ neither f h None None none = refl
 neither f h None (Some y) none = cc
 neither f h (Some x) y none = cc
 
--- its settings are within their ranges
 first : {X E : Type 0} (f : X → E) (x : Option X) (y : Option E) → option_or (option_map f x) y ≡ None → x ≡ None
 first f None y none = refl
 first f (Some x) y none = cc
@@ -34,12 +33,16 @@ none_outside None true none made = absurd (made refl)
 none_outside None false none made = refl
 none_outside (Some fault) outside none made = cc
 
+-- its settings are within their ranges
+pub settings_are_in_range : (job : Job) → job_fault job ≡ None → settings_fault job.settings ≡ None
+settings_are_in_range job none =
+    first error_of_machine (settings_fault job.settings) (option_map error_of_pool (numbers_fault job.workers job.slice)) none
+
 -- an image that is not refused for it has no part past the memory
 pub fits_memory : (image : Image) (job : Job) → job_fault job ≡ None
     → (machine_fault image job.settings ≡ Some SegmentOutside → ⊥) → is_segment_outside image job.settings.memory ≡ false
 fits_memory image job none made =
-    none_outside (settings_fault job.settings) (is_segment_outside image job.settings.memory)
-    (first error_of_machine (settings_fault job.settings) (option_map error_of_pool (numbers_fault job.workers job.slice)) none) made
+    none_outside (settings_fault job.settings) (is_segment_outside image job.settings.memory) (settings_are_in_range job none) made
 
 -- its numbers of workers and of steps in a slice are within their ranges
 pub numbers_are_in_range : (job : Job) → job_fault job ≡ None → numbers_fault job.workers job.slice ≡ None

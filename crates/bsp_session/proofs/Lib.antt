@@ -1,2 +1,3 @@
 pub mod Jobs
 pub mod Outputs
+pub mod Refusals

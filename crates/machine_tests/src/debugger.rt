@@ -119,30 +119,42 @@ static STOPS_NOWHERE: [Row; 3] = [
     },
 ];
 
-// Gives the commands, and compares what they answer and make.
-fn converse<A: Allocator + Copy>(
-    rt: &impl Abort,
+// Gives the commands of rows, and answers which is the first that answers or makes something else.
+fn first_unlike<A: Allocator + Copy>(
     debugger: &mut Debugger<A>,
     rows: &[Row],
-) -> Result<(), DebugError> {
-    for row in rows {
-        let reply = debugger.command(row.command)?;
-        let is_expected = seen(&reply) == row.seen && debugger.events_of_last() == row.made;
-        assert!(rt; is_expected, "at {:?}", row.command);
+) -> Result<Option<usize>, DebugError> {
+    for (at, row) in rows.iter().enumerate() {
+        let seen = seen(&debugger.command(row.command)?);
+        if seen != row.seen || debugger.events_of_last() != row.made {
+            return Ok(Some(at));
+        }
     }
-    Ok(())
+    Ok(None)
+}
+
+// Whether nodes that print their ranks stop at a point, which is the only one.
+fn stops_at_a_point<A: Allocator + Copy>(session: &mut Debugger<A>) -> Result<bool, DebugError> {
+    session.add(POINT)?;
+    let is_as_told = first_unlike(session, &STOPS_ONCE)?.is_none();
+    let is_alone = session.remove(Point::Superstep(5)) == Err(DebugError::NoSuchBreak);
+    session.remove(POINT)?;
+    Ok(is_as_told && is_alone)
+}
+
+// Whether they come to their end without one.
+fn stops_nowhere<A: Allocator + Copy>(session: &mut Debugger<A>) -> Result<bool, DebugError> {
+    let is_as_told = first_unlike(session, &STOPS_NOWHERE)?.is_none();
+    Ok(is_as_told && session.machine().output() == b"012".as_slice())
 }
 
 #[test]
 fn a_session_stops_at_a_point_and_goes_on_to_the_end(rt: HostRuntime) -> Result<(), Fail> {
     let mut session = debugger(&rt, rt.alloc(), &PRINTS_ITS_RANK, 3)?;
-    session.add(POINT)?;
-    converse(&rt, &mut session, &STOPS_ONCE)?;
-    assert!(rt; session.remove(Point::Superstep(5)) == Err(DebugError::NoSuchBreak));
-    session.remove(POINT)?;
+    assert!(rt; stops_at_a_point(&mut session)?);
     let mut session = debugger(&rt, rt.alloc(), &PRINTS_ITS_RANK, 3)?;
-    converse(&rt, &mut session, &STOPS_NOWHERE)?;
-    assert!(rt; session.into_machine().output() == b"012".as_slice());
+    assert!(rt; stops_nowhere(&mut session)?);
+    assert!(rt; session.into_machine().superstep() == 0);
     Ok(())
 }
 
@@ -204,10 +216,7 @@ fn command_to_its_end<A: Allocator + Copy>(
         Err(error) => {
             let made = with_events(start, debugger.events_of_last());
             let is_reported = counts_of(debugger.machine()) == made;
-            assert!(rt;
-                error == DebugError::NoMemory && is_reported,
-                "at {command:?}"
-            );
+            assert!(rt; error == DebugError::NoMemory && is_reported);
             command_again(debugger, command)
         }
     }
@@ -285,7 +294,7 @@ fn command_with_refusals(
     let whole = end_of(rt, heap, 0, before, points, command)?;
     for nth in 1..=99 {
         let end = end_of(rt, heap, nth, before, points, command)?;
-        assert!(rt; end == whole, "at {nth} of {command:?}");
+        assert!(rt; end == whole, "at {nth}");
         if heap.refusals() == 0 {
             return Ok(nth - 1);
         }
@@ -363,11 +372,7 @@ fn a_command_that_is_refused_memory_can_be_given_again(rt: HostRuntime) -> Resul
     let heap = Heap::new(rt.alloc());
     for it in &REFUSABLE {
         let refused = command_with_refusals(&rt, &heap, it.before, it.points, it.command)?;
-        assert!(rt;
-            0 < refused && refused < 99,
-            "{refused} refusals of {:?}",
-            it.command
-        );
+        assert!(rt; 0 < refused && refused < 99, "{refused} refusals");
     }
     Ok(())
 }

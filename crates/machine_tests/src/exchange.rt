@@ -233,14 +233,21 @@ fn expect_case(rt: &impl Abort, alloc: Global, case: &Case) -> Result<(), Fail> 
         assert!(rt; is_expected, "{name}: {answer:?}");
     }
     run_all(&mut nodes)?;
-    for (rank, addr, bytes) in case.found {
-        assert!(rt; *rank < nodes.len());
-        assert!(rt;
-            has_bytes(&nodes[*rank], *addr, bytes),
-            "{name}: rank {rank} at {addr}"
-        );
-    }
+    assert!(rt; have_bytes(&nodes, case.found), "{name}: memory");
     Ok(())
+}
+
+// Whether nodes have these bytes: each with its rank and address.
+fn have_bytes<A: Allocator>(nodes: &[Node<A>], found: &[(usize, u32, &[u8])]) -> bool {
+    for (rank, addr, bytes) in found {
+        let Some(node) = nodes.get(*rank) else {
+            return false;
+        };
+        if !has_bytes(node, *addr, bytes) {
+            return false;
+        }
+    }
+    true
 }
 
 fn expect_cases(rt: &impl Abort, alloc: Global, cases: &[Case]) -> Result<(), Fail> {
@@ -295,15 +302,10 @@ fn expect_refusal<'a>(
     heap.refuse_nth(request);
     let refused = superstep(rt, heap, &mut nodes)?;
     let is_refused = heap.refusals() == 1 && refused == Err(ExchangeError::NoMemory);
-    assert!(rt;
-        is_refused && are_same(&nodes, &before)?,
-        "request {request}"
-    );
+    let is_unchanged = are_same(&nodes, &before)?;
     let again = superstep(rt, heap, &mut nodes)?;
-    assert!(rt;
-        again == Ok(ASKED) && are_same(&nodes, done)?,
-        "request {request}"
-    );
+    let is_made = again == Ok(ASKED) && are_same(&nodes, done)?;
+    assert!(rt; is_refused && is_unchanged && is_made, "request {request}");
     Ok(())
 }
 

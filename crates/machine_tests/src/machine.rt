@@ -4,7 +4,7 @@ use crate::programs::{PRINTS_ITS_RANK, machine, settings};
 use cost_ledger::CostRow;
 use machine_core::{Event, Machine, Outcome};
 use node_core::State;
-use std::alloc::Allocator;
+use std::alloc::{AllocError, Allocator};
 use std::test::Fail;
 
 mod exchanges;
@@ -49,20 +49,29 @@ fn a_run_writes_the_output_rank_by_rank(rt: HostRuntime) -> Result<(), Fail> {
     Ok(())
 }
 
+// The answers of a turn that comes too early and of a step of no node.
+fn early_events<A: Allocator + Copy>(machine: &mut Machine<A>) -> Result<[bool; 2], AllocError> {
+    Ok([machine.apply(Event::Turn)?, machine.apply(Event::Step(2))?])
+}
+
+// The answers of a step of a node that is at its end, of the last turn and of one after it.
+fn late_events<A: Allocator + Copy>(machine: &mut Machine<A>) -> Result<[bool; 3], AllocError> {
+    Ok([
+        machine.apply(Event::Step(1))?,
+        machine.turn()?,
+        machine.turn()?,
+    ])
+}
+
 #[test]
 fn events_in_another_order_have_the_same_end(rt: HostRuntime) -> Result<(), Fail> {
     let mut machine = machine(&rt, rt.alloc(), &PRINTS_ITS_RANK, 2, 9)?;
-    let early = [machine.apply(Event::Turn)?, machine.apply(Event::Step(2))?];
+    assert!(rt; early_events(&mut machine)? == [false; 2]);
     for _ in 0..3 {
         machine.apply(Event::Step(1))?;
     }
     machine.run_phase_plain()?;
-    let late = [
-        machine.apply(Event::Step(1))?,
-        machine.turn()?,
-        machine.turn()?,
-    ];
-    assert!(rt; early == [false; 2] && late == [false, true, false]);
+    assert!(rt; late_events(&mut machine)? == [false, true, false]);
     let state = State::Exhausted;
     assert!(rt; has_ended(&machine, Outcome::NodeStopped { rank: 0, state }, 9, b"01"));
     Ok(())

@@ -61,22 +61,17 @@ fn are_equal<A: Allocator, B: Allocator>(node: &Node<A>, other: &Node<B>) -> boo
         && node.memory().load32(0x100) == other.memory().load32(0x100)
 }
 
-// Two machines show the same: outcome, output, costs and nodes.
-fn expect_equal<A: Allocator, B: Allocator>(
-    rt: &impl Abort,
-    machine: &Machine<A>,
-    other: &Machine<B>,
-    at: &str,
-) {
-    assert!(rt;
-        machine.outcome() == other.outcome() && machine.output() == other.output(),
-        "{at}"
-    );
-    assert!(rt; machine.ledger().rows() == other.ledger().rows(), "{at}");
-    assert!(rt; machine.nodes().len() == other.nodes().len(), "{at}");
+// Whether two machines show the same: outcome, output, costs and nodes.
+fn show_the_same<A: Allocator, B: Allocator>(machine: &Machine<A>, other: &Machine<B>) -> bool {
     for (node, other) in machine.nodes().iter().zip(other.nodes()) {
-        assert!(rt; are_equal(node, other), "{at}");
+        if !are_equal(node, other) {
+            return false;
+        }
     }
+    machine.nodes().len() == other.nodes().len()
+        && machine.outcome() == other.outcome()
+        && machine.output() == other.output()
+        && machine.ledger().rows() == other.ledger().rows()
 }
 
 #[test]
@@ -91,8 +86,8 @@ fn any_number_of_workers_leaves_what_one_thread_leaves(rt: HostRuntime) -> Resul
         plain.run_plain()?;
         for workers in [1, 2, 3, 64] {
             let mut pooled = machine(&rt, alloc, words, 3)?;
-            assert_eq!(rt; run(&rt, &mut pooled, workers, 1, &OpenGate), Ok(()));
-            expect_equal(&rt, &pooled, &plain, "run");
+            assert!(rt; run(&rt, &mut pooled, workers, 1, &OpenGate) == Ok(()));
+            assert!(rt; show_the_same(&pooled, &plain));
         }
     }
     Ok(())

@@ -1,6 +1,6 @@
 //! Tests of `debug_lines`.
 
-ghost use Rattle.std.specs.Prelude.{◌<◌, ◌^◌};
+ghost use Rattle.std.specs.Prelude.{◌<◌, ◌^◌, IfOk};
 ghost use Rattle.cost_ledger.specs.CostRow.{total_cost};
 ghost use Rattle.bsp_debug.specs.Reply.{answer};
 ghost use Rattle.debug_lines.specs.Replies.{costs_of};
@@ -14,30 +14,37 @@ use std::alloc::{AllocError, Global};
 use std::process::Abort;
 use std::test::Fail;
 
+type Heap = RefusingAllocator<Global>;
+
 const QUEUE: &str = "\
 count 2 bytes 2
 from 3 tag 0a00 payload -
 from 0 tag - payload 1234
 ";
 
+/// Whether a reply has this text.
+fn has_text(alloc: &Heap, reply: &Reply<Global>, wanted: &str) -> Result<bool, AllocError>
+    requires { total_cost 2 10 (costs_of (answer reply.now)) < 2 ^ 128 }
+{
+    Ok(reply_text(alloc, reply, 2, 10)?.as_str() == wanted)
+}
+
 /// Sees that a reply has a text, and that each refusal of memory is answered.
 fn expect_text(
     rt: &impl Abort,
-    alloc: Global,
+    heap: &Heap,
     reply: &Reply<Global>,
     wanted: &str,
-) -> Result<(), Fail>
+) -> Result<(), AllocError>
     requires { total_cost 2 10 (costs_of (answer reply.now)) < 2 ^ 128 }
 {
-    let heap = RefusingAllocator::new(alloc);
-    let text = reply_text(&heap, reply, 2, 10)?;
-    assert!(rt; text.as_str() == wanted, "{wanted}");
+    assert!(rt; has_text(heap, reply, wanted)?);
     let requests = heap.requests();
     assert!(rt; requests > 0);
     for n in 1..=requests {
         heap.refuse_nth(n);
-        assert!(rt; reply_text(&heap, reply, 2, 10).is_err(), "request {n}");
-        assert!(rt; heap.refusals() == 1, "request {n}");
+        let is_refused = has_text(heap, reply, wanted).is_err();
+        assert!(rt; is_refused && heap.refusals() == 1, "request {n}");
     }
     Ok(())
 }
@@ -55,11 +62,18 @@ fn message(
     })
 }
 
-#[test]
-fn a_queue_is_lines_or_refused_memory(rt: HostRuntime) -> Result<(), Fail> {
-    let alloc = rt.alloc();
+// Two messages: one with a tag and no payload, and one with a payload and no tag.
+fn queue(alloc: Global) -> Result<Reply<Global>, AllocError>
+    ensures { IfOk result (λ reply. total_cost 2 10 (costs_of (answer reply)) < 2 ^ 128) }
+{
     let first = message(alloc, 3, &[10, 0], b"")?;
     let second = message(alloc, 0, b"", &[0x12, 0x34])?;
-    let queue = ListVec::from_vec(vec![in alloc; first, second]?);
-    expect_text(&rt, alloc, &Reply::Queue(queue), QUEUE)
+    Ok(Reply::Queue(ListVec::from_vec(vec![in alloc; first, second]?)))
+}
+
+#[test]
+fn a_queue_is_lines_or_refused_memory(rt: HostRuntime) -> Result<(), Fail> {
+    let reply = queue(rt.alloc())?;
+    expect_text(&rt, &Heap::new(rt.alloc()), &reply, QUEUE)?;
+    Ok(())
 }

@@ -14,6 +14,8 @@ use std::thread::Threads;
 
 mod images;
 
+type Heap = RefusingAllocator<Global>;
+
 const ENDED: Result<Outcome, SessionError> = Ok(Outcome::Ended);
 
 // What PRINTS_ITS_RANK gives on three nodes, with its costs.
@@ -105,26 +107,53 @@ fn run<T: Threads + Wait + Sync, A: Allocator + Copy + Send, I: Read + Drop, R: 
     (answer, out.into_inner())
 }
 
+// Whether a session whose image's reader may fail after these bytes, and whose input fails at once, is a read fault, and writes nothing.
+fn is_read_fault(
+    rt: &(impl Threads + Wait + Sync),
+    alloc: Global,
+    text: &[u8],
+    fails: bool,
+) -> bool {
+    let image = Source {
+        text,
+        step: 8,
+        fails,
+    };
+    let input = Source {
+        text: b"x",
+        step: 8,
+        fails: true,
+    };
+    let (answer, written) = run(rt, alloc, alloc, image, input, &machine(3, 4096, 10));
+    answer == Err(SessionError::ReadFault) && written.is_empty()
+}
+
 #[test]
 fn a_reader_that_fails_is_a_read_fault(rt: HostRuntime) -> Result<(), Fail> {
     let alloc = rt.alloc();
     let image = bytes_of(alloc, &PRINTS_ITS_RANK)?;
-    for (bytes, fails) in [(39, true), (40, false)] {
-        let image = Source {
-            text: image.get(..bytes).unwrap_or(b""),
-            step: 8,
-            fails,
-        };
-        let input = Source {
-            text: b"x",
-            step: 8,
-            fails: true,
-        };
-        let (answer, written) = run(&rt, alloc, alloc, image, input, &machine(3, 4096, 10));
-        assert_eq!(rt; answer, Err(SessionError::ReadFault), "after {bytes} bytes");
-        assert!(rt; written.is_empty());
-    }
+    let short = image.get(..39).unwrap_or(b"");
+    assert!(rt; is_read_fault(&rt, alloc, short, true));
+    assert!(rt; is_read_fault(&rt, alloc, &image, false));
     Ok(())
+}
+
+// A session over a writer that takes `room` bytes, and then fails: its answer, and what was taken.
+fn run_with_room(
+    rt: &(impl Threads + Wait + Sync),
+    alloc: Global,
+    image: &[u8],
+    job: &Job,
+    room: usize,
+) -> (Result<Outcome, SessionError>, Vec<u8>) {
+    let mut image = Counted::new(image);
+    let mut input = Counted::new(b"".as_slice());
+    let mut out = Counted::new(Sink {
+        held: Vec::new(alloc),
+        room,
+    });
+    let answer = session(rt, alloc, &mut image, &mut input, job, &mut out);
+    (answer, out.into_inner().held)
 }
 
 #[test]
@@ -141,57 +170,53 @@ fn a_writer_that_fails_keeps_what_it_took(rt: HostRuntime) -> Result<(), Fail> {
         (long, 12, fault, "012superstep"),
         (long, 45, ENDED, RANKS_REPORT),
     ] {
-        let mut image = Counted::new(image.as_slice());
-        let mut input = Counted::new(b"".as_slice());
-        let mut out = Counted::new(Sink {
-            held: Vec::new(rt.alloc()),
-            room,
-        });
-        let given = session(&rt, rt.alloc(), &mut image, &mut input, &job, &mut out);
-        assert_eq!(rt; given, answer, "with room for {room}");
-        assert_eq!(rt; out.inner().held.as_slice(), output.as_bytes());
+        let (given, held) = run_with_room(&rt, rt.alloc(), &image, &job, room);
+        let is_expected = given == answer && held.as_slice() == output.as_bytes();
+        assert!(rt; is_expected, "with room for {room}");
     }
     Ok(())
 }
 
+// Whether a session's report is whole.
+fn is_whole(rt: &(impl Threads + Wait + Sync), heap: &Heap, holder: Global, image: &[u8]) -> bool {
+    let job = reported(machine(3, 4096, 10));
+    let (answer, written) = run(rt, heap, holder, image, b"x".as_slice(), &job);
+    answer == ENDED && written.as_slice() == RANKS_REPORT.as_bytes()
+}
+
+// Whether a session is refused memory, and writes nothing.
+fn is_refused(
+    rt: &(impl Threads + Wait + Sync),
+    heap: &Heap,
+    holder: Global,
+    image: &[u8],
+) -> bool {
+    let job = reported(machine(3, 4096, 10));
+    let (answer, written) = run(rt, heap, holder, image, b"x".as_slice(), &job);
+    answer == Err(SessionError::NoMemory) && written.is_empty()
+}
+
 #[test]
 fn a_refused_request_is_no_memory(rt: HostRuntime) -> Result<(), Fail> {
-    let heap = RefusingAllocator::new(rt.alloc());
+    let heap = Heap::new(rt.alloc());
     let image = bytes_of(rt.alloc(), &PRINTS_ITS_RANK)?;
-    let job = reported(machine(3, 4096, 10));
     let mut met = 0;
     for request in 1..100 {
         // A refused growth may be followed by a smaller one, so all requests from one on are refused.
         heap.refuse_from_nth(request);
-        let (answer, written) = run(
-            &rt,
-            &heap,
-            rt.alloc(),
-            image.as_slice(),
-            b"x".as_slice(),
-            &job,
+        let is_refused = is_refused(&rt, &heap, rt.alloc(), &image);
+        assert!(rt; is_refused == (heap.refusals() > 0), "at request {request}");
+        heap.refuse_nth(0);
+        assert!(rt;
+            is_whole(&rt, &heap, rt.alloc(), &image),
+            "after request {request}"
         );
-        if heap.refusals() == 0 {
-            assert_eq!(rt; answer, ENDED);
+        if !is_refused {
             break;
         }
-        assert_eq!(rt; answer, Err(SessionError::NoMemory), "at request {request}");
-        assert!(rt; written.is_empty(), "at request {request}");
         met = request;
-
-        heap.refuse_nth(0);
-        let (answer, written) = run(
-            &rt,
-            &heap,
-            rt.alloc(),
-            image.as_slice(),
-            b"x".as_slice(),
-            &job,
-        );
-        assert_eq!(rt; answer, ENDED, "after request {request}");
-        assert_eq!(rt; written.as_slice(), RANKS_REPORT.as_bytes());
     }
     // The image, the input, the image's segment, the list of nodes, and each node's memory and output.
-    assert!(rt; met >= 10 && met < 99, "{met} requests were refused");
+    assert!(rt; met >= 10 && met < 99);
     Ok(())
 }

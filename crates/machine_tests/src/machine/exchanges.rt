@@ -100,6 +100,11 @@ fn turned_row(w: u64) -> CostRow {
     }
 }
 
+fn place_of_rank_1<A: Allocator>(machine: &Machine<A>) -> Option<(State, u64, u32)> {
+    let node = machine.node(1)?;
+    Some((node.state(), node.ticks(), node.pc()))
+}
+
 // Outcome, and of rank 1 what it is doing, its ticks and its pc: which no report tells.
 #[test]
 fn nodes_stay_where_they_stopped(rt: HostRuntime) -> Result<(), Fail> {
@@ -125,10 +130,8 @@ fn nodes_stay_where_they_stopped(rt: HostRuntime) -> Result<(), Fail> {
     ] {
         let mut machine = machine(&rt, rt.alloc(), words, 3, 1_000)?;
         machine.run_plain()?;
-        assert_eq!(rt; machine.outcome(), Some(outcome));
-        let node = machine.node(1);
-        let seen = node.map(|node| (node.state(), node.ticks(), node.pc()));
-        assert_eq!(rt; seen, Some((state, ticks, pc)), "at {outcome:?}");
+        assert!(rt; machine.outcome() == Some(outcome));
+        assert!(rt; place_of_rank_1(&machine) == Some((state, ticks, pc)));
     }
     Ok(())
 }

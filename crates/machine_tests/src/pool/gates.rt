@@ -2,11 +2,14 @@
 
 use super::machine;
 use crate::programs::PRINTS_ITS_RANK;
+use machine_core::Machine;
 use node_core::{Node, State};
 use phase_pool::{Gate, run, run_phase};
-use std::alloc::Allocator;
+use std::alloc::{Allocator, Global};
+use std::sync::Wait;
 use std::sync::atomic::{AtomicBool, AtomicU64, Ordering};
 use std::test::Fail;
+use std::thread::Threads;
 
 // How often a gate looks before it gives up.
 const LOOKS: u64 = 1_000_000_000;
@@ -37,6 +40,16 @@ impl PairGate {
             failed: AtomicBool::new(false),
         }
     }
+
+    // Whether each node came once, with the other, and left once, at its end.
+    fn has_let_both_through(&self) -> bool {
+        let is_one = |calls: &AtomicU64| calls.load(Ordering::SeqCst) == 1;
+        !self.failed.load(Ordering::SeqCst)
+            && is_one(&self.entered.0)
+            && is_one(&self.entered.1)
+            && is_one(&self.left.0)
+            && is_one(&self.left.1)
+    }
 }
 
 impl<A: Allocator> Gate<A> for PairGate {
@@ -65,23 +78,28 @@ impl<A: Allocator> Gate<A> for PairGate {
     }
 }
 
+// Runs two nodes to their end, by way of a phase or at one go. Whether they came there.
+fn run_pair(
+    rt: &(impl Threads + Wait + Sync),
+    machine: &mut Machine<Global>,
+    gate: &PairGate,
+    by_phase: bool,
+) -> bool {
+    if by_phase {
+        run_phase(rt, machine, 2, 65_536, gate) == Ok(()) && machine.turn() == Ok(true)
+    } else {
+        run(rt, machine, 2, 65_536, gate) == Ok(())
+    }
+}
+
 #[test]
 fn two_workers_run_two_nodes_at_once(rt: HostRuntime) -> Result<(), Fail> {
     for by_phase in [false, true] {
         let mut machine = machine(&rt, rt.alloc(), &PRINTS_ITS_RANK, 2)?;
         let gate = PairGate::new();
-        if by_phase {
-            assert_eq!(rt; run_phase(&rt, &mut machine, 2, 65_536, &gate), Ok(()));
-            assert_eq!(rt; machine.turn(), Ok(true));
-        } else {
-            assert_eq!(rt; run(&rt, &mut machine, 2, 65_536, &gate), Ok(()));
-        }
-        assert_eq!(rt; machine.output(), b"01".as_slice());
-        assert!(rt; !gate.failed.load(Ordering::SeqCst));
-        let calls = [&gate.entered.0, &gate.entered.1, &gate.left.0, &gate.left.1].map(
-            |calls| calls.load(Ordering::SeqCst),
-        );
-        assert_eq!(rt; calls, [1; 4]);
+        let is_run = run_pair(&rt, &mut machine, &gate, by_phase);
+        assert!(rt; is_run && gate.has_let_both_through());
+        assert!(rt; machine.output() == b"01".as_slice());
     }
     Ok(())
 }
@@ -92,6 +110,13 @@ struct OrderGate {
     place: [u64; 3],
     left: AtomicU64,
     failed: AtomicBool,
+}
+
+impl OrderGate {
+    // Whether three nodes left in the given order, each at its end.
+    fn has_let_all_leave(&self) -> bool {
+        !self.failed.load(Ordering::SeqCst) && self.left.load(Ordering::SeqCst) == 3
+    }
 }
 
 impl<A: Allocator> Gate<A> for OrderGate {
@@ -126,10 +151,9 @@ fn nodes_may_leave_in_any_order(rt: HostRuntime) -> Result<(), Fail> {
             left: AtomicU64::new(0),
             failed: AtomicBool::new(false),
         };
-        assert_eq!(rt; run(&rt, &mut machine, 3, 1, &gate), Ok(()));
-        assert_eq!(rt; machine.output(), b"012".as_slice());
-        assert!(rt; !gate.failed.load(Ordering::SeqCst), "{place:?}");
-        assert_eq!(rt; gate.left.load(Ordering::SeqCst), 3);
+        let answer = run(&rt, &mut machine, 3, 1, &gate);
+        assert!(rt; answer == Ok(()) && machine.output() == b"012".as_slice());
+        assert!(rt; gate.has_let_all_leave(), "{place:?}");
     }
     Ok(())
 }

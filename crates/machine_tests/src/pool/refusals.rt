@@ -1,13 +1,48 @@
 //! Memory refused to the pool, in turn and from some request on.
 
-use super::{PRINTS_AND_SYNCS, expect_equal, machine};
+use super::{PRINTS_AND_SYNCS, machine, show_the_same};
+use machine_core::{Machine, MachineError};
 use node_core::State;
 use phase_pool::{OpenGate, PoolError, run, run_phase};
 use refusing_allocator::RefusingAllocator;
-use std::alloc::{AllocError, Global};
+use std::alloc::{AllocError, Allocator, Global};
+use std::process::Abort;
+use std::sync::Wait;
 use std::test::Fail;
+use std::thread::Threads;
 
 type Heap = RefusingAllocator<Global>;
+
+// Runs a machine, and once more where it is refused memory. Whether it was.
+fn run_again(
+    rt: &(impl Abort + Threads + Wait + Sync),
+    heap: &Heap,
+    machine: &mut Machine<&Heap>,
+) -> bool {
+    let answer = run(rt, machine, 3, 1, &OpenGate);
+    if heap.refusals() == 0 {
+        assert!(rt; answer == Ok(()));
+        return false;
+    }
+    assert!(rt; answer == Err(PoolError::NoMemory) && machine.outcome().is_none());
+    assert!(rt; run(rt, machine, 3, 1, &OpenGate) == Ok(()));
+    true
+}
+
+// Runs three nodes with one request refused, which leaves what `plain` has in the end. Whether it was refused.
+fn is_run_again(
+    rt: &(impl Abort + Threads + Wait + Sync),
+    heap: &Heap,
+    nth: u64,
+    plain: &Machine<Global>,
+) -> Result<bool, MachineError> {
+    heap.refuse_nth(0);
+    let mut pooled = machine(rt, heap, &PRINTS_AND_SYNCS, 3)?;
+    heap.refuse_nth(nth);
+    let is_refused = run_again(rt, heap, &mut pooled);
+    assert!(rt; show_the_same(&pooled, plain));
+    Ok(is_refused)
+}
 
 #[test]
 fn a_refused_run_can_be_made_again(rt: HostRuntime) -> Result<(), Fail> {
@@ -16,22 +51,22 @@ fn a_refused_run_can_be_made_again(rt: HostRuntime) -> Result<(), Fail> {
     let heap = Heap::new(rt.alloc());
     let mut refusals = 0u32;
     for nth in 1..=40 {
-        heap.refuse_nth(0);
-        let mut pooled = machine(&rt, &heap, &PRINTS_AND_SYNCS, 3)?;
-        heap.refuse_nth(nth);
-        let answer = run(&rt, &mut pooled, 3, 1, &OpenGate);
-        if heap.refusals() == 1 {
+        if is_run_again(&rt, &heap, nth, &plain)? {
             refusals = refusals.saturating_add(1);
-            assert_eq!(rt; answer, Err(PoolError::NoMemory), "at {nth}");
-            assert_eq!(rt; pooled.outcome(), None, "at {nth}");
-            assert_eq!(rt; run(&rt, &mut pooled, 3, 1, &OpenGate), Ok(()), "at {nth}");
-        } else {
-            assert_eq!(rt; answer, Ok(()), "at {nth}");
         }
-        expect_equal(&rt, &pooled, &plain, "made again");
     }
-    assert!(rt; 6 < refusals && refusals < 40, "{refusals} refusals");
+    assert!(rt; 6 < refusals && refusals < 40);
     Ok(())
+}
+
+// Whether all nodes are in this state after so many ticks.
+fn are_at<A: Allocator>(machine: &Machine<A>, state: State, ticks: u64) -> bool {
+    for node in machine.nodes() {
+        if node.state() != state || node.ticks() != ticks {
+            return false;
+        }
+    }
+    true
 }
 
 #[test]
@@ -39,20 +74,12 @@ fn nodes_that_need_no_memory_are_run_without_it(rt: HostRuntime) -> Result<(), F
     let heap = Heap::new(rt.alloc());
     let mut machine = machine(&rt, &heap, &PRINTS_AND_SYNCS, 3)?;
     heap.refuse_from_nth(1);
-    let answer = run_phase(&rt, &mut machine, 3, 1, &OpenGate);
-    assert_eq!(rt;
-        (answer, machine.superstep()),
-        (Err(PoolError::NoMemory), 0)
-    );
-    for node in machine.nodes() {
-        assert_eq!(rt; (node.state(), node.ticks()), (State::Running, 7));
-    }
+    let first = run_phase(&rt, &mut machine, 3, 1, &OpenGate);
+    let is_unmoved = machine.superstep() == 0 && are_at(&machine, State::Running, 7);
     heap.refuse_nth(1);
-    let answer = run_phase(&rt, &mut machine, 3, 1, &OpenGate);
-    assert_eq!(rt; answer, Err(PoolError::NoMemory));
-    for node in machine.nodes() {
-        assert_eq!(rt; (node.state(), node.ticks()), (State::Synced, 10));
-    }
+    let second = run_phase(&rt, &mut machine, 3, 1, &OpenGate);
+    assert!(rt; [first, second] == [Err(PoolError::NoMemory); 2]);
+    assert!(rt; is_unmoved && are_at(&machine, State::Synced, 10));
     Ok(())
 }
 
@@ -79,11 +106,8 @@ fn a_half_without_a_thread_is_run_here(rt: HostRuntime) -> Result<(), Fail> {
     drop(spare);
     let answer = run_phase(&rt, &mut machine, 2, 1, &OpenGate);
     drop(blocks);
-    assert_eq!(rt; answer, Err(PoolError::NoWorker));
-    for node in machine.nodes() {
-        assert_eq!(rt; (node.state(), node.ticks()), (State::Synced, 10));
-    }
-    assert_eq!(rt; run(&rt, &mut machine, 2, 1, &OpenGate), Ok(()));
-    assert_eq!(rt; machine.output(), b"01".as_slice());
+    assert!(rt; answer == Err(PoolError::NoWorker) && are_at(&machine, State::Synced, 10));
+    assert!(rt; run(&rt, &mut machine, 2, 1, &OpenGate) == Ok(()));
+    assert!(rt; machine.output() == b"01".as_slice());
     Ok(())
 }

@@ -1,15 +1,16 @@
--- The segments of a table that has no fault, one by one, and what an answer says of a file's fault.
-use Rattle.std.proofs.Common.{◌≡◌, ◌≢◌, ◌↔◌, ℕ, zero, suc, ◌+◌, ◌<◌, ◌≤◌, Bool, true, false, cond, ◌&&◌, List, [], ◌∷◌, ◌++◌, length, map, filter, take, Option, Some, None, Result, Ok, Err, refl, sym, ap, ◌∙◌, arith, sum_by, length-take}
+-- The segments of a table that has no fault, one by one, those of a raw file, and what an answer says of a file's fault.
+use Rattle.std.proofs.Common.{◌≡◌, ◌≢◌, ◌↔◌, ℕ, zero, suc, ◌+◌, ◌^◌, ◌<◌, ◌≤◌, Fits, w32, Bool, true, false, cond, ◌&&◌, ◌==◌, List, [], ◌∷◌, ◌++◌, length, map, filter, take, Option, Some, None, Result, Ok, Err, refl, sym, ap, ◌∙◌, arith, sum_by, length-take}
 use Rattle.std.specs.Prelude.{IfErr}
 use Rattle.std.specs.List.{flat_map, range_with_len, list_all}
 use Rattle.std.specs.Option.{option_or}
+use Rattle.std.proofs.lemmas.Bool.Decides.{nat_tests}
 use Rattle.std.proofs.lemmas.List.{places, take_all, map-append, append-nil, length-map}
 use Rattle.std.proofs.lemmas.List.Sums.{length-filter, count_by-le-length, sum_by-cons}
-use Rattle.node_memory.specs.Image.{Segment, IsWithinLimits}
+use Rattle.node_memory.specs.Image.{Segment, IsSegment, IsWithinLimits}
 use Rattle.elf_image.specs.declared.error.ElfError.{ElfError}
 use Rattle.elf_image.specs.declared.error.ElfError.TheVariants.{NoMemory}
 use Rattle.elf_image.specs.Headers.{ProgramHeader, file_header, program_header_at, program_headers, is_load}
-use Rattle.elf_image.specs.Presents.{segment_of}
+use Rattle.elf_image.specs.Presents.{segment_of, raw_image}
 use Rattle.elf_image.specs.Faults.{Check, first_fault, file_header_checks, entry_checks, table_checks, file_checks, file_fault}
 use Rattle.elf_image.proofs.Checks.{first_fault-append}
 use Rattle.elf_image.proofs.Table.{loads_more, length-program_headers, filesz_small}
@@ -42,6 +43,10 @@ pub segments_of_all : (bytes : List ℕ) (n : ℕ) (segments loaded : List Segme
 segments_of_all bytes n segments loaded all was same =
     same ∙ was ∙ ap (λ (ps : List ProgramHeader). map (segment_of bytes) (filter is_load ps)) (take_all n (program_headers bytes) (omega (arith, length-program_headers bytes)))
 
+-- where a loop over the table ends
+pub end_of_table : (i n m : ℕ) → m ≤ i → i ≤ m → m ≡ n → i ≡ n
+end_of_table i n m all most same = omega arith
+
 -- ---- limits
 
 length-segment : (bytes : List ℕ) (p : ProgramHeader) → length (segment_of bytes p).bytes ≤ p.p_filesz
@@ -64,6 +69,40 @@ within_limits bytes entry n segments loaded none all few was same = record {
   small =
       rw (same, was) (omega (arith, few_bytes bytes (filter is_load (take n (program_headers bytes))), filesz_small bytes n none (omega arith)));
 }
+
+-- ---- raw files
+
+not_zero : (n : ℕ) → (suc n == 0) ≡ false
+not_zero n = grind (arith, nat_tests)
+
+-- the segments of a raw file: one where it has some bytes, and none where it is empty
+pub raw_some : (bytes copied : List ℕ) (empty : Bool) (before after segments : List Segment) → empty ≡ (length bytes == 0) → empty ≡ false → copied ≡ bytes → before ≡ [] → after ≡ before ++ record { addr = 0; bytes = copied; size = length bytes } ∷ [] → segments ≡ after → segments ≡ (raw_image bytes).segments
+raw_some [] copied empty before after segments test some same none pushed is = absurd cc
+raw_some (b ∷ bs) copied empty before after segments test some same none pushed is =
+    is ∙ pushed
+    ∙ ap (λ (ss : List Segment). ss ++ record { addr = 0; bytes = copied; size = length (b ∷ bs) } ∷ []) none
+    ∙ ap (λ (c : List ℕ). record { addr = 0; bytes = c; size = length (b ∷ bs) } ∷ []) same
+
+pub raw_none : (bytes : List ℕ) (empty : Bool) (segments : List Segment) → empty ≡ (length bytes == 0) → empty ≡ true → segments ≡ [] → segments ≡ (raw_image bytes).segments
+raw_none [] empty segments test none is = is
+raw_none (b ∷ bs) empty segments test none is = let some = not_zero (length bs) in absurd (let never : false ≡ true = cc in cc)
+
+raw_image_limits : (bytes : List ℕ) → length bytes ≤ 2 ^ 24 → IsWithinLimits (raw_image bytes)
+raw_image_limits [] h = record { few = omega arith; small = omega arith }
+raw_image_limits (b ∷ bs) h = record { few = omega arith; small = omega arith }
+
+pub raw_is : (bytes : List ℕ) (segments : List Segment) → segments ≡ (raw_image bytes).segments → record { entry = 0; segments = segments } ≡ raw_image bytes
+raw_is [] segments same = ap (λ (ss : List Segment). record { entry = 0; segments = ss }) same
+raw_is (b ∷ bs) segments same = ap (λ (ss : List Segment). record { entry = 0; segments = ss }) same
+
+pub raw_limits : (bytes : List ℕ) (segments : List Segment) → length bytes ≤ 2 ^ 24 → segments ≡ (raw_image bytes).segments → IsWithinLimits (record { entry = 0; segments = segments })
+raw_limits bytes segments h same = rw (raw_is bytes segments same) (raw_image_limits bytes h)
+
+pub raw_segment : (bytes copied : List ℕ) → length bytes ≤ 2 ^ 24 → copied ≡ bytes → IsSegment (record { addr = 0; bytes = copied; size = length bytes })
+raw_segment bytes copied h same = record { holds_bytes = omega (arith, ap length same); in_addresses = omega arith }
+
+pub raw_size : (n : ℕ) → n ≤ 2 ^ 24 → Fits w32 n
+raw_size n h = omega arith
 
 -- ---- faults of files
 

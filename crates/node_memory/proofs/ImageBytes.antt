@@ -1,7 +1,9 @@
 -- Images byte by byte, and what a laid segment changes.
-use Rattle.std.proofs.Common.{◌≡◌, ℕ, ◌+◌, ◌<◌, Bool, true, false, cond, List, [], ◌∷◌, ◌++◌, length, get_or, take, reverse, replicate, refl, sym, ap, ◌∙◌, arith, Option, Some}
+use Rattle.std.proofs.Common.{◌≡◌, ℕ, ◌+◌, ◌<◌, ◌≤◌, Bool, true, false, cond, List, [], ◌∷◌, ◌++◌, length, get_or, take, reverse, replicate, refl, sym, ap, ◌∙◌, arith, rules, Option, Some}
+use Rattle.std.specs.Prelude.{IsTrue}
+use Rattle.node_memory.specs.Bytes.{is_memory_size}
 use Rattle.std.specs.Option.{option_map_or}
-use Rattle.std.proofs.lemmas.List.{places, reverse-append, take_more, length-replicate, get_or-replicate}
+use Rattle.std.proofs.lemmas.List.{places, reverse-append, take_more, take_all, length-replicate, get_or-replicate}
 use Rattle.std.proofs.lemmas.List.FromFn.{length-map-range_with_len, get_or-map-range_with_len, fill_by_all}
 use Rattle.std.proofs.lemmas.Bool.Decides.{nat_tests}
 use Rattle.std.proofs.lemmas.List.Folds.{list_any_at}
@@ -58,13 +60,27 @@ image_bytes_none e size = image_bytes_by_byte (image_of e []) _ size (length-rep
 ends_past-at : (size i : ℕ) (segments : List Segment) (s : Segment) → list_any (ends_past size) segments ≡ false → i < length segments → s ≡ get_or segments i s → ends_past size s ≡ false
 ends_past-at size i segments s none h is = grind (arith, list_any_at (ends_past size) segments i s h)
 
+-- so a segment fits, which a loop reads among `items`, over the memory `m` before it
+pub lay_fits : (e size i : ℕ) (items segments : List Segment) (s : Segment) (m : List ℕ) → items ≡ segments → i < length items → s ≡ get_or items i s → false ≡ is_segment_outside (image_of e segments) size → m ≡ image_bytes (image_of e (take i segments)) size → ends_past (length m) s ≡ false
+lay_fits e size i items segments s m same h is none was =
+    let n : length m ≡ size = ap length was ∙ length-image_bytes (image_of e (take i segments)) size in
+    rw n (ends_past-at size i items s (ap (list_any (ends_past size)) same ∙ sym none) h is)
+
 -- a step of the laying: `items` are the image's segments as a loop reads them, `m` is the memory before it, `laid` after it
 pub image_bytes_more : (e size i : ℕ) (items segments : List Segment) (s : Segment) (m laid : List ℕ) → laid ≡ with_segment m s → items ≡ segments → i < length items → s ≡ get_or items i s → IsSegment s → false ≡ is_segment_outside (image_of e segments) size → m ≡ image_bytes (image_of e (take i segments)) size → laid ≡ image_bytes (image_of e (take (i + 1) segments)) size
 image_bytes_more e size i items segments s m laid after same h is segment none was =
     let n : length m ≡ size = ap length was ∙ length-image_bytes (image_of e (take i segments)) size in
     let within : i < length segments = rw (← same) h in
     let place : s ≡ get_or segments i s = is ∙ ap (λ (xs : List Segment). get_or xs i s) same in
-    let fits : ends_past (length m) s ≡ false = rw n (ends_past-at size i segments s (sym none) within place) in
+    let fits = lay_fits e size i items segments s m same h is none was in
     let old : (k : ℕ) → k < size → get_or m k 0 ≡ image_byte (image_of e (take i segments)) k = λ k below. ap (λ (xs : List ℕ). get_or xs k 0) was ∙ get_or-image_bytes (image_of e (take i segments)) size k below in
     let new : (k : ℕ) → k < size → get_or (with_segment m s) k 0 ≡ image_byte (image_of e (take (i + 1) segments)) k = λ k below. get_or-with_segment m s k segment fits (omega arith) ∙ ap (cond (covers k s) (segment_byte k s)) (old k below) ∙ sym (image_byte_more e i segments s k within place) in
     after ∙ image_bytes_by_byte (image_of e (take (i + 1) segments)) _ size (length-with_segment m s segment fits ∙ n) new
+
+-- the memory when all were laid
+pub all_laid : (e size n : ℕ) (items segments : List Segment) (m : List ℕ) → items ≡ segments → length items ≤ n → m ≡ image_bytes (image_of e (take n segments)) size → m ≡ image_bytes (image_of e segments) size
+all_laid e size n items segments m same all was =
+    was ∙ ap (λ (xs : List Segment). image_bytes (image_of e xs) size) (take_all n segments (rw (← same) all))
+
+pub size_laid : (i : Image) (size : ℕ) (m : List ℕ) (valid : Bool) → valid ≡ is_memory_size size → valid ≡ true → m ≡ image_bytes i size → IsTrue (is_memory_size (length m))
+size_laid i size m valid test holds was = rw (ap length was, length-image_bytes i size, ← test, holds) search rules

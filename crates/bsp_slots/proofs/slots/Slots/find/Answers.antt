@@ -1,0 +1,5 @@
+use Rattle.std.proofs.Common.{rules}
+use Rattle.bsp_slots.proofs.slots.Slots.find.Goals as goal
+
+pub returns : goal.returns
+returns g c = search rules

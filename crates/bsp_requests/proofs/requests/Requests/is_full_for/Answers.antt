@@ -1,0 +1,5 @@
+use Rattle.std.proofs.Common.{rules}
+use Rattle.bsp_requests.proofs.requests.Requests.is_full_for.Goals as goal
+
+pub returns-else-len-ge-MAX_REQUESTS : goal.returns-else-len-ge-MAX_REQUESTS
+returns-else-len-ge-MAX_REQUESTS g c = search rules

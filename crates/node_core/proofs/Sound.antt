@@ -1,9 +1,12 @@
 -- What a step keeps true of a node, and that its steps come to an end.
 use Rattle.std.proofs.Common.{◌≡◌, ℕ, zero, suc, ◌+◌, ◌-◌, ◌≤◌, ◌<◌, Bool, true, false, List, refl, ◌∙◌, arith}
+use Rattle.bsp_requests.specs.Message.{Message}
 use Rattle.node_core.specs.declared.state.State.{State}
+use Rattle.node_core.specs.declared.state.State.TheVariants.{Running, Synced}
 use Rattle.node_core.specs.Hart.{After, IsHart}
 use Rattle.node_core.specs.Effects.{executed}
 use Rattle.node_core.specs.Node.{NodeState, IsNode, IsSoundNode, IsLater, is_running, state_at, ticked, local_step, local_steps, phase}
+use Rattle.node_core.specs.Turn.{next_superstep}
 use Rattle.node_core.proofs.Effects.{Keeps-executed}
 use Rattle.node_core.proofs.Harts.{Keeps, Keeps-same, Extends-then}
 use Rattle.node_core.proofs.Steps.{local_step-stopped, local_steps-stopped, local_steps-suc, local_steps-zero}
@@ -18,6 +21,15 @@ IsNode-ticked after s sound runs = record {
   within = omega (arith, sound.has_ticks_left runs);
   has_ticks_left = λ still. state_at-running after.state (s.ticks + 1) s.limit still (omega (arith, sound.has_ticks_left runs));
   has_stepped = λ _. omega arith;
+}
+
+-- a node that waits is sound at the start of the next superstep
+pub IsNode-next : (queue : List Message) (s : NodeState) → IsNode s → s.state ≡ Synced → IsNode (next_superstep queue s)
+IsNode-next queue s sound waits = record {
+  limited = sound.limited;
+  within = sound.within;
+  has_ticks_left = λ runs. state_at-running Running s.ticks s.limit runs sound.within;
+  has_stepped = λ _. sound.has_stepped (rw waits refl);
 }
 
 pub local_step-running : (input : List ℕ) (s : NodeState) → is_running s.state ≡ true → local_step input s ≡ ticked (executed input s.hart) s

@@ -74,7 +74,7 @@ pub enum State {
 
 impl State {
     ghost use Rattle.std.specs.Prelude.{◌≡◌};
-    ghost use Rattle.node_core.specs.Node.{is_running};
+    ghost use Rattle.node_core.specs.Node.{is_running, state_at};
 
     /// Whether a node in this state steps.
     #[inline]
@@ -82,6 +82,18 @@ impl State {
         ensures { result ≡ is_running self }
     {
         matches!(self, State::Running)
+    }
+
+    /// This state, or `Exhausted` where the node would still run and its ticks have reached their limit.
+    #[inline]
+    pub(crate) fn at(self, ticks: u64, limit: u64) -> State
+        ensures { result ≡ state_at self ticks limit }
+    {
+        if self.is_running() && ticks == limit {
+            State::Exhausted
+        } else {
+            self
+        }
     }
 }
 

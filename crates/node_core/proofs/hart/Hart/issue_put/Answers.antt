@@ -3,7 +3,7 @@ use Rattle.std.proofs.lemmas.Grind.{common_steps}
 use Rattle.bsp_slots.proofs.Positions.{IsLastEntry-from}
 use Rattle.bsp_requests.specs.Requests.{is_full_for}
 use Rattle.bsp_requests.specs.Request.{asks_put}
-use Rattle.node_memory.specs.Bytes.{fits}
+use Rattle.node_memory.specs.Bytes.{fits, bytes_at}
 use Rattle.node_core.specs.Communication.{IsWellAddressed}
 use Rattle.node_core.specs.Inside.{hart_view}
 use Rattle.node_core.proofs.Bytes.{length-bytes_at}
@@ -20,3 +20,8 @@ invariant_of-self g c =
     let request = asks_put (record { target = c.reg-target.result; slot = c.in-Some.slot; offset = c.reg-offset.result; bytes = c.in-Ok.bytes }) in
     let met : IsWellAddressed h.nprocs (length h.communication.registrations.in_effect) (length h.memory) request = (c.if-target-self.false, slot) in
     rw c.in-Ok-add_put.ensures.ok ((Keeps-requested h request c.reg-len.result counts room met).sound c.self.invariant)
+
+pub returns-in-Ok-add_put-clause-ok : goal.returns-in-Ok-add_put-clause-ok
+returns-in-Ok-add_put-clause-ok g c =
+    let copied : c.in-Ok.bytes ≡ bytes_at (hart_view c.self.inside).hart.memory c.reg-src.result c.reg-len.result = c.in-Ok.ensures.ok in
+    grind (arith, common_steps, copied)

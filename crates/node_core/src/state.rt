@@ -31,14 +31,15 @@ pub enum Fault {
     BadSize,
 }
 
-impl fmt::Display for Fault {
-    ghost use Rattle.std.specs.Prelude.{Some};
+impl Fault {
+    ghost use Rattle.std.specs.Prelude.{◌≡◌};
     ghost use Rattle.node_core.specs.Names.{fault_name};
 
-    ghost output = { λ fault. Some (fault_name fault) };
-
-    fn fmt<W: fmt::Write>(&self, f: &mut fmt::Formatter<W>) -> fmt::Result {
-        f.write_str(match self {
+    /// Its name in texts for users.
+    fn name(self) -> &'static str
+        ensures { result.now ≡ fault_name self }
+    {
+        match self {
             Fault::IllegalInstruction => "IllegalInstruction",
             Fault::FetchOutside => "FetchOutside",
             Fault::Misaligned => "Misaligned",
@@ -51,7 +52,18 @@ impl fmt::Display for Fault {
             Fault::NotRegistered => "NotRegistered",
             Fault::TooMuch => "TooMuch",
             Fault::BadSize => "BadSize",
-        })
+        }
+    }
+}
+
+impl fmt::Display for Fault {
+    ghost use Rattle.std.specs.Prelude.{Some};
+    ghost use Rattle.node_core.specs.Names.{fault_name};
+
+    ghost output = { λ fault. Some (fault_name fault) };
+
+    fn fmt<W: fmt::Write>(&self, f: &mut fmt::Formatter<W>) -> fmt::Result {
+        f.write_str(self.name())
     }
 }
 
@@ -105,11 +117,11 @@ impl fmt::Display for State {
 
     fn fmt<W: fmt::Write>(&self, f: &mut fmt::Formatter<W>) -> fmt::Result {
         match self {
-            State::Running => write!(f, "running"),
-            State::Synced => write!(f, "synced"),
-            State::Ended => write!(f, "ended"),
-            State::Aborted => write!(f, "aborted"),
-            State::Exhausted => write!(f, "exhausted"),
+            State::Running => f.write_str("running"),
+            State::Synced => f.write_str("synced"),
+            State::Ended => f.write_str("ended"),
+            State::Aborted => f.write_str("aborted"),
+            State::Exhausted => f.write_str("exhausted"),
             State::Faulted(fault) => write!(f, "fault {fault}"),
         }
     }

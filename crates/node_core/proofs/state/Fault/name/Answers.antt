@@ -1,0 +1,4 @@
+use Rattle.node_core.proofs.state.Fault.name.Goals as goal
+
+pub returns-in-LoadOutside : goal.returns-in-LoadOutside
+returns-in-LoadOutside c = rw c.in-LoadOutside.is

@@ -8,6 +8,7 @@ pub mod Latest
 pub mod Loads
 pub mod Lookups
 pub mod Patches
+pub mod Refusals
 pub mod Tallies
 pub mod Transfers
 pub mod Turns

@@ -1,7 +1,8 @@
 -- A transfer that keeps to its area keeps to its node's memory.
-use Rattle.std.proofs.Common.{◌≡◌, ℕ, ◌+◌, ◌<◌, ◌≤◌, ◌^◌, false, not, leb, List, length, get_or, refl, sym, ap, ◌∙◌, [], arith, Option, Some}
+use Rattle.std.proofs.Common.{◌≡◌, ℕ, ◌+◌, ◌<◌, ◌≤◌, ◌^◌, false, not, leb, List, length, get_or, refl, sym, ap, ◌∙◌, [], arith, Option, Some, None}
 use Rattle.std.specs.Prelude.{IsTrue, slice_get, option_map}
 use Rattle.std.specs.Option.{option_map_or}
+use Rattle.std.proofs.lemmas.Bool.{true≢false}
 use Rattle.std.proofs.lemmas.Bool.Decides.{nat_tests}
 use Rattle.std.proofs.lemmas.Option.{slice_get-map, slice_get_read, slice_get_within, get_or_from_slice_get}
 use Rattle.node_memory.specs.Bytes.{fits, bytes_at, is_memory_size}
@@ -63,3 +64,11 @@ pub fetched_is : (nodes : List NodeState) (g : Get) (memory : List ℕ) (start :
 fetched_is nodes g memory start m s =
     ap (λ (b : List ℕ). record { addr = g.dst; bytes = bytes_at b start g.len }) (sym m)
     ∙ ap (λ (a : ℕ). record { addr = g.dst; bytes = bytes_at (memory_of nodes g.target) a g.len }) s
+
+-- where a transfer begins
+pub start_at : (ps : List PreparedNode) (rank slot offset : ℕ) (area : Area) → area_at (states ps) rank slot ≡ Some area → area.addr + offset ≡ area_start (states ps) rank slot + offset
+start_at ps rank slot offset area found = rw found refl
+
+-- a transfer that keeps to its area has one
+pub never_without : (ps : List PreparedNode) (rank slot offset len : ℕ) → area_at (states ps) rank slot ≡ None → is_outside (states ps) rank slot offset len ≡ false → ⊥
+never_without ps rank slot offset len none inside = true≢false (rw none at inside)

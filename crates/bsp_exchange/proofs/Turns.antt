@@ -1,5 +1,5 @@
 -- Nodes that are turned one after another.
-use Rattle.std.proofs.Common.{◌≡◌, ℕ, ◌+◌, ◌<◌, ◌≤◌, ◌-◌, zero, suc, inl, inr, false, List, [], ◌∷◌, ◌++◌, length, map, take, drop, get_or, set, refl, sym, ap, ◌∙◌, arith, Some, None}
+use Rattle.std.proofs.Common.{◌≡◌, ℕ, ◌+◌, ◌<◌, ◌≤◌, ◌-◌, zero, suc, inl, inr, false, List, [], ◌∷◌, ◌++◌, length, map, take, drop, get_or, set, refl, sym, ap, ap₂, ◌∙◌, arith, Some, None}
 use Rattle.std.specs.Prelude.{All, IsTrue, slice_get}
 use Rattle.std.specs.List.{range_with_len}
 use Rattle.std.proofs.lemmas.Bool.{cases_eq}
@@ -13,7 +13,7 @@ use Rattle.node_core.specs.Node.{NodeState, PreparedNode}
 use Rattle.bsp_exchange.specs.Exchange.{AreAtSync, exchanged_node, exchanged, states, unprepared}
 use Rattle.bsp_exchange.specs.Faults.{exchange_fault}
 use Rattle.bsp_exchange.specs.Parts.{Received, CanLand, landed_as, received_at}
-use Rattle.bsp_exchange.proofs.Gathered.{all_at, state_here}
+use Rattle.bsp_exchange.proofs.Gathered.{all_at, state_here, length-states}
 use Rattle.bsp_exchange.proofs.Landed.{whole}
 
 -- a node after its turn in the exchange among `nodes`
@@ -82,6 +82,9 @@ states_kept (x ∷ ps) (suc i) p q is same = ap (λ ns. x.node ∷ ns) (states_k
 abbrev pub AreReadyBelow : List PreparedNode → ℕ → Type 0
 AreReadyBelow ps i = (k : ℕ) (d : PreparedNode) → k < i → k < length ps → IsTrue (get_or ps k d).ready
 
+pub ready_none : (ps : List PreparedNode) → AreReadyBelow ps 0
+ready_none ps k d less within = absurd (omega arith)
+
 pub ready_more : (ps : List PreparedNode) (i : ℕ) (q : PreparedNode) → i < length ps → IsTrue q.ready → AreReadyBelow ps i → AreReadyBelow (set ps i q) (i + 1)
 ready_more ps i q there ready below k d less within =
     elim (cases_eq k i) [
@@ -145,3 +148,9 @@ next_turned xs ys zs parts planned i row faultless sound plan there enough is sa
     ∙ ap (λ (r : Received). set ys i (landed_as r p)) planned_is
     ∙ ap (λ (n : NodeState). set ys i (record { node = n; ready = false })) lands.as_defined
     ∙ map_over_more (turned_in (states xs)) xs ys i p there is (sym (get_or_from_slice_get ys i p p here))
+
+-- what the nodes receive does not rest on the room that is made for their turns
+pub received_same : (ps qs : List PreparedNode) → states qs ≡ states ps → map (received_at (states ps)) (range_with_len 0 (length ps)) ≡ map (received_at (states qs)) (range_with_len 0 (length qs))
+received_same ps qs same =
+    let long : length ps ≡ length qs = sym (length-states ps) ∙ ap length (sym same) ∙ length-states qs in
+    ap₂ (λ (ns : List NodeState) (n : ℕ). map (received_at ns) (range_with_len 0 n)) (sym same) long

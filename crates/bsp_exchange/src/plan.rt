@@ -111,7 +111,6 @@ fn add_request<A: Allocator + Copy>(
 }
 
 /// Adds a put to its target's part.
-#[tactic(auto, using(crate::proofs::Gathered::put_back))]
 fn add_put<A: Allocator + Copy>(
     nodes: &[Node<A>],
     target: u16,
@@ -131,7 +130,6 @@ fn add_put<A: Allocator + Copy>(
 }
 
 /// Adds what a get fetches to its caller's part.
-#[tactic(auto, using(crate::proofs::Gathered::put_back))]
 fn add_get<A: Allocator + Copy>(
     nodes: &[Node<A>],
     caller: u32,
@@ -150,7 +148,6 @@ fn add_get<A: Allocator + Copy>(
 }
 
 /// Adds a message to its target's part.
-#[tactic(auto, using(crate::proofs::Gathered::put_back))]
 fn add_message<A: Allocator + Copy>(
     sender: u16,
     target: u16,

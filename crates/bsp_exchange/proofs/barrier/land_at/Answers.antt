@@ -1,4 +1,5 @@
 use Rattle.std.proofs.Common.{◌≡◌, ◌+◌, suc, drop, set, get_or, arith, refl, ap, sym, ◌∙◌}
+use Rattle.std.proofs.lemmas.List.{length-set}
 use Rattle.std.proofs.lemmas.Option.{slice_get_read, get_or_from_slice_get}
 use Rattle.node_core.specs.Node.{PreparedNode}
 use Rattle.bsp_exchange.specs.Parts.{Received, landed_as}
@@ -33,3 +34,12 @@ returns-clause-parts g c =
     ap (λ k. drop k (set c.args.parts.now c.args.rank c.land.new.self)) next
     ∙ rest_kept c.args.parts.now c.args.parts.now c.args.rank c.land.new.self refl
     ∙ ap (λ k. drop k c.args.parts.now) (sym next)
+
+pub bounds-nodes-rank : goal.bounds-nodes-rank
+bounds-nodes-rank g c = c.requires.node
+
+pub bounds-parts-rank : goal.bounds-parts-rank
+bounds-parts-rank g c = c.requires.part
+
+pub returns-clause-counts : goal.returns-clause-counts
+returns-clause-counts g c = (length-set c.args.nodes.now c.args.rank c.land.new.node, length-set c.args.parts.now c.args.rank c.land.new.self)

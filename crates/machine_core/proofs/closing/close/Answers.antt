@@ -24,3 +24,12 @@ returns-in-Err-Fault-clause-ok g c =
       outcome-exchange c.args.nodes.now (c.in_default.ensures.stopped refl) (c.in_default.ensures.ended refl) ∙ ap (option_map Refused) fault,
       c.in-Err-Fault.ensures.err,
     )
+
+pub exchange-requires : goal.exchange-requires
+exchange-requires g c = c.requires (c.in_default.ensures.stopped refl) (c.in_default.ensures.ended refl)
+
+pub returns-in-Some : goal.returns-in-Some
+returns-in-Some g c = record { ok = (c.in-Some.ensures.some, refl); err = tt }
+
+pub returns-in-Err-NoMemory : goal.returns-in-Err-NoMemory
+returns-in-Err-NoMemory g c = record { ok = tt; err = c.in-Err-NoMemory.ensures.err }

@@ -19,3 +19,6 @@ returns-clause-refuses g c =
     on_err_weaker c.run.result
     (λ may. rw (found-new c.args.input.now c.args.nodes.now c.args.rank c.index-nodes-rank.result c.run.new.self c.requires c.index-nodes-rank.is) may)
     c.run.ensures.refuses
+
+pub bounds-nodes-rank : goal.bounds-nodes-rank
+bounds-nodes-rank g c = c.requires

@@ -38,3 +38,9 @@ returns-clause-ok g c =
 pub returns-clause-made : goal.returns-clause-made
 returns-clause-made g c =
     sym (runs-found c.args.nodes.now c.args.rank c.index-nodes-rank.result true (omega arith) c.index-nodes-rank.is (ap is_running (sym c.state.ensures) ∙ sym c.is_running.ensures ∙ c.if-not-is_running.false))
+
+pub bounds-nodes-rank : goal.bounds-nodes-rank
+bounds-nodes-rank g c = c.if-rank-nodes.false
+
+pub bounds-nodes-rank-2 : goal.bounds-nodes-rank-2
+bounds-nodes-rank-2 g c = c.if-rank-nodes.false

@@ -2,7 +2,7 @@ use Rattle.std.proofs.Common.{lit<, ◌≡◌, ℕ, ◌++◌, [], ◌∷◌, Lis
 use Rattle.std.specs.Vec.{with_items}
 use Rattle.std.proofs.Math.Seq.{take-append_seam}
 use Rattle.std.proofs.lemmas.List.{length-map, with_items_is}
-use Rattle.std.proofs.lemmas.Result.{err_from_is_err_and}
+use Rattle.std.proofs.lemmas.Result.{IfOk-from_err, err_from_is_err_and}
 use Rattle.node_core.specs.Node.{PreparedNode, NodeState}
 use Rattle.bsp_exchange.specs.Exchange.{AreAtSync, states}
 use Rattle.cost_ledger.specs.CostRow.{PreparedRows}
@@ -150,3 +150,26 @@ returns-in-Exchanged-clause-ok g c =
     let started = with_items_is c.self.inside.started c.note_ticks.new.started (omega arith) in
     let started_is = started ∙ c.note_ticks.ensures ∙ ap (λ (ps : List PreparedNode). map (λ (n : NodeState). n.ticks) (states ps)) c.deref-in-Exchanged.ensures.value in
     turned-exchanged m (states c.deref_mut.result.now) _ c.work-w.result c.append_output.new.output.items c.add_prepared-in-Exchanged.new.self.rows same w_is output_is c.in-Exchanged.h _ (closes.0, ap states row ∙ closes.1, closes.2) ledger_is started_is ∙ ap turned c.self.view_is
+
+pub returns-in_err-prepare : goal.returns-in_err-prepare
+returns-in_err-prepare g c =
+    let m = machine_view c.self.inside in
+    let r = c.from_residual in
+    let p = err_from_is_err_and r.result r.ensures.1 in
+    record {
+      ok = IfOk-from_err r.result _ r.ensures.0;
+      err = rw p.1 (ap (λ (x : PreparedRows). record m { ledger = x.rows }) c.in_err-prepare.ensures.err ∙ c.self.view_is);
+    }
+
+pub invariant_of-self : goal.invariant_of-self
+invariant_of-self g c =
+    let m = machine_view c.self.inside in
+    subst IsSoundMachine (sym (ap (λ (x : PreparedRows). record m { ledger = x.rows }) c.in_err-prepare.ensures.err)) c.self.invariant
+
+pub returns-in_err-append_output-clause-ok : goal.returns-in_err-append_output-clause-ok
+returns-in_err-append_output-clause-ok g c = IfOk-from_err c.from_residual-in_err-append_output.result _ c.from_residual-in_err-append_output.ensures.0
+
+pub invariant_of-self-in_err-append_output : goal.invariant_of-self-in_err-append_output
+invariant_of-self-in_err-append_output g c =
+    let m = machine_view c.self.inside in
+    subst IsSoundMachine (sym (ap₂ (λ (ys : List ℕ) (rs : List CostRow). record m { output = ys; ledger = rs }) c.in_err-append_output.ensures.err (ap (λ (x : PreparedRows). x.rows) c.in_ok-prepare.ensures.ok))) c.self.invariant

@@ -1,6 +1,6 @@
 use Rattle.std.proofs.Common.{◌≡◌, not, refl, sym, ap, subst, ◌∙◌}
 use Rattle.std.specs.Prelude.{is_some}
-use Rattle.std.proofs.lemmas.Result.{err_from_is_err_and}
+use Rattle.std.proofs.lemmas.Result.{IfOk-from_err, err_from_is_err_and}
 use Rattle.machine_core.specs.declared.event.Event.TheVariants.{Turn}
 use Rattle.machine_core.specs.Events.{event}
 use Rattle.machine_core.specs.Machine.{MachineState}
@@ -51,3 +51,9 @@ returns-clause-ok g c =
     let m = c.loop-self.self in
     let over = ap (λ (x : MachineState). is_some x.outcome) (sym c.self.view_is) ∙ c.is_none.ensures ∙ ap not c.loop-self-test.false in
     sym (end_of-there m over) ∙ c.loop-self.invariant.same_end
+
+pub returns-clause-over : goal.returns-clause-over
+returns-clause-over g c = ap (λ (x : MachineState). is_some x.outcome) (sym c.self.view_is) ∙ c.is_none.ensures ∙ ap not c.loop-self-test.false
+
+pub returns-in_err-turn-clause-ok : goal.returns-in_err-turn-clause-ok
+returns-in_err-turn-clause-ok g c = IfOk-from_err c.from_residual-in_err-turn.result _ c.from_residual-in_err-turn.ensures.0

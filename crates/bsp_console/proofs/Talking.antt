@@ -12,8 +12,11 @@ use Rattle.counted_io.specs.Lines.{PassesLimit as PassesLineLimit}
 use Rattle.bsp_session.specs.Outcome.{error_of_read}
 use Rattle.counted_io.specs.Lines.{LineReaderState, GivesLine, GivesLast, GivesNone, ReadsOn, IsOver}
 use Rattle.bsp_debug.specs.Debugger.{DebuggerState}
+use Rattle.debug_lines.specs.declared.line.Line.{Line}
 use Rattle.debug_lines.specs.declared.line.Line.TheVariants.{Quit}
 use Rattle.debug_lines.specs.Lines.{line_of}
+use Rattle.bsp_session.specs.declared.errors.SessionError.{SessionError}
+use Rattle.bsp_session.specs.declared.errors.SessionError.TheVariants.{WriteFault, NoMemory}
 use Rattle.bsp_session.specs.Readers.{Reader}
 use Rattle.bsp_console.specs.Talk.{Answered, Talks, lines_of, goes_on, answered_lines, HasQuit}
 use Rattle.bsp_console.specs.Console.{most_script, TalksFirst, HasTalked, HasTalkedFirst, FailsTalking, IsErrorOfTalk}
@@ -356,6 +359,21 @@ talk-fails g l start d next script out mid held old new first count failures t (
       subst (Appends out.before out.after) (sym (take-append-add t.text first count)) (Appends-trans out.before held out.after t.text (take count first) t.written appended),
       HasRisen-above _ failures _ before rose,
     )
+
+-- a line was not answered: memory was refused, and nothing more was written, or its answer could not be written whole
+pub talk-stops : (g l : ℕ) (start d next : DebuggerState) (script out : Reader) (mid held : Option (List ℕ)) (old new : LineReaderState) (line : Line) (failures : ℕ) (e : SessionError)
+    → IsTalking g l start script.before mid out.before held old d → ReadsOn mid script.after old.read new.read
+    → GivesLine old new ⊎ (GivesLast old new × IsOver script.after old new) → (old.ended ≡ true → new.read ≡ old.read) → length new.read ≤ most_script
+    → line ≡ line_of new.line → (line_of new.line ≡ Quit → ⊥) → out.failures_before ≤ failures
+    → ((e ≡ NoMemory) × (out.after ≡ held))
+    ⊎ ((e ≡ WriteFault) × HasRisen failures out.failures_after
+    × (text : List ℕ) × (count : ℕ) × Answered g l line d text next × Appends held out.after (take count text))
+    → IsErrorOfTalk g l start script out e
+talk-stops g l start d next script out mid held old new line failures e t read gives still few is other before (inl (cause, unwritten)) =
+    rw cause (talked-first-read g l start d script out mid old new (rw unwritten t) read still few)
+talk-stops g l start d next script out mid held old new line failures e t read gives still few is other before (inr (cause, rose, text, count, answered, appended)) =
+    rw cause (talk-fails g l start d next script out mid held old new text count failures t read gives still few other
+    (subst (λ asked. Answered g l asked d text next) is answered) appended before rose)
 
 -- each line takes its bytes
 pub given-more : (old new : LineReaderState) (P : Type 0) → old.given ≤ length old.read → (old.ended ≡ true → new.read ≡ old.read)

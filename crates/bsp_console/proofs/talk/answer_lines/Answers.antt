@@ -7,12 +7,12 @@ use Rattle.bsp_session.specs.Readers.{reader}
 use Rattle.bsp_console.specs.Console.{most_script}
 use Rattle.bsp_console.specs.Talk.{Answered}
 use Rattle.bsp_console.proofs.Scripts.{is_quit-true, is_quit-false}
-use Rattle.bsp_console.proofs.Talking.{given-more, is_talking-first, talked-end, talked-quit, talking-step, talked-first-read, talk-error, talk-fails}
-use Rattle.bsp_console.proofs.talk.talk.Goals as goal
+use Rattle.bsp_console.proofs.Talking.{given-more, is_talking-first, talked-end, talked-quit, talking-step, talk-error, talk-stops}
+use Rattle.bsp_console.proofs.talk.answer_lines.Goals as goal
 
 pub loop-lines-init : goal.loop-lines-init
 loop-lines-init g c = record {
-  talking = rw c.new-lines.ensures (is_talking-first c.args.job.now.g c.args.job.now.l c.args.debugger (g.C.Read.remaining c.args.commands.now.inner) (g.W.Write.contents c.args.out.now.inner));
+  talking = rw c.new-lines.ensures (is_talking-first c.args.job.now.g c.args.job.now.l c.args.debugger.now (g.C.Read.remaining c.args.commands.now.inner) (g.W.Write.contents c.args.out.now.inner));
   commands = omega arith;
   out = omega arith;
 }
@@ -28,11 +28,11 @@ returns-in_err-next_line-clause-err g c =
     t (λ e. (c.next_line.ensures.over e).2) few c.loop-lines.invariant.commands
     (λ e. said.too_long (ap Err e)) (λ e. said.longer (ap Err e)) (λ e. said.fault (ap Err e)) (λ e. said.no_memory (ap Err e)))
 
-pub returns-then-not-branch-clause-ok : goal.returns-then-not-branch-clause-ok
-returns-then-not-branch-clause-ok g c =
+pub returns-clause-ok : goal.returns-clause-ok
+returns-clause-ok g c =
     let t = c.loop-lines.invariant.talking in
     let few : length c.next_line.new.self.read ≤ most_script = subst (λ m. length c.next_line.new.self.read ≤ m) (c.next_line.ensures.most ∙ t.most) c.next_line.ensures.limit in
-    let none : c.next_line.result ≡ Ok false = c.in_ok-next_line.was {u = tt} ∙ ap Ok c.if-not-branch.true in
+    let none : c.next_line.result ≡ Ok false = c.in_ok-next_line.was {u = tt} ∙ ap Ok c.if-branch.false in
     let said = c.next_line.ensures.end none in
     talked-end _ _ _ c.loop-lines.debugger (reader g.C.Read.remaining c.args.commands.now c.next_line.new.from) (reader g.W.Write.contents c.args.out.now c.loop-lines.out)
     (g.C.Read.remaining c.loop-lines.commands.inner) c.loop-lines.lines c.next_line.new.self t c.in_ok-next_line.ensures.bytes said.0 said.1
@@ -42,40 +42,29 @@ pub returns-then-is_quit-clause-ok : goal.returns-then-is_quit-clause-ok
 returns-then-is_quit-clause-ok g c =
     let t = c.loop-lines.invariant.talking in
     let few : length c.next_line.new.self.read ≤ most_script = subst (λ m. length c.next_line.new.self.read ≤ m) (c.next_line.ensures.most ∙ t.most) c.next_line.ensures.limit in
-    let some : c.next_line.result ≡ Ok true = c.in_ok-next_line.was {u = tt} ∙ ap Ok c.if-not-branch.false in
+    let some : c.next_line.result ≡ Ok true = c.in_ok-next_line.was {u = tt} ∙ ap Ok c.if-branch.true in
     let line : c.parse_line-line.result ≡ line_of c.next_line.new.self.line = c.parse_line-line.ensures ∙ ap line_of c.line.ensures in
     let quits : line_of c.next_line.new.self.line ≡ Quit = sym line ∙ is_quit-true _ (sym c.is_quit.ensures ∙ c.if-is_quit.true) in
     talked-quit _ _ _ c.loop-lines.debugger (reader g.C.Read.remaining c.args.commands.now c.next_line.new.from) (reader g.W.Write.contents c.args.out.now c.loop-lines.out)
     (g.C.Read.remaining c.loop-lines.commands.inner) c.loop-lines.lines c.next_line.new.self t c.in_ok-next_line.ensures.bytes (c.next_line.ensures.line some)
     (λ e. let still = c.next_line.ensures.over e in (still.2, ap (λ r. g.C.Read.remaining r.inner) still.1)) few quits
 
-pub returns-in_err-text-clause-err : goal.returns-in_err-text-clause-err
-returns-in_err-text-clause-err g c =
-    let exit = err_from_is_err_and c.from_residual-in_err-text.result c.from_residual-in_err-text.ensures.1 in
+pub returns-in_err-answer_to-clause-err : goal.returns-in_err-answer_to-clause-err
+returns-in_err-answer_to-clause-err g c =
+    let exit = err_from_is_err_and c.from_residual-in_err-answer_to.result c.from_residual-in_err-answer_to.ensures.1 in
     let t = c.loop-lines.invariant.talking in
     let few : length c.next_line.new.self.read ≤ most_script = subst (λ m. length c.next_line.new.self.read ≤ m) (c.next_line.ensures.most ∙ t.most) c.next_line.ensures.limit in
-    rw (exit.1, exit.2) (talked-first-read _ _ _ c.loop-lines.debugger (reader g.C.Read.remaining c.args.commands.now c.next_line.new.from) (reader g.W.Write.contents c.args.out.now c.loop-lines.out)
-    (g.C.Read.remaining c.loop-lines.commands.inner) c.loop-lines.lines c.next_line.new.self t c.in_ok-next_line.ensures.bytes (λ e. (c.next_line.ensures.over e).2) few)
-
-pub returns-in_err-write_reply-clause-err : goal.returns-in_err-write_reply-clause-err
-returns-in_err-write_reply-clause-err g c =
-    let exit = err_from_is_err_and c.from_residual-in_err-write_reply.result c.from_residual-in_err-write_reply.ensures.1 in
-    let t = c.loop-lines.invariant.talking in
-    let few : length c.next_line.new.self.read ≤ most_script = subst (λ m. length c.next_line.new.self.read ≤ m) (c.next_line.ensures.most ∙ t.most) c.next_line.ensures.limit in
-    let some : c.next_line.result ≡ Ok true = c.in_ok-next_line.was {u = tt} ∙ ap Ok c.if-not-branch.false in
+    let some : c.next_line.result ≡ Ok true = c.in_ok-next_line.was {u = tt} ∙ ap Ok c.if-branch.true in
     let line : c.parse_line-line.result ≡ line_of c.next_line.new.self.line = c.parse_line-line.ensures ∙ ap line_of c.line.ensures in
     let other : line_of c.next_line.new.self.line ≡ Quit → ⊥ = λ quits. is_quit-false _ (sym c.is_quit.ensures ∙ c.if-is_quit.false) (line ∙ quits) in
-    let answered : Answered c.args.job.now.g c.args.job.now.l (line_of c.next_line.new.self.line) c.loop-lines.debugger c.in_ok-text.text.items c.answer_line.new.debugger =
-    subst (λ asked. Answered c.args.job.now.g c.args.job.now.l asked c.loop-lines.debugger c.in_ok-text.text.items c.answer_line.new.debugger) line c.in_ok-text.ensures in
-    let part = rw c.as_slice.ensures.value at c.in_err-write_reply.ensures.err in
-    rw (exit.1, exit.2) (talk-fails _ _ _ c.loop-lines.debugger c.answer_line.new.debugger (reader g.C.Read.remaining c.args.commands.now c.next_line.new.from) (reader g.W.Write.contents c.args.out.now c.write_reply.new.out)
-    (g.C.Read.remaining c.loop-lines.commands.inner) (g.W.Write.contents c.loop-lines.out.inner) c.loop-lines.lines c.next_line.new.self c.in_ok-text.text.items part.0 c.loop-lines.out.failures
-    t c.in_ok-next_line.ensures.bytes (c.next_line.ensures.line some) (λ e. (c.next_line.ensures.over e).2) few other answered part.1 c.loop-lines.invariant.out c.in_err-write_reply.ensures.fault)
+    rw (exit.1, exit.2) (talk-stops _ _ _ c.loop-lines.debugger c.answer_to.new.debugger (reader g.C.Read.remaining c.args.commands.now c.next_line.new.from) (reader g.W.Write.contents c.args.out.now c.answer_to.new.out)
+    (g.C.Read.remaining c.loop-lines.commands.inner) (g.W.Write.contents c.loop-lines.out.inner) c.loop-lines.lines c.next_line.new.self c.parse_line-line.result c.loop-lines.out.failures c.in_err-answer_to.field-0.0
+    t c.in_ok-next_line.ensures.bytes (c.next_line.ensures.line some) (λ e. (c.next_line.ensures.over e).2) few line other c.loop-lines.invariant.out c.in_err-answer_to.ensures.err)
 
 pub loop-lines-smaller : goal.loop-lines-smaller
 loop-lines-smaller g c =
     let t = c.loop-lines.invariant.talking in
-    let some : c.next_line.result ≡ Ok true = c.in_ok-next_line.was {u = tt} ∙ ap Ok c.if-not-branch.false in
+    let some : c.next_line.result ≡ Ok true = c.in_ok-next_line.was {u = tt} ∙ ap Ok c.if-branch.true in
     let more : c.loop-lines.lines.given < c.next_line.new.self.given = given-more _ _ _ t.within (λ e. (c.next_line.ensures.over e).2) (c.next_line.ensures.line some) in
     let most = c.next_line.ensures.most in
     let limit = c.next_line.ensures.limit in
@@ -85,18 +74,17 @@ loop-lines-smaller g c =
 pub loop-lines-preserved : goal.loop-lines-preserved
 loop-lines-preserved g c =
     let t = c.loop-lines.invariant.talking in
-    let some : c.next_line.result ≡ Ok true = c.in_ok-next_line.was {u = tt} ∙ ap Ok c.if-not-branch.false in
+    let some : c.next_line.result ≡ Ok true = c.in_ok-next_line.was {u = tt} ∙ ap Ok c.if-branch.true in
     let line : c.parse_line-line.result ≡ line_of c.next_line.new.self.line = c.parse_line-line.ensures ∙ ap line_of c.line.ensures in
     let other : line_of c.next_line.new.self.line ≡ Quit → ⊥ = λ quits. is_quit-false _ (sym c.is_quit.ensures ∙ c.if-is_quit.false) (line ∙ quits) in
-    let answered : Answered c.args.job.now.g c.args.job.now.l (line_of c.next_line.new.self.line) c.loop-lines.debugger c.in_ok-text.text.items c.answer_line.new.debugger =
-    subst (λ asked. Answered c.args.job.now.g c.args.job.now.l asked c.loop-lines.debugger c.in_ok-text.text.items c.answer_line.new.debugger) line c.in_ok-text.ensures in
-    let whole = rw c.as_slice.ensures.value at c.in_ok-write_reply.ensures.ok in
+    let (text, answered, written) = c.in_ok-answer_to.ensures.ok in
     record {
-      talking = talking-step _ _ _ c.loop-lines.debugger c.answer_line.new.debugger _ (g.C.Read.remaining c.loop-lines.commands.inner) (g.C.Read.remaining c.next_line.new.from.inner)
-          _ (g.W.Write.contents c.loop-lines.out.inner) _ c.loop-lines.lines c.next_line.new.self c.in_ok-text.text.items
+      talking = talking-step _ _ _ c.loop-lines.debugger c.answer_to.new.debugger _ (g.C.Read.remaining c.loop-lines.commands.inner) (g.C.Read.remaining c.next_line.new.from.inner)
+          _ (g.W.Write.contents c.loop-lines.out.inner) _ c.loop-lines.lines c.next_line.new.self text
           t c.in_ok-next_line.ensures.bytes (c.next_line.ensures.line some)
           (λ e. let still = c.next_line.ensures.over e in (still.2, ap (λ r. g.C.Read.remaining r.inner) still.1)) c.next_line.ensures.ends
-          c.next_line.ensures.most c.next_line.ensures.limit c.next_line.ensures.within other answered whole;
+          c.next_line.ensures.most c.next_line.ensures.limit c.next_line.ensures.within other
+          (subst (λ asked. Answered c.args.job.now.g c.args.job.now.l asked c.loop-lines.debugger text c.answer_to.new.debugger) line answered) written;
       commands = omega arith;
       out = omega arith;
     }

@@ -78,12 +78,16 @@ fn line_of_one(word: &[u8]) -> Option<Line>
 fn command_of_one(word: &[u8]) -> Option<Command>
     ensures { result ≡ command_of_one word.now }
 {
-    match word {
-        b"phase" => Some(Command::Phase),
-        b"turn" => Some(Command::Turn),
-        b"go" => Some(Command::Go),
-        b"costs" => Some(Command::Costs),
-        _ => None,
+    if word == b"phase".as_slice() {
+        Some(Command::Phase)
+    } else if word == b"turn".as_slice() {
+        Some(Command::Turn)
+    } else if word == b"go".as_slice() {
+        Some(Command::Go)
+    } else if word == b"costs".as_slice() {
+        Some(Command::Costs)
+    } else {
+        None
     }
 }
 
@@ -92,10 +96,12 @@ fn line_of_two(word: &[u8], rank: &[u8]) -> Option<Line>
     ensures { result ≡ line_of_two word.now rank.now }
 {
     let rank = u32_of(rank)?;
-    match word {
-        b"regs" => Some(Line::Command(Command::Regs { rank })),
-        b"queue" => Some(Line::Command(Command::Queue { rank })),
-        _ => None,
+    if word == b"regs".as_slice() {
+        Some(Line::Command(Command::Regs { rank }))
+    } else if word == b"queue".as_slice() {
+        Some(Line::Command(Command::Queue { rank }))
+    } else {
+        None
     }
 }
 
@@ -103,11 +109,14 @@ fn line_of_two(word: &[u8], rank: &[u8]) -> Option<Line>
 fn line_of_three(word: &[u8], first: &[u8], second: &[u8]) -> Option<Line>
     ensures { result ≡ line_of_three word.now first.now second.now }
 {
-    match word {
-        b"break" => Some(Line::Break(point_of(first, second)?)),
-        b"clear" => Some(Line::Clear(point_of(first, second)?)),
-        b"step" => step_of(first, second),
-        _ => None,
+    if word == b"break".as_slice() {
+        Some(Line::Break(point_of(first, second)?))
+    } else if word == b"clear".as_slice() {
+        Some(Line::Clear(point_of(first, second)?))
+    } else if word == b"step".as_slice() {
+        step_of(first, second)
+    } else {
+        None
     }
 }
 
@@ -115,9 +124,10 @@ fn line_of_three(word: &[u8], first: &[u8], second: &[u8]) -> Option<Line>
 fn line_of_four(word: &[u8], rank: &[u8], addr: &[u8], len: &[u8]) -> Option<Line>
     ensures { result ≡ line_of_four word.now rank.now addr.now len.now }
 {
-    match word {
-        b"bytes" => bytes_of(rank, addr, len),
-        _ => None,
+    if word == b"bytes".as_slice() {
+        bytes_of(rank, addr, len)
+    } else {
+        None
     }
 }
 

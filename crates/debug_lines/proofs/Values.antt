@@ -41,3 +41,6 @@ narrower_none (Some m) h = grind (arith, common_steps)
 
 pub below-some : (b n : ℕ) → n < b → below b n ≡ Some n
 below-some b n less = grind (arith, common_steps)
+
+pub below-none_past : (b n : ℕ) → (n < b → ⊥) → below b n ≡ None
+below-none_past b n past = grind (arith, common_steps)

@@ -8,7 +8,6 @@ ghost use Rattle.std.specs.Str.Parse.{digits_value};
 ghost use Rattle.debug_lines.specs.Numbers.{below, numeral_value, number_in};
 
 /// The value of a word that is a number below 2^32.
-#[tactic(auto, using(crate::proofs::Values::narrower, crate::proofs::Values::narrower_none))]
 pub(crate) fn u32_of(word: &[u8]) -> Option<u32>
     ensures { result ≡ number_in 32 word.now }
 {

@@ -1,10 +1,11 @@
 //! The texts of replies.
 
-ghost use Rattle.std.specs.Prelude.{◌≡◌, ◌<◌, ◌^◌, ◌++◌, length, IfOk, string_bytes};
+ghost use Rattle.std.specs.Prelude.{◌≡◌, ◌<◌, ◌^◌, ◌++◌, length, codes, IfOk, string_bytes};
+ghost use Rattle.std.specs.Fmt.{decimal};
 ghost use Rattle.bsp_requests.specs.Inbox.{payload_bytes};
 ghost use Rattle.cost_ledger.specs.CostRow.{total_cost};
 ghost use Rattle.bsp_debug.specs.Reply.{answer};
-ghost use Rattle.debug_lines.specs.Replies.{entry_end, node_line, register_lines, byte_lines as byte_lines_of, queue_lines as queue_lines_of, reply_text as reply_text_of, costs_of};
+ghost use Rattle.debug_lines.specs.Replies.{entry_end, message_line, node_line, register_lines, byte_lines as byte_lines_of, queue_lines as queue_lines_of, reply_text as reply_text_of, costs_of};
 
 use crate::octets::Octets;
 use bsp_debug::{Point, Reply};
@@ -126,15 +127,36 @@ fn queue_lines<A: Allocator, B: Allocator>(
 ) -> Result<String<B>, AllocError>
     ensures { IfOk result (λ text. string_bytes text ≡ queue_lines_of messages.now) }
 {
-    let mut text = String::new(alloc);
-    let bytes = payload_bytes(messages);
-    writeln!(text, "count {} bytes {bytes}", messages.len())?;
+    let mut text = count_line(alloc, messages)?;
     for message in messages {
-        let tag = Octets(message.tag.as_slice());
-        let payload = Octets(message.payload.as_slice());
-        writeln!(text, "from {} tag {tag} payload {payload}", message.sender)?;
+        add_message(&mut text, message)?;
     }
     Ok(text)
+}
+
+/// The line of how many messages there are, and of the bytes of their payloads.
+fn count_line<A: Allocator, B: Allocator>(
+    alloc: B,
+    messages: &[Message<A>],
+) -> Result<String<B>, AllocError>
+    ensures { IfOk result (λ text. string_bytes text ≡ codes "count " ++ decimal (length messages.now)
+        ++ codes " bytes " ++ decimal (payload_bytes messages.now) ++ codes "\n") }
+{
+    let bytes = payload_bytes(messages);
+    format!(in alloc; "count {} bytes {bytes}\n", messages.len())
+}
+
+/// Adds the line of a message to a text.
+fn add_message<A: Allocator, B: Allocator>(
+    text: &mut String<B>,
+    message: &Message<A>,
+) -> Result<(), AllocError>
+    ensures { IfOk result (λ _. string_bytes text.new ≡ string_bytes text.old ++ message_line message.now) }
+{
+    let tag = Octets(message.tag.as_slice());
+    let payload = Octets(message.payload.as_slice());
+    writeln!(text, "from {} tag {tag} payload {payload}", message.sender)?;
+    Ok(())
 }
 
 /// The bytes of all payloads. No slice has so many that their sum passes 128 bits.

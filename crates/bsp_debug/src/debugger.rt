@@ -8,6 +8,7 @@ ghost use Rattle.bsp_debug.specs.Debugger.{has_rank, add_fault, remove_fault, co
 ghost use Rattle.bsp_debug.specs.Made.{events_of, AreFew};
 ghost use Rattle.bsp_debug.specs.Points.{is_set, HasAlso, HasNoMore};
 ghost use Rattle.bsp_debug.specs.Reply.{answer};
+ghost use Rattle.bsp_debug.specs.Trace.{IsTrace};
 
 use crate::command::Command;
 use crate::error::DebugError;
@@ -19,7 +20,7 @@ use crate::reply::Reply;
 use crate::trace::Trace;
 use machine_core::Machine;
 use node_core::Node;
-use std::alloc::Allocator;
+use std::alloc::{AllocError, Allocator};
 use std::marker::Model;
 
 /// The most points that can be set (own limit).
@@ -126,18 +127,8 @@ impl<A: Allocator + Copy> Debugger<A> {
     {
         self.trace.forget();
         self.check(command)?;
-        Ok(match command {
-            Command::Step { rank, count } => Reply::Moved(self.trace.steps(rank, count)?),
-            Command::Phase => Reply::Moved(self.trace.phase()?),
-            Command::Turn => self.trace.turn_with_reply()?,
-            Command::Go => self.trace.go(&self.points)?,
-            Command::Regs { rank } => registers_of(self.node(rank)),
-            Command::Bytes { rank, addr, len } => {
-                bytes_of(self.alloc, self.node(rank), addr, len)?
-            }
-            Command::Queue { rank } => queue_of(self.alloc, self.node(rank))?,
-            Command::Costs => costs_of(self.alloc, self.machine())?,
-        })
+        let reply = reply_to(self.alloc, &mut self.trace, &self.points, command)?;
+        Ok(reply)
     }
 
     /// Whether a command is to be refused.
@@ -165,17 +156,6 @@ impl<A: Allocator + Copy> Debugger<A> {
         match self.machine().node(rank) {
             Some(_) => Ok(()),
             None => Err(DebugError::BadRank),
-        }
-    }
-
-    /// The node of a rank that there is.
-    fn node(&self, rank: u32) -> &Node<A>
-        requires { has_rank self.now.machine rank ≡ true }
-        ensures { slice_get self.now.machine.nodes rank ≡ Some result.now.node }
-    {
-        match self.machine().node(rank) {
-            Some(node) => node,
-            None => unreachable!(),
         }
     }
 
@@ -224,5 +204,47 @@ impl<A: Allocator> Debugger<A> {
         ensures { result.now ≡ self.now.last }
     {
         self.trace.made()
+    }
+}
+
+/// Does what a command says that is not refused, and answers it.
+fn reply_to<A: Allocator + Copy>(
+    alloc: A,
+    trace: &mut Trace<A>,
+    points: &Points<A>,
+    command: Command,
+) -> Result<Reply<A>, AllocError>
+    requires fresh { trace.old.made ≡ [] }
+    requires start { trace.old.start ≡ trace.old.machine }
+    requires faultless { command_fault trace.old.machine command ≡ None }
+    ensures trace { IsTrace trace.new }
+    ensures start { trace.new.start ≡ trace.old.start }
+    ensures ok { IfOk result (λ reply.
+        Makes points.now trace.old.machine command (events_of trace.new.made) (answer reply)) }
+    ensures err { OnErr result
+        (MakesPart points.now trace.old.machine command (events_of trace.new.made)) }
+{
+    match command {
+        Command::Step { rank, count } => Ok(Reply::Moved(trace.steps(rank, count)?)),
+        Command::Phase => Ok(Reply::Moved(trace.phase()?)),
+        Command::Turn => trace.turn_with_reply(),
+        Command::Go => trace.go(points),
+        Command::Regs { rank } => Ok(registers_of(node_of(trace.machine(), rank))),
+        Command::Bytes { rank, addr, len } => {
+            bytes_of(alloc, node_of(trace.machine(), rank), addr, len)
+        }
+        Command::Queue { rank } => queue_of(alloc, node_of(trace.machine(), rank)),
+        Command::Costs => costs_of(alloc, trace.machine()),
+    }
+}
+
+/// The node of a rank that there is.
+fn node_of<A: Allocator>(machine: &Machine<A>, rank: u32) -> &Node<A>
+    requires { has_rank machine.now rank ≡ true }
+    ensures { slice_get machine.now.nodes rank ≡ Some result.now.node }
+{
+    match machine.node(rank) {
+        Some(node) => node,
+        None => unreachable!(),
     }
 }

@@ -58,21 +58,21 @@ length-lines_of (b ∷ bs) = some (eqb b 10) where
   some false = onto b (lines_of bs)
 
 -- any line but `quit` goes on
-open_line : (l : Line) → (l ≡ Quit → ⊥) → not (is_quit l) ≡ true
-open_line Quit other = absurd (other refl)
-open_line (Break p) other = refl
-open_line (Clear p) other = refl
-open_line (Command c) other = refl
-open_line Output other = refl
-open_line Empty other = refl
-open_line Unknown other = refl
+pub is_quit-other : (l : Line) → (l ≡ Quit → ⊥) → is_quit l ≡ false
+is_quit-other Quit other = absurd (other refl)
+is_quit-other (Break p) other = refl
+is_quit-other (Clear p) other = refl
+is_quit-other (Command c) other = refl
+is_quit-other Output other = refl
+is_quit-other Empty other = refl
+is_quit-other Unknown other = refl
 
 -- `quit` ends the session, and any other line goes on
 pub quit-ends : (line : List ℕ) → line_of line ≡ Quit → goes_on line ≡ false
 quit-ends line quits = rw quits refl
 
 pub other-goes_on : (line : List ℕ) → (line_of line ≡ Quit → ⊥) → goes_on line ≡ true
-other-goes_on line other = open_line (line_of line) other
+other-goes_on line other = ap not (is_quit-other (line_of line) other)
 
 -- a line of no bytes asks for nothing
 pub line_of-nil : line_of [] ≡ Empty

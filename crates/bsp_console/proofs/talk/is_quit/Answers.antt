@@ -1,0 +1,9 @@
+use Rattle.std.proofs.Common.{sym, refl}
+use Rattle.bsp_console.proofs.Scripts.{is_quit-other}
+use Rattle.bsp_console.proofs.talk.is_quit.Goals as goal
+
+pub returns-in-Quit : goal.returns-in-Quit
+returns-in-Quit c = rw c.in-Quit.is refl
+
+pub returns-in_default : goal.returns-in_default
+returns-in_default c = sym (is_quit-other c.args.line c.in_default.not-Quit)

@@ -12,15 +12,15 @@ fn growth_is_one_request(rt: HostRuntime) -> Result<(), Fail> {
     let heap = Heap::new(rt.alloc());
     let mut items = Vec::with_capacity(&heap, 2)?;
     items.extend_from_slice(&[1u8, 2])?;
-    assert_eq!(rt; heap.requests(), 1);
+    assert!(rt; heap.requests() == 1);
     heap.refuse_nth(1);
     assert!(rt; items.push(3).is_err());
-    assert_eq!(rt; items.as_slice(), [1, 2].as_slice());
+    assert!(rt; items.as_slice() == [1, 2].as_slice());
     items.push(3)?;
-    assert_eq!(rt; items.as_slice(), [1, 2, 3].as_slice());
-    assert_eq!(rt; (heap.requests(), heap.refusals()), (2, 1));
+    assert!(rt; items.as_slice() == [1, 2, 3].as_slice());
+    assert!(rt; (heap.requests(), heap.refusals()) == (2, 1));
     drop(items);
-    assert_eq!(rt; heap.requests(), 2);
+    assert!(rt; heap.requests() == 2);
     Ok(())
 }
 
@@ -36,16 +36,16 @@ fn five_requests(heap: &Heap) -> [bool; 5] {
 #[test]
 fn requests_are_refused_by_number(rt: HostRuntime) {
     let heap = Heap::new(rt.alloc());
-    assert_eq!(rt; five_requests(&heap), [false; 5]);
+    assert!(rt; five_requests(&heap) == [false; 5]);
     heap.refuse_nth(2);
-    assert_eq!(rt; five_requests(&heap), [false, true, false, false, false]);
-    assert_eq!(rt; (heap.requests(), heap.refusals()), (5, 1));
+    assert!(rt; five_requests(&heap) == [false, true, false, false, false]);
+    assert!(rt; (heap.requests(), heap.refusals()) == (5, 1));
     heap.refuse_from_nth(3);
-    assert_eq!(rt; five_requests(&heap), [false, false, true, true, true]);
-    assert_eq!(rt; (heap.requests(), heap.refusals()), (5, 3));
+    assert!(rt; five_requests(&heap) == [false, false, true, true, true]);
+    assert!(rt; (heap.requests(), heap.refusals()) == (5, 3));
     heap.refuse_nth(0);
-    assert_eq!(rt; five_requests(&heap), [false; 5]);
-    assert_eq!(rt; (heap.requests(), heap.refusals()), (5, 0));
+    assert!(rt; five_requests(&heap) == [false; 5]);
+    assert!(rt; (heap.requests(), heap.refusals()) == (5, 0));
 }
 
 // How many of a hundred requests are refused: a box each, and a block for `items`, which is given back here.
@@ -66,6 +66,6 @@ fn threads_share_it(rt: HostRuntime) {
         move || refused_of_hundred(one),
         move || refused_of_hundred(other),
     );
-    assert_eq!(rt; (heap.requests(), heap.refusals()), (200, 1));
-    assert_eq!(rt; first.saturating_add(second), 1);
+    assert!(rt; (heap.requests(), heap.refusals()) == (200, 1));
+    assert!(rt; first.saturating_add(second) == 1);
 }

@@ -60,7 +60,7 @@ fn only_interrupted_reads_are_tried_again_65_536_times(rt: HostRuntime) {
         let mut from = Counted::new(Source { faults, kind, rest });
         let read = read_at_most(rt.alloc(), &mut from, 2);
         assert!(rt; read.err() == fault, "{faults} faults");
-        assert_eq!(rt; from.failures(), u64::from(faults));
+        assert!(rt; from.failures() == u64::from(faults));
     }
 }
 
@@ -79,7 +79,7 @@ fn only_interrupted_writes_are_tried_again_65_536_times(rt: HostRuntime) {
         });
         let is_written = write_whole(&mut to, b"01").is_ok();
         assert!(rt; is_written != held.is_empty(), "{faults} faults");
-        assert_eq!(rt; to.failures(), u64::from(faults));
+        assert!(rt; to.failures() == u64::from(faults));
         assert!(rt; to.flush().is_err() && to.failures() == u64::from(faults) + 1);
         assert!(rt; to.into_inner().held.as_slice() == held);
     }
@@ -100,7 +100,7 @@ fn a_refused_growth_is_no_fault_of_the_reader(rt: HostRuntime) {
                 refused = refused.saturating_add(1);
             }
         }
-        assert_eq!(rt; from.failures(), 0);
+        assert!(rt; from.failures() == 0);
     }
     assert!(rt; refused > 0 && refused < 7);
 }

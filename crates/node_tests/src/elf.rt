@@ -29,7 +29,7 @@ fn headers_that_share_bytes_are_loaded_one_by_one(rt: HostRuntime) -> Result<(),
         file.extend_from_slice(&header[52..84])?;
     }
     assert!(rt; file.len() <= 0x200_0000);
-    assert_eq!(rt; load(rt.alloc(), &file)?.segments.len(), 65_534);
+    assert!(rt; load(rt.alloc(), &file)?.segments.len() == 65_534);
     Ok(())
 }
 

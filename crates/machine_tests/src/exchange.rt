@@ -9,15 +9,9 @@ use std::alloc::{AllocError, Allocator, Global};
 use std::process::Abort;
 use std::test::Fail;
 
-mod areas;
 mod cases;
-mod landings;
-mod messages;
 
-use areas::{AREAS, FAULTS};
-use cases::{ASKING, Case, Start, UNLIKE};
-use landings::LANDINGS;
-use messages::MESSAGES;
+use cases::{ASKING, Start, UNLIKE};
 
 type Heap = RefusingAllocator<Global>;
 
@@ -155,17 +149,6 @@ fn waiting<A: Allocator + Copy>(
     Ok(nodes)
 }
 
-fn has_bytes<A: Allocator>(node: &Node<A>, addr: u32, want: &[u8]) -> bool {
-    let mut at = addr;
-    for byte in want {
-        if node.memory().load8(at) != Some(*byte) {
-            return false;
-        }
-        at = at.wrapping_add(1);
-    }
-    true
-}
-
 // Whether two nodes have the same registers, pc, ticks and place in the input.
 fn have_same_hart<A: Allocator>(a: &Node<A>, b: &Node<A>) -> bool {
     for n in 0..32u8 {
@@ -214,67 +197,6 @@ fn are_same<A: Allocator + Copy>(nodes: &[Node<A>], others: &[Node<A>]) -> Resul
         }
     }
     Ok(have_same_harts(nodes, others))
-}
-
-// Runs a machine, exchange by exchange, and then to its end. An exchange keeps the nodes' registers, pc and ticks, and one that is
-// refused changes nothing.
-fn expect_case(rt: &impl Abort, alloc: Global, case: &Case) -> Result<(), Fail> {
-    let name = case.name;
-    let mut nodes = machine(rt, alloc, case.nodes, LIMIT)?;
-    for (exchange, want) in case.exchanges.iter().enumerate() {
-        let before = waiting(rt, alloc, case.nodes, exchange)?;
-        let answer = superstep(rt, alloc, &mut nodes)?;
-        let is_expected = match *want {
-            Ok(h) => answer == Ok(Traffic { h }) && have_same_harts(&nodes, &before),
-            Err(fault) => {
-                answer == Err(ExchangeError::Fault(fault)) && are_same(&nodes, &before)?
-            }
-        };
-        assert!(rt; is_expected, "{name}: {answer:?}");
-    }
-    run_all(&mut nodes)?;
-    assert!(rt; have_bytes(&nodes, case.found), "{name}: memory");
-    Ok(())
-}
-
-// Whether nodes have these bytes: each with its rank and address.
-fn have_bytes<A: Allocator>(nodes: &[Node<A>], found: &[(usize, u32, &[u8])]) -> bool {
-    for (rank, addr, bytes) in found {
-        let Some(node) = nodes.get(*rank) else {
-            return false;
-        };
-        if !has_bytes(node, *addr, bytes) {
-            return false;
-        }
-    }
-    true
-}
-
-fn expect_cases(rt: &impl Abort, alloc: Global, cases: &[Case]) -> Result<(), Fail> {
-    for case in cases {
-        expect_case(rt, alloc, case)?;
-    }
-    Ok(())
-}
-
-#[test]
-fn puts_and_gets_land_in_their_order(rt: HostRuntime) -> Result<(), Fail> {
-    expect_cases(&rt, rt.alloc(), &LANDINGS)
-}
-
-#[test]
-fn transfers_keep_to_the_areas_in_effect(rt: HostRuntime) -> Result<(), Fail> {
-    expect_cases(&rt, rt.alloc(), &AREAS)
-}
-
-#[test]
-fn queues_hold_the_messages_of_one_superstep(rt: HostRuntime) -> Result<(), Fail> {
-    expect_cases(&rt, rt.alloc(), &MESSAGES)
-}
-
-#[test]
-fn the_first_of_several_faults_is_answered(rt: HostRuntime) -> Result<(), Fail> {
-    expect_cases(&rt, rt.alloc(), &FAULTS)
 }
 
 #[test]

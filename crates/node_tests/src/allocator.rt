@@ -1,11 +1,20 @@
 //! Tests of `refusing_allocator`.
 
 use refusing_allocator::RefusingAllocator;
-use std::alloc::Global;
+use std::alloc::{AllocError, Global};
 use std::test::Fail;
 use std::thread;
 
 type Heap = RefusingAllocator<Global>;
+
+// Whether two items are kept where a third is refused memory, and then grow by one request.
+fn grow_by_one_request(heap: &Heap, items: &mut Vec<u8, &Heap>) -> Result<bool, AllocError> {
+    heap.refuse_nth(1);
+    let are_kept = items.push(3).is_err() && items.as_slice() == [1, 2].as_slice();
+    items.push(3)?;
+    let have_grown = items.as_slice() == [1, 2, 3].as_slice();
+    Ok(are_kept && have_grown && (heap.requests(), heap.refusals()) == (2, 1))
+}
 
 #[test]
 fn growth_is_one_request(rt: HostRuntime) -> Result<(), Fail> {
@@ -13,12 +22,7 @@ fn growth_is_one_request(rt: HostRuntime) -> Result<(), Fail> {
     let mut items = Vec::with_capacity(&heap, 2)?;
     items.extend_from_slice(&[1u8, 2])?;
     assert!(rt; heap.requests() == 1);
-    heap.refuse_nth(1);
-    assert!(rt; items.push(3).is_err());
-    assert!(rt; items.as_slice() == [1, 2].as_slice());
-    items.push(3)?;
-    assert!(rt; items.as_slice() == [1, 2, 3].as_slice());
-    assert!(rt; (heap.requests(), heap.refusals()) == (2, 1));
+    assert!(rt; grow_by_one_request(&heap, &mut items)?);
     drop(items);
     assert!(rt; heap.requests() == 2);
     Ok(())

@@ -1,8 +1,12 @@
 //! Tests of `elf_image`.
 
 use elf_image::{ElfError, load, raw, save};
+use node_memory::Image;
 use refusing_allocator::RefusingAllocator;
+use std::alloc::Global;
 use std::test::Fail;
+
+type Heap = RefusingAllocator<Global>;
 
 // Eight bytes, to lie at 0x100 with four zeros after them.
 const ONE_SEGMENT: [u8; 92] = [
@@ -33,23 +37,32 @@ fn headers_that_share_bytes_are_loaded_one_by_one(rt: HostRuntime) -> Result<(),
     Ok(())
 }
 
-#[test]
-fn each_request_for_memory_may_be_refused(rt: HostRuntime) -> Result<(), Fail> {
-    let heap = RefusingAllocator::new(rt.alloc());
-    for n in 1..=2 {
-        heap.refuse_nth(n);
-        assert!(rt; load(&heap, &ONE_SEGMENT).err() == Some(ElfError::NoMemory));
-        heap.refuse_nth(n);
-        assert!(rt; raw(&heap, &WORDS).is_err());
-    }
-    let image = load(&heap, &ONE_SEGMENT)?;
-    let mut refused = 0u64;
+// Whether a file and a raw image are refused at request `nth`.
+fn are_refused(heap: &Heap, nth: u64) -> bool {
+    heap.refuse_nth(nth);
+    let is_refused = load(heap, &ONE_SEGMENT).err() == Some(ElfError::NoMemory);
+    heap.refuse_nth(nth);
+    is_refused && raw(heap, &WORDS).is_err()
+}
+
+// The last of 20 requests at which an image is not saved.
+fn last_refused<'a>(heap: &'a Heap, image: &Image<&'a Heap>) -> u64 {
+    let mut refused = 0;
     for n in 1..=20 {
         heap.refuse_nth(n);
-        if save(&heap, &image).is_err() {
+        if save(heap, image).is_err() {
             refused = n;
         }
     }
-    assert!(rt; 0 < refused && refused < 20, "{refused} requests");
+    refused
+}
+
+#[test]
+fn each_request_for_memory_may_be_refused(rt: HostRuntime) -> Result<(), Fail> {
+    let heap = Heap::new(rt.alloc());
+    assert!(rt; are_refused(&heap, 1) && are_refused(&heap, 2));
+    let image = load(&heap, &ONE_SEGMENT)?;
+    let refused = last_refused(&heap, &image);
+    assert!(rt; 0 < refused && refused < 20);
     Ok(())
 }

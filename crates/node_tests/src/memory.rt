@@ -3,8 +3,10 @@
 use list_vec::ListVec;
 use node_memory::{Image, Memory, MemoryError, ReadError};
 use refusing_allocator::RefusingAllocator;
-use std::alloc::Allocator;
+use std::alloc::{Allocator, Global};
 use std::test::Fail;
+
+type Heap = RefusingAllocator<Global>;
 
 fn empty_image<A: Allocator>(alloc: A) -> Image<A> {
     Image {
@@ -13,23 +15,38 @@ fn empty_image<A: Allocator>(alloc: A) -> Image<A> {
     }
 }
 
+// Why no memory of so many bytes is made.
+fn refusal(heap: &Heap, size: u32) -> Option<MemoryError> {
+    Memory::new(heap, &empty_image(heap), size).err()
+}
+
 #[test]
-fn a_new_memory_and_a_range_that_is_read_may_be_refused(rt: HostRuntime) -> Result<(), Fail> {
-    let heap = RefusingAllocator::new(rt.alloc());
-    let image = empty_image(&heap);
+fn a_new_memory_may_be_refused(rt: HostRuntime) {
+    let heap = Heap::new(rt.alloc());
     heap.refuse_nth(1);
-    let made = Memory::new(&heap, &image, 4095).err();
-    assert!(rt; (made, heap.requests()) == (Some(MemoryError::BadSize), 0));
-    let made = Memory::new(&heap, &image, 4096).err();
-    assert!(rt; made == Some(MemoryError::NoMemory));
-    let mut memory = Memory::new(&heap, &image, 4096)?;
-    heap.refuse_nth(1);
+    assert!(rt; refusal(&heap, 4095) == Some(MemoryError::BadSize) && heap.requests() == 0);
+    assert!(rt; refusal(&heap, 4096) == Some(MemoryError::NoMemory));
+}
+
+// Why no range of a memory is read.
+fn refusal_of_range(memory: &Memory<&Heap>, addr: u32, len: u32) -> Option<ReadError> {
+    memory.read_range(addr, len).err()
+}
+
+// Whether a range of a memory has these bytes.
+fn has_bytes(memory: &Memory<&Heap>, addr: u32, bytes: &[u8; 3]) -> Result<bool, ReadError> {
+    Ok(memory.read_range(addr, 3)?.as_slice() == bytes.as_slice())
+}
+
+#[test]
+fn a_range_that_is_read_may_be_refused(rt: HostRuntime) -> Result<(), Fail> {
+    let heap = Heap::new(rt.alloc());
+    let mut memory = Memory::new(&heap, &empty_image(&heap), 4096)?;
     memory.store16(0x100, 0x0201)?;
-    let read = memory.read_range(4096, 1).err();
-    assert!(rt; (read, heap.requests()) == (Some(ReadError::Outside), 0));
-    let read = memory.read_range(0x100, 3).err();
-    assert!(rt; read == Some(ReadError::NoMemory));
-    let read = memory.read_range(0x100, 3)?;
-    assert!(rt; read.as_slice() == [1, 2, 0].as_slice());
+    heap.refuse_nth(1);
+    let outside = refusal_of_range(&memory, 4096, 1);
+    assert!(rt; outside == Some(ReadError::Outside) && heap.requests() == 0);
+    assert!(rt; refusal_of_range(&memory, 0x100, 3) == Some(ReadError::NoMemory));
+    assert!(rt; has_bytes(&memory, 0x100, &[1, 2, 0])?);
     Ok(())
 }

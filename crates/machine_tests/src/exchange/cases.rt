@@ -1,6 +1,4 @@
-//! Programs for the nodes of a machine, and what is to come of them. The values are the rules' of the machine, worked by hand.
-
-use bsp_exchange::ExchangeFault;
+//! Programs for the nodes of a machine.
 
 /// An environment call with its operands, in the order of BSPlib's function of that name.
 pub enum Call {
@@ -8,8 +6,6 @@ pub enum Call {
     Sync,
     /// address, size
     PushReg(u32, u32),
-    /// address
-    PopReg(u32),
     /// rank, source, area, offset, count of bytes
     Put(u32, u32, u32, u32, u32),
     /// rank, area, offset, destination, count of bytes
@@ -18,12 +14,6 @@ pub enum Call {
     SetTagsize(u32),
     /// rank, tag, payload, count of bytes
     Send(u32, u32, u32, u32),
-    /// where the number of messages goes, and their bytes
-    Qsize(u32, u32),
-    /// where the size of the first payload goes, and the tag
-    GetTag(u32, u32),
-    /// destination, most bytes
-    Move(u32, u32),
     /// destination, most bytes of the input
     Read(u32, u32),
 }
@@ -37,14 +27,10 @@ impl Call {
             Call::End => [1, 0, 0, 0, 0, 0],
             Call::Sync => [4, 0, 0, 0, 0, 0],
             Call::PushReg(addr, size) => [5, addr, size, 0, 0, 0],
-            Call::PopReg(addr) => [6, addr, 0, 0, 0, 0],
             Call::Put(pid, src, dst, offset, n) => [7, pid, src, dst, offset, n],
             Call::Get(pid, src, offset, dst, n) => [8, pid, src, offset, dst, n],
             Call::SetTagsize(addr) => [11, addr, 0, 0, 0, 0],
             Call::Send(pid, tag, payload, n) => [12, pid, tag, payload, n, 0],
-            Call::Qsize(packets, bytes) => [13, packets, bytes, 0, 0, 0],
-            Call::GetTag(status, tag) => [14, status, tag, 0, 0, 0],
-            Call::Move(addr, n) => [15, addr, n, 0, 0, 0],
             Call::Read(addr, n) => [18, addr, n, 0, 0, 0],
         }
     }
@@ -55,23 +41,6 @@ pub struct Start {
     pub calls: &'static [Call],
     pub data: &'static [(u32, &'static [u8])],
 }
-
-/// What each exchange of a machine answers, and the bytes that are found when its nodes have stopped.
-pub struct Case {
-    pub name: &'static str,
-    /// By rank.
-    pub nodes: &'static [Start],
-    /// How much each exchange moves, or why the last one is refused.
-    pub exchanges: &'static [Result<u64, ExchangeFault>],
-    /// A rank, an address and the bytes from there on.
-    pub found: &'static [(usize, u32, &'static [u8])],
-}
-
-/// Registers 4 bytes at 0x2000, and waits twice.
-pub const WAITS: Start = Start {
-    calls: &[PushReg(0x2000, 4), Sync, Sync, End],
-    data: &[],
-};
 
 /// Puts, gets, sends with tags and registers in a superstep, with a queue from the one before.
 const ASKS_FOR_ALL: &[Call] = &[

@@ -1,8 +1,8 @@
 -- Lemmas on transfers that go on or stop.
-use Rattle.std.proofs.Common.{◌≡◌, ℕ, ◌<◌, ◌-◌, List, ◌++◌, length, take, drop, sym, ap, ◌∙◌, subst, arith, append_assoc, take-append-drop, length-append, Option}
-use Rattle.std.proofs.lemmas.List.{take_rest}
+use Rattle.std.proofs.Common.{◌≡◌, ℕ, ◌+◌, ◌<◌, ◌≤◌, ◌-◌, List, ◌++◌, length, take, drop, sym, ap, ◌∙◌, subst, arith, append_assoc, take-append-drop, length-append, IfSome, Option, None, Some}
+use Rattle.std.proofs.lemmas.List.{length-take-le, take_rest}
 use lib.Seq.{take-append_seam}
-use Rattle.std.specs.Io.KnownBytes.{Appends}
+use Rattle.std.specs.Io.KnownBytes.{Appends, Consumes}
 use Rattle.counted_io.specs.Transfers.{AppendsPrefix}
 
 -- a short write moves the first n bytes of the rest to what is done
@@ -16,3 +16,19 @@ pub AppendsPrefix-stopped : (old new : Option (List ℕ)) (all done rest : List 
 AppendsPrefix-stopped old new all done rest split left appended =
     let front : done ≡ take (length done) all = sym (ap (take (length done)) split ∙ take-append_seam done rest) in
     (length done, omega (arith, ap length split, length-append done rest), subst (Appends old new) front appended)
+
+-- a reader that lost some bytes had at least as many
+pub longer_than : (a b : Option (List ℕ)) (bytes : List ℕ) (most : ℕ) → Consumes a b bytes → most < length bytes → IfSome a (λ all. most < length all)
+longer_than None b bytes most p q = tt
+longer_than (Some x) None bytes most p q = absurd p
+longer_than (Some x) (Some y) bytes most p q = omega (arith, ap length p, length-append bytes y)
+
+-- the same, where some bytes were read before
+pub longer_with : (a b : Option (List ℕ)) (bytes : List ℕ) (read most : ℕ) → Consumes a b bytes → most < read + length bytes → IfSome a (λ all. most < read + length all)
+longer_with None b bytes read most p q = tt
+longer_with (Some x) None bytes read most p q = absurd p
+longer_with (Some x) (Some y) bytes read most p q = omega (arith, ap length p, length-append bytes y)
+
+-- one read passed the room that was left
+pub past_room : (bytes chunk : List ℕ) (count room : ℕ) → count ≤ length chunk → room < count → length bytes + room < length (bytes ++ take count chunk)
+past_room bytes chunk count room got more = omega (arith, length-append bytes (take count chunk), length-take-le count chunk got)

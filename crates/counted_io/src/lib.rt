@@ -124,9 +124,9 @@ impl<W: Write> Write for Counted<W> {
         ensures bytes { Keeps (W.contents self.old.inner) (W.contents self.new.inner) }
         ensures failures { self.new.failures ≡ next_count (is_err result) self.old.failures }
     {
-        let outcome = self.inner.flush();
-        self.count(outcome.is_err());
-        outcome
+        let flushed = self.inner.flush();
+        self.count(flushed.is_err());
+        flushed
     }
 }
 

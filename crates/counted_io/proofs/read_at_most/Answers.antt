@@ -3,6 +3,7 @@ use Rattle.std.proofs.Common.{◌≡◌, ℕ, ◌+◌, ◌-◌, ◌<◌, ◌≤�
 use Rattle.std.proofs.KnownBytes.{Consumes-trans}
 use Rattle.std.proofs.lemmas.List.{length-take-le}
 use Rattle.std.proofs.lemmas.Result.{err_from_is_err_and}
+use Rattle.counted_io.proofs.TransfersLemmas.{longer_than, past_room}
 use Rattle.counted_io.proofs.read_at_most.Goals as goal
 
 pub returns-then-count-most-clause-err : goal.returns-then-count-most-clause-err
@@ -27,3 +28,10 @@ returns-in_err-extend_from_slice-clause-no_memory g c = λ refused.
     let w = within c.loop-input.input.items c.read_retrying.new.chunk c.in_ok-count.count (length c.loop-input.input.items) c.args.most
     c.in_ok-count.ensures.bound.0 (omega arith) refl (search rules) (search rules) in
     (c.loop-input.input.items ++ take c.in_ok-count.count c.read_retrying.new.chunk, w.0, w.1, Consumes-trans _ _ _ _ _ c.loop-input.invariant.consumed c.in_ok-count.ensures.bytes.0)
+
+pub returns-then-count-most-clause-too_long : goal.returns-then-count-most-clause-too_long
+returns-then-count-most-clause-too_long g c = λ _.
+    let read = c.loop-input.input.items in
+    let past = past_room read c.read_retrying.new.chunk c.in_ok-count.count (c.args.most - c.len.result) c.in_ok-count.ensures.bound.0 c.if-count-most.true in
+    longer_than _ _ (read ++ take c.in_ok-count.count c.read_retrying.new.chunk) c.args.most
+    (Consumes-trans _ _ _ _ _ c.loop-input.invariant.consumed c.in_ok-count.ensures.bytes.0) (omega (arith, past, c.len.ensures, c.loop-input.invariant.limit))

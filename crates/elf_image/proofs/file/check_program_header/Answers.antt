@@ -1,0 +1,8 @@
+use Rattle.std.proofs.Common.{rules}
+use Rattle.elf_image.proofs.file.check_program_header.Goals as goal
+
+pub returns-then-not-is_load : goal.returns-then-not-is_load
+returns-then-not-is_load c = search rules
+
+pub returns : goal.returns
+returns c = search rules

@@ -6,7 +6,11 @@ use Rattle.node_memory.specs.Bytes.{fits, bytes_at}
 use Rattle.node_core.specs.Inside.{hart_view}
 use Rattle.node_core.proofs.Bytes.{length-bytes_at}
 use Rattle.node_core.proofs.Harts.{Keeps-requested}
+use Rattle.node_core.proofs.Ranks.{rank-fits}
 use Rattle.node_core.proofs.hart.Hart.issue_send.Goals as goal
+
+pub overflow_cast-message : goal.overflow_cast-message
+overflow_cast-message g c = rank-fits _ (hart_view c.self.inside).hart.nprocs c.if-target-self.false c.self.invariant.few
 
 pub invariant_of-self : goal.invariant_of-self
 invariant_of-self g c =

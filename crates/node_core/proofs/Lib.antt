@@ -3,6 +3,7 @@ pub mod Calls
 pub mod Communications
 pub mod Effects
 pub mod Harts
+pub mod Messages
 pub mod Ranks
 pub mod Room
 pub mod Signed

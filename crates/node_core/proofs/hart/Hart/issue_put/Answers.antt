@@ -19,7 +19,7 @@ invariant_of-self g c =
     let h = (hart_view c.self.inside).hart in
     let fit : fits (length h.memory) c.reg-src.result c.reg-len.result ≡ true = sym c.fits.ensures ∙ c.if-not-fits.false in
     let counts = ap length c.in-Ok.ensures.ok ∙ length-bytes_at h.memory c.reg-src.result c.reg-len.result fit in
-    let room : is_full_for h.communication.requests c.reg-len.result ≡ false = rw (← c.from.ensures) (sym c.is_full_for.ensures ∙ c.if-is_full_for.false) in
+    let room : is_full_for h.communication.requests c.reg-len.result ≡ false = rw (← c.from.ensures, ← c.is_full_for.ensures) c.if-is_full_for.false in
     let slot = (IsLastEntry-from h.communication.registrations.in_effect c.reg-dst.result c.in-Some.slot (sym c.find.ensures ∙ c.in-Some.is)).within in
     let request = asks_put (record { target = c.reg-target.result; slot = c.in-Some.slot; offset = c.reg-offset.result; bytes = c.in-Ok.bytes }) in
     let met : IsWellAddressed h.nprocs (length h.communication.registrations.in_effect) (length h.memory) request = (c.if-target-self.false, slot) in

@@ -1,9 +1,28 @@
--- What the answer of an exchange says of a fault.
-use Rattle.std.proofs.Common.{◌≡◌, Result, Ok, Err, Option, Some, None}
-use Rattle.std.specs.Prelude.{◌↔◌, IsErrOf, IsErrAnd}
+-- Which fault is the first, and what the answer of an exchange says of it.
+use Rattle.std.proofs.Common.{◌≡◌, ℕ, List, Result, Ok, Err, Option, Some, None, ap, ap₂, sym}
+use Rattle.std.specs.Prelude.{◌↔◌, IsErrOf, IsErrAnd, option_map}
+use Rattle.std.specs.Option.{option_or}
+use Rattle.node_core.specs.Node.{NodeState}
 use Rattle.bsp_exchange.specs.declared.fault.ExchangeFault.{ExchangeFault}
+use Rattle.bsp_exchange.specs.declared.fault.ExchangeFault.TheVariants.{TagMismatch, SlotMismatch}
 use Rattle.bsp_exchange.specs.declared.fault.ExchangeError.{ExchangeError}
 use Rattle.bsp_exchange.specs.declared.fault.ExchangeError.TheVariants.{Fault, NoMemory}
+use Rattle.bsp_exchange.specs.Issued.{issued}
+use Rattle.bsp_exchange.specs.Faults.{disagreeing, have_same_tag_size, have_same_shape, first_outside, exchange_fault}
+
+-- the first fault is one of the tag sizes, or else one of the registrations, or else one of the requests
+pub fault_of_tags : (nodes : List NodeState) (rank : ℕ) → disagreeing have_same_tag_size nodes ≡ Some rank → Some (TagMismatch rank) ≡ exchange_fault nodes
+fault_of_tags nodes rank tags =
+    let others : Option ExchangeFault = option_or (option_map SlotMismatch (disagreeing have_same_shape nodes)) (first_outside nodes (issued nodes)) in
+    ap (λ (o : Option ℕ). option_or (option_map TagMismatch o) others) (sym tags)
+
+pub fault_of_slots : (nodes : List NodeState) (rank : ℕ) → disagreeing have_same_tag_size nodes ≡ None → disagreeing have_same_shape nodes ≡ Some rank → Some (SlotMismatch rank) ≡ exchange_fault nodes
+fault_of_slots nodes rank tags slots =
+    ap₂ (λ (o p : Option ℕ). option_or (option_map TagMismatch o) (option_or (option_map SlotMismatch p) (first_outside nodes (issued nodes)))) (sym tags) (sym slots)
+
+pub fault_of_requests : (nodes : List NodeState) → disagreeing have_same_tag_size nodes ≡ None → disagreeing have_same_shape nodes ≡ None → first_outside nodes (issued nodes) ≡ exchange_fault nodes
+fault_of_requests nodes tags slots =
+    ap₂ (λ (o p : Option ℕ). option_or (option_map TagMismatch o) (option_or (option_map SlotMismatch p) (first_outside nodes (issued nodes)))) (sym tags) (sym slots)
 
 -- a result names the fault that there is, and none where there is none
 abbrev pub NamesFault : {T : Type 0} → Result T ExchangeError → Option ExchangeFault → Type 0

@@ -1,4 +1,4 @@
-use Rattle.std.proofs.Common.{sym, subst}
+use Rattle.std.proofs.Common.{sym, subst, ap}
 use Rattle.bsp_exchange.specs.Exchange.{states}
 use Rattle.machine_core.specs.Events.{HaveStepped}
 use Rattle.machine_core.specs.Inside.{lender_view}
@@ -11,3 +11,6 @@ invariant_of-result g c =
     let row = states c.args.row.items in
     IsSoundMachine-lent (lender_view c.self.inside) row c.self.invariant
     (subst (λ (m : MachineState). HaveStepped m.input m.nodes row) (sym c.self.view_is) c.requires)
+
+pub returns : goal.returns
+returns g c = ap (λ (m : MachineState). record m { nodes = states c.args.row.items }) c.self.view_is

@@ -1,0 +1,5 @@
+use Rattle.std.proofs.Common.{refl}
+use Rattle.machine_core.proofs.closing.last_row.Goals as goal
+
+pub returns : goal.returns
+returns c = refl

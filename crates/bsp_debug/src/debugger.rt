@@ -137,10 +137,7 @@ impl<A: Allocator + Copy> Debugger<A> {
         ensures err { IfErr result (λ e. command_fault self.now.machine command ≡ Some e) }
     {
         match command {
-            Command::Step { rank, .. } => {
-                self.check_rank(rank)?;
-                self.check_open()
-            }
+            Command::Step { rank, .. } => self.check_rank(rank).and(self.check_open()),
             Command::Phase | Command::Turn | Command::Go => self.check_open(),
             Command::Regs { rank } | Command::Queue { rank } => self.check_rank(rank),
             Command::Bytes { rank, addr, len } => self.check_range(rank, addr, len),

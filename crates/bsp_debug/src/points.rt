@@ -28,9 +28,8 @@ impl<A: Allocator + Copy> Points<A> {
     pub fn new(alloc: A) -> Self
         ensures { result ≡ [] }
     {
-        Points {
-            set: BTreeSet::new(alloc),
-        }
+        let set = BTreeSet::new(alloc);
+        Points { set }
     }
 
     pub fn len(&self) -> usize

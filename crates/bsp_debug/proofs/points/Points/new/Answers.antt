@@ -1,0 +1,4 @@
+use Rattle.bsp_debug.proofs.points.Points.new.Goals as goal
+
+pub returns : goal.returns
+returns g c = c.new-set.ensures.empty

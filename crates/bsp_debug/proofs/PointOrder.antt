@@ -26,7 +26,7 @@ is_eq-order (Address r a) (Superstep k) = refl
 is_eq-order (Superstep k) (Address r a) = refl
 is_eq-order (Superstep j) (Superstep k) = is_eq-nat_cmp j k
 
-is_set-order : (points : List Point) (p : Point) → list_any (λ q. is_eq (order p q)) points ≡ is_set points p
+pub is_set-order : (points : List Point) (p : Point) → list_any (λ q. is_eq (order p q)) points ≡ is_set points p
 is_set-order [] p = refl
 is_set-order (q ∷ points) p = rw (is_eq-order p q, is_set-order points p) refl
 

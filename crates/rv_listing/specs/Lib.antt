@@ -1,4 +1,5 @@
 pub mod Lines
 pub mod Listing
 pub mod Numerals
+pub mod Operands
 pub mod Statement

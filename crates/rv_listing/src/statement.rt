@@ -1,7 +1,8 @@
 //! The assembly statement of a word.
 
 ghost use Rattle.std.specs.Prelude.{◌≡◌, IfOk};
-ghost use Rattle.rv_listing.specs.Statement.{statement_of};
+ghost use Rattle.rv_listing.specs.Operands.{texts_of};
+ghost use Rattle.rv_listing.specs.Statement.{statement_of, operands_of, target_address};
 
 use crate::numerals::EightDigits;
 use rv_tables::{Instr, decode, mnemonic};
@@ -45,74 +46,95 @@ impl fmt::Display for InstructionAt {
     ghost output = { λ s. Some (instruction_text s.addr s.instr) };
 
     fn fmt<W: fmt::Write>(&self, f: &mut fmt::Formatter<W>) -> fmt::Result {
-        let addr = self.addr;
-        let instr = self.instr;
-        let name = mnemonic(&instr);
-        match instr {
-            Instr::R { rd, rs1, rs2, .. } => write!(f, "{name} x{rd},x{rs1},x{rs2}"),
-            Instr::I { rd, rs1, imm, .. } => write!(f, "{name} x{rd},x{rs1},{imm}"),
-            Instr::Shift { rd, rs1, shamt, .. } => write!(f, "{name} x{rd},x{rs1},{shamt}"),
-            Instr::Load { rd, rs1, imm, .. } => {
-                let address = Relative { imm, base: rs1 };
-                write!(f, "{name} x{rd},{address}")
-            }
-            Instr::Jalr { rd, rs1, imm } => {
-                let address = Relative { imm, base: rs1 };
-                write!(f, "{name} x{rd},{address}")
-            }
-            Instr::Store { rs1, rs2, imm, .. } => {
-                let address = Relative { imm, base: rs1 };
-                write!(f, "{name} x{rs2},{address}")
-            }
-            Instr::Branch { rs1, rs2, imm, .. } => {
-                let target = Target { addr, offset: imm };
-                write!(f, "{name} x{rs1},x{rs2},{target}")
-            }
-            Instr::Upper { rd, imm, .. } => write!(f, "{name} x{rd},0x{imm:x}"),
-            Instr::Jal { rd, imm } => {
-                let target = Target { addr, offset: imm };
-                write!(f, "{name} x{rd},{target}")
-            }
-            Instr::Plain { .. } => write!(f, "{name}"),
+        let name = mnemonic(&self.instr);
+        let operands = operands_of(self.instr, self.addr);
+        write!(f, "{name}{operands}")
+    }
+}
+
+/// The operands of an instruction: its registers, and the last operand behind them. Its text begins with a blank where it
+/// has any.
+#[derive(Clone, Copy)]
+enum Operands {
+    None,
+    Two(u8, Operand),
+    Three(u8, u8, Operand),
+}
+
+impl fmt::Display for Operands {
+    ghost use Rattle.std.specs.Prelude.{Some};
+    ghost use Rattle.rv_listing.specs.Operands.{texts_of};
+    ghost use Rattle.rv_listing.specs.Statement.{operand_list};
+
+    ghost output = { λ operands. Some (operand_list (texts_of operands)) };
+
+    fn fmt<W: fmt::Write>(&self, f: &mut fmt::Formatter<W>) -> fmt::Result {
+        match *self {
+            Operands::None => Ok(()),
+            Operands::Two(first, last) => write!(f, " x{first},{last}"),
+            Operands::Three(first, second, last) => write!(f, " x{first},x{second},{last}"),
         }
     }
 }
 
-/// An address relative to a register. Its text is as `-4(x2)`.
-#[derive(Clone, Copy)]
-struct Relative {
-    imm: i32,
-    base: u8,
-}
-
-impl fmt::Display for Relative {
-    ghost use Rattle.std.specs.Prelude.{Some};
-    ghost use Rattle.rv_listing.specs.Statement.{relative};
-
-    ghost output = { λ r. Some (relative r.imm r.base) };
-
-    fn fmt<W: fmt::Write>(&self, f: &mut fmt::Formatter<W>) -> fmt::Result {
-        let (imm, base) = (self.imm, self.base);
-        write!(f, "{imm}(x{base})")
+/// The operands of an instruction at an address.
+fn operands_of(instr: Instr, addr: u32) -> Operands
+    ensures { texts_of result ≡ operands_of instr addr }
+{
+    match instr {
+        Instr::R { rd, rs1, rs2, .. } => Operands::Three(rd, rs1, Operand::Register(rs2)),
+        Instr::I { rd, rs1, imm, .. } => Operands::Three(rd, rs1, Operand::Number(imm)),
+        Instr::Shift { rd, rs1, shamt, .. } => {
+            Operands::Three(rd, rs1, Operand::Number(i32::from(shamt)))
+        }
+        Instr::Load { rd, rs1, imm, .. } => Operands::Two(rd, Operand::Relative { imm, base: rs1 }),
+        Instr::Jalr { rd, rs1, imm } => Operands::Two(rd, Operand::Relative { imm, base: rs1 }),
+        Instr::Store { rs1, rs2, imm, .. } => {
+            Operands::Two(rs2, Operand::Relative { imm, base: rs1 })
+        }
+        Instr::Branch { rs1, rs2, imm, .. } => {
+            Operands::Three(rs1, rs2, Operand::Target(target(addr, imm)))
+        }
+        Instr::Upper { rd, imm, .. } => Operands::Two(rd, Operand::Upper(imm)),
+        Instr::Jal { rd, imm } => Operands::Two(rd, Operand::Target(target(addr, imm))),
+        Instr::Plain { .. } => Operands::None,
     }
 }
 
-/// The address that is `offset` bytes from `addr`, modulo 2^32. Its text has eight hexadecimal digits.
-#[derive(Clone, Copy)]
-struct Target {
-    addr: u32,
-    offset: i32,
+/// The address that is `offset` bytes from `addr`, modulo 2^32.
+fn target(addr: u32, offset: i32) -> u32
+    ensures { result ≡ target_address addr offset }
+{
+    addr.wrapping_add_signed(offset)
 }
 
-impl fmt::Display for Target {
-    ghost use Rattle.std.specs.Prelude.{Some};
-    ghost use Rattle.rv_listing.specs.Statement.{target};
+/// An operand.
+#[derive(Clone, Copy)]
+enum Operand {
+    Register(u8),
+    Number(i32),
+    /// The upper 20 bits of a word: `0x12345`.
+    Upper(u32),
+    /// An address relative to a register: `-4(x2)`.
+    Relative { imm: i32, base: u8 },
+    /// An address to which an instruction jumps: `0x0000000c`.
+    Target(u32),
+}
 
-    ghost output = { λ t. Some (target t.addr t.offset) };
+impl fmt::Display for Operand {
+    ghost use Rattle.std.specs.Prelude.{Some};
+    ghost use Rattle.rv_listing.specs.Operands.{text_of};
+
+    ghost output = { λ operand. Some (text_of operand) };
 
     fn fmt<W: fmt::Write>(&self, f: &mut fmt::Formatter<W>) -> fmt::Result {
-        let target = self.addr.wrapping_add_signed(self.offset);
-        write!(f, "0x{}", EightDigits(target))
+        match *self {
+            Operand::Register(number) => write!(f, "x{number}"),
+            Operand::Number(number) => write!(f, "{number}"),
+            Operand::Upper(imm) => write!(f, "0x{imm:x}"),
+            Operand::Relative { imm, base } => write!(f, "{imm}(x{base})"),
+            Operand::Target(address) => write!(f, "0x{}", EightDigits(address)),
+        }
     }
 }
 

@@ -6,7 +6,7 @@ ghost use Rattle.asm_syntax.specs.Forms.{name_of, form_named};
 use rv_tables::{BranchOp, IOp, Instr, LoadOp, PlainOp, ROp, ShiftOp, StoreOp, UpperOp, mnemonic};
 
 /// A statement of the language by its mnemonic: what it makes, and so which operands it takes.
-#[derive(Clone, Copy, Debug, PartialEq, Eq)]
+#[derive(Clone, Copy)]
 pub(crate) enum Form {
     /// A row on three registers.
     Arithmetic(ROp),

@@ -1,8 +1,8 @@
 //! Plain copies, for comparison.
 
-ghost use Rattle.std.specs.Prelude.{◌≡◌, ◌<◌, IfOk, length};
+ghost use Rattle.std.specs.Prelude.{◌≡◌, ◌<◌, IfSome, length};
 
-use std::alloc::{AllocError, Allocator};
+use std::alloc::Global;
 
 /// The bytes of a whole copy.
 const WHOLE: usize = 16 << 20;
@@ -19,28 +19,28 @@ const PIECE: usize = 16;
 const PIECES: usize = NODES * REQUESTS * PIECE;
 
 /// Copies 16 MiB at once, `turns` times. The first byte of the last copy.
-pub fn copies<A: Allocator + Copy>(alloc: A, turns: u32) -> Result<u8, AllocError> {
+pub fn copies(alloc: Global, turns: u32) -> Option<u64> {
     let mut source = bytes(alloc, WHOLE)?;
     let mut target = bytes(alloc, WHOLE)?;
-    Ok(copy_whole(&mut source, &mut target, turns))
+    Some(copy_whole(&mut source, &mut target, turns))
 }
 
 /// Copies 16 bytes for each request of each node, `turns` times. The first byte of the last copy.
-pub fn pieces<A: Allocator + Copy>(alloc: A, turns: u32) -> Result<u8, AllocError> {
+pub fn pieces(alloc: Global, turns: u32) -> Option<u64> {
     let mut source = bytes(alloc, PIECES)?;
     let mut target = bytes(alloc, PIECES)?;
-    Ok(copy_in_pieces(&mut source, &mut target, turns))
+    Some(copy_in_pieces(&mut source, &mut target, turns))
 }
 
 /// So many bytes.
-fn bytes<A: Allocator>(alloc: A, len: usize) -> Result<Vec<u8, A>, AllocError>
-    ensures { IfOk result (λ bytes. length bytes.items ≡ len) }
+fn bytes(alloc: Global, len: usize) -> Option<Vec<u8>>
+    ensures { IfSome result (λ bytes. length bytes.items ≡ len) }
 {
-    vec![in alloc; 1; len]
+    vec![in alloc; 1; len].ok()
 }
 
 /// Copies `source` at once, each time with another first byte. The first byte of the last copy.
-fn copy_whole(source: &mut [u8], target: &mut [u8], turns: u32) -> u8
+fn copy_whole(source: &mut [u8], target: &mut [u8], turns: u32) -> u64
     requires some { 0 < length source.old }
     requires same { length target.old ≡ length source.old }
 {
@@ -48,11 +48,11 @@ fn copy_whole(source: &mut [u8], target: &mut [u8], turns: u32) -> u8
         source[0] = (turn % 256) as u8;
         target.copy_from_slice(source);
     }
-    target[0]
+    u64::from(target[0])
 }
 
 /// The same in pieces.
-fn copy_in_pieces(source: &mut [u8], target: &mut [u8], turns: u32) -> u8
+fn copy_in_pieces(source: &mut [u8], target: &mut [u8], turns: u32) -> u64
     requires source { length source.old ≡ PIECES }
     requires target { length target.old ≡ PIECES }
 {
@@ -60,7 +60,7 @@ fn copy_in_pieces(source: &mut [u8], target: &mut [u8], turns: u32) -> u8
         source[0] = (turn % 256) as u8;
         copy_pieces(source, target);
     }
-    target[0]
+    u64::from(target[0])
 }
 
 /// Copies all pieces once: those of each node to all nodes in turn.

@@ -17,7 +17,6 @@
 #![tactic(auto)]
 
 mod copies;
-mod errors;
 mod machine;
 mod shapes;
 mod work;
@@ -25,11 +24,11 @@ mod work;
 use std::process::ExitCode;
 
 fn main(rt: HostRuntime) -> ExitCode {
-    match work::run(&rt) {
-        Ok(()) => ExitCode::SUCCESS,
-        Err(error) => {
-            let _ = eprintln!(rt; "exchange_bench: {error}");
-            ExitCode::FAILURE
-        }
+    if let Some(number) = work::run(&rt) {
+        let _ = println!(rt; "{number}");
+        ExitCode::SUCCESS
+    } else {
+        let _ = eprintln!(rt; "exchange_bench: nothing done; usage: exchange_bench [WORK N]");
+        ExitCode::FAILURE
     }
 }

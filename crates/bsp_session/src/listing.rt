@@ -1,6 +1,6 @@
 //! The sessions that run nothing: the listing of an image, and the image of a text.
 
-ghost use Rattle.std.specs.Prelude.{◌≡◌, ◌≢◌, ◌≤◌, ◌⊎◌, IfOk, IfErr, OnOk, OnErr, Some, None};
+ghost use Rattle.std.specs.Prelude.{◌≡◌, ◌≢◌, ◌≤◌, ◌⊎◌, ◌++◌, ℕ, List, [], IfOk, IfErr, OnOk, OnErr, Some, None, string_bytes};
 ghost use Rattle.std.specs.Io.KnownBytes.{Appends};
 ghost use Rattle.counted_io.specs.Counted.{HasRisen};
 ghost use Rattle.counted_io.specs.Transfers.{AppendsPrefix};
@@ -158,6 +158,27 @@ fn write_segment<A: Allocator + Copy, W: Write>(
     ensures never_falls { out.old.failures ≤ out.new.failures }
 {
     let mut block = String::new(alloc);
+    write_blocks(segment, &mut block, out)?;
+    Ok(write_whole(out, block.as_bytes())?)
+}
+
+/// Writes the listing of a segment up to its last block, which is left in `block`.
+fn write_blocks<A: Allocator + Copy, W: Write>(
+    segment: &Segment<A>,
+    block: &mut String<A>,
+    out: &mut Counted<W>,
+) -> Result<(), SessionError>
+    requires { string_bytes block.old ≡ [] }
+    ensures ok { OnOk result ((written : List ℕ)
+        × Appends (W.contents out.old.inner) (W.contents out.new.inner) written
+        × (listing_of_segment segment.now ≡ written ++ string_bytes block.new)) }
+    ensures err { OnErr result (AppendsPrefix
+        (W.contents out.old.inner) (W.contents out.new.inner) (listing_of_segment segment.now)) }
+    ensures kinds { IfErr result (λ e.
+        (e ≡ SessionError.WriteFault) ⊎ (e ≡ SessionError.NoMemory)) }
+    ensures fault { result ≡ Err SessionError.WriteFault → HasRisen out.old.failures out.new.failures }
+    ensures never_falls { out.old.failures ≤ out.new.failures }
+{
     for line in Lines::new(segment) {
         writeln!(block, "{line}")?;
         if block.len() >= BLOCK {
@@ -165,5 +186,5 @@ fn write_segment<A: Allocator + Copy, W: Write>(
             block.clear();
         }
     }
-    Ok(write_whole(out, block.as_bytes())?)
+    Ok(())
 }

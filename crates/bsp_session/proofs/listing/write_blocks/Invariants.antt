@@ -3,7 +3,7 @@ use Rattle.std.proofs.Common.{◌≡◌, ◌≤◌, List, ℕ, ◌++◌, string_
 use Rattle.std.specs.List.{flat_map}
 use Rattle.std.specs.Io.KnownBytes.{Appends}
 use Rattle.rv_listing.specs.Listing.{ended_text, listing_of_segment}
-use Rattle.bsp_session.proofs.listing.write_segment.Given as goal
+use Rattle.bsp_session.proofs.listing.write_blocks.Given as goal
 
 abbrev pub invariant-loop-line : goal.invariant-loop-line
 invariant-loop-line g l = record {

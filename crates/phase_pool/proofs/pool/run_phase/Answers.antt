@@ -1,4 +1,4 @@
-use Rattle.std.proofs.Common.{sym, ap, ◌∙◌}
+use Rattle.std.proofs.Common.{sym, ap, ◌∙◌, rules}
 use Rattle.std.specs.Prelude.{is_some}
 use Rattle.std.proofs.lemmas.Result.{err_from_is_err_and}
 use Rattle.phase_pool.proofs.Phases.{no_events, phases_over, HaveCome-over}
@@ -18,7 +18,7 @@ returns-then-is_some-clause-stopped g c within =
     HaveCome-over c.args.machine.now c.outcome.ensures.sound (ap is_some (sym c.outcome.ensures.value) ∙ sym c.is_some.ensures ∙ c.if-is_some.true)
 
 pub returns-clause-ok : goal.returns-clause-ok
-returns-clause-ok g c = c.in_ok-make_local_parts.ensures.ok
+returns-clause-ok g c = search rules
 
 pub returns-clause-stopped : goal.returns-clause-stopped
-returns-clause-stopped g c within = c.make_local_parts.ensures.come
+returns-clause-stopped g c within = search rules

@@ -89,17 +89,7 @@ pub skipped : {X : Type 0} (fits : X → Bool) (read : List Token → Option X) 
 skipped fits read ops i d so_far done e whole within out found is =
     gathered-out fits read ops i d so_far done within (sym (rw out at found)) ∙ is
 
--- before the first, and behind the last
-pub gathered-first : {X : Type 0} (fits : X → Bool) (read : List Token → Option X) (ops : List (Bor (List TokenCode))) → behind (gathered fits read ops) true [] ≡ gathered fits read ops
-gathered-first {X} fits read ops = by_read (all_of read (operand_values ops)) where
-  by_test : (xs : List X) → (list_all fits xs ≡ true) ⊎ (list_all fits xs ≡ false) → behind (judged (list_all fits) (Some xs)) true [] ≡ judged (list_all fits) (Some xs)
-  by_test xs (inl all) = rw all refl
-  by_test xs (inr not_all) = rw not_all refl
-
-  by_read : (o : Option (List X)) → behind (judged (list_all fits) o) true [] ≡ judged (list_all fits) o
-  by_read None = refl
-  by_read (Some xs) = by_test xs (cases_Bool (list_all fits xs))
-
+-- behind the last
 pub gathered-last : {X : Type 0} (fits : X → Bool) (read : List Token → Option X) (ops : List (Bor (List TokenCode))) (i : ℕ) (so_far : Bool) (done : List X) → length ops ≤ i → behind (gathered fits read (drop i ops)) so_far done ≡ behind (Ok []) so_far done
 gathered-last fits read ops i so_far done all = at_drop_all (λ os. behind (gathered fits read os) so_far done) ops i all
 

@@ -303,13 +303,6 @@ fits_at nodes row faultless harts i n is =
       queue = sent_are_queue nodes i few harts requests;
     }
 
--- what each node receives has its place there
-pub fits_in : (nodes : List NodeState) → AreAtSync nodes → exchange_fault nodes ≡ None → All (λ (n : NodeState). IsHart n.hart) nodes → All (λ (n : NodeState). FitsIn (length n.hart.memory) (received_at nodes n.hart.rank)) nodes
-fits_in nodes row faultless harts k d below =
-    let n : NodeState = get_or nodes k d in
-    let is : slice_get nodes k ≡ Some n = slice_get-get_or nodes k d below in
-    rw (rank_is nodes row k n is) (fits_at nodes row faultless harts k n is)
-
 -- what a place's node receives has its place there, and leaves the node that the exchange is to leave
 pub record Lands (nodes : List NodeState) (i : ℕ) (n : NodeState) : Type 0 where
   pub fits : FitsIn (length n.hart.memory) (received_at nodes i)

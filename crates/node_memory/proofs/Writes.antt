@@ -1,17 +1,12 @@
 -- What a write leaves of a memory.
-use Rattle.std.proofs.Common.{◌≡◌, ℕ, ◌+◌, ◌-◌, ◌≤◌, ◌&&◌, List, ◌++◌, length, cond, get_or, leb, ltb, replicate, arith, rules, ◌∙◌, ap}
+use Rattle.std.proofs.Common.{◌≡◌, ℕ, ◌+◌, ◌-◌, ◌≤◌, List, ◌++◌, length, replicate, arith, rules, ◌∙◌, ap}
 use Rattle.std.proofs.lemmas.List.{places, same_lists, length-replicate}
-use Rattle.std.proofs.lemmas.Bool.Decides.{nat_tests}
 use borrow.Rule.Slice.PartMut.{put_mid}
 use Rattle.node_memory.specs.Bytes.{with_bytes}
 use Rattle.node_memory.specs.Image.{Segment, with_segment}
 
 pub length-with_bytes : (m : List ℕ) (addr : ℕ) (bytes : List ℕ) → addr + length bytes ≤ length m → length (with_bytes m addr bytes) ≡ length m
 length-with_bytes m addr bytes h = grind (arith, places)
-
--- a byte of what was written, and the old byte beside it
-pub get_or-with_bytes : (m : List ℕ) (addr : ℕ) (bytes : List ℕ) (k : ℕ) → addr + length bytes ≤ length m → get_or (with_bytes m addr bytes) k 0 ≡ cond (leb addr k && ltb k (addr + length bytes)) (get_or bytes (k - addr) 0) (get_or m k 0)
-get_or-with_bytes m addr bytes k h = grind (arith, places, nat_tests)
 
 -- two writes side by side are one
 two_writes : (m bs zs : List ℕ) (a size : ℕ) → length bs ≤ size → a + size ≤ length m → length zs ≡ size - length bs → put_mid (a + length bs) (a + size - (a + length bs)) (put_mid a (a + length bs - a) m bs) zs ≡ with_bytes m a (bs ++ zs)

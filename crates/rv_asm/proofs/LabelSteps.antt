@@ -18,9 +18,6 @@ duplicate-step s t label rest a h absent =
     ap (λ o. is_some o || has_duplicate (λ q. bytes_eq label q || is_some (s q)) rest) absent
     ∙ (λ i. has_duplicate (λ q. (sym (ap is_some (h q) ∙ is_some-with_symbol s label a q)) i) rest)
 
-pub duplicate-found : (s : Symbols) (label : List ℕ) (rest : List (List ℕ)) → is_some (s label) ≡ true → has_duplicate (λ q. is_some (s q)) (label ∷ rest) ≡ true
-duplicate-found s label rest e = ap (λ b. b || has_duplicate (λ q. bytes_eq label q || is_some (s q)) rest) e
-
 pub with_labels-step : (s t : Symbols) (label : List ℕ) (rest : List (List ℕ)) (a : ℕ) → ((q : List ℕ) → t q ≡ with_symbol s label a q)
     → (q : List ℕ) → with_labels s (label ∷ rest) a q ≡ with_labels t rest a q
 with_labels-step s t label rest a h q = λ i. with_labels (λ p. (sym (h p)) i) rest a q
@@ -38,7 +35,3 @@ pub judged_from : (s t : Symbols) (names : List (Bor (List ℕ))) (i : ℕ) (d :
     → has_duplicate (λ q. is_some (s q)) (map (λ n. n.now) (drop i names)) ≡ has_duplicate (λ q. is_some (t q)) (map (λ n. n.now) (drop (i + 1) names))
 judged_from s t names i d a lt h absent =
     ap (has_duplicate (λ q. is_some (s q))) (names_from names i d lt) ∙ duplicate-step s t (get_or names i d).now (map (λ n. n.now) (drop (i + 1) names)) a h absent
-
-pub duplicate_from : (s : Symbols) (names : List (Bor (List ℕ))) (i : ℕ) (d : Bor (List ℕ)) → i < length names → is_some (s (get_or names i d).now) ≡ true → has_duplicate (λ q. is_some (s q)) (map (λ n. n.now) (drop i names)) ≡ true
-duplicate_from s names i d lt e =
-    ap (has_duplicate (λ q. is_some (s q))) (names_from names i d lt) ∙ duplicate-found s (get_or names i d).now (map (λ n. n.now) (drop (i + 1) names)) e

@@ -33,11 +33,6 @@ pub uses_more : (symbols : Symbols) (number address : ℕ) (text : List ℕ) (re
 uses_more symbols number address text rest e =
     ap (λ f. option_or (option_map (λ kind. (number, kind)) f) (uses_from symbols (number + 1) (end_from address (line_of text)) rest)) e
 
-pub uses_faulty : (symbols : Symbols) (number address : ℕ) (text : List ℕ) (rest : List (List ℕ)) (kind : AsmKind) → option_and_then (fault_of_use symbols address) (statement_of (line_of text)) ≡ Some kind
-    → uses_from symbols number address (text ∷ rest) ≡ Some (number, kind)
-uses_faulty symbols number address text rest kind e =
-    ap (λ f. option_or (option_map (λ k. (number, k)) f) (uses_from symbols (number + 1) (end_from address (line_of text)) rest)) e
-
 -- lines are laid out, whatever the rest of them is, where the rest has the further bytes
 abbrev pub IsLaidUpTo : Symbols → List (List ℕ) → List (List ℕ) → List ℕ → ℕ → Type 0
 IsLaidUpTo symbols texts rest bytes entry =

@@ -5,9 +5,8 @@ use Rattle.std.specs.Option.{option_map_or, option_or}
 use Rattle.std.specs.Str.{bytes_eq}
 use Rattle.asm_syntax.specs.Lines.{lines_of}
 use Rattle.asm_syntax.specs.Parse.{line_of}
-use Rattle.rv_asm.specs.declared.errors.AsmKind.{AsmKind}
 use Rattle.rv_asm.specs.Faults.{fault_of_line, fault_alone, first_fault}
-use Rattle.rv_asm.specs.Places.{Place, placed, labels_of, end_from, symbols_of}
+use Rattle.rv_asm.specs.Places.{Place, placed, labels_of, end_from}
 use Rattle.rv_asm.specs.Symbols.{Symbols, with_symbol, with_labels}
 use Rattle.rv_asm.proofs.LabelSteps.{is_some-with_symbol}
 
@@ -35,13 +34,6 @@ is_some-with_labels s (label ∷ rest) a q =
     ∙ ap (λ b. list_any (λ l. bytes_eq l q) rest || b) (is_some-with_symbol s label a q)
     ∙ or_mid (bytes_eq label q) (list_any (λ l. bytes_eq l q) rest) (is_some (s q))
 
-pub start_judged : (s : Symbols) (texts : List (List ℕ)) → ((q : List ℕ) → s q ≡ None) → first_fault fault_alone (placed 1 0 (λ _. false) texts) ≡ first_fault fault_alone (placed 1 0 (λ q. is_some (s q)) texts)
-start_judged s texts h = λ i. first_fault fault_alone (placed 1 0 (λ q. is_some (sym (h q) i)) texts)
-
-pub start_known : (s : Symbols) (texts : List (List ℕ)) → ((q : List ℕ) → s q ≡ None)
-    → (q : List ℕ) → symbols_of (placed 1 0 (λ _. false) texts) q ≡ symbols_from s (placed 1 0 (λ p. is_some (s p)) texts) q
-start_known s texts h q = λ i. symbols_from (λ p. sym (h p) i) (placed 1 0 (λ p. is_some (sym (h p) i)) texts) q
-
 module _ (s t : Symbols) (number address end : ℕ) (line : List ℕ) (texts : List (List ℕ)) (ends : end ≡ end_from address (line_of line)) (labels : (q : List ℕ) → t q ≡ with_labels s (labels_of (line_of line)) address q) where
   known_next : (q : List ℕ) → (list_any (λ label. bytes_eq label q) (labels_of (line_of line)) || is_some (s q)) ≡ is_some (t q)
   known_next q = sym (ap is_some (labels q) ∙ is_some-with_labels s (labels_of (line_of line)) address q)
@@ -54,11 +46,6 @@ module _ (s t : Symbols) (number address end : ℕ) (line : List ℕ) (texts : L
 
   pub known_more : (q : List ℕ) → symbols_from s (placed number address (λ p. is_some (s p)) (line ∷ texts)) q ≡ symbols_from t (placed (number + 1) end (λ p. is_some (t p)) texts) q
   known_more q = λ i. symbols_from (λ p. sym (labels p) i) (placed (number + 1) (sym ends i) (λ p. known_next p i) texts) q
-
-pub judged_faulty : (s : Symbols) (number address : ℕ) (line : List ℕ) (texts : List (List ℕ)) (kind : AsmKind) → fault_of_line address (λ q. is_some (s q)) (line_of line) ≡ Some kind
-    → first_fault fault_alone (placed number address (λ q. is_some (s q)) (line ∷ texts)) ≡ Some (number, kind)
-judged_faulty s number address line texts kind e =
-    ap (λ f. option_or (option_map (λ k. (number, k)) f) (first_fault fault_alone (placed (number + 1) (end_from address (line_of line)) (λ q. list_any (λ label. bytes_eq label q) (labels_of (line_of line)) || is_some (s q)) texts))) e
 
 pub left-below : (rest : Option (Bor (List ℕ))) (n : ℕ) → IfSome rest (λ r. length r.now < n) → left_in rest ≤ n
 left-below None n h = omega arith

@@ -1,4 +1,4 @@
-use Rattle.std.proofs.Common.{arith}
+use Rattle.std.proofs.Common.{arith, rules}
 use Rattle.std.proofs.lemmas.Grind.{common_steps}
 use Rattle.node_core.specs.Inside.{hart_view}
 use Rattle.node_core.proofs.Harts.{IsHart-popped, not_ready-popped}
@@ -11,3 +11,6 @@ pub returns-in-Ok-clause-ready : goal.returns-in-Ok-clause-ready
 returns-in-Ok-clause-ready g c =
     let room = not_ready-popped (hart_view c.self.inside).hart _ c.pop.new.self c.in-Ok.ensures.ok c.args.self.now.ready in
     grind (arith, common_steps, room)
+
+pub returns-in-Err-NotRegistered-clause-ok : goal.returns-in-Err-NotRegistered-clause-ok
+returns-in-Err-NotRegistered-clause-ok g c = search rules

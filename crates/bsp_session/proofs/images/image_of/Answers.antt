@@ -1,0 +1,5 @@
+use Rattle.std.proofs.Common.{rules}
+use Rattle.bsp_session.proofs.images.image_of.Goals as goal
+
+pub raw-requires : goal.raw-requires
+raw-requires g c = search rules

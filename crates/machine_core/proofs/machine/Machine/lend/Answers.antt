@@ -1,0 +1,5 @@
+use Rattle.std.proofs.Common.{rules}
+use Rattle.machine_core.proofs.machine.Machine.lend.Goals as goal
+
+pub invariant_of-lender : goal.invariant_of-lender
+invariant_of-lender g c = search rules

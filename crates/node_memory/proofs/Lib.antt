@@ -1,2 +1,3 @@
 pub mod ImageBytes
+pub mod WordBytes
 pub mod Writes

@@ -1,5 +1,5 @@
 -- What a write leaves of a memory.
-use Rattle.std.proofs.Common.{◌≡◌, ℕ, ◌+◌, ◌-◌, ◌≤◌, List, ◌++◌, length, replicate, arith, rules, ◌∙◌, ap}
+use Rattle.std.proofs.Common.{◌≡◌, ℕ, ◌+◌, ◌-◌, ◌≤◌, List, ◌++◌, length, take, drop, replicate, arith, rules, ◌∙◌, ap}
 use Rattle.std.proofs.lemmas.List.{places, same_lists, length-replicate}
 use borrow.Rule.Slice.PartMut.{put_mid}
 use Rattle.node_memory.specs.Bytes.{with_bytes}
@@ -21,3 +21,7 @@ with_segment_is m bs ys zs room s t e b y few fits z n =
     let bytes : bs ++ zs ≡ s.bytes ++ replicate (s.size - length s.bytes) 0 = cc in
     let whole : with_bytes m s.addr (bs ++ zs) ≡ with_segment m s = ap (with_bytes m s.addr) bytes in
     cc
+
+-- the bytes of a memory, written from `a` on, that are left of `size` behind the n written ones
+pub length-room : (m ys : List ℕ) (a n size : ℕ) → n ≤ size → a + size ≤ length m → length ys ≡ n → length (take (a + size - (a + n)) (drop (a + n) (put_mid a (a + n - a) m ys))) ≡ size - n
+length-room m ys a n size few fits written = grind (arith, places)

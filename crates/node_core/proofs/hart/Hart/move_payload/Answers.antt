@@ -1,6 +1,5 @@
-use Rattle.std.proofs.Common.{arith}
-use Rattle.std.proofs.lemmas.Grind.{common_steps}
+use Rattle.std.proofs.Common.{rules}
 use Rattle.node_core.proofs.hart.Hart.move_payload.Goals as goal
 
-pub returns-clause-hart : goal.returns-clause-hart
-returns-clause-hart g c = grind (arith, common_steps, c.take_first.ensures.rest)
+pub returns-then-is_err-clause-hart : goal.returns-then-is_err-clause-hart
+returns-then-is_err-clause-hart g c = search rules

@@ -17,7 +17,7 @@ use Rattle.debug_lines.specs.declared.line.Line.TheVariants.{Quit}
 use Rattle.debug_lines.specs.Lines.{line_of}
 use Rattle.bsp_session.specs.declared.errors.SessionError.{SessionError}
 use Rattle.bsp_session.specs.declared.errors.SessionError.TheVariants.{WriteFault, NoMemory}
-use Rattle.bsp_session.specs.Readers.{Reader}
+use Rattle.bsp_session.specs.Streams.{Stream}
 use Rattle.bsp_console.specs.Talk.{Answered, Talks, lines_of, goes_on, answered_lines, HasQuit}
 use Rattle.bsp_console.specs.Console.{most_script, TalksFirst, HasTalked, HasTalkedFirst, FailsTalking, IsErrorOfTalk}
 use Rattle.bsp_console.proofs.Scripts.{AllGoOn, AllGoOn-push, lines_of-line, lines_of-last, take_while-through, take_while-quit, length-lines_of, line_of-nil, quit-ends, other-goes_on}
@@ -131,7 +131,7 @@ limit-passed (Some xs) None read most c p = absurd c
 limit-passed (Some xs) (Some ys) read most c p = omega (arith, ap length c, length-append read ys)
 
 -- the first lines of a script, and their texts
-pub first_lines : (g l : ℕ) (start d : DebuggerState) (script : Reader) (bytes text : List ℕ) (asked more : List (List ℕ)) → lines_of bytes ≡ asked ++ more → AllGoOn asked
+pub first_lines : (g l : ℕ) (start d : DebuggerState) (script : Stream) (bytes text : List ℕ) (asked more : List (List ℕ)) → lines_of bytes ≡ asked ++ more → AllGoOn asked
     → Talks g l asked start text d → length bytes ≤ most_script → IfSome script.before (λ all. (rest : List ℕ) × (all ≡ bytes ++ rest)) → TalksFirst g l start script text
 first_lines g l start d script bytes text asked more is all talks few front =
     let answered : answered_lines bytes ≡ asked ++ take_while goes_on more = ap (take_while goes_on) is ∙ take_while-through asked more all in
@@ -183,7 +183,7 @@ lines_of-given asked old new bytes P grown within cut (inr last) = (
 -- ---- the ends of a session
 
 -- nothing more is given: all lines were answered
-pub talked-end : (g l : ℕ) (start d : DebuggerState) (script out : Reader) (mid : Option (List ℕ)) (old new : LineReaderState)
+pub talked-end : (g l : ℕ) (start d : DebuggerState) (script out : Stream) (mid : Option (List ℕ)) (old new : LineReaderState)
     → IsTalking g l start script.before mid out.before out.after old d → ReadsOn mid script.after old.read new.read → GivesNone old new → IsOver script.after old new
     → (old.ended ≡ true → (new.read ≡ old.read) × (script.after ≡ mid)) → length new.read ≤ most_script → HasTalked g l start script out
 talked-end g l start d script out mid old new t (bytes, consumed, grown) none over still few = record {
@@ -227,7 +227,7 @@ has_quit script asked more line is some quits =
     )
 
 -- a line `quit` is given
-pub talked-quit : (g l : ℕ) (start d : DebuggerState) (script out : Reader) (mid : Option (List ℕ)) (old new : LineReaderState)
+pub talked-quit : (g l : ℕ) (start d : DebuggerState) (script out : Stream) (mid : Option (List ℕ)) (old new : LineReaderState)
     → IsTalking g l start script.before mid out.before out.after old d → ReadsOn mid script.after old.read new.read
     → GivesLine old new ⊎ (GivesLast old new × IsOver script.after old new)
     → (old.ended ≡ true → (new.read ≡ old.read) × (script.after ≡ mid)) → length new.read ≤ most_script → line_of new.line ≡ Quit → HasTalked g l start script out
@@ -302,7 +302,7 @@ HasRisen-above a b c before (inl rose) = inl (omega arith)
 HasRisen-above a b c before (inr full) = inr full
 
 -- the texts of the lines so far stand written, whatever was read after them
-pub talked-first : (g l : ℕ) (start d : DebuggerState) (script out : Reader) (mid : Option (List ℕ)) (old new : LineReaderState) (bytes more : List ℕ)
+pub talked-first : (g l : ℕ) (start d : DebuggerState) (script out : Stream) (mid : Option (List ℕ)) (old new : LineReaderState) (bytes more : List ℕ)
     → IsTalking g l start script.before mid out.before out.after old d → Consumes mid script.after (bytes ++ more) → new.read ≡ old.read ++ bytes
     → (old.ended ≡ true → new.read ≡ old.read) → length new.read ≤ most_script → HasTalkedFirst g l start script out
 talked-first g l start d script out mid old new bytes more t consumed grown still few =
@@ -314,14 +314,14 @@ talked-first g l start d script out mid old new bytes more t consumed grown stil
     )
 
 -- likewise where no byte was lost
-pub talked-first-read : (g l : ℕ) (start d : DebuggerState) (script out : Reader) (mid : Option (List ℕ)) (old new : LineReaderState)
+pub talked-first-read : (g l : ℕ) (start d : DebuggerState) (script out : Stream) (mid : Option (List ℕ)) (old new : LineReaderState)
     → IsTalking g l start script.before mid out.before out.after old d → ReadsOn mid script.after old.read new.read
     → (old.ended ≡ true → new.read ≡ old.read) → length new.read ≤ most_script → HasTalkedFirst g l start script out
 talked-first-read g l start d script out mid old new t (bytes, consumed, grown) still few =
     talked-first g l start d script out mid old new bytes [] t (subst (Consumes mid script.after) (sym (append-nil bytes)) consumed) grown still few
 
 -- the next line could not be read
-pub talk-error : (g l : ℕ) (start d : DebuggerState) (script out : Reader) (mid : Option (List ℕ)) (old new : LineReaderState) (failures : ℕ) (r : ReadError)
+pub talk-error : (g l : ℕ) (start d : DebuggerState) (script out : Stream) (mid : Option (List ℕ)) (old new : LineReaderState) (failures : ℕ) (r : ReadError)
     → IsTalking g l start script.before mid out.before out.after old d → (old.ended ≡ true → new.read ≡ old.read) → length new.read ≤ most_script
     → script.failures_before ≤ failures
     → (r ≡ read.TooLong → PassesLineLimit mid script.after old.read new.read old.most)
@@ -342,7 +342,7 @@ talk-error g l start d script out mid old new failures read.NoMemory t still few
     talked-first-read g l start d script out mid old new t (memory refl) still few
 
 -- an answer could not be written whole
-pub talk-fails : (g l : ℕ) (start d next : DebuggerState) (script out : Reader) (mid held : Option (List ℕ)) (old new : LineReaderState) (first : List ℕ) (count failures : ℕ)
+pub talk-fails : (g l : ℕ) (start d next : DebuggerState) (script out : Stream) (mid held : Option (List ℕ)) (old new : LineReaderState) (first : List ℕ) (count failures : ℕ)
     → IsTalking g l start script.before mid out.before held old d → ReadsOn mid script.after old.read new.read
     → GivesLine old new ⊎ (GivesLast old new × IsOver script.after old new) → (old.ended ≡ true → new.read ≡ old.read) → length new.read ≤ most_script
     → (line_of new.line ≡ Quit → ⊥) → Answered g l (line_of new.line) d first next → Appends held out.after (take count first)
@@ -361,7 +361,7 @@ talk-fails g l start d next script out mid held old new first count failures t (
     )
 
 -- a line was not answered: memory was refused, and nothing more was written, or its answer could not be written whole
-pub talk-stops : (g l : ℕ) (start d next : DebuggerState) (script out : Reader) (mid held : Option (List ℕ)) (old new : LineReaderState) (line : Line) (failures : ℕ) (e : SessionError)
+pub talk-stops : (g l : ℕ) (start d next : DebuggerState) (script out : Stream) (mid held : Option (List ℕ)) (old new : LineReaderState) (line : Line) (failures : ℕ) (e : SessionError)
     → IsTalking g l start script.before mid out.before held old d → ReadsOn mid script.after old.read new.read
     → GivesLine old new ⊎ (GivesLast old new × IsOver script.after old new) → (old.ended ≡ true → new.read ≡ old.read) → length new.read ≤ most_script
     → line ≡ line_of new.line → (line_of new.line ≡ Quit → ⊥) → out.failures_before ≤ failures

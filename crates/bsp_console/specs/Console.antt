@@ -12,19 +12,19 @@ use Rattle.bsp_session.specs.declared.errors.SessionError.TheVariants.{BadSettin
 use Rattle.bsp_session.specs.declared.job.Job.{Job}
 use Rattle.bsp_session.specs.Images.{most_bytes, Gives, image_fault}
 use Rattle.bsp_session.specs.Outcome.{error_of_machine}
-use Rattle.bsp_session.specs.Readers.{Reader, IsUntouched, ReadsWhole, PassesLimit, HasFailed}
+use Rattle.bsp_session.specs.Streams.{Stream, IsUntouched, ReadsWhole, ReadsPast, HasFailed}
 use Rattle.bsp_session.specs.Session.{most_input}
 use Rattle.bsp_console.specs.Talk.{Talks, answered_lines, HasQuit}
 
 -- what a session reads, what it writes to, and what it is asked. The bytes of the writer are those that it holds
 pub record Console : Type 0 where
-  pub image : Reader
-  pub input : Reader
-  pub script : Reader
-  pub out : Reader
+  pub image : Stream
+  pub input : Stream
+  pub script : Stream
+  pub out : Stream
   pub job : Job
 
-abbrev pub console_of : (image input script out : Reader) → Job → Console
+abbrev pub console_of : (image input script out : Stream) → Job → Console
 console_of image input script out job = record { image = image; input = input; script = script; out = out; job = job }
 
 -- the most bytes of a script (own limit)
@@ -60,12 +60,12 @@ pub record Begins (c : Console) (d : DebuggerState) : Type 0 where
   pub debugger : IsDebuggerOf c.job i n d
 
 -- some first bytes of a script, or all of them
-pub record BeginsScript (script : Reader) (bytes : List ℕ) : Type 0 where
+pub record BeginsScript (script : Stream) (bytes : List ℕ) : Type 0 where
   pub limited : length bytes ≤ most_script
   pub front : IfSome script.before (λ all. (rest : List ℕ) × (all ≡ bytes ++ rest))
 
 -- the script was read to its end or to a line `quit`, and the texts of its lines were written
-pub record HasTalked (g l : ℕ) (start : DebuggerState) (script out : Reader) : Type 0 where
+pub record HasTalked (g l : ℕ) (start : DebuggerState) (script out : Stream) : Type 0 where
   pub bytes : List ℕ
   pub limited : length bytes ≤ most_script
   pub consumed : Consumes script.before script.after bytes
@@ -76,7 +76,7 @@ pub record HasTalked (g l : ℕ) (start : DebuggerState) (script out : Reader) :
   pub written : Appends out.before out.after text
 
 -- the texts of some first lines of a script
-pub record TalksFirst (g l : ℕ) (start : DebuggerState) (script : Reader) (text : List ℕ) : Type 0 where
+pub record TalksFirst (g l : ℕ) (start : DebuggerState) (script : Stream) (text : List ℕ) : Type 0 where
   pub bytes : List ℕ
   pub begins : BeginsScript script bytes
   pub count : ℕ
@@ -84,17 +84,17 @@ pub record TalksFirst (g l : ℕ) (start : DebuggerState) (script : Reader) (tex
   pub talks : Talks g l (take count (answered_lines bytes)) start text end
 
 -- those were written
-abbrev pub HasTalkedFirst : (g l : ℕ) → DebuggerState → (script out : Reader) → Type 0
+abbrev pub HasTalkedFirst : (g l : ℕ) → DebuggerState → (script out : Stream) → Type 0
 HasTalkedFirst g l start script out = (text : List ℕ) × TalksFirst g l start script text × Appends out.before out.after text
 
 -- some first bytes of those were written, and the writer failed
-abbrev pub FailsTalking : (g l : ℕ) → DebuggerState → (script out : Reader) → Type 0
+abbrev pub FailsTalking : (g l : ℕ) → DebuggerState → (script out : Stream) → Type 0
 FailsTalking g l start script out =
     (text : List ℕ) × (count : ℕ) × TalksFirst g l start script text × Appends out.before out.after (take count text) × HasFailed out
 
 -- what is known where the lines ended by an error
-abbrev pub IsErrorOfTalk : (g l : ℕ) → DebuggerState → (script out : Reader) → SessionError → Type 0
-IsErrorOfTalk g l start script out TooLong = PassesLimit most_script script × HasTalkedFirst g l start script out
+abbrev pub IsErrorOfTalk : (g l : ℕ) → DebuggerState → (script out : Stream) → SessionError → Type 0
+IsErrorOfTalk g l start script out TooLong = ReadsPast most_script script × HasTalkedFirst g l start script out
 IsErrorOfTalk g l start script out ReadFault = HasFailed script × HasTalkedFirst g l start script out
 IsErrorOfTalk g l start script out WriteFault = FailsTalking g l start script out
 IsErrorOfTalk g l start script out NoMemory = HasTalkedFirst g l start script out
@@ -109,12 +109,12 @@ IsErrorOfImage job i NoMemory = Unit {0}
 IsErrorOfImage job i _ = ⊥
 
 -- a script was read to its end, and is within its limit
-abbrev pub ReadsToEnd : Reader → Type 0
+abbrev pub ReadsToEnd : Stream → Type 0
 ReadsToEnd script = IsAtEnd script.after × IfSome script.before (λ all. length all ≤ most_script)
 
 -- a cause, which may have to do with the limit, ended the reading of the image, or after it of the input; the readers behind it were
 -- not touched
-abbrev pub EndsAtFile : (ℕ → Reader → Type 0) → Console → Type 0
+abbrev pub EndsAtFile : (ℕ → Stream → Type 0) → Console → Type 0
 EndsAtFile cause c =
     IsUntouched c.script × IsUntouched c.out
     × ((cause (most_bytes c.job.format) c.image × IsUntouched c.input)
@@ -127,7 +127,7 @@ pub record WritesFirst (c : Console) : Type 0 where
   pub talked : HasTalkedFirst c.job.g c.job.l start c.script c.out
 
 -- a cause ended the reading of the script: nothing was written, or the texts of the lines before that
-pub record EndsAtScript (cause : ℕ → Reader → Type 0) (c : Console) : Type 0 where
+pub record EndsAtScript (cause : ℕ → Stream → Type 0) (c : Console) : Type 0 where
   pub i : List ℕ
   pub n : List ℕ
   pub read : ReadsFiles c i n
@@ -135,7 +135,7 @@ pub record EndsAtScript (cause : ℕ → Reader → Type 0) (c : Console) : Type
   pub written : IsUntouched c.out ⊎ WritesFirst c
 
 -- a cause ended the reading of one of the three
-abbrev pub EndsReading : (ℕ → Reader → Type 0) → Console → Type 0
+abbrev pub EndsReading : (ℕ → Stream → Type 0) → Console → Type 0
 EndsReading cause c = ((console_fault c.job ≡ None) × EndsAtFile cause c) ⊎ EndsAtScript cause c
 
 -- all were read, and there is no debugger
@@ -169,7 +169,7 @@ pub record IsUntouchedConsole (c : Console) : Type 0 where
 -- what is known where a session ended by an error
 abbrev pub IsErrorOf : Console → SessionError → Type 0
 IsErrorOf c (BadSettings cause) = (console_fault c.job ≡ Some (BadSettings cause)) × IsUntouchedConsole c
-IsErrorOf c TooLong = EndsReading PassesLimit c
+IsErrorOf c TooLong = EndsReading ReadsPast c
 IsErrorOf c (Text cause) = HasNoDebugger c (Text cause)
 IsErrorOf c (BadImage cause) = HasNoDebugger c (BadImage cause)
 IsErrorOf c SegmentOutside = HasNoDebugger c SegmentOutside

@@ -3,7 +3,7 @@
 ghost use Rattle.std.specs.Prelude.{◌≡◌, ◌≤◌, ◌⊎◌, ◌↔◌, length, Some, None, IfOk, IfErr, OnOk, IsErrOf};
 ghost use Rattle.bsp_session.specs.declared.errors.BadSetting.{BadSetting as BadSettingCause};
 ghost use Rattle.bsp_session.specs.Images.{most_bytes};
-ghost use Rattle.bsp_session.specs.Readers.{reader, HasFailed, PassesLimit};
+ghost use Rattle.bsp_session.specs.Streams.{stream, HasFailed, ReadsPast};
 ghost use Rattle.bsp_console.specs.Console.{Answers, IsErrorOf, IsErrorOfImage, IsDebuggerOf, ReadsToEnd, console_fault, console_of, most_script};
 
 use crate::talk::{SCRIPT_BYTES, talk};
@@ -39,12 +39,12 @@ pub fn debug_session<A: Allocator + Copy, I: Read, R: Read, C: Read, W: Write>(
     commands: &mut Counted<C>,
     out: &mut Counted<W>,
 ) -> Result<(), SessionError>
-    ensures ok { OnOk result (Answers (console_of (reader I.remaining image.old image.new)
-        (reader R.remaining input.old input.new) (reader C.remaining commands.old commands.new)
-        (reader W.contents out.old out.new) job.now)) }
-    ensures err { IfErr result (λ e. IsErrorOf (console_of (reader I.remaining image.old image.new)
-        (reader R.remaining input.old input.new) (reader C.remaining commands.old commands.new)
-        (reader W.contents out.old out.new) job.now) e) }
+    ensures ok { OnOk result (Answers (console_of (stream I.remaining image.old image.new)
+        (stream R.remaining input.old input.new) (stream C.remaining commands.old commands.new)
+        (stream W.contents out.old out.new) job.now)) }
+    ensures err { IfErr result (λ e. IsErrorOf (console_of (stream I.remaining image.old image.new)
+        (stream R.remaining input.old input.new) (stream C.remaining commands.old commands.new)
+        (stream W.contents out.old out.new) job.now) e) }
     ensures bad_settings { (cause : BadSettingCause)
         → IsErrOf result (SessionError.BadSettings cause)
         ↔ (console_fault job.now ≡ Some (SessionError.BadSettings cause)) }
@@ -90,11 +90,11 @@ fn give_up<A: Allocator, C: Read>(
     commands: &mut Counted<C>,
     error: SessionError,
 ) -> SessionError
-    ensures { ((result ≡ error) × ReadsToEnd (reader C.remaining commands.old commands.new))
+    ensures { ((result ≡ error) × ReadsToEnd (stream C.remaining commands.old commands.new))
         ⊎ ((result ≡ SessionError.TooLong)
-        × PassesLimit most_script (reader C.remaining commands.old commands.new))
+        × ReadsPast most_script (stream C.remaining commands.old commands.new))
         ⊎ ((result ≡ SessionError.ReadFault)
-        × HasFailed (reader C.remaining commands.old commands.new)) }
+        × HasFailed (stream C.remaining commands.old commands.new)) }
 {
     match LineReader::new(alloc, SCRIPT_BYTES).finish(commands) {
         Ok(()) => error,

@@ -3,7 +3,7 @@
 ghost use Rattle.std.specs.Prelude.{◌≡◌, ◌≤◌, ◌⊎◌, ℕ, List, take, IfErr, OnOk, OnErr};
 ghost use Rattle.std.specs.Io.KnownBytes.{Appends};
 ghost use Rattle.counted_io.specs.Counted.{HasRisen};
-ghost use Rattle.bsp_session.specs.Readers.{reader};
+ghost use Rattle.bsp_session.specs.Streams.{stream};
 ghost use Rattle.bsp_console.specs.Console.{HasTalked, IsErrorOfTalk};
 ghost use Rattle.bsp_console.specs.Talk.{Answered, is_quit};
 
@@ -27,9 +27,9 @@ pub(crate) fn talk<A: Allocator + Copy, C: Read, W: Write>(
     out: &mut Counted<W>,
 ) -> Result<(), SessionError>
     ensures ok { OnOk result (HasTalked job.now.g job.now.l debugger
-        (reader C.remaining commands.old commands.new) (reader W.contents out.old out.new)) }
+        (stream C.remaining commands.old commands.new) (stream W.contents out.old out.new)) }
     ensures err { IfErr result (λ e. IsErrorOfTalk job.now.g job.now.l debugger
-        (reader C.remaining commands.old commands.new) (reader W.contents out.old out.new) e) }
+        (stream C.remaining commands.old commands.new) (stream W.contents out.old out.new) e) }
 {
     answer_lines(alloc, &mut debugger, job, commands, out)
 }
@@ -43,9 +43,9 @@ fn answer_lines<A: Allocator + Copy, C: Read, W: Write>(
     out: &mut Counted<W>,
 ) -> Result<(), SessionError>
     ensures ok { OnOk result (HasTalked job.now.g job.now.l debugger.old
-        (reader C.remaining commands.old commands.new) (reader W.contents out.old out.new)) }
+        (stream C.remaining commands.old commands.new) (stream W.contents out.old out.new)) }
     ensures err { IfErr result (λ e. IsErrorOfTalk job.now.g job.now.l debugger.old
-        (reader C.remaining commands.old commands.new) (reader W.contents out.old out.new) e) }
+        (stream C.remaining commands.old commands.new) (stream W.contents out.old out.new) e) }
 {
     let mut lines = LineReader::new(alloc, SCRIPT_BYTES);
     while lines.next_line(commands)? {

@@ -1,7 +1,7 @@
 pub mod Images
 pub mod Listing
 pub mod Outcome
-pub mod Readers
+pub mod Streams
 pub mod Report
 pub mod Session
 pub mod Stages

@@ -5,11 +5,11 @@ use Rattle.bsp_session.specs.declared.errors.SessionError.{SessionError}
 use Rattle.bsp_session.specs.declared.errors.SessionError.TheVariants.{BadSettings, TooLong, Text, BadImage, SegmentOutside, ReadFault, NoWorker, NoMemory}
 use Rattle.bsp_session.specs.declared.job.Job.{Job}
 use Rattle.bsp_session.specs.Images.{Gives, image_fault}
-use Rattle.bsp_session.specs.Readers.{Reader, IsCutShort}
+use Rattle.bsp_session.specs.Streams.{Stream, IsCutShort}
 use Rattle.bsp_session.specs.Session.{job_fault, IsTooLong, IsReadFault, EndsReading}
 
 -- why the image's file and the input were not both read: bad settings, or what ended the reading
-abbrev pub EndsUnread : Reader → Reader → Job → SessionError → Type 0
+abbrev pub EndsUnread : Stream → Stream → Job → SessionError → Type 0
 EndsUnread image input job (BadSettings cause) = job_fault job ≡ Some (BadSettings cause)
 EndsUnread image input job TooLong = IsTooLong image input job
 EndsUnread image input job ReadFault = IsReadFault image input job

@@ -10,7 +10,7 @@ ghost use Rattle.elf_image.specs.declared.error.ElfError.{ElfError as ElfErrorVa
 ghost use Rattle.rv_listing.specs.Listing.{listing_of, listing_of_segment};
 ghost use Rattle.bsp_session.specs.Listing.{IsErrorWithoutMachine, IsRefusedImage, WritesOf, WritesPrefixOf};
 ghost use Rattle.bsp_session.specs.Images.{most_bytes};
-ghost use Rattle.bsp_session.specs.Readers.{reader, HasFailed, PassesLimit};
+ghost use Rattle.bsp_session.specs.Streams.{stream, HasFailed, ReadsPast};
 
 use crate::errors::SessionError;
 use crate::images::image_of;
@@ -43,24 +43,24 @@ pub fn list_session<A: Allocator + Copy, I: Read, W: Write>(
     image: &mut Counted<I>,
     out: &mut Counted<W>,
 ) -> Result<(), SessionError>
-    ensures ok { OnOk result (WritesOf listing_of (reader I.remaining image.old image.new) format
+    ensures ok { OnOk result (WritesOf listing_of (stream I.remaining image.old image.new) format
         (W.contents out.old.inner) (W.contents out.new.inner)) }
     ensures kinds { IfErr result IsErrorWithoutMachine }
     ensures too_long { result ≡ Err SessionError.TooLong
-        → PassesLimit (most_bytes format) (reader I.remaining image.old image.new) }
+        → ReadsPast (most_bytes format) (stream I.remaining image.old image.new) }
     ensures read_fault { result ≡ Err SessionError.ReadFault
-        → HasFailed (reader I.remaining image.old image.new) }
+        → HasFailed (stream I.remaining image.old image.new) }
     ensures text { (cause : AsmErrorValue) → result ≡ Err (SessionError.Text cause)
-        → IsRefusedImage (reader I.remaining image.old image.new) format (SessionError.Text cause) }
+        → IsRefusedImage (stream I.remaining image.old image.new) format (SessionError.Text cause) }
     ensures bad_image { (cause : ElfErrorValue) → result ≡ Err (SessionError.BadImage cause)
-        → IsRefusedImage (reader I.remaining image.old image.new) format (SessionError.BadImage cause) }
+        → IsRefusedImage (stream I.remaining image.old image.new) format (SessionError.BadImage cause) }
     ensures write_fault { result ≡ Err SessionError.WriteFault
-        → WritesPrefixOf listing_of (reader I.remaining image.old image.new) format
+        → WritesPrefixOf listing_of (stream I.remaining image.old image.new) format
         (W.contents out.old.inner) (W.contents out.new.inner) }
     ensures write_failed { result ≡ Err SessionError.WriteFault
         → HasRisen out.old.failures out.new.failures }
     ensures no_memory { result ≡ Err SessionError.NoMemory
-        → (out.new ≡ out.old) ⊎ WritesPrefixOf listing_of (reader I.remaining image.old image.new) format
+        → (out.new ≡ out.old) ⊎ WritesPrefixOf listing_of (stream I.remaining image.old image.new) format
         (W.contents out.old.inner) (W.contents out.new.inner) }
     ensures nothing_written { IfErr result (λ e. e ≢ SessionError.WriteFault
         → e ≢ SessionError.NoMemory → out.new ≡ out.old) }
@@ -80,18 +80,18 @@ pub fn asm_session<A: Allocator + Copy, T: Read, W: Write>(
     text: &mut Counted<T>,
     out: &mut Counted<W>,
 ) -> Result<(), SessionError>
-    ensures ok { OnOk result (WritesOf spelling_of (reader T.remaining text.old text.new) Format.Asm
+    ensures ok { OnOk result (WritesOf spelling_of (stream T.remaining text.old text.new) Format.Asm
         (W.contents out.old.inner) (W.contents out.new.inner)) }
     ensures kinds { IfErr result IsErrorWithoutMachine }
     ensures too_long { result ≡ Err SessionError.TooLong
-        → PassesLimit (most_bytes Format.Asm) (reader T.remaining text.old text.new) }
+        → ReadsPast (most_bytes Format.Asm) (stream T.remaining text.old text.new) }
     ensures read_fault { result ≡ Err SessionError.ReadFault
-        → HasFailed (reader T.remaining text.old text.new) }
+        → HasFailed (stream T.remaining text.old text.new) }
     ensures text { (cause : AsmErrorValue) → result ≡ Err (SessionError.Text cause)
-        → IsRefusedImage (reader T.remaining text.old text.new) Format.Asm (SessionError.Text cause) }
+        → IsRefusedImage (stream T.remaining text.old text.new) Format.Asm (SessionError.Text cause) }
     ensures no_file { (cause : ElfErrorValue) → result ≢ Err (SessionError.BadImage cause) }
     ensures write_fault { result ≡ Err SessionError.WriteFault
-        → WritesPrefixOf spelling_of (reader T.remaining text.old text.new) Format.Asm
+        → WritesPrefixOf spelling_of (stream T.remaining text.old text.new) Format.Asm
         (W.contents out.old.inner) (W.contents out.new.inner) }
     ensures write_failed { result ≡ Err SessionError.WriteFault
         → HasRisen out.old.failures out.new.failures }

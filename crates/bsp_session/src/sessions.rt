@@ -12,7 +12,7 @@ ghost use Rattle.machine_core.specs.Turn.{end_of};
 ghost use Rattle.phase_pool.specs.Numbers.{numbers_fault};
 ghost use Rattle.bsp_session.specs.declared.errors.BadSetting.{BadSetting as BadSettingCause};
 ghost use Rattle.bsp_session.specs.Images.{most_bytes};
-ghost use Rattle.bsp_session.specs.Readers.{reader};
+ghost use Rattle.bsp_session.specs.Streams.{stream};
 ghost use Rattle.bsp_session.specs.Report.{report_lines as report_lines_of, report_of};
 ghost use Rattle.bsp_session.specs.Session.{Answers, job_fault, run_of, ReadsBoth, IsTooLong, IsReadFault, IsRefused, IsOutside, IsOutOfMemory, LacksWorker, WritesPrefix};
 ghost use Rattle.bsp_session.specs.Stages.{HasImage, EndsUnread, EndsUnrun};
@@ -56,8 +56,8 @@ pub fn session<T: Threads + Wait + Sync, A: Allocator + Copy + Send, I: Read, R:
     job: &Job,
     out: &mut Counted<W>,
 ) -> Result<Outcome, SessionError>
-    ensures ok { IfOk result (λ outcome. Answers (reader I.remaining image.old image.new)
-        (reader R.remaining input.old input.new) job.now
+    ensures ok { IfOk result (λ outcome. Answers (stream I.remaining image.old image.new)
+        (stream R.remaining input.old input.new) job.now
         (W.contents out.old.inner) (W.contents out.new.inner) outcome) }
 
     ensures bad_settings { (cause : BadSettingCause)
@@ -66,30 +66,30 @@ pub fn session<T: Threads + Wait + Sync, A: Allocator + Copy + Send, I: Read, R:
     ensures settings_first { job_fault job.now ≢ None
         → (image.new ≡ image.old) × (input.new ≡ input.old) }
     ensures too_long { result ≡ Err SessionError.TooLong
-        → IsTooLong (reader I.remaining image.old image.new)
-        (reader R.remaining input.old input.new) job.now }
+        → IsTooLong (stream I.remaining image.old image.new)
+        (stream R.remaining input.old input.new) job.now }
     ensures read_fault { result ≡ Err SessionError.ReadFault
-        → IsReadFault (reader I.remaining image.old image.new)
-        (reader R.remaining input.old input.new) job.now }
+        → IsReadFault (stream I.remaining image.old image.new)
+        (stream R.remaining input.old input.new) job.now }
     ensures text { (cause : AsmErrorValue) → result ≡ Err (SessionError.Text cause)
-        → IsRefused (reader I.remaining image.old image.new)
-        (reader R.remaining input.old input.new) job.now (SessionError.Text cause) }
+        → IsRefused (stream I.remaining image.old image.new)
+        (stream R.remaining input.old input.new) job.now (SessionError.Text cause) }
     ensures bad_image { (cause : ElfErrorValue) → result ≡ Err (SessionError.BadImage cause)
-        → IsRefused (reader I.remaining image.old image.new)
-        (reader R.remaining input.old input.new) job.now (SessionError.BadImage cause) }
+        → IsRefused (stream I.remaining image.old image.new)
+        (stream R.remaining input.old input.new) job.now (SessionError.BadImage cause) }
     ensures outside { result ≡ Err SessionError.SegmentOutside
-        → IsOutside (reader I.remaining image.old image.new)
-        (reader R.remaining input.old input.new) job.now }
+        → IsOutside (stream I.remaining image.old image.new)
+        (stream R.remaining input.old input.new) job.now }
     ensures no_worker { result ≡ Err SessionError.NoWorker
-        → LacksWorker (reader I.remaining image.old image.new)
-        (reader R.remaining input.old input.new) job.now }
+        → LacksWorker (stream I.remaining image.old image.new)
+        (stream R.remaining input.old input.new) job.now }
     ensures no_memory { result ≡ Err SessionError.NoMemory
-        → IsOutOfMemory (reader I.remaining image.old image.new)
-        (reader R.remaining input.old input.new) job.now }
+        → IsOutOfMemory (stream I.remaining image.old image.new)
+        (stream R.remaining input.old input.new) job.now }
 
     ensures write_fault { result ≡ Err SessionError.WriteFault
-        → WritesPrefix (reader I.remaining image.old image.new)
-        (reader R.remaining input.old input.new) job.now
+        → WritesPrefix (stream I.remaining image.old image.new)
+        (stream R.remaining input.old input.new) job.now
         (W.contents out.old.inner) (W.contents out.new.inner) }
     ensures write_failed { result ≡ Err SessionError.WriteFault
         → HasRisen out.old.failures out.new.failures }
@@ -107,10 +107,10 @@ fn read_both<A: Allocator + Copy, I: Read, R: Read>(
     input: &mut Counted<R>,
     job: &Job,
 ) -> Result<(Vec<u8, A>, Vec<u8, A>), SessionError>
-    ensures ok { IfOk result (λ read. ReadsBoth (reader I.remaining image.old image.new)
-        (reader R.remaining input.old input.new) job.now read.0.items read.1.items) }
-    ensures err { IfErr result (λ e. EndsUnread (reader I.remaining image.old image.new)
-        (reader R.remaining input.old input.new) job.now e) }
+    ensures ok { IfOk result (λ read. ReadsBoth (stream I.remaining image.old image.new)
+        (stream R.remaining input.old input.new) job.now read.0.items read.1.items) }
+    ensures err { IfErr result (λ e. EndsUnread (stream I.remaining image.old image.new)
+        (stream R.remaining input.old input.new) job.now e) }
     ensures settings_first { job_fault job.now ≢ None
         → (image.new ≡ image.old) × (input.new ≡ input.old) }
 {

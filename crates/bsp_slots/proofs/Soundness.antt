@@ -6,10 +6,9 @@ use Rattle.std.proofs.lemmas.List.Edits.{length-remove}
 use Rattle.bsp_slots.specs.declared.area.Area.{Area}
 use Rattle.bsp_slots.specs.declared.change.Change.{Change}
 use Rattle.bsp_slots.specs.declared.change.Change.TheVariants.{Push, Pop}
-use Rattle.bsp_slots.specs.declared.slots.TheConstants.{MAX_ENTRIES, MAX_PUSHES}
 use Rattle.bsp_slots.specs.Area.{last_position}
 use Rattle.bsp_slots.specs.Change.{changed, is_push, NamesRemoval, NamesRemovals}
-use Rattle.bsp_slots.specs.Registrations.{Registrations, registrations_after, next_list, push_count, pushed, popped, IsSound}
+use Rattle.bsp_slots.specs.Registrations.{Registrations, registrations_after, next_list, max_entries, max_pushes, push_count, pushed, popped, IsSound}
 use Rattle.bsp_slots.specs.Slots.{KeepsPace}
 use Rattle.bsp_slots.proofs.Positions.{IsLastEntry-from}
 
@@ -21,7 +20,7 @@ module _ (s : Registrations) where
   pub next_list-more : (change : Change) → registrations_after s.in_effect (s.changes ++ change ∷ []) ≡ changed (next_list s) change
   next_list-more change = fold-append changed s.in_effect s.changes (change ∷ [])
 
-  IsSound-more : (change : Change) → IsSound s → length (changed (next_list s) change) ≤ MAX_ENTRIES → push_count s + cond (is_push change) 1 0 ≤ MAX_PUSHES → NamesRemoval (next_list s) change → IsSound (record s { changes = s.changes ++ change ∷ [] })
+  IsSound-more : (change : Change) → IsSound s → length (changed (next_list s) change) ≤ max_entries → push_count s + cond (is_push change) 1 0 ≤ max_pushes → NamesRemoval (next_list s) change → IsSound (record s { changes = s.changes ++ change ∷ [] })
   IsSound-more change sound fits few names = record {
     in_effect_fits = sound.in_effect_fits;
     next_fits = rw (next_list-more change) fits;
@@ -29,7 +28,7 @@ module _ (s : Registrations) where
     names_removals = NamesRemovals-push s.in_effect s.changes change sound.names_removals names;
   }
 
-  pub IsSound-pushed : (area : Area) → IsSound s → length (next_list s) < MAX_ENTRIES → push_count s < MAX_PUSHES → IsSound (pushed s area)
+  pub IsSound-pushed : (area : Area) → IsSound s → length (next_list s) < max_entries → push_count s < max_pushes → IsSound (pushed s area)
   IsSound-pushed area sound fits few = IsSound-more (Push area) sound (grind (arith, common_steps)) (omega arith) tt
 
   pub IsSound-popped : (addr slot : ℕ) → IsSound s → last_position (next_list s) addr ≡ Some slot → IsSound (popped s addr slot)
@@ -38,7 +37,7 @@ module _ (s : Registrations) where
       let fits = sound.next_fits in
       IsSound-more (Pop addr slot) sound (rw found (omega arith)) (omega (arith, sound.pushes_fit)) found
 
-  pub KeepsPace-pushed : {next next' : List Area} {changes' : List Change} {pushes : ℕ} (area : Area) → KeepsPace s next pushes → next' ≡ next ++ area ∷ [] → changes' ≡ s.changes ++ Push area ∷ [] → length next < MAX_ENTRIES → pushes < MAX_PUSHES → KeepsPace (record { in_effect = s.in_effect; changes = changes' }) next' (pushes + 1)
+  pub KeepsPace-pushed : {next next' : List Area} {changes' : List Change} {pushes : ℕ} (area : Area) → KeepsPace s next pushes → next' ≡ next ++ area ∷ [] → changes' ≡ s.changes ++ Push area ∷ [] → length next < max_entries → pushes < max_pushes → KeepsPace (record { in_effect = s.in_effect; changes = changes' }) next' (pushes + 1)
   KeepsPace-pushed {next} {next'} {changes'} {pushes} area pace next_is changes_is fits few = rw changes_is (record {
     next_is = next_is ∙ ap (λ (xs : List Area). xs ++ area ∷ []) pace.next_is ∙ sym (next_list-more (Push area));
     pushes_are = grind (arith, common_steps, pace.pushes_are);

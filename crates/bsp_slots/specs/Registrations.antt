@@ -4,7 +4,6 @@ use Rattle.std.specs.Prelude.{◌≡◌, ℕ, ◌≤◌, Bool, ◌||◌, nat_le,
 use Rattle.bsp_slots.specs.declared.area.Area.{Area}
 use Rattle.bsp_slots.specs.declared.change.Change.{Change}
 use Rattle.bsp_slots.specs.declared.change.Change.TheVariants.{Push, Pop}
-use Rattle.bsp_slots.specs.declared.slots.TheConstants.{MAX_ENTRIES, MAX_PUSHES}
 use Rattle.bsp_slots.specs.Change.{changed, is_push, removed_position, NamesRemovals}
 
 -- the list in effect, and the pushes and pops of this superstep in issue order
@@ -40,13 +39,21 @@ popped s addr slot = record s { changes = s.changes ++ Pop addr slot ∷ [] }
 abbrev pub turned : Registrations → Registrations
 turned s = record { in_effect = next_list s; changes = [] }
 
+-- own limit: the entries of the next list, those that stay from earlier supersteps among them
+abbrev pub max_entries : ℕ
+max_entries = 1024
+
+-- own limit: the pushes of a superstep, whatever is popped
+abbrev pub max_pushes : ℕ
+max_pushes = 65536
+
 -- how many pushes were made in this superstep
 abbrev pub push_count : Registrations → ℕ
 push_count s = count_by is_push s.changes
 
 -- whether one more push would pass a limit
 abbrev pub is_full : Registrations → Bool
-is_full s = nat_le MAX_ENTRIES (length (next_list s)) || nat_le MAX_PUSHES (push_count s)
+is_full s = nat_le max_entries (length (next_list s)) || nat_le max_pushes (push_count s)
 
 -- the sequence of pushes and pops, a push without its address and size and a pop by the position that it removed
 abbrev pub shape : Registrations → List (Option ℕ)
@@ -58,7 +65,7 @@ HasSameShape s t = shape s ≡ shape t
 
 -- what pushes, pops and turns lead to: the limits hold, and each pop is noted with the position that it removed
 pub record IsSound (s : Registrations) : Type 0 where
-  pub in_effect_fits : length s.in_effect ≤ MAX_ENTRIES
-  pub next_fits : length (next_list s) ≤ MAX_ENTRIES
-  pub pushes_fit : push_count s ≤ MAX_PUSHES
+  pub in_effect_fits : length s.in_effect ≤ max_entries
+  pub next_fits : length (next_list s) ≤ max_entries
+  pub pushes_fit : push_count s ≤ max_pushes
   pub names_removals : NamesRemovals s.in_effect s.changes

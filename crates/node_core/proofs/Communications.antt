@@ -6,9 +6,8 @@ use Rattle.std.proofs.lemmas.Grind.{common_steps}
 use Rattle.std.proofs.lemmas.List.Elements.{All-append, All-cons, All-drop, All-nil, All-take}
 use Rattle.bsp_slots.specs.declared.area.Area.{Area}
 use Rattle.bsp_slots.specs.declared.change.Change.TheVariants.{Push, Pop}
-use Rattle.bsp_slots.specs.declared.slots.TheConstants.{MAX_ENTRIES, MAX_PUSHES}
 use Rattle.bsp_slots.specs.Area.{last_position}
-use Rattle.bsp_slots.specs.Registrations.{next_list, push_count, is_full, pushed, popped}
+use Rattle.bsp_slots.specs.Registrations.{next_list, max_entries, max_pushes, push_count, is_full, pushed, popped}
 use Rattle.bsp_slots.proofs.Soundness.{IsSound-pushed, IsSound-popped, next_list-more}
 use Rattle.bsp_requests.specs.Message.{IsShort}
 use Rattle.bsp_requests.specs.Request.{Asked, size_of}
@@ -30,8 +29,8 @@ IsWithinLimits-with_output r bytes n len within room = record { requests = withi
 module _ (nprocs size : ℕ) (c : Communication) (sound : IsCommunication nprocs size c) where
   pub IsCommunication-pushed : (area : Area) → is_full c.registrations ≡ false → LiesIn size area → IsCommunication nprocs size (record c { registrations = pushed c.registrations area })
   IsCommunication-pushed area room lies =
-      let fits : length (next_list c.registrations) < MAX_ENTRIES = grind (arith, nat_tests) in
-      let few : push_count c.registrations < MAX_PUSHES = grind (arith, nat_tests) in
+      let fits : length (next_list c.registrations) < max_entries = grind (arith, nat_tests) in
+      let few : push_count c.registrations < max_pushes = grind (arith, nat_tests) in
       record {
         registrations = IsSound-pushed c.registrations area sound.registrations fits few;
         areas = sound.areas;

@@ -15,6 +15,7 @@ A case is a folder with some of these files:
   address_space    how many bytes of address space the program may have, all that it wants where it is missing
   stdout    what standard output must hold, to the byte, empty where it is missing
   stdout.contains, stderr.contains    texts, one a line, that must stand in it, in place of an exact match
+  stdout.sha256    the SHA-256 of what standard output must hold, for one too long to be stored, in place of an exact match
   stderr    what standard error must hold, empty where it is missing
   status    the exit status, 0 where it is missing
 
@@ -22,6 +23,7 @@ Usage: cases.py PROGRAM FOLDER [PASSED FAILED]
 The two numbers are of an earlier part of the same run, and are added to the last line.
 """
 
+import hashlib
 import os
 import pathlib
 import pty
@@ -55,6 +57,10 @@ def faults(case, name, found):
     if listed.exists():
         missing = [text for text in listed.read_bytes().splitlines() if text not in found]
         return [f"{name} lacks {text!r}" for text in missing]
+    hashed = case / f"{name}.sha256"
+    if hashed.exists():
+        digest, wanted = hashlib.sha256(found).hexdigest(), hashed.read_text().strip()
+        return [] if digest == wanted else [f"{name} has {len(found)} bytes of the hash {digest} and not {wanted}"]
     wanted = read(case / name)
     return [] if found == wanted else [f"{name} is {found[:200]!r} and not {wanted[:200]!r}"]
 

@@ -9,3 +9,6 @@ invariant_of-self-2 g c = record {
   pace = KeepsPace-pushed (slots_view c.self.inside).registrations c.args.area c.self.invariant.pace (search rules) (search rules) (omega arith) (omega arith);
   room = λ ready. absurd (false≢true ready);
 }
+
+pub returns-then-len-ge-MAX_ENTRIES-clause-too_many : goal.returns-then-len-ge-MAX_ENTRIES-clause-too_many
+returns-then-len-ge-MAX_ENTRIES-clause-too_many g c = search rules

@@ -4,6 +4,7 @@ pub mod Communications
 pub mod Effects
 pub mod Harts
 pub mod Messages
+pub mod OneStep
 pub mod Ranks
 pub mod Room
 pub mod Signed

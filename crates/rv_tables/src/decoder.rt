@@ -45,7 +45,7 @@ pub fn decode(word: u32) -> Option<Instr>
     }
 }
 
-#[inline]
+#[inline(always)]
 #[tactic(auto, using(crate::proofs::NoRow::jalrs))]
 fn jalr(word: u32) -> Option<Instr>
     requires { Fields.opcode word ≡ 0x67 }
@@ -61,7 +61,7 @@ fn jalr(word: u32) -> Option<Instr>
     })
 }
 
-#[inline]
+#[inline(always)]
 #[tactic(auto, using(crate::proofs::NoRow::branches))]
 fn branch(word: u32) -> Option<Instr>
     requires { Fields.opcode word ≡ 0x63 }
@@ -84,7 +84,7 @@ fn branch(word: u32) -> Option<Instr>
     })
 }
 
-#[inline]
+#[inline(always)]
 #[tactic(auto, using(crate::proofs::NoRow::loads))]
 fn load(word: u32) -> Option<Instr>
     requires { Fields.opcode word ≡ 0x03 }
@@ -106,7 +106,7 @@ fn load(word: u32) -> Option<Instr>
     })
 }
 
-#[inline]
+#[inline(always)]
 #[tactic(auto, using(crate::proofs::NoRow::stores))]
 fn store(word: u32) -> Option<Instr>
     requires { Fields.opcode word ≡ 0x23 }
@@ -127,7 +127,7 @@ fn store(word: u32) -> Option<Instr>
 }
 
 /// The rows on a register and an immediate: funct3 1 and 5 shift, and have funct7 too.
-#[inline]
+#[inline(always)]
 #[tactic(auto, using(crate::proofs::NoRow::immediates))]
 fn immediate(word: u32) -> Option<Instr>
     requires { Fields.opcode word ≡ 0x13 }
@@ -150,7 +150,7 @@ fn immediate(word: u32) -> Option<Instr>
     })
 }
 
-#[inline]
+#[inline(always)]
 #[tactic(auto, using(crate::proofs::NoRow::shifts))]
 fn shift(word: u32) -> Option<Instr>
     requires opcode { Fields.opcode word ≡ 0x13 }
@@ -172,7 +172,7 @@ fn shift(word: u32) -> Option<Instr>
     })
 }
 
-#[inline]
+#[inline(always)]
 #[tactic(auto, using(crate::proofs::NoRow::registers))]
 fn register(word: u32) -> Option<Instr>
     requires { Fields.opcode word ≡ 0x33 }
@@ -197,7 +197,7 @@ fn register(word: u32) -> Option<Instr>
 }
 
 /// The rows on three registers with funct7 0, one for each funct3.
-#[inline]
+#[inline(always)]
 #[tactic(auto, using(crate::proofs::NoRow::bases))]
 fn base_op(word: u32) -> ROp
     requires opcode { Fields.opcode word ≡ 0x33 }
@@ -217,7 +217,7 @@ fn base_op(word: u32) -> ROp
 }
 
 /// The rows of the M extension, one for each funct3.
-#[inline]
+#[inline(always)]
 #[tactic(auto, using(crate::proofs::NoRow::multiplies))]
 fn multiply_op(word: u32) -> ROp
     requires opcode { Fields.opcode word ≡ 0x33 }
@@ -236,7 +236,7 @@ fn multiply_op(word: u32) -> ROp
     }
 }
 
-#[inline]
+#[inline(always)]
 #[tactic(auto, using(crate::proofs::NoRow::fences))]
 fn fence(word: u32) -> Option<Instr>
     requires { Fields.opcode word ≡ 0x0F }
@@ -251,7 +251,7 @@ fn fence(word: u32) -> Option<Instr>
 }
 
 /// The two system rows, which are whole words.
-#[inline]
+#[inline(always)]
 #[tactic(auto, using(crate::proofs::NoRow::systems))]
 fn system(word: u32) -> Option<Instr>
     requires { Fields.opcode word ≡ 0x73 }

@@ -15,21 +15,6 @@ pub fn bits(word: u32, high: u32, low: u32) -> u32
     word >> low & ((1 << width) - 1)
 }
 
-/// A number of `width` bits as a signed number in two's complement.
-#[inline]
-fn sign_extended(width: u32, field: u32) -> i32
-    requires some { 0 < width }
-    requires narrow { width < 31 }
-    requires fits { field < 2 ^ width }
-    ensures { result ≡ Fields.sign_extended width field }
-{
-    if field < 1 << (width - 1) {
-        field as i32
-    } else {
-        field as i32 - (1 << width)
-    }
-}
-
 #[inline]
 pub fn opcode(word: u32) -> u32
     ensures { result ≡ Fields.opcode word }
@@ -79,27 +64,28 @@ pub fn shamt(word: u32) -> u8
     bits(word, 24, 20) as u8
 }
 
+// The sign of each immediate is bit 31 of its word: an arithmetic shift to the right fills the bits above with it.
+
 #[inline]
 pub fn i_immediate(word: u32) -> i32
     ensures { result ≡ Fields.i_immediate word }
 {
-    sign_extended(12, bits(word, 31, 20))
+    word.cast_signed() >> 20
 }
 
 #[inline]
 pub fn s_immediate(word: u32) -> i32
     ensures { result ≡ Fields.s_immediate word }
 {
-    sign_extended(12, (bits(word, 31, 25) << 5) + bits(word, 11, 7))
+    (word.cast_signed() >> 25) * 0x20 + bits(word, 11, 7) as i32
 }
 
 #[inline]
 pub fn b_immediate(word: u32) -> i32
     ensures { result ≡ Fields.b_immediate word }
 {
-    let high = (bits(word, 31, 31) << 12) + (bits(word, 7, 7) << 11);
-    let low = (bits(word, 30, 25) << 5) + (bits(word, 11, 8) << 1);
-    sign_extended(13, high + low)
+    let low = (bits(word, 7, 7) << 11) + (bits(word, 30, 25) << 5) + (bits(word, 11, 8) << 1);
+    (word.cast_signed() >> 31) * 0x1000 + low as i32
 }
 
 #[inline]
@@ -113,7 +99,6 @@ pub fn u_immediate(word: u32) -> u32
 pub fn j_immediate(word: u32) -> i32
     ensures { result ≡ Fields.j_immediate word }
 {
-    let high = (bits(word, 31, 31) << 20) + (bits(word, 19, 12) << 12);
-    let low = (bits(word, 20, 20) << 11) + (bits(word, 30, 21) << 1);
-    sign_extended(21, high + low)
+    let low = (bits(word, 19, 12) << 12) + (bits(word, 20, 20) << 11) + (bits(word, 30, 21) << 1);
+    (word.cast_signed() >> 31) * 0x10_0000 + low as i32
 }

@@ -35,8 +35,8 @@ abbrev pub byte_lines : ℕ → List ℕ → List Line
 byte_lines addr bytes = map (byte_line addr bytes) (range_with_len (4 * (length bytes / 4)) (length bytes % 4))
 
 -- the lines of bytes from an address on
-unfoldable pub lines_of : ℕ → List ℕ → List Line
-lines_of addr bytes = word_lines addr bytes ++ byte_lines addr bytes
+unfoldable pub listing_lines : ℕ → List ℕ → List Line
+listing_lines addr bytes = word_lines addr bytes ++ byte_lines addr bytes
 
 -- a line's text and the line feed that ends it
 abbrev pub ended_text : Line → List ℕ
@@ -44,7 +44,7 @@ ended_text line = text_of line ++ codes "\n"
 
 -- the listing of a segment: the lines of its bytes, and none for the zeros after them
 abbrev pub listing_of_segment : Segment → List ℕ
-listing_of_segment s = flat_map ended_text (lines_of s.addr s.bytes)
+listing_of_segment s = flat_map ended_text (listing_lines s.addr s.bytes)
 
 -- the listing of an image: those of its segments, in their order
 abbrev pub listing_of : Image → List ℕ

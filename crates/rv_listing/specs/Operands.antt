@@ -9,15 +9,15 @@ use Rattle.rv_listing.specs.Numerals.{hexadecimal, eight_digits}
 use Rattle.rv_listing.specs.Statement.{register, relative}
 
 -- an operand
-abbrev pub text_of : Operand → List ℕ
-text_of (Register number) = register number
-text_of (Number number) = signed_decimal number
-text_of (Upper imm) = codes "0x" ++ hexadecimal imm
-text_of (Relative imm base) = relative imm base
-text_of (Target address) = codes "0x" ++ eight_digits address
+abbrev pub operand_text : Operand → List ℕ
+operand_text (Register number) = register number
+operand_text (Number number) = signed_decimal number
+operand_text (Upper imm) = codes "0x" ++ hexadecimal imm
+operand_text (Relative imm base) = relative imm base
+operand_text (Target address) = codes "0x" ++ eight_digits address
 
 -- the operands of an instruction, each as it is written
-abbrev pub texts_of : Operands → List (List ℕ)
-texts_of None = []
-texts_of (Two first last) = register first ∷ text_of last ∷ []
-texts_of (Three first second last) = register first ∷ register second ∷ text_of last ∷ []
+abbrev pub operand_texts : Operands → List (List ℕ)
+operand_texts None = []
+operand_texts (Two first last) = register first ∷ operand_text last ∷ []
+operand_texts (Three first second last) = register first ∷ register second ∷ operand_text last ∷ []

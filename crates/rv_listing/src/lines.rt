@@ -2,7 +2,7 @@
 
 ghost use Rattle.std.specs.Prelude.{◌≡◌, ◌+◌, ◌≤◌, length};
 ghost use Rattle.node_memory.specs.Bytes.{word_at};
-ghost use Rattle.rv_listing.specs.Listing.{lines_of};
+ghost use Rattle.rv_listing.specs.Listing.{listing_lines};
 
 use crate::numerals::{EightDigits, TwoDigits};
 use crate::statement::Statement;
@@ -68,7 +68,7 @@ impl<'a> Model for Lines<'a> {
 impl<'a> Lines<'a> {
     /// The lines of a segment's bytes.
     pub fn new<A: Allocator>(segment: &'a Segment<A>) -> Lines<'a>
-        ensures { result ≡ lines_of segment.now.addr segment.now.bytes }
+        ensures { result ≡ listing_lines segment.now.addr segment.now.bytes }
     {
         Lines {
             addr: segment.addr,

@@ -1,7 +1,7 @@
 //! The assembly statement of a word.
 
 ghost use Rattle.std.specs.Prelude.{◌≡◌, IfOk};
-ghost use Rattle.rv_listing.specs.Operands.{texts_of};
+ghost use Rattle.rv_listing.specs.Operands.{operand_texts};
 ghost use Rattle.rv_listing.specs.Statement.{statement_of, operands_of, target_address};
 
 use crate::numerals::EightDigits;
@@ -63,10 +63,10 @@ enum Operands {
 
 impl fmt::Display for Operands {
     ghost use Rattle.std.specs.Prelude.{Some};
-    ghost use Rattle.rv_listing.specs.Operands.{texts_of};
+    ghost use Rattle.rv_listing.specs.Operands.{operand_texts};
     ghost use Rattle.rv_listing.specs.Statement.{operand_list};
 
-    ghost output = { λ operands. Some (operand_list (texts_of operands)) };
+    ghost output = { λ operands. Some (operand_list (operand_texts operands)) };
 
     fn fmt<W: fmt::Write>(&self, f: &mut fmt::Formatter<W>) -> fmt::Result {
         match *self {
@@ -79,7 +79,7 @@ impl fmt::Display for Operands {
 
 /// The operands of an instruction at an address.
 fn operands_of(instr: Instr, addr: u32) -> Operands
-    ensures { texts_of result ≡ operands_of instr addr }
+    ensures { operand_texts result ≡ operands_of instr addr }
 {
     match instr {
         Instr::R { rd, rs1, rs2, .. } => Operands::Three(rd, rs1, Operand::Register(rs2)),
@@ -123,9 +123,9 @@ enum Operand {
 
 impl fmt::Display for Operand {
     ghost use Rattle.std.specs.Prelude.{Some};
-    ghost use Rattle.rv_listing.specs.Operands.{text_of};
+    ghost use Rattle.rv_listing.specs.Operands.{operand_text};
 
-    ghost output = { λ operand. Some (text_of operand) };
+    ghost output = { λ operand. Some (operand_text operand) };
 
     fn fmt<W: fmt::Write>(&self, f: &mut fmt::Formatter<W>) -> fmt::Result {
         match *self {

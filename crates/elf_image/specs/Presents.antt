@@ -1,7 +1,7 @@
 -- The image that the bytes of a file present.
-use Rattle.std.specs.Prelude.{◌≡◌, List, [], ◌∷◌, length, map, filter, ℕ}
+use Rattle.std.specs.Prelude.{◌≡◌, List, map, filter, ℕ}
 use Rattle.node_memory.specs.Bytes.{bytes_at}
-use Rattle.node_memory.specs.Image.{Image, Segment}
+use Rattle.node_memory.specs.Image.{Image, Segment, segments_from_0}
 use Rattle.elf_image.specs.Headers.{ProgramHeader, file_header, program_headers, is_load}
 
 -- the segment of a program header: the p_filesz bytes at p_offset in the file, which lie in memory from p_vaddr on, with
@@ -16,6 +16,4 @@ pub record Presents (bytes : List ℕ) (i : Image) : Type 0 where
 
 -- the image of a raw file: its bytes are the memory's from address 0 on, and pc starts there. An empty file has no segment
 abbrev pub raw_image : List ℕ → Image
-raw_image [] = record { entry = 0; segments = [] }
-raw_image (b ∷ bs) =
-    record { entry = 0; segments = record { addr = 0; bytes = b ∷ bs; size = length (b ∷ bs) } ∷ [] }
+raw_image bytes = record { entry = 0; segments = segments_from_0 bytes }

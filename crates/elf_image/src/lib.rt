@@ -5,8 +5,9 @@
 //!
 //! What callers may rely on:
 //!
-//! - [`load`] gives the image that a file presents, or the first of the file's faults. It looks through the whole file
-//!   before it takes memory, and takes as much time as the file has headers and its segments bytes.
+//! - [`load`] gives the image that a file presents, or the first of the file's faults. It looks at all headers before it
+//!   takes memory, and at no bytes beside them but those of the segments, which it copies. It takes as much time as there
+//!   are headers and such bytes.
 //! - [`save`] gives the spelling of an image. Loaded, it is that image again (module [`laws`]).
 //! - [`raw`] gives the image of bytes that have no headers.
 //! - Of an allocator that refuses, each answers just that it had no memory.

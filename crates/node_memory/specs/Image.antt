@@ -1,7 +1,7 @@
 -- An image, as the program headers of an executable describe it (System V ABI, chapter 5 "Program Loading and Dynamic
 -- Linking", section "Program Header": p_vaddr, p_filesz, p_memsz), and the memory that it gives. The ABI leaves open what
 -- segments that overlap give: here the later one counts (own rule).
-use Rattle.std.specs.Prelude.{ℕ, ◌+◌, ◌-◌, ◌≤◌, ◌^◌, ◌++◌, List, length, map, find, reverse, replicate, sum_by, Bool, ◌&&◌, nat_le, nat_lt, slice_index}
+use Rattle.std.specs.Prelude.{ℕ, ◌+◌, ◌-◌, ◌≤◌, ◌^◌, ◌++◌, List, [], ◌∷◌, length, map, find, reverse, replicate, sum_by, Bool, ◌&&◌, nat_le, nat_lt, slice_index}
 use Rattle.std.specs.List.{range_with_len, list_any}
 use Rattle.std.specs.Option.{option_map_or}
 use Rattle.node_memory.specs.Bytes.{with_bytes}
@@ -54,3 +54,8 @@ ends_past size s = nat_lt 0 s.size && nat_lt size (s.addr + s.size)
 -- some segment of an image does so
 abbrev pub is_segment_outside : Image → ℕ → Bool
 is_segment_outside i size = list_any (ends_past size) i.segments
+
+-- bytes as segments: one at address 0 that has them all, and none where there are no bytes
+abbrev pub segments_from_0 : List ℕ → List Segment
+segments_from_0 [] = []
+segments_from_0 (b ∷ rest) = record { addr = 0; bytes = b ∷ rest; size = length (b ∷ rest) } ∷ []

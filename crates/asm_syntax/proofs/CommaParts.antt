@@ -4,7 +4,7 @@ use Rattle.std.specs.Prelude.{IfOk}
 use Rattle.std.specs.List.{slice_split, onto_first}
 use Rattle.std.proofs.lemmas.Bool.{cases_Bool}
 use Rattle.asm_syntax.specs.declared.token.Token.{Token as TokenCode}
-use Rattle.asm_syntax.specs.Operands.{is_comma, operands_of}
+use Rattle.asm_syntax.specs.Operands.{is_comma, operands_in}
 use Rattle.asm_syntax.specs.Tokens.{Token}
 use Rattle.asm_syntax.specs.TokenViews.{token_value, operand_values}
 
@@ -24,17 +24,17 @@ operand_values-map : (items : List (Bor (List TokenCode))) → operand_values it
 operand_values-map [] = refl
 operand_values-map (o ∷ os) = ap (λ parts. map token_value o.now ∷ parts) (operand_values-map os)
 
-operands_of-split : (ts : List Token) → 0 < length ts → operands_of ts ≡ slice_split is_comma ts
-operands_of-split [] some = absurd (omega arith)
-operands_of-split (t ∷ ts) some = refl
+operands_in-split : (ts : List Token) → 0 < length ts → operands_in ts ≡ slice_split is_comma ts
+operands_in-split [] some = absurd (omega arith)
+operands_in-split (t ∷ ts) some = refl
 
-pub operand_values-split : (items : List (Bor (List TokenCode))) (ts : List TokenCode) → 0 < length ts → map (λ x. x.now) items ≡ slice_split (λ t. is_comma (token_value t)) ts → operand_values items ≡ operands_of (map token_value ts)
+pub operand_values-split : (items : List (Bor (List TokenCode))) (ts : List TokenCode) → 0 < length ts → map (λ x. x.now) items ≡ slice_split (λ t. is_comma (token_value t)) ts → operand_values items ≡ operands_in (map token_value ts)
 operand_values-split items [] some is = absurd (omega arith)
 operand_values-split items (t ∷ ts) some is =
     operand_values-map items
     ∙ (ap (map (map token_value)) is
     ∙ (sym (slice_split-map is_comma token_value (t ∷ ts))
-    ∙ sym (operands_of-split (map token_value (t ∷ ts)) (omega arith))))
+    ∙ sym (operands_in-split (map token_value (t ∷ ts)) (omega arith))))
 
 pub IfOk-further : {X E : Type 0} (r : Result X E) (P Q : X → Type 0) → ((x : X) → P x → Q x) → IfOk r P → IfOk r Q
 IfOk-further (Ok x) P Q f h = f x h

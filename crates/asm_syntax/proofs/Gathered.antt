@@ -7,7 +7,7 @@ use Rattle.asm_syntax.specs.declared.error.LineError.{LineError}
 use Rattle.asm_syntax.specs.declared.error.LineError.TheVariants.{BadOperand, OutOfRange}
 use Rattle.asm_syntax.specs.declared.token.Token.{Token as TokenCode}
 use Rattle.asm_syntax.specs.Faults.{judged}
-use Rattle.asm_syntax.specs.Forms.{all_of, each_of, with_both}
+use Rattle.asm_syntax.specs.Shapes.{all_of, each_of, with_both}
 use Rattle.asm_syntax.specs.Tokens.{Token}
 use Rattle.asm_syntax.specs.TokenViews.{token_value, operand_values}
 

@@ -1,5 +1,5 @@
 -- What is judged to be in range is.
-use Rattle.std.proofs.Common.{◌≡◌, ℕ, ◌<◌, Bool, true, false, List, [], ◌∷◌, length, ℤ, Option, Some, None, Result, Ok, Err, sym, ap, ◌∙◌, arith, inl, inr, ◌⊎◌}
+use Rattle.std.proofs.Common.{◌≡◌, ◌<◌, Bool, true, false, List, [], ◌∷◌, length, ℤ, Option, Some, None, Result, Ok, Err, sym, ap, ◌∙◌, arith, inl, inr, ◌⊎◌}
 use Rattle.std.specs.List.{list_all, All}
 use Rattle.std.specs.Prelude.{int_le}
 use Rattle.std.proofs.lemmas.Bool.{cases_Bool, and_parts}
@@ -8,21 +8,18 @@ use Rattle.std.specs.Int.Signed.{le_z_yes}
 use Rattle.std.proofs.lemmas.List.Sums.{AllPass-from_list_all}
 use Rattle.asm_syntax.specs.declared.error.LineError.{LineError}
 use Rattle.asm_syntax.specs.Faults.{judged}
-use Rattle.asm_syntax.specs.Forms.{all_of, each_of, with_both}
-use Rattle.asm_syntax.specs.Operands.{Target, is_within, fits_offset, fits_target}
-use Rattle.asm_syntax.specs.Ranges.{IsWithin, IsOffset, IsTarget}
+use Rattle.asm_syntax.specs.Operands.{Target, offset_range, fits_target, IsTarget}
+use Rattle.asm_syntax.specs.Ranges.{Range, is_within, IsWithin}
+use Rattle.asm_syntax.specs.Shapes.{all_of, each_of, with_both}
 use Rattle.asm_syntax.specs.Tokens.{Token}
 
-pub is_within-true : (low high n : ℤ) → is_within low high n ≡ true → IsWithin low high n
-is_within-true low high n h =
-    let parts = and_parts (int_le low n) (int_le n high) h in
+pub is_within-true : (range : Range) (n : ℤ) → is_within range n ≡ true → IsWithin range n
+is_within-true range n h =
+    let parts = and_parts (int_le range.low n) (int_le n range.high) h in
     (le_z_yes (T_from_true _ parts.0), le_z_yes (T_from_true _ parts.1))
 
 pub fits_target-true : (t : Target) → fits_target t ≡ true → IsTarget t
-fits_target-true t h = by_label t.label t.offset h where
-  by_label : (label : Option (List ℕ)) (n : ℤ) → fits_offset label n ≡ true → IsOffset label n
-  by_label None n h = is_within-true _ _ n h
-  by_label (Some l) n h = is_within-true _ _ n h
+fits_target-true t h = is_within-true (offset_range t.label) t.offset h
 
 pub judged-ok : {X : Type 0} (fits : X → Bool) (o : Option X) (x : X) → judged fits o ≡ Ok x → (o ≡ Some x) × (fits x ≡ true)
 judged-ok {X} fits None x h = absurd (none h) where

@@ -5,7 +5,7 @@ use Rattle.std.proofs.lemmas.Bool.{cases_Bool}
 use Rattle.asm_syntax.specs.declared.error.LineError.{LineError}
 use Rattle.asm_syntax.specs.declared.token.Token.{Token as TokenCode}
 use Rattle.asm_syntax.specs.Faults.{if_ok, judged}
-use Rattle.asm_syntax.specs.Forms.{two, three, with_both}
+use Rattle.asm_syntax.specs.Shapes.{two, three, with_both}
 use Rattle.asm_syntax.specs.Operands.{register_in}
 use Rattle.asm_syntax.specs.Tokens.{Token}
 use Rattle.asm_syntax.specs.TokenViews.{token_value, operand_values}

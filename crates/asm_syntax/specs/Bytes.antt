@@ -1,6 +1,7 @@
 -- The bytes of a line by their kinds (own language). Codes are ASCII's.
 use Rattle.std.specs.Prelude.{ℕ, Bool, ◌==◌, ◌||◌, if◌then◌else◌, Option, Some, None}
 use Rattle.std.specs.Char.{is_ascii_alphanumeric}
+use Rattle.std.specs.Int.{is_in_range}
 
 -- a line feed
 abbrev pub is_line_feed : ℕ → Bool
@@ -29,6 +30,10 @@ is_backslash b = b == 92
 -- a byte of names and numbers: a letter, a digit, `_` or `.`
 abbrev pub is_word_byte : ℕ → Bool
 is_word_byte b = (is_ascii_alphanumeric b || (b == 95)) || (b == 46)
+
+-- a byte that may stand in a string, from the space to `~`
+abbrev pub is_plain : ℕ → Bool
+is_plain b = is_in_range 0x20 0x7E b
 
 -- what an escape stands for, by the byte behind the `\`: `\n` is 10, `\t` 9, `\0` 0, `\\` and `\"` these bytes themselves
 abbrev pub escape_value : ℕ → Option ℕ

@@ -6,6 +6,7 @@ pub mod Operands
 pub mod Limits
 pub mod Parse
 pub mod Ranges
+pub mod Shapes
 pub mod Statements
 pub mod TokenViews
 pub mod Tokens

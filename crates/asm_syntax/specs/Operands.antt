@@ -1,8 +1,9 @@
 -- The operands of a statement, by the tokens that spell one (own language). An operand is what stands between commas.
-use Rattle.std.specs.Prelude.{ℕ, ◌-◌, ◌^◌, ◌&&◌, Bool, true, false, ℤ, pos, neg_ℤ, int_le, List, [], ◌∷◌, Option, Some, None}
+use Rattle.std.specs.Prelude.{ℕ, ◌-◌, ◌^◌, Bool, true, false, ℤ, pos, neg_ℤ, List, [], ◌∷◌, Option, Some, None}
 use Rattle.std.specs.List.{slice_split}
 use Rattle.std.specs.Option.{option_map, option_and_then}
 use Rattle.rv_tables.specs.Registers.{register_number}
+use Rattle.asm_syntax.specs.Ranges.{Range, from_to, signed_or_unsigned, is_within, IsWithin}
 use Rattle.asm_syntax.specs.Tokens.{Token, name, number, text, comma, opening, closing, plus, minus}
 
 -- the sign that parts operands
@@ -11,9 +12,9 @@ is_comma comma = true
 is_comma _ = false
 
 -- the operands in the tokens behind a mnemonic: none where there are no tokens, else one more than there are commas
-abbrev pub operands_of : List Token → List (List Token)
-operands_of [] = []
-operands_of (t ∷ ts) = slice_split is_comma (t ∷ ts)
+abbrev pub operands_in : List Token → List (List Token)
+operands_in [] = []
+operands_in (t ∷ ts) = slice_split is_comma (t ∷ ts)
 
 -- an address: that of a label with an offset to it, or a number, which is the address itself
 pub record Target : Type 0 where
@@ -68,31 +69,14 @@ abbrev pub text_in : List Token → Option (List ℕ)
 text_in (text s ∷ []) = Some s
 text_in _ = None
 
--- `low` to `high`
-abbrev pub is_within : ℤ → ℤ → ℤ → Bool
-is_within low high n = int_le low n && int_le n high
+-- the range of the number of a target: beside a label at most 2^32 - 1 whatever its sign, and without one that of a word
+abbrev pub offset_range : Option (List ℕ) → Range
+offset_range (Some _) = from_to (neg_ℤ (pos (2 ^ 32 - 1))) (pos (2 ^ 32 - 1))
+offset_range None = signed_or_unsigned 32
 
--- what a word holds as a signed or as an unsigned number, -2^31 to 2^32 - 1
-abbrev pub fits_word : ℤ → Bool
-fits_word n = is_within (neg_ℤ (pos (2 ^ 31))) (pos (2 ^ 32 - 1)) n
-
--- what a half holds as a signed or as an unsigned number, -32768 to 65535
-abbrev pub fits_half : ℤ → Bool
-fits_half n = is_within (neg_ℤ (pos 32768)) (pos 65535) n
-
--- the same of a byte, -128 to 255
-abbrev pub fits_byte : ℤ → Bool
-fits_byte n = is_within (neg_ℤ (pos 128)) (pos 255) n
-
--- -2048 to 2047
-abbrev pub fits_immediate : ℤ → Bool
-fits_immediate n = is_within (neg_ℤ (pos (2 ^ 11))) (pos (2 ^ 11 - 1)) n
-
--- a number beside a label is at most 2^32 - 1 whatever its sign, and a number without one fits a word
-abbrev pub fits_offset : Option (List ℕ) → ℤ → Bool
-fits_offset (Some _) n = is_within (neg_ℤ (pos (2 ^ 32 - 1))) (pos (2 ^ 32 - 1)) n
-fits_offset None n = fits_word n
-
--- the number of a target is in its range
+-- the number of a target is in its range: a test, and the fact that it tests
 abbrev pub fits_target : Target → Bool
-fits_target t = fits_offset t.label t.offset
+fits_target t = is_within (offset_range t.label) t.offset
+
+abbrev pub IsTarget : Target → Type 0
+IsTarget t = IsWithin (offset_range t.label) t.offset

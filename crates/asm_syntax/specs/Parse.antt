@@ -2,7 +2,7 @@
 -- its tokens are judged first, then its mnemonic, then the kinds of its operands, then their ranges.
 use Rattle.std.specs.Prelude.{ℕ, List, [], ◌∷◌, Option, Some, None, Result, Ok, Err}
 use Rattle.asm_syntax.specs.Tokens.{Token, name, colon, tokens_of}
-use Rattle.asm_syntax.specs.Operands.{operands_of}
+use Rattle.asm_syntax.specs.Operands.{operands_in}
 use Rattle.asm_syntax.specs.Statements.{Statement, Line}
 use Rattle.asm_syntax.specs.declared.form.Form.{Form}
 use Rattle.asm_syntax.specs.Faults.{if_ok}
@@ -11,9 +11,9 @@ use Rattle.asm_syntax.specs.declared.error.LineError.{LineError}
 use Rattle.asm_syntax.specs.declared.error.LineError.TheVariants.{BadToken, UnknownMnemonic}
 
 -- the labels that tokens begin with, each a name and `:`
-abbrev pub labels_of : List Token → List (List ℕ)
-labels_of (name label ∷ colon ∷ rest) = label ∷ labels_of rest
-labels_of _ = []
+abbrev pub labels_in : List Token → List (List ℕ)
+labels_in (name label ∷ colon ∷ rest) = label ∷ labels_in rest
+labels_in _ = []
 
 -- the tokens behind them
 abbrev pub behind_labels : List Token → List Token
@@ -26,15 +26,15 @@ statement_of_form None operands = Err UnknownMnemonic
 statement_of_form (Some form) operands = reading form operands
 
 -- the statement that tokens without labels spell, if there is one
-abbrev pub statement_of : List Token → Result (Option Statement) LineError
-statement_of [] = Ok None
-statement_of (name mnemonic ∷ ts) = if_ok Some (statement_of_form (form_named mnemonic) (operands_of ts))
-statement_of _ = Err UnknownMnemonic
+abbrev pub statement_in : List Token → Result (Option Statement) LineError
+statement_in [] = Ok None
+statement_in (name mnemonic ∷ ts) = if_ok Some (statement_of_form (form_named mnemonic) (operands_in ts))
+statement_in _ = Err UnknownMnemonic
 
 -- what tokens say, where the bytes of the line are some
 abbrev pub line_with : Option (List Token) → Result Line LineError
 line_with None = Err BadToken
-line_with (Some ts) = if_ok (λ s. record { labels = labels_of ts; statement = s }) (statement_of (behind_labels ts))
+line_with (Some ts) = if_ok (λ s. record { labels = labels_in ts; statement = s }) (statement_in (behind_labels ts))
 
 -- what a line says, or its fault, which is never `NoMemory`
 unfoldable pub line_of : List ℕ → Result Line LineError

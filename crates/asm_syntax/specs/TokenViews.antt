@@ -1,5 +1,5 @@
 -- What the tokens of the code stand for.
-use Rattle.std.specs.Prelude.{ℕ, ◌≤◌, ◌<◌, if◌then◌else◌, Bool, true, false, List, [], ◌∷◌, map, unwrap_or}
+use Rattle.std.specs.Prelude.{ℕ, ◌≤◌, ◌<◌, if◌then◌else◌, List, [], ◌∷◌, map, unwrap_or}
 use Rattle.std.specs.Borrow.{Bor}
 use Rattle.asm_syntax.specs.Bytes.{is_backslash, escape_value}
 use Rattle.asm_syntax.specs.Tokens.{Token, name, number, text, comma, colon, opening, closing, plus, minus, number_value, Head, blank, comment, token, nothing}
@@ -11,17 +11,17 @@ use Rattle.asm_syntax.specs.declared.token.Token.TheVariants.{Name, Number, Text
 use Rattle.asm_syntax.specs.declared.token.Head.{Head as HeadCode}
 use Rattle.asm_syntax.specs.declared.token.Head.TheVariants.{Blank, Comment, Token as HeadToken, Nothing}
 
--- what the bytes between the `"` of a string stand for, behind a `\` or not
-abbrev pub unescaped : Bool → List ℕ → List ℕ
-unescaped escaped [] = []
-unescaped true (b ∷ rest) = unwrap_or (escape_value b) b ∷ unescaped false rest
-unescaped false (b ∷ rest) = if is_backslash b then unescaped true rest else b ∷ unescaped false rest
+-- what the bytes between the `"` of a string stand for
+abbrev pub unescaped : List ℕ → List ℕ
+unescaped [] = []
+unescaped (b ∷ []) = b ∷ []
+unescaped (b ∷ c ∷ rest) = if is_backslash b then unwrap_or (escape_value c) c ∷ unescaped rest else b ∷ unescaped (c ∷ rest)
 
 -- a token of the code as that of the definition
 abbrev pub token_value : TokenCode → Token
 token_value (Name w) = name w.now
 token_value (Number w) = number (unwrap_or (number_value w.now) 0)
-token_value (Text s) = text (unescaped false s.now)
+token_value (Text s) = text (unescaped s.now)
 token_value Comma = comma
 token_value Colon = colon
 token_value Open = opening

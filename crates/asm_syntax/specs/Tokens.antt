@@ -1,12 +1,11 @@
 -- The tokens of a line (own language): names, numbers, strings and signs; blanks part them, and `#` outside a string
 -- begins a comment.
-use Rattle.std.specs.Prelude.{ℕ, zero, suc, ◌+◌, ◌-◌, ◌&&◌, ◌==◌, Bool, true, false, nat_lt, nat_eq, not, if◌then◌else◌, List, [], ◌∷◌, ◌++◌, length, drop, codes, Option, Some, None}
+use Rattle.std.specs.Prelude.{ℕ, zero, suc, ◌+◌, ◌-◌, ◌&&◌, ◌==◌, nat_lt, nat_eq, if◌then◌else◌, List, [], ◌∷◌, length, drop, codes, Option, Some, None}
 use Rattle.std.specs.List.{list_all, take_while, prefix_len, starts_with}
 use Rattle.std.specs.Option.{option_map, option_map_or, option_and_then}
 use Rattle.std.specs.Char.{is_ascii_digit, is_ascii_hexdigit}
-use Rattle.std.specs.Int.{is_in_range}
 use Rattle.std.specs.Str.Parse.{digits_value}
-use Rattle.asm_syntax.specs.Bytes.{is_blank, is_hash, is_quote, is_backslash, is_word_byte, escape_value}
+use Rattle.asm_syntax.specs.Bytes.{is_blank, is_hash, is_quote, is_backslash, is_word_byte, is_plain, escape_value}
 
 -- a token
 pub data Token : Type 0 where
@@ -53,24 +52,25 @@ pub record Text : Type 0 where
   pub content : List ℕ
   pub len : ℕ
 
--- the string with one byte of the line more before it, and the bytes that this byte adds to what it stands for
-abbrev pub onto_text : List ℕ → Text → Text
-onto_text added t = record { content = added ++ t.content; len = t.len + 1 }
+-- the string that ends at once
+abbrev pub text_end : Text
+text_end = record { content = []; len = 1 }
 
--- a string whose first byte is `b`, by what the rest of it is: behind a `\` the byte of an escape, else the `"` at its
--- end, a `\`, or a byte from 0x20 to 0x7E that stands for itself
-abbrev pub text_with : Bool → ℕ → Option Text → Option Text
-text_with true b rest = option_and_then (λ value. option_map (onto_text (value ∷ [])) rest) (escape_value b)
-text_with false b rest =
-    if is_quote b then Some (record { content = []; len = 1 }) else
-    (if is_backslash b then option_map (onto_text []) rest else
-    (if is_in_range 0x20 0x7E b then option_map (onto_text (b ∷ [])) rest else None))
+-- a string that begins with `len` bytes which stand for one byte, by that byte and by what is left of it
+abbrev pub with_value : ℕ → Option ℕ → Option Text → Option Text
+with_value len value rest =
+    option_and_then (λ v. option_map (λ t. record { content = v ∷ t.content; len = t.len + len }) rest) value
 
--- the string that a line's bytes begin with, behind its first `"`, or behind a `\` in it; none where it has no end, or a
--- byte or an escape that strings do not have
-abbrev pub text_from : Bool → List ℕ → Option Text
-text_from escaped [] = None
-text_from escaped (b ∷ rest) = text_with escaped b (text_from (not escaped && is_backslash b) rest)
+-- the string that a line's bytes begin with, behind its first `"`: it goes on to the next `"`; in it a `\` and the byte
+-- behind it are an escape, and any other byte stands for itself. None where it has no end, or a byte or an escape that
+-- strings do not have
+abbrev pub text_from : List ℕ → Option Text
+text_from [] = None
+text_from (b ∷ []) = if is_quote b then Some text_end else None
+text_from (b ∷ c ∷ rest) =
+    if is_quote b then Some text_end else
+    (if is_backslash b then with_value 2 (escape_value c) (text_from rest) else
+    with_value 1 (if is_plain b then Some b else None) (text_from (c ∷ rest)))
 
 -- what a line begins with
 pub data Head : Type 0 where
@@ -87,7 +87,7 @@ head_of b rest =
     if is_blank b then blank else
     (if is_hash b then comment else
     (if is_word_byte b then option_map_or (λ t. token t (prefix_len is_word_byte rest + 1)) (word_token b (take_while is_word_byte rest)) nothing else
-    (if is_quote b then option_map_or (λ t. token (text t.content) (t.len + 1)) (text_from false rest) nothing else
+    (if is_quote b then option_map_or (λ t. token (text t.content) (t.len + 1)) (text_from rest) nothing else
     option_map_or (λ t. token t 1) (sign_token b) nothing)))
 
 -- how many bytes behind its first belong to what a line begins with

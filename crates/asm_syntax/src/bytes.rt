@@ -2,7 +2,7 @@
 
 ghost use Rattle.std.specs.Prelude.{◌≡◌, ◌<◌};
 ghost use Rattle.std.specs.Char.{digit_value};
-ghost use Rattle.asm_syntax.specs.Bytes.{is_blank, is_word_byte, escape_value};
+ghost use Rattle.asm_syntax.specs.Bytes.{is_blank, is_word_byte, is_plain, escape_value};
 
 /// A space or a tab.
 pub(crate) fn is_blank(byte: u8) -> bool
@@ -16,6 +16,13 @@ pub(crate) fn is_word_byte(byte: u8) -> bool
     ensures { result ≡ is_word_byte byte }
 {
     byte.is_ascii_alphanumeric() || byte == b'_' || byte == b'.'
+}
+
+/// A byte that may stand in a string, from the space to `~`.
+pub(crate) fn is_plain(byte: u8) -> bool
+    ensures { result ≡ is_plain byte }
+{
+    (b' '..=b'~').contains(&byte)
 }
 
 /// What an escape stands for, by the byte behind its `\`.

@@ -1,13 +1,12 @@
 //! The statements of the directives.
 
-ghost use Rattle.std.specs.Prelude.{◌≡◌, ◌≢◌, ◌^◌, ◌-◌, ◌<◌, ◌≤ℤ◌, pos, neg_ℤ, length, map, Ok, Err, IfOk, IfErr};
-ghost use Rattle.asm_syntax.specs.Faults.{if_ok, judged};
-ghost use Rattle.asm_syntax.specs.Forms.{reading, each_of};
-ghost use Rattle.asm_syntax.specs.Ranges.{IsInRange, IsWithin, IsTarget};
+ghost use Rattle.std.specs.Prelude.{◌≡◌, ◌≢◌, ◌^◌, ◌-◌, ◌≤ℤ◌, pos, neg_ℤ, map, Ok, Err, IfOk, IfErr};
+ghost use Rattle.asm_syntax.specs.Faults.{if_ok};
+ghost use Rattle.asm_syntax.specs.Forms.{reading};
+ghost use Rattle.asm_syntax.specs.Ranges.{from_to};
+ghost use Rattle.asm_syntax.specs.Shapes as Shapes;
 ghost use Rattle.asm_syntax.specs.TokenViews.{operand_values};
 ghost use Rattle.asm_syntax.specs.Views.{statement_value, target_value};
-ghost use Rattle.std.specs.List.{list_all, All};
-ghost use Rattle.asm_syntax.specs.Operands.{number_in, target_in, is_within, fits_target};
 
 use crate::error::LineError;
 use crate::form::Form;
@@ -21,8 +20,7 @@ use std::alloc::Allocator;
 pub(crate) fn space<'a, A: Allocator + Copy>(
     operands: &[&[Token<'a>]],
 ) -> Result<Statement<'a, A>, LineError>
-    ensures value { if_ok statement_value result ≡ reading Form.ZeroData (operand_values operands.now) }
-    ensures in_range { IfOk result (λ s. IsInRange (statement_value s)) }
+    ensures { if_ok statement_value result ≡ reading Form.ZeroData (operand_values operands.now) }
 {
     let number = shapes::number(operands, 0, 1 << 24)?;
     Ok(Statement::Space(number as u32))
@@ -32,8 +30,7 @@ pub(crate) fn space<'a, A: Allocator + Copy>(
 pub(crate) fn align<'a, A: Allocator + Copy>(
     operands: &[&[Token<'a>]],
 ) -> Result<Statement<'a, A>, LineError>
-    ensures value { if_ok statement_value result ≡ reading Form.AlignData (operand_values operands.now) }
-    ensures in_range { IfOk result (λ s. IsInRange (statement_value s)) }
+    ensures { if_ok statement_value result ≡ reading Form.AlignData (operand_values operands.now) }
 {
     let number = shapes::number(operands, 0, 12)?;
     Ok(Statement::Align(number as u8))
@@ -43,8 +40,7 @@ pub(crate) fn align<'a, A: Allocator + Copy>(
 pub(crate) fn entry<'a, A: Allocator + Copy>(
     operands: &[&[Token<'a>]],
 ) -> Result<Statement<'a, A>, LineError>
-    ensures value { if_ok statement_value result ≡ reading Form.EntryPoint (operand_values operands.now) }
-    ensures in_range { IfOk result (λ s. IsInRange (statement_value s)) }
+    ensures { if_ok statement_value result ≡ reading Form.EntryPoint (operand_values operands.now) }
 {
     let target = shapes::target(operands)?;
     Ok(Statement::Entry(target))
@@ -56,7 +52,6 @@ pub(crate) fn ascii<'a, A: Allocator + Copy>(
     operands: &[&[Token<'a>]],
 ) -> Result<Statement<'a, A>, LineError>
     ensures ok { IfOk result (λ s. reading Form.TextData (operand_values operands.now) ≡ Ok (statement_value s)) }
-    ensures in_range { IfOk result (λ s. IsInRange (statement_value s)) }
     ensures err { IfErr result (λ e. e ≢ LineError.NoMemory
         → reading Form.TextData (operand_values operands.now) ≡ Err e) }
 {
@@ -71,7 +66,6 @@ pub(crate) fn words<'a, A: Allocator + Copy>(
     operands: &[&[Token<'a>]],
 ) -> Result<Statement<'a, A>, LineError>
     ensures ok { IfOk result (λ s. reading Form.WordData (operand_values operands.now) ≡ Ok (statement_value s)) }
-    ensures in_range { IfOk result (λ s. IsInRange (statement_value s)) }
     ensures err { IfErr result (λ e. e ≢ LineError.NoMemory
         → reading Form.WordData (operand_values operands.now) ≡ Err e) }
 {
@@ -85,7 +79,6 @@ pub(crate) fn halves<'a, A: Allocator + Copy>(
     operands: &[&[Token<'a>]],
 ) -> Result<Statement<'a, A>, LineError>
     ensures ok { IfOk result (λ s. reading Form.HalfData (operand_values operands.now) ≡ Ok (statement_value s)) }
-    ensures in_range { IfOk result (λ s. IsInRange (statement_value s)) }
     ensures err { IfErr result (λ e. e ≢ LineError.NoMemory
         → reading Form.HalfData (operand_values operands.now) ≡ Err e) }
 {
@@ -99,7 +92,6 @@ pub(crate) fn bytes<'a, A: Allocator + Copy>(
     operands: &[&[Token<'a>]],
 ) -> Result<Statement<'a, A>, LineError>
     ensures ok { IfOk result (λ s. reading Form.ByteData (operand_values operands.now) ≡ Ok (statement_value s)) }
-    ensures in_range { IfOk result (λ s. IsInRange (statement_value s)) }
     ensures err { IfErr result (λ e. e ≢ LineError.NoMemory
         → reading Form.ByteData (operand_values operands.now) ≡ Err e) }
 {
@@ -113,10 +105,8 @@ fn targets<'a, A: Allocator + Copy>(
     operands: &[&[Token<'a>]],
 ) -> Result<Vec<Target<'a>, A>, LineError>
     ensures ok { IfOk result (λ targets.
-        judged (list_all fits_target) (each_of target_in (operand_values operands.now))
-        ≡ Ok (map target_value targets.items)) }
-    ensures err { IfErr result (λ e. e ≢ LineError.NoMemory
-        → judged (list_all fits_target) (each_of target_in (operand_values operands.now)) ≡ Err e) }
+        Shapes.targets (operand_values operands.now) ≡ Ok (map target_value targets.items)) }
+    ensures err { IfErr result (λ e. e ≢ LineError.NoMemory → Shapes.targets (operand_values operands.now) ≡ Err e) }
 {
     if operands.is_empty() {
         return Err(LineError::BadOperand);
@@ -151,10 +141,9 @@ fn numbers<A: Allocator + Copy>(
     requires low { neg_ℤ (pos (2 ^ 31)) ≤ℤ low }
     requires high { high ≤ℤ pos (2 ^ 31 - 1) }
     ensures ok { IfOk result (λ numbers.
-        judged (list_all (is_within low high)) (each_of number_in (operand_values operands.now))
-        ≡ Ok numbers.items) }
+        Shapes.numbers (from_to low high) (operand_values operands.now) ≡ Ok numbers.items) }
     ensures err { IfErr result (λ e. e ≢ LineError.NoMemory
-        → judged (list_all (is_within low high)) (each_of number_in (operand_values operands.now)) ≡ Err e) }
+        → Shapes.numbers (from_to low high) (operand_values operands.now) ≡ Err e) }
 {
     if operands.is_empty() {
         return Err(LineError::BadOperand);

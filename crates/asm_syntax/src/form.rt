@@ -1,7 +1,7 @@
 //! The statements of the language by their mnemonics.
 
 ghost use Rattle.std.specs.Prelude.{◌≡◌};
-ghost use Rattle.asm_syntax.specs.Forms.{name_of, form_named};
+ghost use Rattle.asm_syntax.specs.Forms.{rule_of, form_named};
 
 use rv_tables::{BranchOp, IOp, Instr, LoadOp, PlainOp, ROp, ShiftOp, StoreOp, UpperOp, mnemonic};
 
@@ -135,7 +135,7 @@ pub(crate) fn form_named(mnemonic: &[u8]) -> Option<Form>
 
 /// The mnemonic of a statement.
 fn name_of(form: Form) -> &'static str
-    ensures { result.now ≡ name_of form }
+    ensures { result.now ≡ (rule_of form).mnemonic }
 {
     match form {
         Form::Arithmetic(op) => mnemonic(&Instr::R {

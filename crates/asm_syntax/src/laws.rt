@@ -2,8 +2,7 @@
 
 ghost use Rattle.std.specs.Prelude.{◌≡◌, ◌≢◌, ℕ, List, Ok, Err, IfSome};
 ghost use Rattle.asm_syntax.specs.Parse.{line_of};
-ghost use Rattle.asm_syntax.specs.Ranges.{IsInRange};
-ghost use Rattle.asm_syntax.specs.Statements.{Line};
+ghost use Rattle.asm_syntax.specs.Statements.{Line, IsInRange};
 
 use crate::error::LineError;
 

@@ -1,12 +1,11 @@
 //! The operands of a statement.
 
-ghost use Rattle.std.specs.Prelude.{true, false, ◌≡◌, ◌≤ℤ◌, ◌*◌, ◌^◌, pos, neg_ℤ, min, map, unwrap_or, IfOk};
+ghost use Rattle.std.specs.Prelude.{true, ◌≡◌, ◌≤ℤ◌, ◌^◌, pos, neg_ℤ, min, map, unwrap_or, IfOk};
 ghost use Rattle.std.specs.Option.{option_map};
-ghost use Rattle.rv_tables.specs.Operands.{IsRegister, IsImmediate};
 ghost use Rattle.asm_syntax.specs.Faults.{judged, if_ok};
 ghost use Rattle.asm_syntax.specs.Limits.{clamped, clamped_based, clamped_target};
-ghost use Rattle.asm_syntax.specs.Operands.{register_in, number_in, in_parentheses, based_in, address_in, target_in, text_in, is_within, fits_immediate, fits_target};
-ghost use Rattle.asm_syntax.specs.Ranges.{IsWithin, IsTarget};
+ghost use Rattle.asm_syntax.specs.Operands.{register_in, number_in, in_parentheses, based_in, address_in, target_in, text_in, fits_target};
+ghost use Rattle.asm_syntax.specs.Ranges.{from_to, signed, is_within, IsWithin};
 ghost use Rattle.asm_syntax.specs.TokenViews.{address_value, token_value, unescaped, based_value};
 ghost use Rattle.asm_syntax.specs.Tokens.{number_value as value_of};
 ghost use Rattle.asm_syntax.specs.Views.{target_value};
@@ -33,8 +32,7 @@ struct NumberAndBase<'a> {
 
 /// A register by its name.
 pub(crate) fn register(operand: &[Token<'_>]) -> Result<u8, LineError>
-    ensures value { result ≡ judged (λ _. true) (register_in (map token_value operand.now)) }
-    ensures register { IfOk result IsRegister }
+    ensures { result ≡ judged (λ _. true) (register_in (map token_value operand.now)) }
 {
     match operand {
         [Token::Name(name)] => reg_number(name).ok_or(LineError::BadOperand),
@@ -71,8 +69,8 @@ fn number(operand: &[Token<'_>]) -> Option<i64>
 pub(crate) fn number_within(operand: &[Token<'_>], low: i64, high: i64) -> Result<i64, LineError>
     requires low { neg_ℤ (pos (2 ^ 39)) ≤ℤ low }
     requires high { high ≤ℤ pos (2 ^ 39) }
-    ensures value { result ≡ judged (is_within low high) (number_in (map token_value operand.now)) }
-    ensures within { IfOk result (IsWithin low high) }
+    ensures value { result ≡ judged (is_within (from_to low high)) (number_in (map token_value operand.now)) }
+    ensures within { IfOk result (IsWithin (from_to low high)) }
 {
     let value = number(operand).ok_or(LineError::BadOperand)?;
     if low <= value && value <= high {
@@ -108,10 +106,8 @@ fn based<'a>(operand: &[Token<'a>]) -> Option<NumberAndBase<'a>>
 
 /// An address in memory.
 pub(crate) fn memory_address(operand: &[Token<'_>]) -> Result<Address, LineError>
-    ensures value { if_ok address_value result
-        ≡ judged (λ a. fits_immediate a.offset) (address_in (map token_value operand.now)) }
-    ensures base { IfOk result (λ a. IsRegister a.base) }
-    ensures offset { IfOk result (λ a. IsImmediate a.offset) }
+    ensures { if_ok address_value result
+        ≡ judged (λ a. is_within (signed 12) a.offset) (address_in (map token_value operand.now)) }
 {
     let NumberAndBase { number, base } = based(operand).ok_or(LineError::BadOperand)?;
     let base = reg_number(base).ok_or(LineError::BadOperand)?;
@@ -156,8 +152,7 @@ fn any_target<'a>(operand: &[Token<'a>]) -> Option<Target<'a>>
 
 /// A target whose number is in its range.
 pub(crate) fn target<'a>(operand: &[Token<'a>]) -> Result<Target<'a>, LineError>
-    ensures value { if_ok target_value result ≡ judged fits_target (target_in (map token_value operand.now)) }
-    ensures in_range { IfOk result (λ t. IsTarget (target_value t)) }
+    ensures { if_ok target_value result ≡ judged fits_target (target_in (map token_value operand.now)) }
 {
     let target = any_target(operand).ok_or(LineError::BadOperand)?;
     let low = match target.label {
@@ -173,7 +168,7 @@ pub(crate) fn target<'a>(operand: &[Token<'a>]) -> Result<Target<'a>, LineError>
 
 /// What stands between the `"` of a string, with its escapes.
 pub(crate) fn text<'a>(operand: &[Token<'a>]) -> Option<&'a [u8]>
-    ensures { option_map (λ s. unescaped false s.now) result ≡ text_in (map token_value operand.now) }
+    ensures { option_map (λ s. unescaped s.now) result ≡ text_in (map token_value operand.now) }
 {
     match operand {
         [Token::Text(raw)] => Some(raw),

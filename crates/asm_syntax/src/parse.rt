@@ -3,9 +3,9 @@
 ghost use Rattle.std.specs.Prelude.{◌≡◌, ◌≢◌, ◌∷◌, [], map, Some, None, Ok, Err, IfOk, IfErr, IfSome};
 ghost use Rattle.std.specs.Option.{option_map};
 ghost use Rattle.asm_syntax.specs.Forms.{reading};
-ghost use Rattle.asm_syntax.specs.Operands.{operands_of};
-ghost use Rattle.asm_syntax.specs.Parse.{line_of, labels_of, behind_labels, statement_of};
-ghost use Rattle.asm_syntax.specs.Ranges.{IsInRange};
+ghost use Rattle.asm_syntax.specs.Operands.{operands_in};
+ghost use Rattle.asm_syntax.specs.Parse.{line_of, labels_in, behind_labels, statement_in};
+ghost use Rattle.asm_syntax.specs.Statements.{IsInRange};
 ghost use Rattle.asm_syntax.specs.TokenViews.{token_value, operand_values};
 ghost use Rattle.asm_syntax.specs.Views.{statement_value, line_value};
 
@@ -44,7 +44,7 @@ fn labels<'t, 'a, A: Allocator + Copy>(
     tokens: &'t [Token<'a>],
 ) -> Result<(Vec<&'a [u8], A>, &'t [Token<'a>]), AllocError>
     ensures labels { IfOk result (λ split.
-        map (λ l. l.now) split.0.items ≡ labels_of (map token_value tokens.now)) }
+        map (λ l. l.now) split.0.items ≡ labels_in (map token_value tokens.now)) }
     ensures rest { IfOk result (λ split.
         map token_value split.1.now ≡ behind_labels (map token_value tokens.now)) }
 {
@@ -62,9 +62,8 @@ fn statement<'a, A: Allocator + Copy>(
     alloc: A,
     tokens: &[Token<'a>],
 ) -> Result<Option<Statement<'a, A>>, LineError>
-    ensures ok { IfOk result (λ s. statement_of (map token_value tokens.now) ≡ Ok (option_map statement_value s)) }
-    ensures in_range { IfOk result (λ s. IfSome s (λ s. IsInRange (statement_value s))) }
-    ensures err { IfErr result (λ e. e ≢ LineError.NoMemory → statement_of (map token_value tokens.now) ≡ Err e) }
+    ensures ok { IfOk result (λ s. statement_in (map token_value tokens.now) ≡ Ok (option_map statement_value s)) }
+    ensures err { IfErr result (λ e. e ≢ LineError.NoMemory → statement_in (map token_value tokens.now) ≡ Err e) }
 {
     match tokens {
         [] => Ok(None),
@@ -84,7 +83,7 @@ fn operands<'t, 'a, A: Allocator + Copy>(
     tokens: &'t [Token<'a>],
 ) -> Result<Vec<&'t [Token<'a>], A>, AllocError>
     ensures { IfOk result (λ operands.
-        operand_values operands.items ≡ operands_of (map token_value tokens.now)) }
+        operand_values operands.items ≡ operands_in (map token_value tokens.now)) }
 {
     if tokens.is_empty() {
         return Ok(Vec::new(alloc));
@@ -101,7 +100,6 @@ fn read<'a, A: Allocator + Copy>(
     operands: &[&[Token<'a>]],
 ) -> Result<Statement<'a, A>, LineError>
     ensures ok { IfOk result (λ s. reading form (operand_values operands.now) ≡ Ok (statement_value s)) }
-    ensures in_range { IfOk result (λ s. IsInRange (statement_value s)) }
     ensures err { IfErr result (λ e. e ≢ LineError.NoMemory
         → reading form (operand_values operands.now) ≡ Err e) }
 {

@@ -1,9 +1,8 @@
 //! The statements of the pseudo-instructions.
 
-ghost use Rattle.std.specs.Prelude.{◌≡◌, pos, IfOk};
+ghost use Rattle.std.specs.Prelude.{◌≡◌, pos};
 ghost use Rattle.asm_syntax.specs.Faults.{if_ok};
 ghost use Rattle.asm_syntax.specs.Forms.{reading};
-ghost use Rattle.asm_syntax.specs.Ranges.{IsInRange};
 ghost use Rattle.asm_syntax.specs.TokenViews.{operand_values};
 ghost use Rattle.asm_syntax.specs.Views.{statement_value};
 ghost use Rattle.asm_syntax.specs.Statements.{instruction};
@@ -20,8 +19,7 @@ use std::alloc::Allocator;
 pub(crate) fn nop<'a, A: Allocator + Copy>(
     operands: &[&[Token<'a>]],
 ) -> Result<Statement<'a, A>, LineError>
-    ensures value { if_ok statement_value result ≡ reading Form.Nop (operand_values operands.now) }
-    ensures in_range { IfOk result (λ s. IsInRange (statement_value s)) }
+    ensures { if_ok statement_value result ≡ reading Form.Nop (operand_values operands.now) }
 {
     shapes::nothing(operands)?;
     Ok(add_immediate(0, 0))
@@ -31,8 +29,7 @@ pub(crate) fn nop<'a, A: Allocator + Copy>(
 pub(crate) fn move_register<'a, A: Allocator + Copy>(
     operands: &[&[Token<'a>]],
 ) -> Result<Statement<'a, A>, LineError>
-    ensures value { if_ok statement_value result ≡ reading Form.Move (operand_values operands.now) }
-    ensures in_range { IfOk result (λ s. IsInRange (statement_value s)) }
+    ensures { if_ok statement_value result ≡ reading Form.Move (operand_values operands.now) }
 {
     let (rd, rs) = shapes::two_registers(operands)?;
     Ok(add_immediate(rd, rs))
@@ -42,8 +39,7 @@ pub(crate) fn move_register<'a, A: Allocator + Copy>(
 pub(crate) fn load_immediate<'a, A: Allocator + Copy>(
     operands: &[&[Token<'a>]],
 ) -> Result<Statement<'a, A>, LineError>
-    ensures value { if_ok statement_value result ≡ reading Form.LoadImmediate (operand_values operands.now) }
-    ensures in_range { IfOk result (λ s. IsInRange (statement_value s)) }
+    ensures { if_ok statement_value result ≡ reading Form.LoadImmediate (operand_values operands.now) }
 {
     let low = i64::from(i32::MIN);
     let (rd, value) = shapes::register_number(operands, low, i64::from(u32::MAX))?;
@@ -54,8 +50,7 @@ pub(crate) fn load_immediate<'a, A: Allocator + Copy>(
 pub(crate) fn load_address<'a, A: Allocator + Copy>(
     operands: &[&[Token<'a>]],
 ) -> Result<Statement<'a, A>, LineError>
-    ensures value { if_ok statement_value result ≡ reading Form.LoadAddress (operand_values operands.now) }
-    ensures in_range { IfOk result (λ s. IsInRange (statement_value s)) }
+    ensures { if_ok statement_value result ≡ reading Form.LoadAddress (operand_values operands.now) }
 {
     let (rd, target) = shapes::register_target(operands)?;
     Ok(Statement::LoadAddress { rd, target })
@@ -65,8 +60,7 @@ pub(crate) fn load_address<'a, A: Allocator + Copy>(
 pub(crate) fn jump<'a, A: Allocator + Copy>(
     operands: &[&[Token<'a>]],
 ) -> Result<Statement<'a, A>, LineError>
-    ensures value { if_ok statement_value result ≡ reading Form.Jump (operand_values operands.now) }
-    ensures in_range { IfOk result (λ s. IsInRange (statement_value s)) }
+    ensures { if_ok statement_value result ≡ reading Form.Jump (operand_values operands.now) }
 {
     let target = shapes::target(operands)?;
     Ok(Statement::Jal { rd: 0, target })
@@ -76,8 +70,7 @@ pub(crate) fn jump<'a, A: Allocator + Copy>(
 pub(crate) fn jump_register<'a, A: Allocator + Copy>(
     operands: &[&[Token<'a>]],
 ) -> Result<Statement<'a, A>, LineError>
-    ensures value { if_ok statement_value result ≡ reading Form.JumpRegister (operand_values operands.now) }
-    ensures in_range { IfOk result (λ s. IsInRange (statement_value s)) }
+    ensures { if_ok statement_value result ≡ reading Form.JumpRegister (operand_values operands.now) }
 {
     let rs = shapes::register(operands)?;
     Ok(jump_to(rs))
@@ -87,8 +80,7 @@ pub(crate) fn jump_register<'a, A: Allocator + Copy>(
 pub(crate) fn return_to_link<'a, A: Allocator + Copy>(
     operands: &[&[Token<'a>]],
 ) -> Result<Statement<'a, A>, LineError>
-    ensures value { if_ok statement_value result ≡ reading Form.Return (operand_values operands.now) }
-    ensures in_range { IfOk result (λ s. IsInRange (statement_value s)) }
+    ensures { if_ok statement_value result ≡ reading Form.Return (operand_values operands.now) }
 {
     shapes::nothing(operands)?;
     Ok(jump_to(1))
@@ -98,8 +90,7 @@ pub(crate) fn return_to_link<'a, A: Allocator + Copy>(
 pub(crate) fn call<'a, A: Allocator + Copy>(
     operands: &[&[Token<'a>]],
 ) -> Result<Statement<'a, A>, LineError>
-    ensures value { if_ok statement_value result ≡ reading Form.Call (operand_values operands.now) }
-    ensures in_range { IfOk result (λ s. IsInRange (statement_value s)) }
+    ensures { if_ok statement_value result ≡ reading Form.Call (operand_values operands.now) }
 {
     let target = shapes::target(operands)?;
     Ok(Statement::Jal { rd: 1, target })
@@ -109,8 +100,7 @@ pub(crate) fn call<'a, A: Allocator + Copy>(
 pub(crate) fn branch_if_zero<'a, A: Allocator + Copy>(
     operands: &[&[Token<'a>]],
 ) -> Result<Statement<'a, A>, LineError>
-    ensures value { if_ok statement_value result ≡ reading Form.BranchIfZero (operand_values operands.now) }
-    ensures in_range { IfOk result (λ s. IsInRange (statement_value s)) }
+    ensures { if_ok statement_value result ≡ reading Form.BranchIfZero (operand_values operands.now) }
 {
     let (rs1, target) = shapes::register_target(operands)?;
     Ok(Statement::Branch {
@@ -125,8 +115,7 @@ pub(crate) fn branch_if_zero<'a, A: Allocator + Copy>(
 pub(crate) fn branch_if_not_zero<'a, A: Allocator + Copy>(
     operands: &[&[Token<'a>]],
 ) -> Result<Statement<'a, A>, LineError>
-    ensures value { if_ok statement_value result ≡ reading Form.BranchIfNotZero (operand_values operands.now) }
-    ensures in_range { IfOk result (λ s. IsInRange (statement_value s)) }
+    ensures { if_ok statement_value result ≡ reading Form.BranchIfNotZero (operand_values operands.now) }
 {
     let (rs1, target) = shapes::register_target(operands)?;
     Ok(Statement::Branch {

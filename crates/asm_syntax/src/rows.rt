@@ -1,9 +1,8 @@
 //! The statements of the instruction rows.
 
-ghost use Rattle.std.specs.Prelude.{◌≡◌, IfOk};
+ghost use Rattle.std.specs.Prelude.{◌≡◌};
 ghost use Rattle.asm_syntax.specs.Faults.{if_ok};
 ghost use Rattle.asm_syntax.specs.Forms.{reading};
-ghost use Rattle.asm_syntax.specs.Ranges.{IsInRange};
 ghost use Rattle.asm_syntax.specs.TokenViews.{operand_values};
 ghost use Rattle.asm_syntax.specs.Views.{statement_value};
 
@@ -20,8 +19,7 @@ pub(crate) fn arithmetic<'a, A: Allocator + Copy>(
     op: ROp,
     operands: &[&[Token<'a>]],
 ) -> Result<Statement<'a, A>, LineError>
-    ensures value { if_ok statement_value result ≡ reading (Form.Arithmetic op) (operand_values operands.now) }
-    ensures in_range { IfOk result (λ s. IsInRange (statement_value s)) }
+    ensures { if_ok statement_value result ≡ reading (Form.Arithmetic op) (operand_values operands.now) }
 {
     let (rd, rs1, rs2) = shapes::three_registers(operands)?;
     Ok(Statement::Instruction(Instr::R { op, rd, rs1, rs2 }))
@@ -32,8 +30,7 @@ pub(crate) fn with_immediate<'a, A: Allocator + Copy>(
     op: IOp,
     operands: &[&[Token<'a>]],
 ) -> Result<Statement<'a, A>, LineError>
-    ensures value { if_ok statement_value result ≡ reading (Form.WithImmediate op) (operand_values operands.now) }
-    ensures in_range { IfOk result (λ s. IsInRange (statement_value s)) }
+    ensures { if_ok statement_value result ≡ reading (Form.WithImmediate op) (operand_values operands.now) }
 {
     let (rd, rs1, number) = shapes::two_registers_number(operands, -2048, 2047)?;
     let imm = number as i32;
@@ -45,8 +42,7 @@ pub(crate) fn shift_by_amount<'a, A: Allocator + Copy>(
     op: ShiftOp,
     operands: &[&[Token<'a>]],
 ) -> Result<Statement<'a, A>, LineError>
-    ensures value { if_ok statement_value result ≡ reading (Form.ShiftByAmount op) (operand_values operands.now) }
-    ensures in_range { IfOk result (λ s. IsInRange (statement_value s)) }
+    ensures { if_ok statement_value result ≡ reading (Form.ShiftByAmount op) (operand_values operands.now) }
 {
     let (rd, rs1, number) = shapes::two_registers_number(operands, 0, 31)?;
     let shamt = number as u8;
@@ -58,8 +54,7 @@ pub(crate) fn load_from<'a, A: Allocator + Copy>(
     op: LoadOp,
     operands: &[&[Token<'a>]],
 ) -> Result<Statement<'a, A>, LineError>
-    ensures value { if_ok statement_value result ≡ reading (Form.LoadFrom op) (operand_values operands.now) }
-    ensures in_range { IfOk result (λ s. IsInRange (statement_value s)) }
+    ensures { if_ok statement_value result ≡ reading (Form.LoadFrom op) (operand_values operands.now) }
 {
     let (rd, address) = shapes::register_address(operands)?;
     let (rs1, imm) = (address.base, address.offset);
@@ -71,8 +66,7 @@ pub(crate) fn store_to<'a, A: Allocator + Copy>(
     op: StoreOp,
     operands: &[&[Token<'a>]],
 ) -> Result<Statement<'a, A>, LineError>
-    ensures value { if_ok statement_value result ≡ reading (Form.StoreTo op) (operand_values operands.now) }
-    ensures in_range { IfOk result (λ s. IsInRange (statement_value s)) }
+    ensures { if_ok statement_value result ≡ reading (Form.StoreTo op) (operand_values operands.now) }
 {
     let (rs2, address) = shapes::register_address(operands)?;
     let (rs1, imm) = (address.base, address.offset);
@@ -83,8 +77,7 @@ pub(crate) fn store_to<'a, A: Allocator + Copy>(
 pub(crate) fn jump_and_link_register<'a, A: Allocator + Copy>(
     operands: &[&[Token<'a>]],
 ) -> Result<Statement<'a, A>, LineError>
-    ensures value { if_ok statement_value result ≡ reading Form.JumpAndLinkRegister (operand_values operands.now) }
-    ensures in_range { IfOk result (λ s. IsInRange (statement_value s)) }
+    ensures { if_ok statement_value result ≡ reading Form.JumpAndLinkRegister (operand_values operands.now) }
 {
     let (rd, address) = shapes::register_address(operands)?;
     let (rs1, imm) = (address.base, address.offset);
@@ -96,8 +89,7 @@ pub(crate) fn branch_to<'a, A: Allocator + Copy>(
     op: BranchOp,
     operands: &[&[Token<'a>]],
 ) -> Result<Statement<'a, A>, LineError>
-    ensures value { if_ok statement_value result ≡ reading (Form.BranchTo op) (operand_values operands.now) }
-    ensures in_range { IfOk result (λ s. IsInRange (statement_value s)) }
+    ensures { if_ok statement_value result ≡ reading (Form.BranchTo op) (operand_values operands.now) }
 {
     let (rs1, rs2, target) = shapes::two_registers_target(operands)?;
     Ok(Statement::Branch {
@@ -113,8 +105,7 @@ pub(crate) fn upper_immediate<'a, A: Allocator + Copy>(
     op: UpperOp,
     operands: &[&[Token<'a>]],
 ) -> Result<Statement<'a, A>, LineError>
-    ensures value { if_ok statement_value result ≡ reading (Form.UpperImmediate op) (operand_values operands.now) }
-    ensures in_range { IfOk result (λ s. IsInRange (statement_value s)) }
+    ensures { if_ok statement_value result ≡ reading (Form.UpperImmediate op) (operand_values operands.now) }
 {
     let (rd, number) = shapes::register_number(operands, 0, 0xFFFFF)?;
     let imm = number as u32;
@@ -125,8 +116,7 @@ pub(crate) fn upper_immediate<'a, A: Allocator + Copy>(
 pub(crate) fn jump_and_link<'a, A: Allocator + Copy>(
     operands: &[&[Token<'a>]],
 ) -> Result<Statement<'a, A>, LineError>
-    ensures value { if_ok statement_value result ≡ reading Form.JumpAndLink (operand_values operands.now) }
-    ensures in_range { IfOk result (λ s. IsInRange (statement_value s)) }
+    ensures { if_ok statement_value result ≡ reading Form.JumpAndLink (operand_values operands.now) }
 {
     let (rd, target) = shapes::register_target(operands)?;
     Ok(Statement::Jal { rd, target })
@@ -137,8 +127,7 @@ pub(crate) fn no_operands<'a, A: Allocator + Copy>(
     op: PlainOp,
     operands: &[&[Token<'a>]],
 ) -> Result<Statement<'a, A>, LineError>
-    ensures value { if_ok statement_value result ≡ reading (Form.NoOperands op) (operand_values operands.now) }
-    ensures in_range { IfOk result (λ s. IsInRange (statement_value s)) }
+    ensures { if_ok statement_value result ≡ reading (Form.NoOperands op) (operand_values operands.now) }
 {
     shapes::nothing(operands)?;
     Ok(Statement::Instruction(Instr::Plain { op }))

@@ -3,12 +3,11 @@
 //! Each call answers the operands of one shape, or `BadOperand` where there are not so many or one is not of its kind, or
 //! else `OutOfRange` where a number is not in its range.
 
-ghost use Rattle.std.specs.Prelude.{true, false, ◌≡◌, ◌≤ℤ◌, ◌^◌, pos, neg_ℤ, map, IfOk};
-ghost use Rattle.rv_tables.specs.Operands.{IsRegister, IsImmediate};
+ghost use Rattle.std.specs.Prelude.{true, ◌≡◌, ◌≤ℤ◌, ◌^◌, pos, neg_ℤ, map, IfOk};
 ghost use Rattle.asm_syntax.specs.Faults.{judged, if_ok};
-ghost use Rattle.asm_syntax.specs.Forms.{none, one, two, three, with_both};
-ghost use Rattle.asm_syntax.specs.Operands.{register_in, number_in, address_in, target_in, text_in, is_within, fits_immediate, fits_target};
-ghost use Rattle.asm_syntax.specs.Ranges.{IsWithin, IsTarget};
+ghost use Rattle.asm_syntax.specs.Operands.{register_in};
+ghost use Rattle.asm_syntax.specs.Ranges.{from_to, IsWithin};
+ghost use Rattle.asm_syntax.specs.Shapes as Shapes;
 ghost use Rattle.asm_syntax.specs.TokenViews.{operand_values, register_address_value, token_value, unescaped};
 ghost use Rattle.asm_syntax.specs.Views.{target_value, register_target_value, registers_target_value};
 
@@ -19,7 +18,7 @@ use crate::token::Token;
 
 /// No operands.
 pub(crate) fn nothing(operands: &[&[Token<'_>]]) -> Result<(), LineError>
-    ensures { result ≡ judged (λ _. true) (none (operand_values operands.now)) }
+    ensures { result ≡ Shapes.no_operands (operand_values operands.now) }
 {
     match operands {
         [] => Ok(()),
@@ -29,8 +28,7 @@ pub(crate) fn nothing(operands: &[&[Token<'_>]]) -> Result<(), LineError>
 
 /// `rs`.
 pub(crate) fn register(operands: &[&[Token<'_>]]) -> Result<u8, LineError>
-    ensures value { result ≡ judged (λ _. true) (one register_in (operand_values operands.now)) }
-    ensures in_range { IfOk result IsRegister }
+    ensures { result ≡ Shapes.a_register (operand_values operands.now) }
 {
     let [first] = operands else {
         return Err(LineError::BadOperand);
@@ -40,8 +38,7 @@ pub(crate) fn register(operands: &[&[Token<'_>]]) -> Result<u8, LineError>
 
 /// `rd,rs`.
 pub(crate) fn two_registers(operands: &[&[Token<'_>]]) -> Result<(u8, u8), LineError>
-    ensures value { result ≡ judged (λ _. true) (two register_in register_in (operand_values operands.now)) }
-    ensures in_range { IfOk result (λ o. IsRegister o.0 × IsRegister o.1) }
+    ensures { result ≡ Shapes.two_registers (operand_values operands.now) }
 {
     let [first, second] = operands else {
         return Err(LineError::BadOperand);
@@ -51,10 +48,9 @@ pub(crate) fn two_registers(operands: &[&[Token<'_>]]) -> Result<(u8, u8), LineE
 
 /// Two operands that are registers.
 fn both_registers(first: &[Token<'_>], second: &[Token<'_>]) -> Result<(u8, u8), LineError>
-    ensures value { result
+    ensures { result
         ≡ judged (λ _. true)
-        (with_both (register_in (map token_value first.now)) (register_in (map token_value second.now)) (λ x y. (x, y))) }
-    ensures in_range { IfOk result (λ o. IsRegister o.0 × IsRegister o.1) }
+        (Shapes.with_both (register_in (map token_value first.now)) (register_in (map token_value second.now)) (λ x y. (x, y))) }
 {
     let first = operand::register(first)?;
     let second = operand::register(second)?;
@@ -63,9 +59,7 @@ fn both_registers(first: &[Token<'_>], second: &[Token<'_>]) -> Result<(u8, u8),
 
 /// `rd,rs1,rs2`.
 pub(crate) fn three_registers(operands: &[&[Token<'_>]]) -> Result<(u8, u8, u8), LineError>
-    ensures value { result
-        ≡ judged (λ _. true) (three register_in register_in register_in (operand_values operands.now)) }
-    ensures in_range { IfOk result (λ o. IsRegister o.0 × IsRegister o.1 × IsRegister o.2) }
+    ensures { result ≡ Shapes.three_registers (operand_values operands.now) }
 {
     let [first, second, third] = operands else {
         return Err(LineError::BadOperand);
@@ -79,8 +73,8 @@ pub(crate) fn three_registers(operands: &[&[Token<'_>]]) -> Result<(u8, u8, u8),
 pub(crate) fn number(operands: &[&[Token<'_>]], low: i64, high: i64) -> Result<i64, LineError>
     requires low { neg_ℤ (pos (2 ^ 39)) ≤ℤ low }
     requires high { high ≤ℤ pos (2 ^ 39) }
-    ensures value { result ≡ judged (is_within low high) (one number_in (operand_values operands.now)) }
-    ensures in_range { IfOk result (IsWithin low high) }
+    ensures value { result ≡ Shapes.a_number (from_to low high) (operand_values operands.now) }
+    ensures in_range { IfOk result (IsWithin (from_to low high)) }
 {
     let [first] = operands else {
         return Err(LineError::BadOperand);
@@ -96,9 +90,8 @@ pub(crate) fn register_number(
 ) -> Result<(u8, i64), LineError>
     requires low { neg_ℤ (pos (2 ^ 39)) ≤ℤ low }
     requires high { high ≤ℤ pos (2 ^ 39) }
-    ensures value { result
-        ≡ judged (λ o. is_within low high o.1) (two register_in number_in (operand_values operands.now)) }
-    ensures in_range { IfOk result (λ o. IsRegister o.0 × IsWithin low high o.1) }
+    ensures value { result ≡ Shapes.register_and_number (from_to low high) (operand_values operands.now) }
+    ensures in_range { IfOk result (λ o. IsWithin (from_to low high) o.1) }
 {
     let [first, second] = operands else {
         return Err(LineError::BadOperand);
@@ -116,10 +109,8 @@ pub(crate) fn two_registers_number(
 ) -> Result<(u8, u8, i64), LineError>
     requires low { neg_ℤ (pos (2 ^ 39)) ≤ℤ low }
     requires high { high ≤ℤ pos (2 ^ 39) }
-    ensures value { result
-        ≡ judged (λ o. is_within low high o.2)
-        (three register_in register_in number_in (operand_values operands.now)) }
-    ensures in_range { IfOk result (λ o. IsRegister o.0 × IsRegister o.1 × IsWithin low high o.2) }
+    ensures value { result ≡ Shapes.registers_and_number (from_to low high) (operand_values operands.now) }
+    ensures in_range { IfOk result (λ o. IsWithin (from_to low high) o.2) }
 {
     let [first, second, third] = operands else {
         return Err(LineError::BadOperand);
@@ -131,9 +122,7 @@ pub(crate) fn two_registers_number(
 
 /// `r,imm(rs1)`.
 pub(crate) fn register_address(operands: &[&[Token<'_>]]) -> Result<(u8, Address), LineError>
-    ensures value { if_ok register_address_value result
-        ≡ judged (λ o. fits_immediate o.1.offset) (two register_in address_in (operand_values operands.now)) }
-    ensures in_range { IfOk result (λ o. IsRegister o.0 × IsRegister o.1.base × IsImmediate o.1.offset) }
+    ensures { if_ok register_address_value result ≡ Shapes.register_and_address (operand_values operands.now) }
 {
     let [first, second] = operands else {
         return Err(LineError::BadOperand);
@@ -145,8 +134,7 @@ pub(crate) fn register_address(operands: &[&[Token<'_>]]) -> Result<(u8, Address
 
 /// A target.
 pub(crate) fn target<'a>(operands: &[&[Token<'a>]]) -> Result<Target<'a>, LineError>
-    ensures value { if_ok target_value result ≡ judged fits_target (one target_in (operand_values operands.now)) }
-    ensures in_range { IfOk result (λ t. IsTarget (target_value t)) }
+    ensures { if_ok target_value result ≡ Shapes.a_target (operand_values operands.now) }
 {
     let [first] = operands else {
         return Err(LineError::BadOperand);
@@ -156,9 +144,7 @@ pub(crate) fn target<'a>(operands: &[&[Token<'a>]]) -> Result<Target<'a>, LineEr
 
 /// `r,target`.
 pub(crate) fn register_target<'a>(operands: &[&[Token<'a>]]) -> Result<(u8, Target<'a>), LineError>
-    ensures value { if_ok register_target_value result
-        ≡ judged (λ o. fits_target o.1) (two register_in target_in (operand_values operands.now)) }
-    ensures in_range { IfOk result (λ o. IsRegister o.0 × IsTarget (target_value o.1)) }
+    ensures { if_ok register_target_value result ≡ Shapes.register_and_target (operand_values operands.now) }
 {
     let [first, second] = operands else {
         return Err(LineError::BadOperand);
@@ -172,10 +158,7 @@ pub(crate) fn register_target<'a>(operands: &[&[Token<'a>]]) -> Result<(u8, Targ
 pub(crate) fn two_registers_target<'a>(
     operands: &[&[Token<'a>]],
 ) -> Result<(u8, u8, Target<'a>), LineError>
-    ensures value { if_ok registers_target_value result
-        ≡ judged (λ o. fits_target o.2)
-        (three register_in register_in target_in (operand_values operands.now)) }
-    ensures in_range { IfOk result (λ o. IsRegister o.0 × IsRegister o.1 × IsTarget (target_value o.2)) }
+    ensures { if_ok registers_target_value result ≡ Shapes.registers_and_target (operand_values operands.now) }
 {
     let [first, second, third] = operands else {
         return Err(LineError::BadOperand);
@@ -187,8 +170,7 @@ pub(crate) fn two_registers_target<'a>(
 
 /// A string: what stands between its `"`, with its escapes.
 pub(crate) fn text<'a>(operands: &[&[Token<'a>]]) -> Result<&'a [u8], LineError>
-    ensures { if_ok (λ raw. unescaped false raw.now) result
-        ≡ judged (λ _. true) (one text_in (operand_values operands.now)) }
+    ensures { if_ok (λ raw. unescaped raw.now) result ≡ Shapes.a_text (operand_values operands.now) }
 {
     let [first] = operands else {
         return Err(LineError::BadOperand);

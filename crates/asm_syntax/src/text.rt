@@ -1,7 +1,7 @@
 //! Strings.
 
-ghost use Rattle.std.specs.Prelude.{◌≡◌, ◌≤◌, ◌<◌, false, IfSome, IfOk, length};
-ghost use Rattle.std.specs.Option.{option_map};
+ghost use Rattle.std.specs.Prelude.{◌≡◌, ◌≤◌, ◌<◌, ◌+◌, ◌∷◌, IfSome, IfOk, length};
+ghost use Rattle.std.specs.Option.{option_map, option_and_then};
 ghost use Rattle.asm_syntax.specs.TokenViews.{unescaped};
 ghost use Rattle.asm_syntax.specs.Tokens.{text_from};
 
@@ -11,41 +11,53 @@ use std::alloc::{AllocError, Allocator};
 /// How many bytes spell the string that a line begins with, behind its first `"`; the `"` at its end is one of them.
 /// None where the string has no end, or a byte or an escape that strings do not have.
 pub(crate) fn text_len(line: &[u8]) -> Option<usize>
-    ensures len { result ≡ option_map (λ t. t.len) (text_from false line.now) }
+    ensures len { result ≡ option_map (λ t. t.len) (text_from line.now) }
     ensures within { IfSome result (λ n. (0 < n) × (n ≤ length line.now)) }
 {
-    let mut escaped = false;
-    for (at, byte) in line.iter().enumerate() {
-        if escaped {
-            bytes::escape_value(*byte)?;
-            escaped = false;
-        } else {
-            match *byte {
-                b'"' => return Some(at + 1),
-                b'\\' => escaped = true,
-                b' '..=b'~' => {}
-                _ => return None,
-            }
-        }
+    let mut rest = line;
+    while let [byte, behind @ ..] = rest {
+        rest = match *byte {
+            b'"' => return Some(line.len() - behind.len()),
+            b'\\' => behind_escape(behind)?,
+            plain if bytes::is_plain(plain) => behind,
+            _ => return None,
+        };
     }
     None
 }
 
+/// What a string goes on with behind an escape, by what stands behind its `\`. None where that begins no escape.
+fn behind_escape(rest: &[u8]) -> Option<&[u8]>
+    ensures string { option_map (λ t. t.len) (text_from (92 ∷ rest.now))
+        ≡ option_and_then (λ behind. option_map (λ t. t.len + 2) (text_from behind.now)) result }
+    ensures shorter { IfSome result (λ behind. length behind.now + 1 ≡ length rest.now) }
+{
+    match rest {
+        [escape, behind @ ..] => {
+            bytes::escape_value(*escape)?;
+            Some(behind)
+        }
+        [] => None,
+    }
+}
+
 /// What the bytes between the `"` of a string stand for.
 pub(crate) fn unescaped<A: Allocator + Copy>(alloc: A, raw: &[u8]) -> Result<Vec<u8, A>, AllocError>
-    ensures { IfOk result (λ text. text.items ≡ unescaped false raw.now) }
+    ensures { IfOk result (λ text. text.items ≡ unescaped raw.now) }
 {
     let mut text = Vec::new(alloc);
-    let mut escaped = false;
-    for byte in raw {
-        if escaped {
-            text.push(bytes::escape_value(*byte).unwrap_or(*byte))?;
-            escaped = false;
-        } else if *byte == b'\\' {
-            escaped = true;
-        } else {
-            text.push(*byte)?;
+    let mut rest = raw;
+    loop {
+        match rest {
+            [] => return Ok(text),
+            [b'\\', escape, behind @ ..] => {
+                text.push(bytes::escape_value(*escape).unwrap_or(*escape))?;
+                rest = behind;
+            }
+            [byte, behind @ ..] => {
+                text.push(*byte)?;
+                rest = behind;
+            }
         }
     }
-    Ok(text)
 }

@@ -1,6 +1,6 @@
 //! The tokens of a line.
 
-ghost use Rattle.std.specs.Prelude.{true, false, ◌≡◌, ◌≢◌, ◌≤◌, ◌<◌, ◌+◌, Some, None, IfOk, IfErr, IfSome, length, map, drop, slice_index, take};
+ghost use Rattle.std.specs.Prelude.{true, ◌≡◌, ◌≢◌, ◌≤◌, ◌<◌, ◌+◌, Some, None, IfOk, IfErr, IfSome, length, map, drop, slice_index, take};
 ghost use Rattle.std.specs.List.{prefix_len, take_while};
 ghost use Rattle.std.specs.Option.{option_map, option_map_or};
 ghost use Rattle.asm_syntax.specs.Bytes.{is_word_byte};
@@ -104,7 +104,7 @@ fn word_head(line: &[u8]) -> Head<'_>
 /// The token of the string that stands behind a `"`.
 fn text_head(rest: &[u8]) -> Head<'_>
     ensures value { head_value result
-        ≡ option_map_or (λ t. token (text t.content) (t.len + 1)) (text_from false rest.now) nothing }
+        ≡ option_map_or (λ t. token (text t.content) (t.len + 1)) (text_from rest.now) nothing }
     ensures within { IsWithinLine result (length rest.now + 1) }
 {
     match text_len(rest) {

@@ -7,8 +7,8 @@ use Rattle.asm_syntax.specs.Parse.{line_of}
 use Rattle.asm_syntax.specs.Statements.{Line}
 use Rattle.asm_syntax.specs.declared.error.LineError.{LineError}
 use Rattle.rv_asm.specs.declared.errors.AsmKind.{AsmKind}
-use Rattle.rv_asm.specs.Faults.{first_fault, fault_of_use, fault_of_uses}
-use Rattle.rv_asm.specs.Places.{placed, labels_of, statement_of, end_of_statement, end_from}
+use Rattle.rv_asm.specs.Faults.{first_faulty_line, fault_of_use, fault_of_uses}
+use Rattle.rv_asm.specs.Places.{placed, line_labels, line_statement, end_of_statement, end_from}
 use Rattle.rv_asm.specs.Symbols.{Symbols}
 use Rattle.rv_asm.specs.Text.{LineHasBytes, AreLaid, IsLaidOut, entry_of, last_entry}
 use Rattle.rv_asm.specs.Writing.{Adds}
@@ -19,16 +19,16 @@ use Rattle.rv_asm.proofs.Sound.{AreSound}
 abbrev pub uses_from : Symbols → ℕ → ℕ → List (List ℕ) → Option (ℕ × AsmKind)
 uses_from symbols number address [] = None
 uses_from symbols number address (text ∷ rest) =
-    option_or (option_map (λ kind. (number, kind)) (option_and_then (fault_of_use symbols address) (statement_of (line_of text))))
+    option_or (option_map (λ kind. (number, kind)) (option_and_then (fault_of_use symbols address) (line_statement (line_of text))))
     (uses_from symbols (number + 1) (end_from address (line_of text)) rest)
 
-pub uses-placed : (symbols : Symbols) (number address : ℕ) (known : List ℕ → Bool) (texts : List (List ℕ)) → first_fault (fault_of_uses symbols) (placed number address known texts) ≡ uses_from symbols number address texts
+pub uses-placed : (symbols : Symbols) (number address : ℕ) (known : List ℕ → Bool) (texts : List (List ℕ)) → first_faulty_line (fault_of_uses symbols) (placed number address known texts) ≡ uses_from symbols number address texts
 uses-placed symbols number address known [] = refl
 uses-placed symbols number address known (text ∷ rest) =
-    ap (option_or (option_map (λ kind. (number, kind)) (option_and_then (fault_of_use symbols address) (statement_of (line_of text)))))
-    (uses-placed symbols (number + 1) (end_from address (line_of text)) (λ q. list_any (λ label. bytes_eq label q) (labels_of (line_of text)) || known q) rest)
+    ap (option_or (option_map (λ kind. (number, kind)) (option_and_then (fault_of_use symbols address) (line_statement (line_of text)))))
+    (uses-placed symbols (number + 1) (end_from address (line_of text)) (λ q. list_any (λ label. bytes_eq label q) (line_labels (line_of text)) || known q) rest)
 
-pub uses_more : (symbols : Symbols) (number address : ℕ) (text : List ℕ) (rest : List (List ℕ)) → option_and_then (fault_of_use symbols address) (statement_of (line_of text)) ≡ None
+pub uses_more : (symbols : Symbols) (number address : ℕ) (text : List ℕ) (rest : List (List ℕ)) → option_and_then (fault_of_use symbols address) (line_statement (line_of text)) ≡ None
     → uses_from symbols number address (text ∷ rest) ≡ uses_from symbols (number + 1) (end_from address (line_of text)) rest
 uses_more symbols number address text rest e =
     ap (λ f. option_or (option_map (λ kind. (number, kind)) f) (uses_from symbols (number + 1) (end_from address (line_of text)) rest)) e
@@ -67,14 +67,14 @@ pub record Next (symbols : Symbols) (texts : List (List ℕ)) (number address ad
 pub next : (symbols : Symbols) (texts : List (List ℕ)) (number address address' : ℕ) (text : List ℕ) (rest : List (List ℕ)) (bytes bytes' : List ℕ) (entry entry' : ℕ)
     → address ≡ length bytes → address' ≡ length bytes'
     → AreSound symbols address (text ∷ rest) → IsLaidUpTo symbols texts (text ∷ rest) bytes entry
-    → Adds (LineHasBytes symbols address (statement_of (line_of text))) bytes bytes'
-    → entry' ≡ unwrap_or (entry_of symbols (statement_of (line_of text))) entry
-    → option_and_then (fault_of_use symbols address) (statement_of (line_of text)) ≡ None
+    → Adds (LineHasBytes symbols address (line_statement (line_of text))) bytes bytes'
+    → entry' ≡ unwrap_or (entry_of symbols (line_statement (line_of text))) entry
+    → option_and_then (fault_of_use symbols address) (line_statement (line_of text)) ≡ None
     → Next symbols texts number address address' text rest bytes' entry'
 next symbols texts number address address' text rest bytes bytes' entry entry' here there sound laid (own, added, has) enters none =
     let p = ok_parts (line_of text) (λ l. All (λ label. symbols label ≡ Some address) l.labels × (end_of_statement address l.statement ≤ 2 ^ 24)) sound.0 in
-    let says : statement_of (line_of text) ≡ p.0.statement = ap statement_of p.1 in
-    let size : address + length own ≡ end_from address (line_of text) = length-line symbols address (statement_of (line_of text)) own has in
+    let says : line_statement (line_of text) ≡ p.0.statement = ap line_statement p.1 in
+    let size : address + length own ≡ end_from address (line_of text) = length-line symbols address (line_statement (line_of text)) own has in
     let longer : length bytes' ≡ length bytes + length own = ap length added ∙ length-append bytes own in
     let ends : address' ≡ end_from address (line_of text) = omega (arith, here, there, size, longer) in
     let limit : end_from address (line_of text) ≤ 2 ^ 24 = subst (λ s. end_of_statement address s ≤ 2 ^ 24) (sym says) p.2.1 in

@@ -2,7 +2,7 @@
 use Rattle.std.proofs.Common.{◌≡◌, ℕ, zero, suc, ◌+◌, ◌^◌, List, [], ◌∷◌, ◌++◌, length, map, Any, Contains, IsSome, IsSomeAnd, Option, Some, None, Result, Ok, refl, sym, ◌∙◌, ap, subst, arith, w32}
 use Rattle.std.specs.Int.{to_le_bytes}
 use Rattle.std.proofs.lemmas.List.Elements.{All-contains}
-use Rattle.node_memory.specs.Image.{Image}
+use Rattle.node_memory.specs.Image.{Image, segments_from_0}
 use Rattle.rv_tables.specs.declared.instr.Instr.{Instr}
 use Rattle.rv_tables.specs.declared.instr.Instr.TheVariants.{Branch, Jal}
 use Rattle.asm_syntax.specs.Statements.{Line, Statement, instruction, branch, jump_and_link, load_immediate, load_address, words, halves, bytes, ascii, space, align, entry}
@@ -10,7 +10,7 @@ use Rattle.asm_syntax.specs.declared.error.LineError.{LineError}
 use Rattle.rv_asm.specs.Layout.{Spell, load_of, lui_addi, HasBytes}
 use Rattle.rv_asm.specs.Symbols.{Symbols}
 use Rattle.rv_asm.specs.Targets.{modulo, value_of, offset_to}
-use Rattle.rv_asm.specs.Text.{LineHasBytes, AreLaid, IsImageOfText, last_entry, segments_of}
+use Rattle.rv_asm.specs.Text.{LineHasBytes, AreLaid, IsImageOfText, last_entry}
 use Rattle.rv_asm.proofs.EachWord.{one_word}
 use Rattle.rv_asm.proofs.Sizes.{length-line}
 
@@ -83,5 +83,5 @@ one_image text a b h k =
     let same : h.symbols ≡ k.symbols = (λ i q. each q i) in
     let bytes : h.bytes ≡ k.bytes = one_layout k.symbols 0 h.out.lines h.bytes k.bytes (subst (λ s. AreLaid s 0 h.out.lines h.bytes) same h.out.laid) laid in
     let entry : a.entry ≡ b.entry = sym h.out.entry_is ∙ ap (λ s. last_entry s 0 h.out.lines) same ∙ enters in
-    let segments : a.segments ≡ b.segments = h.segments_are ∙ ap segments_of bytes ∙ sym k.segments_are in
+    let segments : a.segments ≡ b.segments = h.segments_are ∙ ap segments_from_0 bytes ∙ sym k.segments_are in
     λ i. record { entry = entry i; segments = segments i }

@@ -6,7 +6,7 @@ use Rattle.std.specs.Cmp.Lexicographic.{bytes_decides}
 use Rattle.asm_syntax.specs.Lines.{lines_of}
 use Rattle.asm_syntax.specs.Parse.{line_of}
 use Rattle.asm_syntax.specs.Statements.{Line}
-use Rattle.rv_asm.specs.Places.{placed, places_of, labels_of, end_from, symbols_of}
+use Rattle.rv_asm.specs.Places.{placed, places_of, line_labels, end_from, symbols_of}
 use Rattle.rv_asm.specs.Symbols.{Symbols, no_symbols, with_labels}
 use Rattle.rv_asm.proofs.Passes.{symbols_from, is_some-with_labels}
 
@@ -32,14 +32,14 @@ from_lines s n a known (text ∷ rest) [] q are h = cc
 from_lines s n a known (text ∷ rest) (line ∷ lines) q are h =
     let says : line_of text ≡ Ok line = cc in
     let further : map line_of rest ≡ map Ok lines = cc in
-    let labels : labels_of (line_of text) ≡ line.labels = ap labels_of says in
+    let labels : line_labels (line_of text) ≡ line.labels = ap line_labels says in
     ⊎_elim
     (λ before. ⊎_elim
-    (λ here. inr (0, line, omega arith, refl, subst (λ l. Contains l q) labels (Contains-from_list_any (labels_of (line_of text)) q here)))
+    (λ here. inr (0, line, omega arith, refl, subst (λ l. Contains l q) labels (Contains-from_list_any (line_labels (line_of text)) q here)))
     (λ already. inl already)
-    (or_cases (list_any (λ label. bytes_eq label q) (labels_of (line_of text))) (is_some (s q)) (sym (is_some-with_labels s (labels_of (line_of text)) a q) ∙ before)))
+    (or_cases (list_any (λ label. bytes_eq label q) (line_labels (line_of text))) (is_some (s q)) (sym (is_some-with_labels s (line_labels (line_of text)) a q) ∙ before)))
     (λ later. inr (Any-cons (λ l. Contains l.labels q) line lines later))
-    (from_lines (with_labels s (labels_of (line_of text)) a) (n + 1) (end_from a (line_of text)) (λ name. list_any (λ label. bytes_eq label name) (labels_of (line_of text)) || known name) rest lines q further h)
+    (from_lines (with_labels s (line_labels (line_of text)) a) (n + 1) (end_from a (line_of text)) (λ name. list_any (λ label. bytes_eq label name) (line_labels (line_of text)) || known name) rest lines q further h)
 
 pub only_labels_of : (symbols : Symbols) (text : List ℕ) (lines : List Line) → ((q : List ℕ) → symbols q ≡ symbols_of (places_of text) q) → map line_of (lines_of text) ≡ map Ok lines
     → (q : List ℕ) → IsSome (symbols q) → Any (λ line. Contains line.labels q) lines

@@ -5,7 +5,7 @@ use Rattle.std.specs.Option.{option_map_or, option_or}
 use Rattle.std.proofs.lemmas.Int.{ints}
 use lib.Signed.{le_z_yes, lt_z_yes}
 use Rattle.std.proofs.lemmas.List.Elements.{All-nil, All-cons, All-head, All-tail}
-use Rattle.node_memory.specs.Image.{Image}
+use Rattle.node_memory.specs.Image.{Image, segments_from_0}
 use Rattle.rv_tables.specs.declared.instr.Instr.{Instr}
 use Rattle.rv_tables.specs.declared.instr.Instr.TheVariants.{I, Branch, Upper, Jal}
 use Rattle.rv_tables.specs.declared.instr.IOp.TheVariants.{Addi}
@@ -14,16 +14,15 @@ use Rattle.rv_tables.specs.Fields.{bits, sign_extended}
 use Rattle.rv_tables.specs.Operands.{IsSigned, IsEven, IsEncodable, IsImmediate, IsBranchOffset, IsJumpOffset}
 use Rattle.asm_syntax.specs.Lines.{lines_of}
 use Rattle.asm_syntax.specs.Parse.{line_of}
-use Rattle.asm_syntax.specs.Ranges.{IsInRange}
-use Rattle.asm_syntax.specs.Statements.{Line, Statement, instruction, branch, jump_and_link, load_immediate, load_address, words, halves, bytes, ascii, space, align, entry}
+use Rattle.asm_syntax.specs.Statements.{Line, Statement, IsInRange, instruction, branch, jump_and_link, load_immediate, load_address, words, halves, bytes, ascii, space, align, entry}
 use Rattle.rv_asm.specs.declared.errors.AsmKind.{AsmKind}
 use Rattle.rv_asm.specs.declared.errors.AsmKind.TheVariants.{OutOfRange, UndefinedLabel}
-use Rattle.rv_asm.specs.Faults.{text_fault, fault_alone, fault_of_use, fault_of_uses, first_fault}
+use Rattle.rv_asm.specs.Faults.{text_fault, fault_alone, fault_of_use, fault_of_uses, first_faulty_line}
 use Rattle.rv_asm.specs.Layout.{Spell, is_short, lui_addi, load_of, word_bytes, size_of, HasBytes}
-use Rattle.rv_asm.specs.Places.{places_of, symbols_of, statement_of, end_of_statement, end_from}
+use Rattle.rv_asm.specs.Places.{places_of, symbols_of, line_statement, end_of_statement, end_from}
 use Rattle.rv_asm.specs.Symbols.{Symbols}
 use Rattle.rv_asm.specs.Targets.{modulo, value_of, offset_to, is_reached}
-use Rattle.rv_asm.specs.Text.{LineHasBytes, AreLaid, IsImageOfText, last_entry, segments_of}
+use Rattle.rv_asm.specs.Text.{LineHasBytes, AreLaid, IsImageOfText, last_entry}
 use Rattle.rv_asm.proofs.EachWord.{word_of}
 use Rattle.rv_asm.proofs.Laying.{uses_from, uses-placed, ok_parts}
 use Rattle.rv_asm.proofs.Sizes.{length-line}
@@ -145,8 +144,8 @@ module _ (ranges : (text : List ℕ) (line : Line) → line_of text ≡ Ok line 
   lay s n a [] sound uses = record { lines = []; bytes = []; are_lines = refl; laid = refl }
   lay s n a (text ∷ rest) sound uses =
       let p = ok_parts (line_of text) (λ l. All (λ label. s label ≡ Some a) l.labels × (end_of_statement a l.statement ≤ 2 ^ 24)) sound.0 in
-      let says : statement_of (line_of text) ≡ p.0.statement = ap statement_of p.1 in
-      let faults = fault_parts n (option_and_then (fault_of_use s a) (statement_of (line_of text))) (uses_from s (n + 1) (end_from a (line_of text)) rest) uses in
+      let says : line_statement (line_of text) ≡ p.0.statement = ap line_statement p.1 in
+      let faults = fault_parts n (option_and_then (fault_of_use s a) (line_statement (line_of text))) (uses_from s (n + 1) (end_from a (line_of text)) rest) uses in
       let none : option_and_then (fault_of_use s a) p.0.statement ≡ None = sym (ap (option_and_then (fault_of_use s a)) says) ∙ faults.0 in
       let own = line_bytes s a p.0.statement (ranges text p.0 p.1) none in
       let ends : end_from a (line_of text) ≡ a + length own.0 = ap (end_of_statement a) says ∙ sym (length-line s a p.0.statement own.0 own.1) in
@@ -162,9 +161,9 @@ module _ (ranges : (text : List ℕ) (line : Line) → line_of text ≡ Ok line 
   unfolding text_fault
   some_image text h =
       let s = symbols_of (places_of text) in
-      let parts = none_parts (first_fault fault_alone (places_of text)) (first_fault (fault_of_uses s) (places_of text)) h in
+      let parts = none_parts (first_faulty_line fault_alone (places_of text)) (first_faulty_line (fault_of_uses s) (places_of text)) h in
       let l = lay s 1 0 (lines_of text) (sound_text s text parts.0 (λ q. refl)) (sym (uses-placed s 1 0 (λ _. false) (lines_of text)) ∙ parts.1) in
-      let image : Image = record { entry = last_entry s 0 l.lines; segments = segments_of l.bytes } in
+      let image : Image = record { entry = last_entry s 0 l.lines; segments = segments_from_0 l.bytes } in
       (image, image-laid text s l.bytes image (λ q. refl) (record { lines = l.lines; are_lines = l.are_lines; laid = l.laid; entry_is = refl }) refl)
     where
       none_parts : (first second : Option (ℕ × AsmKind)) → option_or first second ≡ None → (first ≡ None) × (second ≡ None)

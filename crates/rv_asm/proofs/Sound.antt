@@ -10,8 +10,8 @@ use Rattle.asm_syntax.specs.Parse.{line_of}
 use Rattle.asm_syntax.specs.Statements.{Line}
 use Rattle.asm_syntax.specs.declared.error.LineError.{LineError}
 use Rattle.rv_asm.specs.declared.errors.AsmKind.{AsmKind}
-use Rattle.rv_asm.specs.Faults.{kind_of, fault_of_line, fault_alone, first_fault, has_duplicate}
-use Rattle.rv_asm.specs.Places.{placed, places_of, symbols_of, labels_of, end_of_statement, end_from}
+use Rattle.rv_asm.specs.Faults.{kind_of, fault_of_line, fault_alone, first_faulty_line, has_duplicate}
+use Rattle.rv_asm.specs.Places.{placed, places_of, symbols_of, line_labels, end_of_statement, end_from}
 use Rattle.rv_asm.specs.Symbols.{Symbols, no_symbols, with_symbol, with_labels}
 use Rattle.rv_asm.specs.Targets.{is_out_of_reach}
 use Rattle.rv_asm.proofs.Judging.{by_tests}
@@ -88,19 +88,19 @@ none_parts : (number : ℕ) (fault : Option AsmKind) (others : Option (ℕ × As
 none_parts number None others h = refl
 none_parts number (Some kind) others h = cc
 
-distinct_labels : (a : ℕ) (known : List ℕ → Bool) (line : Result Line LineError) → fault_of_line a known line ≡ None → has_duplicate known (labels_of line) ≡ false
+distinct_labels : (a : ℕ) (known : List ℕ → Bool) (line : Result Line LineError) → fault_of_line a known line ≡ None → has_duplicate known (line_labels line) ≡ false
 distinct_labels a known (Ok line) h = (passes a known line h).distinct
 distinct_labels a known (Err fault) h = refl
 
 -- the first line of some without a fault, and those behind it
-module _ (s : Symbols) (n a : ℕ) (text : List ℕ) (rest : List (List ℕ)) (h : first_fault fault_alone (placed n a (λ p. is_some (s p)) (text ∷ rest)) ≡ None) where
+module _ (s : Symbols) (n a : ℕ) (text : List ℕ) (rest : List (List ℕ)) (h : first_faulty_line fault_alone (placed n a (λ p. is_some (s p)) (text ∷ rest)) ≡ None) where
   after : Symbols
-  after = with_labels s (labels_of (line_of text)) a
+  after = with_labels s (line_labels (line_of text)) a
 
   head : fault_of_line a (λ p. is_some (s p)) (line_of text) ≡ None
-  head = none_parts n (fault_of_line a (λ p. is_some (s p)) (line_of text)) (first_fault fault_alone (placed (n + 1) (end_from a (line_of text)) (λ q. list_any (λ label. bytes_eq label q) (labels_of (line_of text)) || is_some (s q)) rest)) h
+  head = none_parts n (fault_of_line a (λ p. is_some (s p)) (line_of text)) (first_faulty_line fault_alone (placed (n + 1) (end_from a (line_of text)) (λ q. list_any (λ label. bytes_eq label q) (line_labels (line_of text)) || is_some (s q)) rest)) h
 
-  tail : first_fault fault_alone (placed (n + 1) (end_from a (line_of text)) (λ p. is_some (after p)) rest) ≡ None
+  tail : first_faulty_line fault_alone (placed (n + 1) (end_from a (line_of text)) (λ p. is_some (after p)) rest) ≡ None
   unfolding after
   tail = sym (judged_more s after n a (end_from a (line_of text)) text rest refl (λ q. refl) head) ∙ h
 
@@ -110,14 +110,14 @@ module _ (s : Symbols) (n a : ℕ) (text : List ℕ) (rest : List (List ℕ)) (h
 
   not_again : (q : List ℕ) → is_some (s q) ≡ true → after q ≡ s q
   unfolding after
-  not_again q k = unchanged s (labels_of (line_of text)) a q (apart (λ p. is_some (s p)) (labels_of (line_of text)) q (distinct_labels a (λ p. is_some (s p)) (line_of text) head) k)
+  not_again q k = unchanged s (line_labels (line_of text)) a q (apart (λ p. is_some (s p)) (line_labels (line_of text)) q (distinct_labels a (λ p. is_some (s p)) (line_of text) head) k)
 
-  of_line : (q : List ℕ) → list_any (λ label. bytes_eq label q) (labels_of (line_of text)) ≡ true → after q ≡ Some a
+  of_line : (q : List ℕ) → list_any (λ label. bytes_eq label q) (line_labels (line_of text)) ≡ true → after q ≡ Some a
   unfolding after
-  of_line q member = given s (labels_of (line_of text)) a q (inr member)
+  of_line q member = given s (line_labels (line_of text)) a q (inr member)
 
 -- the lines behind a label do not change its address
-kept : (s : Symbols) (n a : ℕ) (texts : List (List ℕ)) (q : List ℕ) → first_fault fault_alone (placed n a (λ p. is_some (s p)) texts) ≡ None → is_some (s q) ≡ true
+kept : (s : Symbols) (n a : ℕ) (texts : List (List ℕ)) (q : List ℕ) → first_faulty_line fault_alone (placed n a (λ p. is_some (s p)) texts) ≡ None → is_some (s q) ≡ true
     → symbols_from s (placed n a (λ p. is_some (s p)) texts) q ≡ s q
 kept s n a [] q h k = refl
 kept s n a (text ∷ rest) q h k =
@@ -131,12 +131,12 @@ each_member P (label ∷ rest) f =
     (each_member P rest (λ q m. f q (or-true (bytes_eq label q) (list_any (λ l. bytes_eq l q) rest) m)))
 
 sound_line : (symbols : Symbols) (a : ℕ) (known : List ℕ → Bool) (line : Result Line LineError) → fault_of_line a known line ≡ None
-    → ((q : List ℕ) → list_any (λ label. bytes_eq label q) (labels_of line) ≡ true → symbols q ≡ Some a) → IsSoundLine symbols a line
+    → ((q : List ℕ) → list_any (λ label. bytes_eq label q) (line_labels line) ≡ true → symbols q ≡ Some a) → IsSoundLine symbols a line
 sound_line symbols a known (Err fault) h f = let clash : Some (kind_of fault) ≡ None = h in cc
 sound_line symbols a known (Ok line) h f = (each_member (λ label. symbols label ≡ Some a) line.labels f, (passes a known line h).within)
 
 -- where no line has a fault in the first judging, the lines are sound with the labels of all
-pub sound : (s : Symbols) (n a : ℕ) (texts : List (List ℕ)) → first_fault fault_alone (placed n a (λ p. is_some (s p)) texts) ≡ None
+pub sound : (s : Symbols) (n a : ℕ) (texts : List (List ℕ)) → first_faulty_line fault_alone (placed n a (λ p. is_some (s p)) texts) ≡ None
     → AreSound (symbols_from s (placed n a (λ p. is_some (s p)) texts)) a texts
 sound s n a [] h = tt
 sound s n a (text ∷ rest) h =
@@ -150,5 +150,5 @@ sound s n a (text ∷ rest) h =
     )
 
 -- a text without a fault in the first judging is sound with its labels
-pub sound_text : (symbols : Symbols) (text : List ℕ) → first_fault fault_alone (places_of text) ≡ None → ((q : List ℕ) → symbols q ≡ symbols_of (places_of text) q) → AreSound symbols 0 (lines_of text)
+pub sound_text : (symbols : Symbols) (text : List ℕ) → first_faulty_line fault_alone (places_of text) ≡ None → ((q : List ℕ) → symbols q ≡ symbols_of (places_of text) q) → AreSound symbols 0 (lines_of text)
 sound_text symbols text judged known = subst (λ s. AreSound s 0 (lines_of text)) (λ i q. sym (known q) i) (sound no_symbols 1 0 (lines_of text) judged)

@@ -10,7 +10,7 @@ use Rattle.rv_asm.specs.declared.errors.AsmKind.{AsmKind}
 use Rattle.rv_asm.specs.declared.errors.AsmKind.TheVariants.{BadToken, UnknownMnemonic, BadOperand, OutOfRange, DuplicateLabel, UndefinedLabel, TooLarge, NoMemory}
 use Rattle.rv_asm.specs.Symbols.{Symbols, no_symbols}
 use Rattle.rv_asm.specs.Targets.{is_out_of_reach, uses_undefined}
-use Rattle.rv_asm.specs.Places.{Place, statement_of, end_from, places_of, symbols_of}
+use Rattle.rv_asm.specs.Places.{Place, line_statement, end_from, places_of, symbols_of}
 
 -- the fault that a line has by itself, as one of a text; a line never has `NoMemory`
 abbrev pub kind_of : LineError → AsmKind
@@ -46,16 +46,16 @@ fault_of_use symbols address statement =
 
 -- the fault of a line in the second judging
 abbrev pub fault_of_uses : Symbols → Place → Option AsmKind
-fault_of_uses symbols place = option_and_then (fault_of_use symbols place.address) (statement_of place.line)
+fault_of_uses symbols place = option_and_then (fault_of_use symbols place.address) (line_statement place.line)
 
 -- the number and the fault of the first line that has one
-abbrev pub first_fault : (Place → Option AsmKind) → List Place → Option (ℕ × AsmKind)
-first_fault fault_of [] = None
-first_fault fault_of (place ∷ rest) =
-    option_or (option_map (λ kind. (place.number, kind)) (fault_of place)) (first_fault fault_of rest)
+abbrev pub first_faulty_line : (Place → Option AsmKind) → List Place → Option (ℕ × AsmKind)
+first_faulty_line fault_of [] = None
+first_faulty_line fault_of (place ∷ rest) =
+    option_or (option_map (λ kind. (place.number, kind)) (fault_of place)) (first_faulty_line fault_of rest)
 
 -- the first faulty line of the first judging and its fault; where there is none, those of the second
 unfoldable pub text_fault : List ℕ → Option (ℕ × AsmKind)
 text_fault text =
     let places = places_of text in
-    option_or (first_fault fault_alone places) (first_fault (fault_of_uses (symbols_of places)) places)
+    option_or (first_faulty_line fault_alone places) (first_faulty_line (fault_of_uses (symbols_of places)) places)

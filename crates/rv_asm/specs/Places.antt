@@ -19,13 +19,13 @@ pub record Place : Type 0 where
   pub line : Result Line LineError
 
 -- the labels and the statement of a line that has no fault
-abbrev pub labels_of : Result Line LineError → List (List ℕ)
-labels_of (Ok line) = line.labels
-labels_of (Err fault) = []
+abbrev pub line_labels : Result Line LineError → List (List ℕ)
+line_labels (Ok line) = line.labels
+line_labels (Err fault) = []
 
-abbrev pub statement_of : Result Line LineError → Option Statement
-statement_of (Ok line) = line.statement
-statement_of (Err fault) = None
+abbrev pub line_statement : Result Line LineError → Option Statement
+line_statement (Ok line) = line.statement
+line_statement (Err fault) = None
 
 -- where a statement at an address ends; where there is none, at the address
 abbrev pub end_of_statement : ℕ → Option Statement → ℕ
@@ -33,7 +33,7 @@ end_of_statement address statement = option_map_or (λ s. address + size_of s ad
 
 -- where a line at an address ends
 abbrev pub end_from : ℕ → Result Line LineError → ℕ
-end_from address line = end_of_statement address (statement_of line)
+end_from address line = end_of_statement address (line_statement line)
 
 -- a name is one of some labels
 abbrev pub is_among : List (List ℕ) → List ℕ → Bool
@@ -44,7 +44,7 @@ abbrev pub placed : ℕ → ℕ → (List ℕ → Bool) → List (List ℕ) → 
 placed number address is_earlier [] = []
 placed number address is_earlier (text ∷ rest) =
     record { number = number; address = address; is_earlier = is_earlier; line = line_of text }
-    ∷ placed (number + 1) (end_from address (line_of text)) (λ name. is_among (labels_of (line_of text)) name || is_earlier name) rest
+    ∷ placed (number + 1) (end_from address (line_of text)) (λ name. is_among (line_labels (line_of text)) name || is_earlier name) rest
 
 -- the lines of a text: they are counted from 1, and the first is at address 0
 abbrev pub places_of : List ℕ → List Place
@@ -52,4 +52,4 @@ places_of text = placed 1 0 (λ _. false) (lines_of text)
 
 -- the labels of lines, each with its line's address
 abbrev pub symbols_of : List Place → Symbols
-symbols_of places = fold (λ known place. with_labels known (labels_of place.line) place.address) no_symbols places
+symbols_of places = fold (λ known place. with_labels known (line_labels place.line) place.address) no_symbols places

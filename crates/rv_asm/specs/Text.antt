@@ -1,6 +1,6 @@
 -- The image of a text (own rules throughout).
 use Rattle.std.specs.Prelude.{◌≡◌, ℕ, ◌+◌, ◌++◌, List, [], ◌∷◌, length, map, fold, All, Any, Contains, Option, Some, None, IsSome, Ok, unwrap_or}
-use Rattle.node_memory.specs.Image.{Image, Segment}
+use Rattle.node_memory.specs.Image.{Image, segments_from_0}
 use Rattle.asm_syntax.specs.Lines.{lines_of}
 use Rattle.asm_syntax.specs.Parse.{line_of}
 use Rattle.asm_syntax.specs.Statements.{Statement, Line, entry}
@@ -37,11 +37,6 @@ pub record IsLaidOut (symbols : Symbols) (texts : List (List ℕ)) (bytes : List
   pub laid : AreLaid symbols 0 lines bytes
   pub entry_is : last_entry symbols 0 lines ≡ entry
 
--- bytes as segments: one at 0, and none where there are no bytes
-abbrev pub segments_of : List ℕ → List Segment
-segments_of [] = []
-segments_of (b ∷ rest) = record { addr = 0; bytes = b ∷ rest; size = length (b ∷ rest) } ∷ []
-
 -- an image of a text: some addresses of its labels, and of nothing else, exist with which its lines are laid out as the
 -- image's bytes
 pub record IsImageOfText (text : List ℕ) (image : Image) : Type 0 where
@@ -49,4 +44,4 @@ pub record IsImageOfText (text : List ℕ) (image : Image) : Type 0 where
   pub bytes : List ℕ
   pub out : IsLaidOut symbols (lines_of text) bytes image.entry
   pub only_labels : (name : List ℕ) → IsSome (symbols name) → Any (λ line. Contains line.labels name) out.lines
-  pub segments_are : image.segments ≡ segments_of bytes
+  pub segments_are : image.segments ≡ segments_from_0 bytes

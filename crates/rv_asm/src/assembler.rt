@@ -2,7 +2,8 @@
 
 ghost use Rattle.std.specs.Prelude.{◌≡◌, ◌≢◌, ◌^◌, ◌≤◌, length, None, Some, vec_len, OnOk, IfOk, IfErr};
 ghost use Rattle.rv_asm.specs.Faults.{text_fault};
-ghost use Rattle.rv_asm.specs.Text.{segments_of, IsImageOfText};
+ghost use Rattle.node_memory.specs.Image.{segments_from_0};
+ghost use Rattle.rv_asm.specs.Text.{IsImageOfText};
 
 use crate::errors::{AsmError, AsmKind};
 use crate::first_pass::define_labels;
@@ -16,7 +17,7 @@ use std::alloc::{AllocError, Allocator};
 fn image_of<A: Allocator + Copy>(alloc: A, program: Program<A>) -> Result<Image<A>, AllocError>
     requires { vec_len program.bytes ≤ 2 ^ 24 }
     ensures entry { IfOk result (λ image. image.entry ≡ program.entry) }
-    ensures segments { IfOk result (λ image. image.segments ≡ segments_of program.bytes.items) }
+    ensures segments { IfOk result (λ image. image.segments ≡ segments_from_0 program.bytes.items) }
 {
     let Program { bytes, entry } = program;
     let mut segments = Vec::new(alloc);

@@ -3,12 +3,12 @@
 ghost use Rattle.std.specs.Prelude.{◌≡◌, ◌≢◌, ◌^◌, ◌≤◌, List, ℕ, length, Option, None, Some, is_some, option_map, false, Ok, OnOk, IfOk, IfErr, IfSome};
 ghost use Rattle.std.specs.Option.{SomeIff, option_map_or};
 ghost use Rattle.asm_syntax.specs.Parse.{line_of};
-ghost use Rattle.asm_syntax.specs.Ranges.{IsInRange};
+ghost use Rattle.asm_syntax.specs.Statements.{IsInRange};
 ghost use Rattle.asm_syntax.specs.Views.{line_value, statement_value};
-ghost use Rattle.rv_asm.specs.Faults.{fault_of_line, fault_alone, first_fault};
+ghost use Rattle.rv_asm.specs.Faults.{fault_of_line, fault_alone, first_faulty_line};
 ghost use Rattle.rv_asm.specs.Labels.{symbols};
 ghost use Rattle.rv_asm.specs.Layout.{size_of};
-ghost use Rattle.rv_asm.specs.Places.{labels_of, end_from, end_of_statement, places_of, symbols_of};
+ghost use Rattle.rv_asm.specs.Places.{line_labels, end_from, end_of_statement, places_of, symbols_of};
 ghost use Rattle.rv_asm.specs.Symbols.{no_symbols, with_labels};
 ghost use Rattle.rv_asm.specs.Targets as Targets;
 
@@ -84,7 +84,7 @@ fn define_line<'a, A: Allocator + Copy>(
     ensures end { IfOk result (λ end. end ≡ end_from address (line_of text.entry.now)) }
     ensures limit { IfOk result (λ end. end ≤ 2 ^ 24) }
     ensures labels { OnOk result ((q : List ℕ) → symbols labels.new q
-        ≡ with_labels (symbols labels.old) (labels_of (line_of text.entry.now)) address q) }
+        ≡ with_labels (symbols labels.old) (line_labels (line_of text.entry.now)) address q) }
     ensures err { IfErr result (λ kind. kind ≢ AsmKind.NoMemory
         → fault_of_line address (λ q. is_some (symbols labels.old q)) (line_of text.entry.now) ≡ Some kind) }
 {
@@ -98,10 +98,10 @@ pub fn define_labels<'a, A: Allocator + Copy>(
     text: &'a [u8],
 ) -> Result<Labels<'a, A>, AsmError>
     requires { length text.now ≤ 2 ^ 22 }
-    ensures ok { OnOk result (first_fault fault_alone (places_of text.entry.now) ≡ None) }
+    ensures ok { OnOk result (first_faulty_line fault_alone (places_of text.entry.now) ≡ None) }
     ensures labels { IfOk result (λ labels. (q : List ℕ) → symbols labels q ≡ symbols_of (places_of text.entry.now) q) }
     ensures err { IfErr result (λ e. e.kind ≢ AsmKind.NoMemory
-        → first_fault fault_alone (places_of text.entry.now) ≡ Some (e.line, e.kind)) }
+        → first_faulty_line fault_alone (places_of text.entry.now) ≡ Some (e.line, e.kind)) }
     ensures no_memory { IfErr result (λ e. e.kind ≡ AsmKind.NoMemory → e.line ≡ 0) }
 {
     let mut labels = Labels::new(alloc);

@@ -3,7 +3,7 @@
 ghost use Rattle.std.specs.Prelude.{◌≡◌, ◌+◌, ◌-◌, ◌*◌, ◌^◌, ◌≤◌, min, length};
 ghost use Rattle.std.specs.Int.{next_multiple_of};
 ghost use Rattle.std.specs.Option.{SomeIff};
-ghost use Rattle.asm_syntax.specs.Ranges.{IsInRange};
+ghost use Rattle.asm_syntax.specs.Statements.{IsInRange};
 ghost use Rattle.asm_syntax.specs.Views.{statement_value};
 ghost use Rattle.rv_asm.specs.Layout as Layout;
 

@@ -15,8 +15,9 @@
 //! addresses of all labels, and a second one writes the bytes. The work grows with the length of the text, times the
 //! logarithm of the number of labels.
 //!
-//! Source: The RISC-V Instruction Set Manual, Volume I: Unprivileged ISA, 20191213, chapter 25 for `li` and `la`; the rest
-//! of the language is this project's own.
+//! Source: The RISC-V Instruction Set Manual, Volume I: Unprivileged ISA, 20191213, chapter 25 for what `li` and `la` put
+//! into a register. Which instructions they are is this project's own choice (there, `la` counts from pc), as the rest of
+//! the language is.
 #![tactic(auto)]
 
 mod assembler;

@@ -1,7 +1,7 @@
 //! What a program is made of while its text is gone through.
 
 ghost use Rattle.std.specs.Prelude.{◌≡◌, ◌≢◌, ◌⊎◌, ◌+◌, ◌^◌, ◌≤◌, OnOk, IfErr, Some, None, unwrap_or, option_and_then, IfSome, vec_len};
-ghost use Rattle.asm_syntax.specs.Ranges.{IsInRange};
+ghost use Rattle.asm_syntax.specs.Statements.{IsInRange};
 ghost use Rattle.asm_syntax.specs.Views.{line_value, statement_value};
 ghost use Rattle.rv_asm.specs.Faults.{fault_of_use};
 ghost use Rattle.rv_asm.specs.Labels.{symbols};

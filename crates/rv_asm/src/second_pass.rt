@@ -3,9 +3,9 @@
 ghost use Rattle.std.specs.Prelude.{◌≡◌, ◌≢◌, ◌^◌, ◌≤◌, List, ℕ, length, None, Some, unwrap_or, vec_len, option_and_then, IsOkAnd, OnOk, IfOk, IfErr};
 ghost use Rattle.asm_syntax.specs.Lines.{lines_of};
 ghost use Rattle.asm_syntax.specs.Parse.{line_of};
-ghost use Rattle.rv_asm.specs.Faults.{fault_of_use, fault_of_uses, fault_alone, first_fault};
+ghost use Rattle.rv_asm.specs.Faults.{fault_of_use, fault_of_uses, fault_alone, first_faulty_line};
 ghost use Rattle.rv_asm.specs.Labels.{symbols};
-ghost use Rattle.rv_asm.specs.Places.{statement_of, end_of_statement, places_of, symbols_of};
+ghost use Rattle.rv_asm.specs.Places.{line_statement, end_of_statement, places_of, symbols_of};
 ghost use Rattle.rv_asm.specs.Text.{LineHasBytes, IsLaidOut, entry_of};
 ghost use Rattle.rv_asm.specs.Writing.{Adds};
 
@@ -24,14 +24,14 @@ fn write_line<A: Allocator + Copy>(
 ) -> Result<(), AsmKind>
     requires { IsOkAnd (line_of text.now) (λ line. end_of_statement (vec_len program.old.bytes) line.statement ≤ 2 ^ 24) }
     ensures bytes { OnOk result (Adds
-        (LineHasBytes (symbols labels.now) (vec_len program.old.bytes) (statement_of (line_of text.now)))
+        (LineHasBytes (symbols labels.now) (vec_len program.old.bytes) (line_statement (line_of text.now)))
         program.old.bytes.items program.new.bytes.items) }
     ensures entry { OnOk result (program.new.entry
-        ≡ unwrap_or (entry_of (symbols labels.now) (statement_of (line_of text.now))) program.old.entry) }
+        ≡ unwrap_or (entry_of (symbols labels.now) (line_statement (line_of text.now))) program.old.entry) }
     ensures ok { OnOk result
-        (option_and_then (fault_of_use (symbols labels.now) (vec_len program.old.bytes)) (statement_of (line_of text.now)) ≡ None) }
+        (option_and_then (fault_of_use (symbols labels.now) (vec_len program.old.bytes)) (line_statement (line_of text.now)) ≡ None) }
     ensures err { IfErr result (λ kind. kind ≢ AsmKind.NoMemory
-        → option_and_then (fault_of_use (symbols labels.now) (vec_len program.old.bytes)) (statement_of (line_of text.now)) ≡ Some kind) }
+        → option_and_then (fault_of_use (symbols labels.now) (vec_len program.old.bytes)) (line_statement (line_of text.now)) ≡ Some kind) }
 {
     let line = parse_line(alloc, text)?;
     program.push_line(labels, &line)
@@ -44,13 +44,13 @@ pub fn write_lines<A: Allocator + Copy>(
     text: &[u8],
 ) -> Result<Program<A>, AsmError>
     requires small { length text.now ≤ 2 ^ 22 }
-    requires judged { first_fault fault_alone (places_of text.now) ≡ None }
+    requires judged { first_faulty_line fault_alone (places_of text.now) ≡ None }
     requires known { (q : List ℕ) → symbols labels.now q ≡ symbols_of (places_of text.now) q }
     ensures laid { IfOk result (λ program. IsLaidOut (symbols labels.now) (lines_of text.now) program.bytes.items program.entry) }
     ensures limit { IfOk result (λ program. vec_len program.bytes ≤ 2 ^ 24) }
-    ensures ok { OnOk result (first_fault (fault_of_uses (symbols labels.now)) (places_of text.now) ≡ None) }
+    ensures ok { OnOk result (first_faulty_line (fault_of_uses (symbols labels.now)) (places_of text.now) ≡ None) }
     ensures err { IfErr result (λ e. e.kind ≢ AsmKind.NoMemory
-        → first_fault (fault_of_uses (symbols labels.now)) (places_of text.now) ≡ Some (e.line, e.kind)) }
+        → first_faulty_line (fault_of_uses (symbols labels.now)) (places_of text.now) ≡ Some (e.line, e.kind)) }
     ensures no_memory { IfErr result (λ e. e.kind ≡ AsmKind.NoMemory → e.line ≡ 0) }
 {
     let mut program = Program {

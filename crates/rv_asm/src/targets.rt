@@ -2,7 +2,8 @@
 
 ghost use Rattle.std.specs.Prelude.{◌≡◌, ◌↔◌, ◌^◌, IsTrue};
 ghost use Rattle.rv_tables.specs.Operands.{IsBranchOffset, IsJumpOffset};
-ghost use Rattle.asm_syntax.specs.Ranges.{IsInRange, IsTarget};
+ghost use Rattle.asm_syntax.specs.Operands.{IsTarget};
+ghost use Rattle.asm_syntax.specs.Statements.{IsInRange};
 ghost use Rattle.asm_syntax.specs.Views.{statement_value, target_value};
 ghost use Rattle.rv_asm.specs.Labels.{symbols};
 ghost use Rattle.rv_asm.specs.Targets as Targets;

@@ -5,7 +5,7 @@ ghost use Rattle.std.specs.List.{list_any};
 ghost use Rattle.std.specs.Int.{w16, w32, to_le_bytes};
 ghost use Rattle.rv_tables.specs.Fields.{bits, sign_extended};
 ghost use Rattle.rv_tables.specs.Operands.{IsEncodable, IsImmediate, IsRegister};
-ghost use Rattle.asm_syntax.specs.Ranges.{IsTarget};
+ghost use Rattle.asm_syntax.specs.Operands.{IsTarget};
 ghost use Rattle.asm_syntax.specs.Statements.{words};
 ghost use Rattle.asm_syntax.specs.Views.{target_value};
 ghost use Rattle.rv_asm.specs.Labels.{symbols};

@@ -6,16 +6,16 @@ use Rattle.std.specs.Str.{bytes_eq}
 use Rattle.std.proofs.lemmas.Iterator.{YieldsList-from_slice}
 use Rattle.std.proofs.lemmas.Iterator.Search.{find_from_yields_List}
 use Rattle.asm_syntax.specs.declared.form.Form.{Form}
-use Rattle.asm_syntax.specs.Forms.{name_of, form_named, forms}
+use Rattle.asm_syntax.specs.Forms.{rule_of, form_named, forms}
 use Rattle.asm_syntax.proofs.form.form_named.Goals as goal
 
 copied_now : (o : Option (Bor Form)) → option_copied o ≡ option_map (λ x. x.now) o
 copied_now None = refl
 copied_now (Some f) = refl
 
-named : (name : List ℕ) (r : Option Form) (table : List Form) → table ≡ forms → r ≡ find (λ f. bytes_eq (name_of f) name) table → r ≡ form_named name
+named : (name : List ℕ) (r : Option Form) (table : List Form) → table ≡ forms → r ≡ find (λ f. bytes_eq ((rule_of f).mnemonic) name) table → r ≡ form_named name
 unfolding form_named
-named name r table is found = found ∙ ap (find (λ f. bytes_eq (name_of f) name)) is
+named name r table is found = found ∙ ap (find (λ f. bytes_eq ((rule_of f).mnemonic) name)) is
 
 table : (c : goal.After-copied) → c.iter.result.rest.now ≡ forms
 unfolding forms
@@ -24,5 +24,5 @@ table c = c.iter.ensures.rest
 pub returns : goal.returns
 returns c =
     let name = c.args.mnemonic.now in
-    let found = find_from_yields_List (λ f. bytes_eq (name_of f) name) _ _ c.find.result c.find.ensures.ran (YieldsList-from_slice _ refl) (λ x b q k. search (rules, tests)) in
+    let found = find_from_yields_List (λ f. bytes_eq ((rule_of f).mnemonic) name) _ _ c.find.result c.find.ensures.ran (YieldsList-from_slice _ refl) (λ x b q k. search (rules, tests)) in
     named name c.copied.result c.iter.result.rest.now (table c) (c.copied.ensures ∙ (copied_now c.find.result ∙ found))

@@ -1,11 +1,11 @@
 use Rattle.std.proofs.Common.{◌≡◌, ◌++◌, length, map}
-use Rattle.asm_syntax.specs.Parse.{labels_of, behind_labels}
+use Rattle.asm_syntax.specs.Parse.{labels_in, behind_labels}
 use Rattle.asm_syntax.specs.TokenViews.{token_value}
 use Rattle.asm_syntax.proofs.parse.labels.Given as goal
 
 abbrev pub invariant-loop-rest : goal.invariant-loop-rest
 invariant-loop-rest g l =
-    (map (λ label. label.now) l.labels.items ++ labels_of (map token_value l.rest) ≡ labels_of (map token_value l.tokens))
+    (map (λ label. label.now) l.labels.items ++ labels_in (map token_value l.rest) ≡ labels_in (map token_value l.tokens))
     × (behind_labels (map token_value l.rest) ≡ behind_labels (map token_value l.tokens))
 
 abbrev pub decreases-loop-rest : goal.decreases-loop-rest

@@ -1,23 +1,24 @@
 use Rattle.std.proofs.Common.{◌≡◌, Err, sym, ap, ◌∙◌, rules}
 use Rattle.asm_syntax.specs.Faults.{if_ok}
-use Rattle.asm_syntax.specs.Operands.{address_in, fits_immediate}
+use Rattle.asm_syntax.specs.Operands.{address_in}
+use Rattle.asm_syntax.specs.Ranges.{signed, is_within}
 use Rattle.asm_syntax.specs.TokenViews.{address_value, register_address_value}
 use Rattle.asm_syntax.proofs.Judged.{two_judged, two_none}
 use Rattle.asm_syntax.proofs.shapes.register_address.Goals as goal
 
-pub returns-in_err-register-clause-value : goal.returns-in_err-register-clause-value
-returns-in_err-register-clause-value c =
-    let none = sym c.register.ensures.value ∙ c.in_err-register.was in
+pub returns-in_err-register : goal.returns-in_err-register
+returns-in_err-register c =
+    let none = sym c.register.ensures ∙ c.in_err-register.was in
     let fault : c.from_residual.result ≡ Err c.in_err-register.field-0.0 = search rules in
-    ap (if_ok register_address_value) fault ∙ two_none address_in (λ o. fits_immediate o.1.offset) _ _ _ c.in-len2.len_at_least c.in-len2.len_below none
+    ap (if_ok register_address_value) fault ∙ two_none address_in (λ o. is_within (signed 12) o.1.offset) _ _ _ c.in-len2.len_at_least c.in-len2.len_below none
 
-pub returns-in_err-address-clause-value : goal.returns-in_err-address-clause-value
-returns-in_err-address-clause-value c =
-    let is = sym c.register.ensures.value ∙ c.in_ok-register.was in
+pub returns-in_err-address : goal.returns-in_err-address
+returns-in_err-address c =
+    let is = sym c.register.ensures ∙ c.in_ok-register.was in
     let fault : c.from_residual-in_err-address.result ≡ Err c.in_err-address.field-0.0 = search rules in
-    ap (if_ok register_address_value) fault ∙ (ap (λ r. if_ok (λ y. (c.in_ok-register.register, y)) (if_ok address_value r)) (sym c.in_err-address.was) ∙ two_judged address_in (λ a. fits_immediate a.offset) _ _ _ _ c.in-len2.len_at_least c.in-len2.len_below is c.memory_address.ensures.value)
+    ap (if_ok register_address_value) fault ∙ (ap (λ r. if_ok (λ y. (c.in_ok-register.register, y)) (if_ok address_value r)) (sym c.in_err-address.was) ∙ two_judged address_in (λ a. is_within (signed 12) a.offset) _ _ _ _ c.in-len2.len_at_least c.in-len2.len_below is c.memory_address.ensures)
 
-pub returns-clause-value : goal.returns-clause-value
-returns-clause-value c =
-    let is = sym c.register.ensures.value ∙ c.in_ok-register.was in
-    ap (λ r. if_ok (λ y. (c.in_ok-register.register, y)) (if_ok address_value r)) (sym c.in_ok-address.was) ∙ two_judged address_in (λ a. fits_immediate a.offset) _ _ _ _ c.in-len2.len_at_least c.in-len2.len_below is c.memory_address.ensures.value
+pub returns : goal.returns
+returns c =
+    let is = sym c.register.ensures ∙ c.in_ok-register.was in
+    ap (λ r. if_ok (λ y. (c.in_ok-register.register, y)) (if_ok address_value r)) (sym c.in_ok-address.was) ∙ two_judged address_in (λ a. is_within (signed 12) a.offset) _ _ _ _ c.in-len2.len_at_least c.in-len2.len_below is c.memory_address.ensures

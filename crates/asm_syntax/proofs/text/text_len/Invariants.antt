@@ -1,7 +1,11 @@
-use Rattle.std.proofs.Common.{◌≡◌, ◌+◌, drop, false}
+use Rattle.std.proofs.Common.{length}
 use Rattle.std.specs.Option.{option_map}
 use Rattle.asm_syntax.specs.Tokens.{text_from}
+use Rattle.asm_syntax.proofs.TextBytes.{HasLen}
 use Rattle.asm_syntax.proofs.text.text_len.Given as goal
 
-abbrev pub invariant-loop-at : goal.invariant-loop-at
-invariant-loop-at l = option_map (λ t. l.at + t.len) (text_from l.escaped (drop l.at l.line)) ≡ option_map (λ t. t.len) (text_from false l.line)
+abbrev pub invariant-loop-rest : goal.invariant-loop-rest
+invariant-loop-rest l = HasLen (length l.line) l.rest (option_map (λ t. t.len) (text_from l.line))
+
+abbrev pub decreases-loop-rest : goal.decreases-loop-rest
+decreases-loop-rest l = length l.rest

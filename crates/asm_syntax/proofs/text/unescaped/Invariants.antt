@@ -1,6 +1,9 @@
-use Rattle.std.proofs.Common.{◌≡◌, ◌++◌, drop, false}
+use Rattle.std.proofs.Common.{◌≡◌, ◌++◌, length}
 use Rattle.asm_syntax.specs.TokenViews.{unescaped}
 use Rattle.asm_syntax.proofs.text.unescaped.Given as goal
 
-abbrev pub invariant-loop-byte : goal.invariant-loop-byte
-invariant-loop-byte g l = l.text.items ++ unescaped l.escaped (drop l.byte-index l.raw) ≡ unescaped false l.raw
+abbrev pub invariant-loop-rest : goal.invariant-loop-rest
+invariant-loop-rest g l = l.text.items ++ unescaped l.rest ≡ unescaped l.raw
+
+abbrev pub decreases-loop-rest : goal.decreases-loop-rest
+decreases-loop-rest g l = length l.rest

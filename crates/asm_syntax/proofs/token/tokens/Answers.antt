@@ -1,6 +1,7 @@
-use Rattle.std.proofs.Common.{◌+◌, arith, refl}
+use Rattle.std.proofs.Common.{◌+◌, ◌++◌, map, arith, refl, sym, ap, ◌∙◌}
+use Rattle.std.specs.Option.{option_map}
 use Rattle.std.proofs.lemmas.List.{at_drop_all}
-use Rattle.asm_syntax.specs.Tokens.{comment, token, nothing, tokens_of, tokens_behind}
+use Rattle.asm_syntax.specs.Tokens.{blank, comment, token, nothing, tokens_of, tokens_behind}
 use Rattle.asm_syntax.specs.TokenViews.{token_value}
 use Rattle.asm_syntax.proofs.TokenSteps.{tokens_behind-step, further, ended, refused}
 use Rattle.asm_syntax.proofs.token.tokens.Goals as goal
@@ -9,6 +10,11 @@ pub returns-in-Comment-clause-ok : goal.returns-in-Comment-clause-ok
 unfolding tokens_of
 returns-in-Comment-clause-ok g c =
     ended _ _ _ (tokens_behind-step c.args.line.now c.loop-at.at comment c.loop-at-test.true c.in-Comment.ensures.value _ refl) c.loop-at.invariant
+
+pub loop-at-preserved-in-Blank : goal.loop-at-preserved-in-Blank
+loop-at-preserved-in-Blank g c =
+    ap (option_map (λ ts. map token_value c.loop-at.tokens.items ++ ts)) (sym (tokens_behind-step c.args.line.now c.loop-at.at blank c.loop-at-test.true c.in-Blank.ensures.value (c.loop-at.at + 1) (omega arith)))
+    ∙ c.loop-at.invariant
 
 pub loop-at-preserved : goal.loop-at-preserved
 loop-at-preserved g c =

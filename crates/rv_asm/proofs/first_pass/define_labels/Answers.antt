@@ -1,5 +1,5 @@
 use Rattle.std.proofs.Common.{◌≡◌, ◌∷◌, ◌+◌, ◌≤◌, length, is_some, ◌∙◌, ap, arith}
-use Rattle.rv_asm.specs.Faults.{fault_alone, first_fault}
+use Rattle.rv_asm.specs.Faults.{fault_alone, first_faulty_line}
 use Rattle.rv_asm.specs.Labels.{symbols}
 use Rattle.rv_asm.specs.Places.{placed}
 use Rattle.rv_asm.proofs.Passes.{lines_in, left_in, symbols_from, judged_more, known_more, left-below}
@@ -16,7 +16,7 @@ lines-preserved g c =
     let fewer : left_in c.split_line.result.1 ≤ length c.in-Some.remaining.now = left-below c.split_line.result.1 _ c.split_line.ensures.shorter in
     record {
       judged = c.lines.invariant.judged
-          ∙ ap (λ ls. first_fault fault_alone (placed c.lines.number c.lines.address (λ q. is_some (s q)) ls)) lines
+          ∙ ap (λ ls. first_faulty_line fault_alone (placed c.lines.number c.lines.address (λ q. is_some (s q)) ls)) lines
           ∙ judged_more s t c.lines.number c.lines.address c.in-Ok.end line texts c.in-Ok.ensures.end c.in-Ok.ensures.labels c.in-Ok.ensures.ok;
       known = λ q. c.lines.invariant.known q
           ∙ ap (λ ls. symbols_from s (placed c.lines.number c.lines.address (λ p. is_some (s p)) ls) q) lines

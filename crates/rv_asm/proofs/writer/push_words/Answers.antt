@@ -1,5 +1,5 @@
 use Rattle.std.proofs.Common.{sym, ◌∙◌}
-use Rattle.asm_syntax.specs.Ranges.{IsTarget}
+use Rattle.asm_syntax.specs.Operands.{IsTarget}
 use Rattle.asm_syntax.specs.Views.{target_value}
 use Rattle.rv_asm.specs.Labels.{symbols}
 use Rattle.rv_asm.proofs.Words.{All_of_map, words_more, defined_more}

@@ -2,7 +2,7 @@
 -- 2.6 "Load and Store Instructions": a word is stored with its low byte first; chapter 25 "RISC-V Assembly Programmer's
 -- Handbook": `li` and `la`). What `.space`, `.align` and `.entry` do, and that `li` and `la` write just these instructions,
 -- are own rules.
-use Rattle.std.specs.Prelude.{◌≡◌, ℕ, ◌+◌, ◌-◌, ◌*◌, ◌^◌, ◌<◌, ◌++◌, Bool, ◌&&◌, int_le, int_lt, pos, neg_ℤ, if◌then◌else◌, List, [], ◌∷◌, length, map, flat_map, replicate, false, Some, IsSome, IsSomeAnd}
+use Rattle.std.specs.Prelude.{◌≡◌, ℕ, ◌+◌, ◌-◌, ◌*◌, ◌^◌, ◌<◌, ◌++◌, Bool, if◌then◌else◌, List, [], ◌∷◌, length, map, flat_map, replicate, false, Some, IsSome, IsSomeAnd}
 use Rattle.std.specs.Int.{w16, w32, cast_signed, to_le_bytes, next_multiple_of}
 use Rattle.std.specs.Option.{option_map_or}
 use Rattle.rv_tables.specs.declared.instr.Instr.{Instr}
@@ -15,7 +15,7 @@ use Rattle.rv_tables.specs.Rows.{instruction_of}
 use Rattle.asm_syntax.specs.Operands.{Target}
 use Rattle.asm_syntax.specs.Statements.{Statement, instruction, branch, jump_and_link, load_immediate, load_address, words, halves, bytes, ascii, space, align, entry}
 use Rattle.rv_asm.specs.Symbols.{Symbols}
-use Rattle.rv_asm.specs.Targets.{modulo, value_of, uses_undefined, offset_to}
+use Rattle.rv_asm.specs.Targets.{modulo, is_signed, value_of, uses_undefined, offset_to}
 
 -- the word of an instruction, which decodes to it. Each instruction has one, but the fences have many: theirs are
 -- `fence iorw,iorw`, and `fence.i` with its unused fields zero
@@ -36,7 +36,7 @@ lui_addi rd word = Upper Lui rd (bits (word + 0x800) 31 12) ∷ I Addi rd rd (si
 
 -- `li` has one instruction where the word as a signed number is an immediate, -2048 to 2047
 abbrev pub is_short : ℕ → Bool
-is_short word = int_le (neg_ℤ (pos 2048)) (cast_signed w32 word) && int_lt (cast_signed w32 word) (pos 2048)
+is_short word = is_signed 12 (cast_signed w32 word)
 
 -- the instructions of `li`
 abbrev pub load_of : ℕ → ℕ → List Instr

@@ -24,10 +24,13 @@ value_of symbols target = option_map (λ base. modulo (2 ^ 32) (pos base +ℤ ta
 abbrev pub offset_to : ℕ → ℕ → ℤ
 offset_to address value = cast_signed w32 (modulo (2 ^ 32) (pos value -ℤ pos address))
 
--- an offset is an even number that a field of `width` bits has, in two's complement
+-- a number that two's complement of `width` bits has
+abbrev pub is_signed : ℕ → ℤ → Bool
+is_signed width z = int_le (neg_ℤ (pos (2 ^ (width - 1)))) z && int_lt z (pos (2 ^ (width - 1)))
+
+-- an offset is an even number that a field of `width` bits has
 abbrev pub is_reached : ℕ → ℤ → Bool
-is_reached width offset =
-    int_le (neg_ℤ (pos (2 ^ (width - 1)))) offset && int_lt offset (pos (2 ^ (width - 1))) && (unsigned_abs (int_rem offset (pos 2)) == 0)
+is_reached width offset = is_signed width offset && (unsigned_abs (int_rem offset (pos 2)) == 0)
 
 -- the target of a jump, and the width of its offset
 abbrev pub reach_of : Statement → Option (Target × ℕ)

@@ -1,6 +1,6 @@
 //! The sizes of statements.
 
-ghost use Rattle.std.specs.Prelude.{◌≡◌, ◌+◌, ◌-◌, ◌*◌, ◌^◌, ◌≤◌, min, length};
+ghost use Rattle.std.specs.Prelude.{ℕ, ◌≡◌, ◌+◌, ◌-◌, ◌*◌, ◌^◌, ◌≤◌, min, length};
 ghost use Rattle.std.specs.Int.{next_multiple_of};
 ghost use Rattle.std.specs.Option.{SomeIff};
 ghost use Rattle.asm_syntax.specs.Statements.{IsInRange};
@@ -32,10 +32,9 @@ pub fn padding(address: u32, power: u8) -> u32
 }
 
 /// How many bytes `li` has.
-fn load_size(rd: u8, word: u32) -> u64
-    ensures { result ≡ 4 * length (Layout.load_of rd word) }
+fn load_size(word: u32) -> u64
+    ensures { (rd : ℕ) → result ≡ 4 * length (Layout.load_of rd word) }
 {
-    let _rd = rd;
     if is_short(word) { 4 } else { 8 }
 }
 
@@ -46,7 +45,7 @@ fn size_of<A: Allocator>(statement: &Statement<'_, A>, address: u32) -> u64
 {
     match statement {
         Statement::Instruction(_) | Statement::Branch { .. } | Statement::Jal { .. } => 4,
-        Statement::LoadImmediate { rd, value } => load_size(*rd, word_of(*value)),
+        Statement::LoadImmediate { value, .. } => load_size(word_of(*value)),
         Statement::LoadAddress { .. } => 8,
         Statement::Words(targets) => (targets.len() as u64).saturating_mul(4),
         Statement::Halves(numbers) => (numbers.len() as u64).saturating_mul(2),

@@ -1,2 +1,4 @@
 pub mod Console
+pub mod Dialogue
+pub mod Script
 pub mod Talk

@@ -78,10 +78,22 @@ is_quit _ = false
 abbrev pub goes_on : List ℕ → Bool
 goes_on line = not (is_quit (line_of line))
 
--- the lines that are answered: those before the first `quit`
+-- those of some lines that are answered: the ones before the first `quit`
+abbrev pub until_quit : List (List ℕ) → List (List ℕ)
+until_quit lines = take_while goes_on lines
+
+-- none of these lines is `quit`
+abbrev pub LacksQuit : List (List ℕ) → Type 0
+LacksQuit lines = until_quit lines ≡ lines
+
+-- the lines of a script that are answered
 abbrev pub answered_lines : List ℕ → List (List ℕ)
-answered_lines script = take_while goes_on (lines_of script)
+answered_lines script = until_quit (lines_of script)
+
+-- the lines of a script that a line feed ended
+abbrev pub ended_lines : List ℕ → List (List ℕ)
+ended_lines script = take (length (lines_of script) - 1) (lines_of script)
 
 -- a line that a line feed ended is `quit`
 abbrev pub HasQuit : List ℕ → Type 0
-HasQuit script = Any (λ line. line_of line ≡ Quit) (take (length (lines_of script) - 1) (lines_of script))
+HasQuit script = Any (λ line. line_of line ≡ Quit) (ended_lines script)

@@ -1,20 +1,53 @@
 //! What one line is answered.
 
-ghost use Rattle.std.specs.Prelude.{◌≡◌, ◌≢◌, ◌++◌, List, [], codes, IfOk, MatchResult, string_bytes};
+ghost use Rattle.std.specs.Prelude.{◌≡◌, ◌≢◌, ◌≤◌, ◌⊎◌, ◌++◌, ℕ, List, [], codes, IfErr, IfOk, MatchResult, OnOk, string_bytes};
+ghost use Rattle.std.specs.Io.KnownBytes.{Appends};
 ghost use Rattle.bsp_debug.specs.Debugger.{add_fault, remove_fault, command_fault, Makes};
-ghost use Rattle.bsp_debug.specs.Reply.{answer, costs};
-ghost use Rattle.cost_ledger.specs.declared.CostRow.{CostRow as CostRowValue};
 ghost use Rattle.debug_lines.specs.declared.verdict.Verdict.TheVariants.{Done as done_verdict, Refused as refused_verdict};
-ghost use Rattle.debug_lines.specs.Replies.{reply_text as reply_text_of};
 ghost use Rattle.debug_lines.specs.Verdicts.{verdict_text};
-ghost use Rattle.bsp_console.specs.Talk.{Answered, DoesOrRefuses, HasPoint, LacksPoint, Replies};
+ghost use Rattle.counted_io.specs.Counted.{HasRisen};
+ghost use Rattle.counted_io.specs.Transfers.{AppendsPrefix};
+ghost use Rattle.bsp_console.specs.Talk.{Answered, DoesOrRefuses, HasPoint, LacksPoint, Replies, is_quit as is_quit_line};
 
-use bsp_debug::{Command, DebugError, Debugger, Point, Reply};
+use bsp_debug::{Command, DebugError, Debugger, Point};
+use bsp_session::{Job, SessionError};
+use counted_io::{Counted, write_whole};
 use debug_lines::{Line, Verdict, reply_text};
 use std::alloc::{AllocError, Allocator};
+use std::io::Write;
+
+/// Whether a line ends the session.
+pub(crate) fn is_quit(line: Line) -> bool
+    ensures { result ≡ is_quit_line line }
+{
+    matches!(line, Line::Quit)
+}
+
+/// Answers a line: the reply is written whole, or an error says why not. Refused memory leaves nothing of it written.
+pub(crate) fn answer_to<A: Allocator + Copy, W: Write>(
+    alloc: A,
+    debugger: &mut Debugger<A>,
+    line: Line,
+    job: &Job,
+    out: &mut Counted<W>,
+) -> Result<(), SessionError>
+    ensures ok { OnOk result ((text : List ℕ)
+        × Answered job.now.g job.now.l line debugger.old text debugger.new
+        × Appends (W.contents out.old.inner) (W.contents out.new.inner) text) }
+    ensures err { IfErr result (λ e. ((e ≡ SessionError.NoMemory) × (out.new ≡ out.old))
+        ⊎ ((e ≡ SessionError.WriteFault) × HasRisen out.old.failures out.new.failures
+        × (text : List ℕ)
+        × Answered job.now.g job.now.l line debugger.old text debugger.new
+        × AppendsPrefix (W.contents out.old.inner) (W.contents out.new.inner) text)) }
+    ensures never_falls { out.old.failures ≤ out.new.failures }
+{
+    let text = answer_line(alloc, debugger, line, job.g, job.l)?;
+    write_whole(out, text.as_slice())?;
+    Ok(())
+}
 
 /// Does what a line asks for, and gives the text that answers it. It is an error only where memory is refused.
-pub(crate) fn answer_line<A: Allocator + Copy>(
+fn answer_line<A: Allocator + Copy>(
     alloc: A,
     debugger: &mut Debugger<A>,
     line: Line,
@@ -109,26 +142,7 @@ fn answer_command<A: Allocator + Copy>(
         (record debugger.old { last = [] }) debugger.new text.items) }
 {
     match debugger.command(command) {
-        Ok(reply) => reply_lines(alloc, debugger, &reply, g, l),
+        Ok(reply) => Ok(reply_text(alloc, &reply, debugger.machine().ledger(), g, l)?.into_bytes()),
         Err(error) => verdict_of(alloc, Err(error)),
     }
-}
-
-/// The lines of a reply. Those of costs are the ledger's, whose sums always fit.
-fn reply_lines<A: Allocator + Copy>(
-    alloc: A,
-    debugger: &Debugger<A>,
-    reply: &Reply<A>,
-    g: u32,
-    l: u32,
-) -> Result<Vec<u8, A>, AllocError>
-    requires { (rows : List CostRowValue) → answer reply.now ≡ costs rows
-        → rows ≡ debugger.now.machine.ledger }
-    ensures { IfOk result (λ text. text.items ≡ reply_text_of g l (answer reply.now)) }
-{
-    let text = match reply {
-        Reply::Costs(_) => debugger.machine().ledger().lines(alloc, g, l)?,
-        _ => reply_text(alloc, reply, g, l)?,
-    };
-    Ok(text.into_bytes())
 }

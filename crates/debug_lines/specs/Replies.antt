@@ -7,7 +7,6 @@ use Rattle.bsp_requests.specs.Message.{Message}
 use Rattle.rv_listing.specs.Numerals.{two_digits, eight_digits}
 use Rattle.node_core.specs.declared.state.State.{State}
 use Rattle.node_core.specs.Names.{state_name}
-use Rattle.cost_ledger.specs.declared.CostRow.{CostRow}
 use Rattle.cost_ledger.specs.CostRow.{cost_lines}
 use Rattle.machine_core.specs.Outcome.{outcome_text}
 use Rattle.bsp_debug.specs.declared.point.Point.{Point}
@@ -70,8 +69,3 @@ reply_text g l (registers rank pc ticks state x) = node_line rank pc ticks state
 reply_text g l (bytes bs) = byte_lines bs
 reply_text g l (queue q) = queue_lines q
 reply_text g l (costs rows) = cost_lines g l rows
-
--- the costs that an answer tells of
-abbrev pub costs_of : Answer → List CostRow
-costs_of (costs rows) = rows
-costs_of _ = []

@@ -1,16 +1,16 @@
 //! The texts of replies.
 
-ghost use Rattle.std.specs.Prelude.{◌≡◌, ◌<◌, ◌^◌, ◌++◌, length, codes, IfOk, string_bytes};
+ghost use Rattle.std.specs.Prelude.{◌≡◌, ◌<◌, ◌++◌, List, length, codes, IfOk, string_bytes};
 ghost use Rattle.std.specs.Fmt.{decimal};
 ghost use Rattle.bsp_requests.specs.Inbox.{payload_bytes};
-ghost use Rattle.cost_ledger.specs.CostRow.{total_cost};
-ghost use Rattle.bsp_debug.specs.Reply.{answer};
-ghost use Rattle.debug_lines.specs.Replies.{entry_end, message_line, node_line, register_lines, byte_lines as byte_lines_of, queue_lines as queue_lines_of, reply_text as reply_text_of, costs_of};
+ghost use Rattle.cost_ledger.specs.declared.CostRow.{CostRow as CostRowValue};
+ghost use Rattle.bsp_debug.specs.Reply.{answer, costs};
+ghost use Rattle.debug_lines.specs.Replies.{entry_end, message_line, node_line, register_lines, byte_lines as byte_lines_of, queue_lines as queue_lines_of, reply_text as reply_text_of};
 
 use crate::octets::Octets;
 use bsp_debug::{Point, Reply};
 use bsp_requests::Message;
-use cost_ledger::cost_lines;
+use cost_ledger::Ledger;
 use node_core::State;
 use rv_listing::{EightDigits, TwoDigits};
 use std::alloc::{AllocError, Allocator};
@@ -19,14 +19,15 @@ use std::fmt;
 /// The lines of a reply, each with the line feed that ends it, and costs at `g` a byte and `l` a superstep. It is an error only
 /// where memory is refused.
 ///
-/// The rows of a machine meet the condition: see [`Ledger::total`](cost_ledger::Ledger::total).
-pub fn reply_text<A: Allocator, B: Allocator>(
+/// A reply of costs has the rows of `ledger`: those of the machine that gave it. So their total fits, whatever the prices.
+pub fn reply_text<A: Allocator, L: Allocator, B: Allocator>(
     alloc: B,
     reply: &Reply<A>,
+    ledger: &Ledger<L>,
     g: u32,
     l: u32,
 ) -> Result<String<B>, AllocError>
-    requires { total_cost g l (costs_of (answer reply.now)) < 2 ^ 128 }
+    requires { (rows : List CostRowValue) → answer reply.now ≡ costs rows → rows ≡ ledger.now.rows }
     ensures { IfOk result (λ text. string_bytes text ≡ reply_text_of g l (answer reply.now)) }
 {
     match reply {
@@ -48,7 +49,7 @@ pub fn reply_text<A: Allocator, B: Allocator>(
         }
         Reply::Bytes(bytes) => byte_lines(alloc, bytes.as_slice()),
         Reply::Queue(messages) => queue_lines(alloc, messages.as_slice()),
-        Reply::Costs(rows) => cost_lines(alloc, rows.as_slice(), g, l),
+        Reply::Costs(_) => ledger.lines(alloc, g, l),
     }
 }
 

@@ -1,0 +1,106 @@
+-- The session that is a dialogue: a line is read when it is wanted. The order of work is an own rule: settings, image read, input read,
+-- image understood, machine made, and then line by line.
+use Rattle.std.specs.Prelude.{◌≡◌, ℕ, ◌≤◌, ◌⊎◌, List, [], ◌∷◌, length, Option}
+use Rattle.std.specs.Io.KnownBytes.{Consumes, IsAtEnd}
+use Rattle.bsp_debug.specs.Debugger.{DebuggerState}
+use Rattle.bsp_session.specs.declared.errors.SessionError.{SessionError}
+use Rattle.bsp_session.specs.declared.errors.SessionError.TheVariants.{BadSettings, TooLong, Text, BadImage, SegmentOutside, ReadFault, WriteFault, NoWorker, NoMemory}
+use Rattle.bsp_session.specs.Streams.{Stream, IsUntouched, ReadsPast, HasFailed}
+use Rattle.bsp_console.specs.Talk.{HasQuit, LacksQuit, answered_lines, ended_lines, lines_of, until_quit}
+use Rattle.bsp_console.specs.Console.{Console, Begins, CutsReply, EndsUnread, HasNoDebugger, StopsBefore, WritesReplies, most_script}
+
+-- the debugger began, and this is what was done with the lines
+pub record BeginsTo (done : DebuggerState → Type 0) (c : Console) : Type 0 where
+  pub start : DebuggerState
+  pub begins : Begins c start
+  pub done : done start
+
+-- ---- an answer
+
+-- the script was read to its end, or to a line `quit`, and the replies to its lines up to that were written
+pub record HasTalked (g l : ℕ) (script out : Stream) (start : DebuggerState) : Type 0 where
+  pub bytes : List ℕ
+  pub limited : length bytes ≤ most_script
+  pub consumed : Consumes script.before script.after bytes
+  pub whole : IsAtEnd script.after ⊎ HasQuit bytes
+  pub written : WritesReplies g l (answered_lines bytes) start out
+
+-- ---- errors
+
+-- these are the whole lines of some first bytes of a script, behind which `rest` is left: those that a line feed ended, and where nothing
+-- is left also the last one
+abbrev pub AreWholeLines : (bytes : List ℕ) → (rest : Option (List ℕ)) → List (List ℕ) → Type 0
+AreWholeLines bytes rest lines = (lines ≡ ended_lines bytes) ⊎ (IsAtEnd rest × (lines ≡ lines_of bytes))
+
+-- of a script some first bytes were read, no more than the limit, and these are their whole lines
+pub record ReadsLines (before rest : Option (List ℕ)) (lines : List (List ℕ)) : Type 0 where
+  pub bytes : List ℕ
+  pub limited : length bytes ≤ most_script
+  pub consumed : Consumes before rest bytes
+  pub whole : AreWholeLines bytes rest lines
+
+-- a script is longer than the limit: one byte was read behind the first bytes, and is part of no line
+pub record PassesScript (script : Stream) (lines : List (List ℕ)) : Type 0 where
+  pub rest : Option (List ℕ)
+  pub byte : ℕ
+  pub read : ReadsLines script.before rest lines
+  pub lost : Consumes rest script.after (byte ∷ [])
+  pub past : ReadsPast most_script script
+
+-- a script could not be read on
+pub record IsUnreadable (script : Stream) (lines : List (List ℕ)) : Type 0 where
+  pub read : ReadsLines script.before script.after lines
+  pub failed : HasFailed script
+
+-- the next line could not be read, for this cause: the replies to all whole lines were written, of which none is `quit`
+pub record EndsAtLine (g l : ℕ) (cause : Stream → List (List ℕ) → Type 0) (script out : Stream) (start : DebuggerState) : Type 0 where
+  pub lines : List (List ℕ)
+  pub cause : cause script lines
+  pub no_quit : LacksQuit lines
+  pub written : WritesReplies g l lines start out
+
+-- a line was read and not answered: this was done with the whole lines up to the first `quit`
+pub record EndsAtReply (done : List (List ℕ) → DebuggerState → Type 0) (script : Stream) (start : DebuggerState) : Type 0 where
+  pub lines : List (List ℕ)
+  pub read : ReadsLines script.before script.after lines
+  pub done : done (until_quit lines) start
+
+-- memory was refused when the next line was read, or when a line was answered
+abbrev pub StopsTalking : (g l : ℕ) → (script out : Stream) → DebuggerState → Type 0
+StopsTalking g l script out start =
+    EndsAtLine g l (λ s lines. ReadsLines s.before s.after lines) script out start
+    ⊎ EndsAtReply (λ lines d. StopsBefore g l lines d out) script start
+
+-- what is known where the lines ended by an error
+abbrev pub IsErrorOfTalk : (g l : ℕ) → (script out : Stream) → DebuggerState → SessionError → Type 0
+IsErrorOfTalk g l script out start TooLong = EndsAtLine g l PassesScript script out start
+IsErrorOfTalk g l script out start ReadFault = EndsAtLine g l IsUnreadable script out start
+IsErrorOfTalk g l script out start WriteFault = EndsAtReply (λ lines d. CutsReply g l lines d out) script start
+IsErrorOfTalk g l script out start NoMemory = StopsTalking g l script out start
+IsErrorOfTalk g l script out start _ = ⊥
+
+-- ---- the whole session
+
+-- an answer: every line was answered, up to the first that is `quit`
+abbrev pub AnswersDialogue : Console → Type 0
+AnswersDialogue c = BeginsTo (HasTalked c.job.g c.job.l c.script c.out) c
+
+-- the lines ended by this error
+abbrev pub EndsTalking : Console → SessionError → Type 0
+EndsTalking c e = BeginsTo (λ start. IsErrorOfTalk c.job.g c.job.l c.script c.out start e) c
+
+-- image and input were read, and there is no debugger; no line was read
+abbrev pub IsRefusedAtOnce : Console → SessionError → Type 0
+IsRefusedAtOnce c e = HasNoDebugger c e × IsUntouched c.script
+
+-- what is known where the session ended by an error
+abbrev pub IsErrorOfDialogue : Console → SessionError → Type 0
+IsErrorOfDialogue c (BadSettings cause) = EndsUnread c (BadSettings cause)
+IsErrorOfDialogue c TooLong = EndsUnread c TooLong ⊎ EndsTalking c TooLong
+IsErrorOfDialogue c (Text cause) = IsRefusedAtOnce c (Text cause)
+IsErrorOfDialogue c (BadImage cause) = IsRefusedAtOnce c (BadImage cause)
+IsErrorOfDialogue c SegmentOutside = IsRefusedAtOnce c SegmentOutside
+IsErrorOfDialogue c ReadFault = EndsUnread c ReadFault ⊎ EndsTalking c ReadFault
+IsErrorOfDialogue c WriteFault = EndsTalking c WriteFault
+IsErrorOfDialogue c NoWorker = ⊥
+IsErrorOfDialogue c NoMemory = EndsUnread c NoMemory ⊎ IsRefusedAtOnce c NoMemory ⊎ EndsTalking c NoMemory

@@ -10,6 +10,7 @@ A case is a folder with some of these files:
   stdin.repeat    a line with a number, and a text that follows so many times after what `stdin` has
   dialogue  what is said in turns, in the place of `stdin` and `stdout`: each line that begins with `> ` is sent without these
             two once the lines before it have come, and standard input stays open until the program ends
+  typed     a file that says that standard input is a terminal in a dialogue, and else it is a pipe
   closed    a file that says that standard output is closed before the program starts
   terminal  a file that says that the script `bspemu` is run in the program's place, with a terminal as standard error
   address_space    how many bytes of address space the program may have, all that it wants where it is missing
@@ -93,26 +94,28 @@ def at_terminal(case, command):
 
 def converse(case, command):
     """Runs a command that answers each line before the next one is sent, and gives what was said by both."""
-    talk = subprocess.Popen(command, stdin=subprocess.PIPE, stdout=subprocess.PIPE, stderr=subprocess.PIPE)
+    theirs, ours = reversed(pty.openpty()) if (case / "typed").exists() else os.pipe()
+    talk = subprocess.Popen(command, stdin=theirs, stdout=subprocess.PIPE, stderr=subprocess.PIPE)
+    os.close(theirs)
     deadline = threading.Timer(SECONDS, talk.kill)  # a reply that never comes is an end of standard output then
     deadline.start()
     said = b""
     try:
         for line in read(case / "dialogue").splitlines(keepends=True):
             if line.startswith(b"> "):
-                talk.stdin.write(line[2:])
-                talk.stdin.flush()
+                os.write(ours, line[2:])
                 said += line
             else:
                 said += talk.stdout.readline()
-    except BrokenPipeError:
-        pass  # it ended too early
+    except OSError:
+        pass  # it ended too early, and nobody reads the line
     said += talk.stdout.read()
     late = not deadline.is_alive()
     deadline.cancel()
     if late:
         raise subprocess.TimeoutExpired(command, SECONDS)
     _, stderr = talk.communicate()
+    os.close(ours)
     return subprocess.CompletedProcess(command, talk.returncode, said, stderr)
 
 

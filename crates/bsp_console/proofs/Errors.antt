@@ -1,21 +1,58 @@
--- The errors of a session whose lines were answered.
-use Rattle.std.proofs.Common.{inr}
+-- The errors of the lines, as errors of the sessions.
+use Rattle.std.proofs.Common.{◌≢◌, ℕ, List, inl, inr, refl}
 use Rattle.bsp_debug.specs.Debugger.{DebuggerState}
 use Rattle.bsp_session.specs.declared.errors.SessionError.{SessionError}
 use Rattle.bsp_session.specs.declared.errors.SessionError.TheVariants.{BadSettings, TooLong, Text, BadImage, SegmentOutside, ReadFault, WriteFault, NoWorker, NoMemory}
-use Rattle.bsp_console.specs.Console.{Console, Begins, WritesFirst, HasTalkedFirst, IsErrorOfTalk, IsErrorOf}
+use Rattle.bsp_session.specs.Streams.{Stream}
+use Rattle.bsp_console.specs.Talk.{answered_lines}
+use Rattle.bsp_console.specs.Console.{Begins, Console, IsErrorOfFile}
+use Rattle.bsp_console.specs.Dialogue.{IsErrorOfDialogue, IsErrorOfTalk}
+use Rattle.bsp_console.specs.Script.{IsErrorOfLines, IsErrorOfScript, ReadsScript}
 
-wrote : (c : Console) (start : DebuggerState) → Begins c start → HasTalkedFirst c.job.g c.job.l start c.script c.out → WritesFirst c
-wrote c start begins talked = record { start = start; begins = begins; talked = talked }
-
--- an error of the lines is one of the session
-pub error_of_talk : (c : Console) (start : DebuggerState) → Begins c start → (e : SessionError) → IsErrorOfTalk c.job.g c.job.l start c.script c.out e → IsErrorOf c e
+pub error_of_talk : (c : Console) (start : DebuggerState) → Begins c start → (e : SessionError) → IsErrorOfTalk c.job.g c.job.l c.script c.out start e → IsErrorOfDialogue c e
 error_of_talk c start b (BadSettings cause) p = absurd p
-error_of_talk c start b TooLong p = inr (record { i = b.i; n = b.n; read = b.read; ended = p.0; written = inr (wrote c start b p.1) })
+error_of_talk c start b TooLong p = inr (record { start = start; begins = b; done = p })
 error_of_talk c start b (Text cause) p = absurd p
 error_of_talk c start b (BadImage cause) p = absurd p
 error_of_talk c start b SegmentOutside p = absurd p
-error_of_talk c start b ReadFault p = inr (record { i = b.i; n = b.n; read = b.read; ended = p.0; written = inr (wrote c start b p.1) })
-error_of_talk c start b WriteFault p = record { start = start; begins = b; failed = p }
+error_of_talk c start b ReadFault p = inr (record { start = start; begins = b; done = p })
+error_of_talk c start b WriteFault p = record { start = start; begins = b; done = p }
 error_of_talk c start b NoWorker p = absurd p
-error_of_talk c start b NoMemory p = (b.read.settings, inr (wrote c start b p))
+error_of_talk c start b NoMemory p = inr (inr (record { start = start; begins = b; done = p }))
+
+-- they are none of the image's file
+pub talk-no_file : (g l : ℕ) (script out : Stream) (start : DebuggerState) (e : SessionError) → IsErrorOfTalk g l script out start e → IsErrorOfFile e → ⊥
+talk-no_file g l script out start (BadSettings cause) p file = p
+talk-no_file g l script out start TooLong p file = file
+talk-no_file g l script out start (Text cause) p file = p
+talk-no_file g l script out start (BadImage cause) p file = p
+talk-no_file g l script out start SegmentOutside p file = p
+talk-no_file g l script out start ReadFault p file = file
+talk-no_file g l script out start WriteFault p file = file
+talk-no_file g l script out start NoWorker p file = p
+talk-no_file g l script out start NoMemory p file = file
+
+pub error_of_lines : (c : Console) (start : DebuggerState) (s : List ℕ) → Begins c start → ReadsScript c s
+    → (e : SessionError) → IsErrorOfLines c.job.g c.job.l (answered_lines s) start c.out e → IsErrorOfScript c e
+error_of_lines c start s b r (BadSettings cause) p = absurd p
+error_of_lines c start s b r TooLong p = absurd p
+error_of_lines c start s b r (Text cause) p = absurd p
+error_of_lines c start s b r (BadImage cause) p = absurd p
+error_of_lines c start s b r SegmentOutside p = absurd p
+error_of_lines c start s b r ReadFault p = absurd p
+error_of_lines c start s b r WriteFault p = record { start = start; begins = b; script = s; script_read = r; ended = p }
+error_of_lines c start s b r NoWorker p = absurd p
+error_of_lines c start s b r NoMemory p = inr (inr (inr (record { start = start; begins = b; script = s; script_read = r; ended = p })))
+
+-- they are of the writer or of memory
+pub lines-written : (g l : ℕ) (lines : List (List ℕ)) (start : DebuggerState) (out : Stream) (e : SessionError) → IsErrorOfLines g l lines start out e
+    → e ≢ WriteFault → e ≢ NoMemory → ⊥
+lines-written g l lines start out (BadSettings cause) p write memory = p
+lines-written g l lines start out TooLong p write memory = p
+lines-written g l lines start out (Text cause) p write memory = p
+lines-written g l lines start out (BadImage cause) p write memory = p
+lines-written g l lines start out SegmentOutside p write memory = p
+lines-written g l lines start out ReadFault p write memory = p
+lines-written g l lines start out WriteFault p write memory = write refl
+lines-written g l lines start out NoWorker p write memory = p
+lines-written g l lines start out NoMemory p write memory = memory refl

@@ -1,3 +1,4 @@
+pub mod Answering
 pub mod Costs
 pub mod Errors
 pub mod Scripts

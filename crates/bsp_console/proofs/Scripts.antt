@@ -1,12 +1,16 @@
--- The lines of a script, as they are cut off its front.
-use Rattle.std.proofs.Common.{not, ◌≡◌, ℕ, suc, ◌+◌, ◌<◌, Bool, true, false, cond, eqb, List, [], ◌∷◌, ◌++◌, length, refl, ap, arith}
+-- The lines of a script, as they are cut off its front, and their replies.
+use Rattle.std.proofs.Common.{not, ◌≡◌, ◌∙◌, ℕ, suc, ◌+◌, ◌-◌, ◌<◌, ◌≤◌, ◌⊎◌, inl, inr, Bool, true, false, cond, eqb, List, [], ◌∷◌, ◌++◌, length, take, drop, get_or, refl, sym, ap, subst, arith, append-nil, append_assoc, length-append, take-append-drop}
+use Rattle.std.proofs.lemmas.List.{drop_more}
+use Rattle.std.proofs.Math.Seq.{take-append-add}
 use Rattle.std.specs.List.{onto_first, take_while, prefix_len}
 use Rattle.std.proofs.lemmas.Bool.{ne_eqb}
+use Rattle.counted_io.specs.Counted.{HasRisen}
 use Rattle.counted_io.specs.Lines.{LacksFeed}
+use Rattle.bsp_debug.specs.Debugger.{DebuggerState}
 use Rattle.debug_lines.specs.declared.line.Line.{Line}
 use Rattle.debug_lines.specs.declared.line.Line.TheVariants.{Break, Clear, Command, Output, Quit, Empty, Unknown}
 use Rattle.debug_lines.specs.Lines.{line_of}
-use Rattle.bsp_console.specs.Talk.{is_quit, lines_of, goes_on}
+use Rattle.bsp_console.specs.Talk.{Answered, LacksQuit, Talks, is_quit, lines_of, goes_on, until_quit}
 
 LacksFeed-rest : (b : ℕ) (bs : List ℕ) → LacksFeed (b ∷ bs) → LacksFeed bs
 LacksFeed-rest b bs lacks = λ k d within. lacks (suc k) d (omega arith)
@@ -24,6 +28,14 @@ lines_of-last [] lacks = refl
 lines_of-last (b ∷ bs) lacks =
     let other : eqb b 10 ≡ false = ne_eqb b 10 (lacks 0 0 (omega arith)) in
     rw other (ap (onto_first b) (lines_of-last bs (LacksFeed-rest b bs lacks)))
+
+-- a text with its first line feed at `at`
+pub lines_of-read : (text : List ℕ) (at : ℕ) → at < length text → get_or text at 0 ≡ 10 → LacksFeed (take at text)
+    → lines_of text ≡ take at text ∷ lines_of (drop (at + 1) text)
+lines_of-read text at within feed lacks =
+    let parts : text ≡ take at text ++ 10 ∷ drop (at + 1) text =
+    sym (take-append-drop at text) ∙ ap (λ bs. take at text ++ bs) (drop_more text at 0 within ∙ ap (λ b. b ∷ drop (at + 1) text) feed) in
+    ap lines_of parts ∙ lines_of-line (take at text) (drop (at + 1) text) lacks
 
 -- no line of these ends the session
 abbrev pub AllGoOn : List (List ℕ) → Type 0
@@ -91,3 +103,32 @@ is_quit-true Unknown is = absurd cc
 
 pub is_quit-false : (l : Line) → is_quit l ≡ false → l ≡ Quit → ⊥
 is_quit-false l other quits = let is : is_quit l ≡ true = ap is_quit quits in cc
+
+-- none of lines that go on is `quit`
+pub LacksQuit-all : (lines : List (List ℕ)) → AllGoOn lines → LacksQuit lines
+LacksQuit-all lines all = ap until_quit (sym (append-nil lines)) ∙ take_while-through lines [] all ∙ append-nil lines
+
+-- all but the last of lines of which the last are known
+pub init-append : (lines more : List (List ℕ)) → 0 < length more → take (length (lines ++ more) - 1) (lines ++ more) ≡ lines ++ take (length more - 1) more
+init-append lines more some =
+    let size : length (lines ++ more) - 1 ≡ length lines + (length more - 1) = omega (arith, length-append lines more) in
+    ap (λ n. take n (lines ++ more)) size ∙ take-append-add lines more (length more - 1)
+
+-- one more line is answered
+pub Talks-push : (g l : ℕ) (lines : List (List ℕ)) (line : List ℕ) (start d next : DebuggerState) (text first : List ℕ)
+    → Talks g l lines start text d → Answered g l (line_of line) d first next → Talks g l (lines ++ line ∷ []) start (text ++ first) next
+Talks-push g l [] line start d next text first talks answered =
+    (first, [], next, subst (λ s. Answered g l (line_of line) s first next) talks.1 answered, (refl, refl), ap (λ t. t ++ first) talks.0 ∙ sym (append-nil first))
+Talks-push g l (line' ∷ lines) line start d next text first talks answered =
+    let (one, rest, then, was, more, is) = talks in
+    (one, rest ++ first, then, was, Talks-push g l lines line then d next rest first more answered, ap (λ t. t ++ first) is ∙ append_assoc one rest first)
+
+-- a count that has risen, above one that is no greater
+pub HasRisen-above : (a b c : ℕ) → a ≤ b → HasRisen b c → HasRisen a c
+HasRisen-above a b c before (inl rose) = inl (omega arith)
+HasRisen-above a b c before (inr full) = inr full
+
+-- another first case
+pub with_left : {A B C : Type 0} → A ⊎ C → (A → B) → B ⊎ C
+with_left (inl a) f = inl (f a)
+with_left (inr c) f = inr c

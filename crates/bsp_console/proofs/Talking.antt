@@ -1,35 +1,25 @@
--- A session that answers line by line: what holds between two lines.
+-- A dialogue: what holds between two lines, and what is known where it ends.
 use Rattle.std.proofs.Common.{◌≡◌, ℕ, ◌+◌, ◌-◌, ◌<◌, ◌≤◌, ◌⊎◌, inl, inr, true, false, List, [], ◌∷◌, ◌++◌, length, take, drop, get_or, Option, Some, None, IfSome, refl, sym, ap, subst, ◌∙◌, arith, append-nil, append_assoc, length-append, length-drop, take-append-drop}
 use Rattle.std.proofs.lemmas.List.{take-append-le, take_at, length-take-le, get_or_at, get_or-take}
 use Rattle.std.specs.Io.KnownBytes.{Appends, Consumes, IsAtEnd}
 use Rattle.std.proofs.KnownBytes.{Appends-trans, Appends-nil, Consumes-nil, Consumes-trans}
 use Rattle.std.specs.List.{take_while}
-use Rattle.std.proofs.Math.Seq.{take-append-add}
 use Rattle.counted_io.specs.Counted.{HasRisen}
 use Rattle.counted_io.specs.declared.ReadError.{ReadError}
 use Rattle.counted_io.specs.declared.ReadError.TheVariants as read
-use Rattle.counted_io.specs.Lines.{PassesLimit as PassesLineLimit}
+use Rattle.counted_io.specs.Lines.{LineReaderState, GivesLine, GivesLast, GivesNone, LacksFeed, ReadsOn, IsOver, PassesLimit}
 use Rattle.bsp_session.specs.Outcome.{error_of_read}
-use Rattle.counted_io.specs.Lines.{LineReaderState, GivesLine, GivesLast, GivesNone, ReadsOn, IsOver}
 use Rattle.bsp_debug.specs.Debugger.{DebuggerState}
 use Rattle.debug_lines.specs.declared.line.Line.{Line}
 use Rattle.debug_lines.specs.declared.line.Line.TheVariants.{Quit}
 use Rattle.debug_lines.specs.Lines.{line_of}
 use Rattle.bsp_session.specs.declared.errors.SessionError.{SessionError}
 use Rattle.bsp_session.specs.declared.errors.SessionError.TheVariants.{WriteFault, NoMemory}
-use Rattle.bsp_session.specs.Streams.{Stream}
-use Rattle.bsp_console.specs.Talk.{Answered, Talks, lines_of, goes_on, answered_lines, HasQuit}
-use Rattle.bsp_console.specs.Console.{most_script, TalksFirst, HasTalked, HasTalkedFirst, FailsTalking, IsErrorOfTalk}
-use Rattle.bsp_console.proofs.Scripts.{AllGoOn, AllGoOn-push, lines_of-line, lines_of-last, take_while-through, take_while-quit, length-lines_of, line_of-nil, quit-ends, other-goes_on}
-
--- one more line is answered
-pub Talks-push : (g l : ℕ) (lines : List (List ℕ)) (line : List ℕ) (start d next : DebuggerState) (text first : List ℕ)
-    → Talks g l lines start text d → Answered g l (line_of line) d first next → Talks g l (lines ++ line ∷ []) start (text ++ first) next
-Talks-push g l [] line start d next text first talks answered =
-    (first, [], next, subst (λ s. Answered g l (line_of line) s first next) talks.1 answered, (refl, refl), ap (λ t. t ++ first) talks.0 ∙ sym (append-nil first))
-Talks-push g l (line' ∷ lines) line start d next text first talks answered =
-    let (one, rest, then, was, more, is) = talks in
-    (one, rest ++ first, then, was, Talks-push g l lines line then d next rest first more answered, ap (λ t. t ++ first) is ∙ append_assoc one rest first)
+use Rattle.bsp_session.specs.Streams.{Stream, ReadsPast}
+use Rattle.bsp_console.specs.Talk.{Answered, Talks, lines_of, goes_on, answered_lines, ended_lines, until_quit, LacksQuit, HasQuit}
+use Rattle.bsp_console.specs.Console.{most_script, WritesReplies}
+use Rattle.bsp_console.specs.Dialogue.{AreWholeLines, EndsAtLine, HasTalked, IsErrorOfTalk, IsUnreadable, PassesScript, ReadsLines}
+use Rattle.bsp_console.proofs.Scripts.{AllGoOn, AllGoOn-push, LacksQuit-all, Talks-push, HasRisen-above, init-append, lines_of-line, lines_of-last, take_while-through, take_while-quit, length-lines_of, line_of-nil, quit-ends, other-goes_on}
 
 -- the bytes that were given are lines of the script, whatever comes behind them
 abbrev pub HasCutOff : List (List ℕ) → LineReaderState → Type 0
@@ -110,49 +100,7 @@ HasCutAll-last asked old new bytes grown within cut gives ended = record {
       ∙ ap (λ t. asked ++ t) (lines_of-last new.line gives.one_line);
 }
 
--- ---- the front of a script
-
-Consumes-front : (before after : Option (List ℕ)) (bytes more : List ℕ) → Consumes before after (bytes ++ more) → IfSome before (λ all. (rest : List ℕ) × (all ≡ bytes ++ rest))
-Consumes-front None after bytes more c = tt
-Consumes-front (Some xs) None bytes more c = absurd c
-Consumes-front (Some xs) (Some ys) bytes more c = (more ++ ys, c ∙ append_assoc bytes more ys)
-
--- some bytes that were read more are lost, or none
-pub front-after : (before mid after : Option (List ℕ)) (read bytes more new : List ℕ) → Consumes before mid read → Consumes mid after (bytes ++ more) → new ≡ read ++ bytes
-    → IfSome before (λ all. (rest : List ℕ) × (all ≡ new ++ rest))
-front-after before mid after read bytes more new first second grown =
-    subst (λ t. IfSome before (λ all. (rest : List ℕ) × (all ≡ t ++ rest))) (sym grown)
-    (Consumes-front before after (read ++ bytes) more (subst (Consumes before after) (sym (append_assoc read bytes more)) (Consumes-trans before mid after read (bytes ++ more) first second)))
-
--- a reader of too many bytes had too many at first
-pub limit-passed : (before mid : Option (List ℕ)) (read : List ℕ) (most : ℕ) → Consumes before mid read → IfSome mid (λ all. most < length read + length all) → IfSome before (λ all. most < length all)
-limit-passed None mid read most c p = tt
-limit-passed (Some xs) None read most c p = absurd c
-limit-passed (Some xs) (Some ys) read most c p = omega (arith, ap length c, length-append read ys)
-
--- the first lines of a script, and their texts
-pub first_lines : (g l : ℕ) (start d : DebuggerState) (script : Stream) (bytes text : List ℕ) (asked more : List (List ℕ)) → lines_of bytes ≡ asked ++ more → AllGoOn asked
-    → Talks g l asked start text d → length bytes ≤ most_script → IfSome script.before (λ all. (rest : List ℕ) × (all ≡ bytes ++ rest)) → TalksFirst g l start script text
-first_lines g l start d script bytes text asked more is all talks few front =
-    let answered : answered_lines bytes ≡ asked ++ take_while goes_on more = ap (take_while goes_on) is ∙ take_while-through asked more all in
-    let firsts : take (length asked) (answered_lines bytes) ≡ asked = ap (take (length asked)) answered ∙ take_at asked (take_while goes_on more) (length asked) refl in
-    record {
-      bytes = bytes;
-      begins = record { limited = few; front = front };
-      count = length asked;
-      end = d;
-      talks = subst (λ ls. Talks g l ls start text d) (sym firsts) talks;
-    }
-
 -- ---- between two lines
-
--- what a call that read on, or not, tells of the lines up to it
-pub lines_of-read : (g l : ℕ) (start d : DebuggerState) (rb ra ob oa : Option (List ℕ)) (old new : LineReaderState) (bytes : List ℕ) → (t : IsTalking g l start rb ra ob oa old d)
-    → new.read ≡ old.read ++ bytes → (old.ended ≡ true → new.read ≡ old.read) → (more : List (List ℕ)) × (lines_of new.read ≡ t.asked ++ more)
-lines_of-read g l start d rb ra ob oa old new bytes t grown still = cases t.cut where
-  cases : HasCutOff t.asked old ⊎ HasCutAll t.asked old → (more : List (List ℕ)) × (lines_of new.read ≡ t.asked ++ more)
-  cases (inl cut) = (lines_of (drop old.given new.read), lines_of-waiting t.asked old new bytes grown t.within cut)
-  cases (inr all) = ([], ap lines_of (still all.ended) ∙ all.is ∙ sym (append-nil t.asked))
 
 -- a line was given: what was given before was cut off, and the whole script was not
 pub cut-before : (asked : List (List ℕ)) (old new : LineReaderState) → HasCutOff asked old ⊎ HasCutAll asked old → (old.ended ≡ true → new.read ≡ old.read)
@@ -185,16 +133,18 @@ lines_of-given asked old new bytes P grown within cut (inr last) = (
 -- nothing more is given: all lines were answered
 pub talked-end : (g l : ℕ) (start d : DebuggerState) (script out : Stream) (mid : Option (List ℕ)) (old new : LineReaderState)
     → IsTalking g l start script.before mid out.before out.after old d → ReadsOn mid script.after old.read new.read → GivesNone old new → IsOver script.after old new
-    → (old.ended ≡ true → (new.read ≡ old.read) × (script.after ≡ mid)) → length new.read ≤ most_script → HasTalked g l start script out
+    → (old.ended ≡ true → (new.read ≡ old.read) × (script.after ≡ mid)) → length new.read ≤ most_script → HasTalked g l script out start
 talked-end g l start d script out mid old new t (bytes, consumed, grown) none over still few = record {
   bytes = new.read;
   limited = few;
   consumed = subst (Consumes script.before script.after) (sym grown) (Consumes-trans _ _ _ old.read bytes t.consumed consumed);
   whole = inl (at_end over.at_end);
-  text = t.text ++ [];
-  end = d;
-  talks = all_lines t.cut;
-  written = subst (Appends out.before out.after) (sym (append-nil t.text)) t.written;
+  written = record {
+    text = t.text ++ [];
+    now = d;
+    talks = all_lines t.cut;
+    written = subst (Appends out.before out.after) (sym (append-nil t.text)) t.written;
+  };
 } where
   at_end : (old.ended ≡ true) ⊎ IsAtEnd script.after → IsAtEnd script.after
   at_end (inl ended) = subst IsAtEnd (sym (still ended).1) (t.over ended)
@@ -230,16 +180,18 @@ has_quit script asked more line is some quits =
 pub talked-quit : (g l : ℕ) (start d : DebuggerState) (script out : Stream) (mid : Option (List ℕ)) (old new : LineReaderState)
     → IsTalking g l start script.before mid out.before out.after old d → ReadsOn mid script.after old.read new.read
     → GivesLine old new ⊎ (GivesLast old new × IsOver script.after old new)
-    → (old.ended ≡ true → (new.read ≡ old.read) × (script.after ≡ mid)) → length new.read ≤ most_script → line_of new.line ≡ Quit → HasTalked g l start script out
+    → (old.ended ≡ true → (new.read ≡ old.read) × (script.after ≡ mid)) → length new.read ≤ most_script → line_of new.line ≡ Quit → HasTalked g l script out start
 talked-quit g l start d script out mid old new t (bytes, consumed, grown) gives still few quits = record {
   bytes = new.read;
   limited = few;
   consumed = subst (Consumes script.before script.after) (sym grown) (Consumes-trans _ _ _ old.read bytes t.consumed consumed);
   whole = whole gives;
-  text = t.text;
-  end = d;
-  talks = subst (λ ls. Talks g l ls start t.text d) (sym answered) t.talks;
-  written = t.written;
+  written = record {
+    text = t.text;
+    now = d;
+    talks = subst (λ ls. Talks g l ls start t.text d) (sym answered) t.talks;
+    written = t.written;
+  };
 } where
   cut : HasCutOff t.asked old
   cut = cut-before t.asked old new t.cut (λ e. (still e).0) (some-waiting old new (IsOver script.after old new) gives)
@@ -296,84 +248,207 @@ talking-step g l start d next rb ra rn ob oa on old new first t (bytes, consumed
 
 -- ---- errors
 
--- a count that has risen, above one that is no greater
-pub HasRisen-above : (a b c : ℕ) → a ≤ b → HasRisen b c → HasRisen a c
-HasRisen-above a b c before (inl rose) = inl (omega arith)
-HasRisen-above a b c before (inr full) = inr full
+-- what stands written between two lines
+replies : (g l : ℕ) (start d : DebuggerState) (rb ra : Option (List ℕ)) (out : Stream) (lines : LineReaderState)
+    → (t : IsTalking g l start rb ra out.before out.after lines d) → WritesReplies g l t.asked start out
+replies g l start d rb ra out lines t = record { text = t.text; now = d; talks = t.talks; written = t.written }
 
--- the texts of the lines so far stand written, whatever was read after them
-pub talked-first : (g l : ℕ) (start d : DebuggerState) (script out : Stream) (mid : Option (List ℕ)) (old new : LineReaderState) (bytes more : List ℕ)
-    → IsTalking g l start script.before mid out.before out.after old d → Consumes mid script.after (bytes ++ more) → new.read ≡ old.read ++ bytes
-    → (old.ended ≡ true → new.read ≡ old.read) → length new.read ≤ most_script → HasTalkedFirst g l start script out
-talked-first g l start d script out mid old new bytes more t consumed grown still few =
-    let lines = lines_of-read g l start d script.before mid out.before out.after old new bytes t grown still in (
-      t.text,
-      first_lines g l start d script new.read t.text t.asked lines.0 lines.1 t.go_on t.talks few
-          (front-after script.before mid script.after old.read bytes more new.read t.consumed consumed grown),
-      t.written,
-    )
+-- the lines that were given are all whole ones, where no line feed is left
+whole_at_error : (asked : List (List ℕ)) (old new : LineReaderState) (bytes : List ℕ) (rest : Option (List ℕ))
+    → HasCutOff asked old ⊎ HasCutAll asked old → new.read ≡ old.read ++ bytes → old.given ≤ length old.read → new.given ≡ old.given
+    → LacksFeed (drop new.given new.read) → (old.ended ≡ true → (new.read ≡ old.read) × IsAtEnd rest) → AreWholeLines new.read rest asked
+whole_at_error asked old new bytes rest (inl cut) grown within given lacks still =
+    let left = drop old.given new.read in
+    let last : lines_of left ≡ left ∷ [] = lines_of-last left (subst (λ k. LacksFeed (drop k new.read)) given lacks) in
+    let is : lines_of new.read ≡ asked ++ left ∷ [] = lines_of-waiting asked old new bytes grown within cut ∙ ap (λ r. asked ++ r) last in
+    inl (sym (ap (λ ls. take (length ls - 1) ls) is ∙ init-append asked (left ∷ []) (omega arith) ∙ append-nil asked))
+whole_at_error asked old new bytes rest (inr all) grown within given lacks still =
+    let over = still all.ended in
+    inr (over.1, sym (ap lines_of over.0 ∙ all.is))
 
--- likewise where no byte was lost
-pub talked-first-read : (g l : ℕ) (start d : DebuggerState) (script out : Stream) (mid : Option (List ℕ)) (old new : LineReaderState)
-    → IsTalking g l start script.before mid out.before out.after old d → ReadsOn mid script.after old.read new.read
-    → (old.ended ≡ true → new.read ≡ old.read) → length new.read ≤ most_script → HasTalkedFirst g l start script out
-talked-first-read g l start d script out mid old new t (bytes, consumed, grown) still few =
-    talked-first g l start d script out mid old new bytes [] t (subst (Consumes mid script.after) (sym (append-nil bytes)) consumed) grown still few
+-- a reader before it lost its last byte of some
+abbrev before_byte : Option (List ℕ) → Option (List ℕ) → ℕ → Option (List ℕ)
+before_byte None after byte = None
+before_byte (Some xs) None byte = None
+before_byte (Some xs) (Some ys) byte = Some (byte ∷ ys)
+
+bytes_before : (mid after : Option (List ℕ)) (bytes : List ℕ) (byte : ℕ) → Consumes mid after (bytes ++ byte ∷ []) → Consumes mid (before_byte mid after byte) bytes
+bytes_before None after bytes byte c = tt
+bytes_before (Some xs) None bytes byte c = absurd c
+bytes_before (Some xs) (Some ys) bytes byte c = c ∙ append_assoc bytes (byte ∷ []) ys
+
+byte_lost : (mid after : Option (List ℕ)) (bytes : List ℕ) (byte : ℕ) → Consumes mid after (bytes ++ byte ∷ []) → Consumes (before_byte mid after byte) after (byte ∷ [])
+byte_lost None after bytes byte c = tt
+byte_lost (Some xs) None bytes byte c = absurd c
+byte_lost (Some xs) (Some ys) bytes byte c = refl
+
+-- a reader at its end loses no byte
+none_lost : (mid after : Option (List ℕ)) (bytes : List ℕ) (byte : ℕ) → Consumes mid after (bytes ++ byte ∷ []) → IsAtEnd mid → IsAtEnd (before_byte mid after byte)
+none_lost None after bytes byte c end = tt
+none_lost (Some xs) None bytes byte c end = absurd c
+none_lost (Some xs) (Some ys) bytes byte c end =
+    absurd (omega (arith, ap length c, ap length end, length-append (bytes ++ byte ∷ []) ys, length-append bytes (byte ∷ [])))
+
+-- a script of which a byte was read behind its limit
+passes : (before mid after : Option (List ℕ)) (old new : List ℕ) → Consumes before mid old → PassesLimit mid after old new most_script
+    → (prefix : List ℕ) × (most_script < length prefix) × Consumes before after prefix
+passes before mid after old new consumed over =
+    let (bytes, byte, lost, grown) = over.bytes in
+    let size : length (old ++ (bytes ++ byte ∷ [])) ≡ length new + 1 =
+    ap length (sym (append_assoc old bytes (byte ∷ []))) ∙ length-append (old ++ bytes) (byte ∷ []) ∙ ap (λ t. length t + 1) (sym grown) in
+    (old ++ (bytes ++ byte ∷ []), omega (arith, size, over.full), Consumes-trans before mid after old (bytes ++ byte ∷ []) consumed lost)
+
+-- it has more bytes than the limit, where they are known
+past_known : (most : ℕ) (before after : Option (List ℕ)) → (prefix : List ℕ) × (most < length prefix) × Consumes before after prefix
+    → IfSome before (λ all. most < length all)
+past_known most None after past = tt
+past_known most (Some xs) None (prefix, more, c) = absurd c
+past_known most (Some xs) (Some ys) (prefix, more, c) = omega (arith, ap length c, length-append prefix ys)
 
 -- the next line could not be read
 pub talk-error : (g l : ℕ) (start d : DebuggerState) (script out : Stream) (mid : Option (List ℕ)) (old new : LineReaderState) (failures : ℕ) (r : ReadError)
-    → IsTalking g l start script.before mid out.before out.after old d → (old.ended ≡ true → new.read ≡ old.read) → length new.read ≤ most_script
-    → script.failures_before ≤ failures
-    → (r ≡ read.TooLong → PassesLineLimit mid script.after old.read new.read old.most)
-    → (r ≡ read.TooLong → IfSome mid (λ all. old.most < length old.read + length all))
+    → IsTalking g l start script.before mid out.before out.after old d → (old.ended ≡ true → (new.read ≡ old.read) × (script.after ≡ mid))
+    → length new.read ≤ most_script → new.given ≡ old.given → LacksFeed (drop new.given new.read) → script.failures_before ≤ failures
+    → (r ≡ read.TooLong → PassesLimit mid script.after old.read new.read old.most)
     → (r ≡ read.ReadFault → HasRisen failures script.failures_after × ReadsOn mid script.after old.read new.read)
     → (r ≡ read.NoMemory → ReadsOn mid script.after old.read new.read)
-    → IsErrorOfTalk g l start script out (error_of_read r)
-talk-error g l start d script out mid old new failures read.TooLong t still few before long longer fault memory =
-    let passes = long refl in
-    let (bytes, byte, consumed, grown) = passes.bytes in (
-      subst (λ m. IfSome script.before (λ all. m < length all)) t.most (limit-passed script.before mid old.read old.most t.consumed (longer refl)),
-      talked-first g l start d script out mid old new bytes (byte ∷ []) t consumed grown still few,
-    )
-talk-error g l start d script out mid old new failures read.ReadFault t still few before long longer fault memory =
-    let failed = fault refl in
-    (HasRisen-above _ failures _ before failed.0, talked-first-read g l start d script out mid old new t failed.1 still few)
-talk-error g l start d script out mid old new failures read.NoMemory t still few before long longer fault memory =
-    talked-first-read g l start d script out mid old new t (memory refl) still few
+    → IsErrorOfTalk g l script out start (error_of_read r)
+talk-error g l start d script out mid old new failures r t still few given lacks before long fault memory = cases r long fault memory where
+  read_lines : ReadsOn mid script.after old.read new.read → ReadsLines script.before script.after t.asked
+  read_lines (bytes, consumed, grown) = record {
+    bytes = new.read;
+    limited = few;
+    consumed = subst (Consumes script.before script.after) (sym grown) (Consumes-trans _ _ _ old.read bytes t.consumed consumed);
+    whole = whole_at_error t.asked old new bytes script.after t.cut grown t.within given lacks
+        (λ ended. ((still ended).0, subst IsAtEnd (sym (still ended).1) (t.over ended)));
+  }
 
--- an answer could not be written whole
-pub talk-fails : (g l : ℕ) (start d next : DebuggerState) (script out : Stream) (mid held : Option (List ℕ)) (old new : LineReaderState) (first : List ℕ) (count failures : ℕ)
-    → IsTalking g l start script.before mid out.before held old d → ReadsOn mid script.after old.read new.read
-    → GivesLine old new ⊎ (GivesLast old new × IsOver script.after old new) → (old.ended ≡ true → new.read ≡ old.read) → length new.read ≤ most_script
-    → (line_of new.line ≡ Quit → ⊥) → Answered g l (line_of new.line) d first next → Appends held out.after (take count first)
-    → out.failures_before ≤ failures → HasRisen failures out.failures_after → FailsTalking g l start script out
-talk-fails g l start d next script out mid held old new first count failures t (bytes, consumed, grown) gives still few other answered appended before rose =
-    let cut = cut-before t.asked old new t.cut still (some-waiting old new (IsOver script.after old new) gives) in
-    let (more, is) = lines_of-given t.asked old new bytes (IsOver script.after old new) grown t.within cut gives in
-    let front = front-after script.before mid script.after old.read bytes [] new.read t.consumed (subst (Consumes mid script.after) (sym (append-nil bytes)) consumed) grown in
-    let firsts = first_lines g l start next script new.read (t.text ++ first) (t.asked ++ new.line ∷ []) more (is ∙ sym (append_assoc t.asked (new.line ∷ []) more))
-    (AllGoOn-push t.asked new.line t.go_on (other-goes_on new.line other)) (Talks-push g l t.asked new.line start d next t.text first t.talks answered) few front in (
-      t.text ++ first,
-      length t.text + count,
-      firsts,
-      subst (Appends out.before out.after) (sym (take-append-add t.text first count)) (Appends-trans out.before held out.after t.text (take count first) t.written appended),
-      HasRisen-above _ failures _ before rose,
-    )
+  too_long : PassesLimit mid script.after old.read new.read old.most → PassesScript script t.asked
+  too_long over =
+      let (bytes, byte, lost, grown) = over.bytes in
+      let rest = before_byte mid script.after byte in
+      record {
+        rest = rest;
+        byte = byte;
+        read = record {
+          bytes = new.read;
+          limited = few;
+          consumed = subst (Consumes script.before rest) (sym grown)
+              (Consumes-trans script.before mid rest old.read bytes t.consumed (bytes_before mid script.after bytes byte lost));
+          whole = whole_at_error t.asked old new bytes rest t.cut grown t.within given lacks
+              (λ ended. ((still ended).0, none_lost mid script.after bytes byte lost (t.over ended)));
+        };
+        lost = byte_lost mid script.after bytes byte lost;
+        past = past_known most_script script.before script.after
+            (passes script.before mid script.after old.read new.read t.consumed (subst (PassesLimit mid script.after old.read new.read) t.most over));
+      }
 
--- a line was not answered: memory was refused, and nothing more was written, or its answer could not be written whole
+  ends : (cause : Stream → List (List ℕ) → Type 0) → cause script t.asked → EndsAtLine g l cause script out start
+  ends cause why = record { lines = t.asked; cause = why; no_quit = LacksQuit-all t.asked t.go_on; written = replies g l start d script.before mid out old t }
+
+  cases : (r : ReadError) → (r ≡ read.TooLong → PassesLimit mid script.after old.read new.read old.most)
+      → (r ≡ read.ReadFault → HasRisen failures script.failures_after × ReadsOn mid script.after old.read new.read)
+      → (r ≡ read.NoMemory → ReadsOn mid script.after old.read new.read) → IsErrorOfTalk g l script out start (error_of_read r)
+  cases read.TooLong long fault memory = ends PassesScript (too_long (long refl))
+  cases read.ReadFault long fault memory =
+      let failed = fault refl in
+      ends IsUnreadable (record { read = read_lines failed.1; failed = HasRisen-above _ failures _ before failed.0 })
+  cases read.NoMemory long fault memory = inl (ends (λ s lines. ReadsLines s.before s.after lines) (read_lines (memory refl)))
+
+-- a line was given: the whole lines of what was read are those before it, it, and others
+lines_with : (asked : List (List ℕ)) (old new : LineReaderState) (mid after : Option (List ℕ)) (bytes : List ℕ) → new.read ≡ old.read ++ bytes
+    → old.given ≤ length old.read → HasCutOff asked old → GivesLine old new ⊎ (GivesLast old new × IsOver after old new)
+    → (old.ended ≡ true → IsAtEnd after) → (more : List (List ℕ)) × AreWholeLines new.read after (asked ++ new.line ∷ more)
+lines_with asked old new mid after bytes grown within cut (inl gives) still =
+    let behind = lines_of gives.first.0 in
+    let is : lines_of new.read ≡ (asked ++ new.line ∷ []) ++ behind =
+    lines_of-waiting asked old new bytes grown within cut ∙ ap (λ ls. asked ++ lines_of ls) gives.first.1
+    ∙ ap (λ ls. asked ++ ls) (lines_of-line new.line gives.first.0 gives.one_line) ∙ sym (append_assoc asked (new.line ∷ []) behind) in
+    let init = take (length behind - 1) behind in (
+      init,
+      inl (sym (ap (λ ls. take (length ls - 1) ls) is ∙ init-append (asked ++ new.line ∷ []) behind (length-lines_of gives.first.0)
+          ∙ append_assoc asked (new.line ∷ []) init)),
+    )
+lines_with asked old new mid after bytes grown within cut (inr last) still = (
+  [],
+  inr (
+    at_end last.1.at_end,
+    sym (lines_of-waiting asked old new bytes grown within cut ∙ ap (λ ls. asked ++ lines_of ls) (sym last.0.last)
+        ∙ ap (λ ls. asked ++ ls) (lines_of-last new.line last.0.one_line)),
+  ),
+) where
+  at_end : (old.ended ≡ true) ⊎ IsAtEnd after → IsAtEnd after
+  at_end (inl ended) = still ended
+  at_end (inr is) = is
+
+-- a line was not answered: memory was refused, and nothing more was written, or its answer could not be written whole, or not be flushed
 pub talk-stops : (g l : ℕ) (start d next : DebuggerState) (script out : Stream) (mid held : Option (List ℕ)) (old new : LineReaderState) (line : Line) (failures : ℕ) (e : SessionError)
     → IsTalking g l start script.before mid out.before held old d → ReadsOn mid script.after old.read new.read
-    → GivesLine old new ⊎ (GivesLast old new × IsOver script.after old new) → (old.ended ≡ true → new.read ≡ old.read) → length new.read ≤ most_script
-    → line ≡ line_of new.line → (line_of new.line ≡ Quit → ⊥) → out.failures_before ≤ failures
+    → GivesLine old new ⊎ (GivesLast old new × IsOver script.after old new) → (old.ended ≡ true → (new.read ≡ old.read) × (script.after ≡ mid))
+    → length new.read ≤ most_script → line ≡ line_of new.line → (line_of new.line ≡ Quit → ⊥) → out.failures_before ≤ failures
     → ((e ≡ NoMemory) × (out.after ≡ held))
     ⊎ ((e ≡ WriteFault) × HasRisen failures out.failures_after
     × (text : List ℕ) × (count : ℕ) × Answered g l line d text next × Appends held out.after (take count text))
-    → IsErrorOfTalk g l start script out e
-talk-stops g l start d next script out mid held old new line failures e t read gives still few is other before (inl (cause, unwritten)) =
-    rw cause (talked-first-read g l start d script out mid old new (rw unwritten t) read still few)
-talk-stops g l start d next script out mid held old new line failures e t read gives still few is other before (inr (cause, rose, text, count, answered, appended)) =
-    rw cause (talk-fails g l start d next script out mid held old new text count failures t read gives still few other
-    (subst (λ asked. Answered g l asked d text next) is answered) appended before rose)
+    → IsErrorOfTalk g l script out start e
+talk-stops g l start d next script out mid held old new line failures e t (bytes, consumed, grown) gives still few is other before why = cases why where
+  cut : HasCutOff t.asked old
+  cut = cut-before t.asked old new t.cut (λ ended. (still ended).0) (some-waiting old new (IsOver script.after old new) gives)
+
+  found : (more : List (List ℕ)) × AreWholeLines new.read script.after (t.asked ++ new.line ∷ more)
+  found = lines_with t.asked old new mid script.after bytes grown t.within cut gives (λ ended. subst IsAtEnd (sym (still ended).1) (t.over ended))
+
+  lines : List (List ℕ)
+  lines = t.asked ++ new.line ∷ found.0
+
+  read_lines : ReadsLines script.before script.after lines
+  read_lines = record {
+    bytes = new.read;
+    limited = few;
+    consumed = subst (Consumes script.before script.after) (sym grown) (Consumes-trans _ _ _ old.read bytes t.consumed consumed);
+    whole = found.1;
+  }
+
+  go_on : AllGoOn (t.asked ++ new.line ∷ [])
+  go_on = AllGoOn-push t.asked new.line t.go_on (other-goes_on new.line other)
+
+  are : until_quit lines ≡ t.asked ++ new.line ∷ until_quit found.0
+  are =
+      ap until_quit (sym (append_assoc t.asked (new.line ∷ []) found.0)) ∙ take_while-through (t.asked ++ new.line ∷ []) found.0 go_on
+      ∙ append_assoc t.asked (new.line ∷ []) (until_quit found.0)
+
+  cases : ((e ≡ NoMemory) × (out.after ≡ held))
+      ⊎ ((e ≡ WriteFault) × HasRisen failures out.failures_after
+      × (text : List ℕ) × (count : ℕ) × Answered g l line d text next × Appends held out.after (take count text)) → IsErrorOfTalk g l script out start e
+  cases (inl (cause, unwritten)) = rw cause (inr (record {
+    lines = lines;
+    read = read_lines;
+    done = record {
+      done = t.asked;
+      next = new.line;
+      rest = until_quit found.0;
+      are = are;
+      written = record { text = t.text; now = d; talks = t.talks; written = subst (λ a. Appends out.before a t.text) (sym unwritten) t.written };
+    };
+  }))
+  cases (inr (cause, rose, text, count, answered, appended)) = rw cause (record {
+    lines = lines;
+    read = read_lines;
+    done = record {
+      done = t.asked;
+      next = new.line;
+      rest = until_quit found.0;
+      are = are;
+      text = t.text;
+      before = d;
+      talks = t.talks;
+      reply = text;
+      after = next;
+      answered = subst (λ asked. Answered g l asked d text next) is answered;
+      count = count;
+      written = Appends-trans out.before held out.after t.text (take count text) t.written appended;
+      failed = HasRisen-above _ failures _ before rose;
+    };
+  })
 
 -- each line takes its bytes
 pub given-more : (old new : LineReaderState) (P : Type 0) → old.given ≤ length old.read → (old.ended ≡ true → new.read ≡ old.read)

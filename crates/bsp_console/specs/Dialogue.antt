@@ -10,10 +10,10 @@ use Rattle.bsp_console.specs.Talk.{HasQuit, LacksQuit, answered_lines, ended_lin
 use Rattle.bsp_console.specs.Console.{Console, Begins, CutsReply, EndsUnread, HasNoDebugger, StopsBefore, WritesReplies, most_script}
 
 -- the debugger began, and this is what was done with the lines
-pub record BeginsTo (done : DebuggerState → Type 0) (c : Console) : Type 0 where
+pub record BeginsTo (what : DebuggerState → Type 0) (c : Console) : Type 0 where
   pub start : DebuggerState
   pub begins : Begins c start
-  pub done : done start
+  pub done : what start
 
 -- ---- an answer
 
@@ -53,17 +53,17 @@ pub record IsUnreadable (script : Stream) (lines : List (List ℕ)) : Type 0 whe
   pub failed : HasFailed script
 
 -- the next line could not be read, for this cause: the replies to all whole lines were written, of which none is `quit`
-pub record EndsAtLine (g l : ℕ) (cause : Stream → List (List ℕ) → Type 0) (script out : Stream) (start : DebuggerState) : Type 0 where
+pub record EndsAtLine (g l : ℕ) (why : Stream → List (List ℕ) → Type 0) (script out : Stream) (start : DebuggerState) : Type 0 where
   pub lines : List (List ℕ)
-  pub cause : cause script lines
+  pub cause : why script lines
   pub no_quit : LacksQuit lines
   pub written : WritesReplies g l lines start out
 
 -- a line was read and not answered: this was done with the whole lines up to the first `quit`
-pub record EndsAtReply (done : List (List ℕ) → DebuggerState → Type 0) (script : Stream) (start : DebuggerState) : Type 0 where
+pub record EndsAtReply (what : List (List ℕ) → DebuggerState → Type 0) (script : Stream) (start : DebuggerState) : Type 0 where
   pub lines : List (List ℕ)
   pub read : ReadsLines script.before script.after lines
-  pub done : done (until_quit lines) start
+  pub done : what (until_quit lines) start
 
 -- memory was refused when the next line was read, or when a line was answered
 abbrev pub StopsTalking : (g l : ℕ) → (script out : Stream) → DebuggerState → Type 0

@@ -1,6 +1,6 @@
 -- What an answer of a session says of its settings.
-use Rattle.std.proofs.Common.{◌≡◌, ◌<◌, arith, refl, Option, Some, None, Result, Err, Ok}
-use Rattle.std.specs.Prelude.{IsErrOf, ◌↔◌}
+use Rattle.std.proofs.Common.{◌≡◌, ◌<◌, arith, refl, subst, Option, Some, None, Result, Err, Ok}
+use Rattle.std.specs.Prelude.{IfErr, IsErrOf, OnOk, ◌↔◌}
 use Rattle.machine_core.specs.declared.outcome.Outcome.{Outcome}
 use Rattle.bsp_console.specs.Console.{console_fault}
 use Rattle.bsp_session.specs.declared.errors.BadSetting.{BadSetting}
@@ -54,11 +54,24 @@ session_error job r NoWorker is refuses lacks =
     (no_fault (job_fault job) r (is_setting job) refuses (λ cause bad. cc), wanted.0, wanted.1)
 session_error job r _ is refuses lacks = no_fault (job_fault job) r (is_setting job) refuses (λ cause bad. cc)
 
-pub debug_error : {X : Type 0} (job : Job) (r : Result X SessionError) (e : SessionError) → r ≡ Err e → RefusesSettings (console_fault job) r
-    → IsDebugError job e
-debug_error job r (BadSettings cause) is refuses = (refuses cause).0 is
-debug_error job r _ is refuses = no_fault (console_fault job) r (is_console_setting job) refuses (λ cause bad. cc)
+-- a session's error is one of the debugger's, since it wants no thread
+debug_error : {X : Type 0} (job : Job) (r : Result X SessionError) (e : SessionError) → r ≡ Err e → RefusesSettings (console_fault job) r
+    → (e ≡ NoWorker → ⊥) → IsDebugError job e
+debug_error job r (BadSettings cause) is refuses worked = (refuses cause).0 is
+debug_error job r NoWorker is refuses worked = worked refl
+debug_error job r _ is refuses worked = no_fault (console_fault job) r (is_console_setting job) refuses (λ cause bad. cc)
 
-pub debug_settings : {X : Type 0} (job : Job) (r : Result X SessionError) (x : X) → r ≡ Ok x → RefusesSettings (console_fault job) r
+debug_settings : {X : Type 0} (job : Job) (r : Result X SessionError) (x : X) → r ≡ Ok x → RefusesSettings (console_fault job) r
     → console_fault job ≡ None
 debug_settings job r x is refuses = no_fault (console_fault job) r (is_console_setting job) refuses (λ cause bad. cc)
+
+-- where the lines were answered, the settings were good
+pub debug_ok : {X : Type 0} (job : Job) (r : Result X SessionError) → RefusesSettings (console_fault job) r → OnOk r (console_fault job ≡ None)
+debug_ok job (Ok x) refuses = debug_settings job (Ok x) x refl refuses
+debug_ok job (Err e) refuses = tt
+
+-- and where they were not, the error is one of the debugger's, if what is known of it excludes a want of threads
+pub debug_err : {X : Type 0} (job : Job) (r : Result X SessionError) (Known : SessionError → Type 0) → RefusesSettings (console_fault job) r → IfErr r Known
+    → (Known NoWorker → ⊥) → IfErr r (IsDebugError job)
+debug_err job (Ok x) Known refuses known never = tt
+debug_err job (Err e) Known refuses known never = debug_error job (Err e) e refl refuses (λ is. never (subst Known is known))

@@ -71,7 +71,7 @@ run_app formats = with_rule (with_rule (machine_app (codes "run") formats) (flag
 
 -- `debug IMAGE` with its options
 abbrev pub debug_app : NameList → App
-debug_app formats = machine_app (codes "debug") formats
+debug_app formats = with_rule (machine_app (codes "debug") formats) (flag_rule (codes "interactive"))
 
 -- `list IMAGE` with its option
 abbrev pub list_app : NameList → App

@@ -8,6 +8,7 @@ use Rattle.bsp_session.specs.declared.job.Format.{Format}
 use Rattle.bsp_session.specs.declared.job.Format.TheVariants.{Elf, Raw, Asm}
 use Rattle.machine_core.specs.declared.settings.Settings.{Settings}
 use Rattle.bspemu.specs.declared.options.MachineOptions.{MachineOptions}
+use Rattle.bspemu.specs.declared.options.DebugOptions.{DebugOptions}
 use Rattle.bspemu.specs.declared.options.ListOptions.{ListOptions}
 use Rattle.bspemu.specs.declared.options.AsmOptions.{AsmOptions}
 use Rattle.bspemu.specs.declared.options.Action.{Action}
@@ -59,10 +60,11 @@ pub record GivesRunOptions (rows : List Row) (o : MachineOptions) : Type 0 where
   pub report : GivesFlag (one_of (codes "report") rows) o.job.report
 
 -- the matches of `debug` give these options
-pub record GivesDebugOptions (rows : List Row) (o : MachineOptions) : Type 0 where
-  pub machine : GivesMachineOptions rows o
-  pub workers : o.job.workers ≡ 1
-  pub report : o.job.report ≡ false
+pub record GivesDebugOptions (rows : List Row) (o : DebugOptions) : Type 0 where
+  pub machine : GivesMachineOptions rows o.machine
+  pub workers : o.machine.job.workers ≡ 1
+  pub report : o.machine.job.report ≡ false
+  pub interactive : GivesFlag (one_of (codes "interactive") rows) o.interactive
 
 -- the matches of `list` give these options
 pub record GivesListOptions (rows : List Row) (o : ListOptions) : Type 0 where

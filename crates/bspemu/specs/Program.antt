@@ -59,9 +59,10 @@ IsAnswerOfRun o (Ok outcome) = HasOutcome o.job outcome
 IsAnswerOfRun o (Err (CannotOpen path)) = NamesFile o path
 IsAnswerOfRun o (Err (Session error)) = IsSessionError o.job error
 
--- an error of a session with the debugger: only settings of the machine out of their ranges are refused as such
+-- an error of a session with the debugger: only settings of the machine out of their ranges are refused as such, and no thread is wanted
 abbrev pub IsDebugError : Job → SessionError → Type 0
 IsDebugError job (BadSettings cause) = console_fault job ≡ Some (BadSettings cause)
+IsDebugError job NoWorker = ⊥
 IsDebugError job _ = console_fault job ≡ None
 
 -- an answer that a debugger with these options can have
@@ -85,7 +86,7 @@ IsAnswerOfAsm o (Err (Session error)) = IsErrorWithoutMachine error
 -- an answer that an action can have
 abbrev pub IsAnswer : Action → Result Outcome RunError → Type 0
 IsAnswer (action.Run o) answer = IsAnswerOfRun o answer
-IsAnswer (action.Debug o) answer = IsAnswerOfDebug o answer
+IsAnswer (action.Debug o) answer = IsAnswerOfDebug o.machine answer
 IsAnswer (action.List o) answer = IsAnswerOfList o answer
 IsAnswer (action.Asm o) answer = IsAnswerOfAsm o answer
 

@@ -40,7 +40,8 @@ const ASM_AFTER_HELP: &str = "A text that is refused has a line `line N: NAME` o
 docs/ASSEMBLY.md has the whole language.";
 
 const DEBUG_AFTER_HELP: &str =
-    "Lines of standard input; each is answered before the next one is read:
+    "Lines of standard input. They are read to their end, and then answered one after another. At a terminal, and with
+--interactive, each is answered before the next one is read:
   break RANK ADDR      set a point: go stops before this rank makes a step at this address
   break superstep K    set a point: go stops where superstep K begins
   clear RANK ADDR      take away the point at this address
@@ -101,14 +102,12 @@ fn run_command<'a>(alloc: Global, formats: &'a [&'a str]) -> Result<Command<'a>,
 fn debug_command<'a>(alloc: Global, formats: &'a [&'a str]) -> Result<Command<'a>, AllocError>
     ensures { IfOk result (λ command. HasApp command (debug_app formats.entry)) }
 {
-    let command = machine_command(alloc, "debug", formats)?;
-    Ok(
-        command
-            .about(
-                "Run a program piece by piece: do what each line of standard input says, and write the answer",
-            )
-            .after_help(DEBUG_AFTER_HELP),
-    )
+    machine_command(alloc, "debug", formats)?
+        .about(
+            "Run a program piece by piece: do what each line of standard input says, and write the answer",
+        )
+        .after_help(DEBUG_AFTER_HELP)
+        .arg(interactive(alloc))
 }
 
 /// A subcommand over a machine: the program, what the machine is made of, and the prices of its costs.
@@ -264,6 +263,15 @@ fn report<'a>(alloc: Global) -> Arg<'a>
         .long("report")
         .action(ArgAction::SetTrue)
         .help("After the output write the costs of the supersteps, their total and the outcome")
+}
+
+fn interactive<'a>(alloc: Global) -> Arg<'a>
+    ensures { HasRule result (flag_rule (codes "interactive")) }
+{
+    Arg::new(alloc, "interactive")
+        .long("interactive")
+        .action(ArgAction::SetTrue)
+        .help("Answer each line before the next one is read, as at a terminal")
 }
 
 fn byte_price<'a>(alloc: Global) -> Arg<'a>

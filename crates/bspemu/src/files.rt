@@ -1,11 +1,11 @@
 //! The files that a command line names, as readers.
 
-ghost use Rattle.std.specs.Prelude.{◌≡◌, IfOk, IfErr, IsErr, IsOk, None, codes};
+ghost use Rattle.std.specs.Prelude.{◌≡◌, IfOk, IfErr, IsErr, IsOk, IsTrue, None, codes};
 ghost use Rattle.std.specs.Io.{ReadsAtMost};
 ghost use Rattle.std.specs.Io.KnownBytes.{ReadConsumes};
 ghost use Rattle.bspemu.specs.Source.{bytes_left, image_place, file, input_place, lines_place, place_of, standard_input};
 
-use std::io::{ErrorKind, Read};
+use std::io::{ErrorKind, IsTerminal, Read};
 use std::rt::Files;
 use std::{fs, io};
 
@@ -37,6 +37,18 @@ impl<F: Read, I: Read> Read for Source<F, I> {
             Source::Standard(input) => input.read(buf),
             Source::Closed => Err(io::Error::from(ErrorKind::BrokenPipe)),
             Source::Empty => Ok(0),
+        }
+    }
+}
+
+impl<F, I: IsTerminal> Source<F, I> {
+    /// Whether the bytes come from standard input, and that is a terminal.
+    pub fn is_terminal(&self) -> bool
+        ensures { IsTrue result → place_of self.now ≡ standard_input }
+    {
+        match self {
+            Source::Standard(input) => input.is_terminal(),
+            Source::File(_) | Source::Closed | Source::Empty => false,
         }
     }
 }

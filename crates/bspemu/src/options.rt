@@ -15,7 +15,7 @@ use std::convert::AsStr;
 /// How many steps a node makes before it may go to another thread.
 const SLICE: u64 = 1 << 16;
 
-/// What `bspemu run` or `bspemu debug` was asked to do.
+/// What `bspemu run` was asked to do, and of `bspemu debug` what it has in common with that.
 #[derive(Debug, Drop)]
 pub struct MachineOptions<'a> {
     /// The file of the program; `-` is standard input.
@@ -23,6 +23,14 @@ pub struct MachineOptions<'a> {
     /// The file of the nodes' input; with none the input is empty.
     pub input: Option<&'a str>,
     pub job: Job,
+}
+
+/// What `bspemu debug` was asked to do.
+#[derive(Debug, Drop)]
+pub struct DebugOptions<'a> {
+    pub machine: MachineOptions<'a>,
+    /// Whether each line is answered before the next one is read, wherever the lines come from.
+    pub interactive: bool,
 }
 
 /// What `bspemu list` was asked to do.
@@ -48,7 +56,7 @@ pub enum Action<'a> {
     /// Run a program.
     Run(MachineOptions<'a>),
     /// Run a program as lines say, and answer them.
-    Debug(MachineOptions<'a>),
+    Debug(DebugOptions<'a>),
     /// Write the listing of a program.
     List(ListOptions<'a>),
     /// Assemble a text, and save it.
@@ -110,11 +118,15 @@ fn options_of_run<'a>(run: &ArgMatches<'a>) -> Option<MachineOptions<'a>>
 }
 
 /// A debugger has no other thread, and tells costs where a line asks for them.
-fn options_of_debug<'a>(debug: &ArgMatches<'a>) -> Option<MachineOptions<'a>>
+fn options_of_debug<'a>(debug: &ArgMatches<'a>) -> Option<DebugOptions<'a>>
     ensures some { IfSome result (GivesDebugOptions (rows_of (found_of debug.now))) }
     ensures none { IfNone result (IsNeverMet (GivesDebugOptions (rows_of (found_of debug.now)))) }
 {
-    options_of_machine(debug, 1, false)
+    let interactive = debug.get_one("interactive")?;
+    Some(DebugOptions {
+        machine: options_of_machine(debug, 1, false)?,
+        interactive,
+    })
 }
 
 /// What `run` and `debug` share, with the rest as it is given.

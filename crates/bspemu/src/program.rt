@@ -1,19 +1,23 @@
 //! From the command line to the exit status.
 
-ghost use Rattle.std.specs.Prelude.{◌≡◌, ◌⊎◌, IfErr, map};
+ghost use Rattle.std.specs.Prelude.{◌≡◌, ◌⊎◌, None, IfErr, OnOk, map};
 ghost use Rattle.clap.specs.Words.{kind_of};
-ghost use Rattle.bspemu.specs.Program.{Ends, EndsOnItsWords, IsAnswer, IsAnswerOfAsm, IsAnswerOfDebug, IsAnswerOfList};
+ghost use Rattle.bsp_console.specs.Console.{console_fault};
+ghost use Rattle.bspemu.specs.Program.{Ends, EndsOnItsWords, IsAnswer, IsAnswerOfAsm, IsAnswerOfDebug, IsAnswerOfList, IsDebugError};
 ghost use Rattle.bspemu.specs.Program.{IsAnswerOfRun, IsStatusOfKind, status_of_answer};
 
 use crate::files::{CannotOpen, create, open_file, open_image, open_input, open_lines};
-use crate::options::{Action, AsmOptions, ListOptions, MachineOptions, action_of, refusal};
-use bsp_console::debug_session;
-use bsp_session::{Outcome, SessionError, asm_session, list_session, session, status};
+use crate::options::{
+    Action, AsmOptions, DebugOptions, ListOptions, MachineOptions, action_of, refusal,
+};
+use bsp_console::{debug_dialogue, debug_session};
+use bsp_session::{Job, Outcome, SessionError, asm_session, list_session, session, status};
 use clap::Error;
 use clap::error::ErrorKind;
 use counted_io::Counted;
-use std::alloc::AllocError;
+use std::alloc::{AllocError, Global};
 use std::convert::AsStr;
+use std::io::{IsTerminal, Read, Write};
 use std::rt::{Env, Files};
 use std::sync::Wait;
 use std::thread::Threads;
@@ -67,9 +71,17 @@ impl<'a> From<SessionError> for RunError<'a> {
 }
 
 /// Does what the command line asks for, and gives the exit status.
-pub fn program<R: AllocGlobal + Env + Files + Input + Print + Eprint + Threads + Wait + Sync>(
-    rt: &R,
-) -> u8
+pub fn program<
+    R: AllocGlobal
+        + Env
+        + Files
+        + Input<Reader: IsTerminal>
+        + Print
+        + Eprint
+        + Threads
+        + Wait
+        + Sync,
+>(rt: &R) -> u8
     ensures { EndsOnItsWords result }
 {
     match words(rt) {
@@ -95,7 +107,7 @@ fn words<R: AllocGlobal + Env>(rt: &R) -> Result<Vec<String>, Error>
 
 /// Does what these words ask for, and gives the exit status.
 pub fn program_on<
-    R: AllocGlobal + Files + Input + Print + Eprint + Threads + Wait + Sync,
+    R: AllocGlobal + Files + Input<Reader: IsTerminal> + Print + Eprint + Threads + Wait + Sync,
     S: AsStr,
 >(rt: &R, words: &[S]) -> u8
     ensures { Ends (map S.text words.now) result }
@@ -107,7 +119,7 @@ pub fn program_on<
 }
 
 /// Does what was asked for. A listing, a saved image and lines that were answered count as ended.
-fn perform<'a, R: AllocGlobal + Files + Input + Print + Threads + Wait + Sync>(
+fn perform<'a, R: AllocGlobal + Files + Input<Reader: IsTerminal> + Print + Threads + Wait + Sync>(
     rt: &R,
     action: &Action<'a>,
 ) -> Result<Outcome, RunError<'a>>
@@ -142,27 +154,51 @@ fn run<'a, R: AllocGlobal + Files + Input + Print + Threads + Wait + Sync>(
     Ok(outcome)
 }
 
-/// Opens what the options name, first the image, and answers the lines of standard input. Whether there is a standard input shows
-/// only before a file is open.
-fn debug<'a, R: AllocGlobal + Files + Input + Print>(
+/// Opens what the options name, first the image, and answers the lines of standard input: as they come where they are typed at a
+/// terminal, or the options say so. Whether there is a standard input shows only before a file is open.
+fn debug<'a, R: AllocGlobal + Files + Input<Reader: IsTerminal> + Print>(
     rt: &R,
-    options: &MachineOptions<'a>,
+    options: &DebugOptions<'a>,
 ) -> Result<Outcome, RunError<'a>>
-    ensures { IsAnswerOfDebug options.now result }
+    ensures { IsAnswerOfDebug options.now.machine result }
 {
-    let mut lines = Counted::new(open_lines(rt, options.image));
-    let mut image = Counted::new(open_image(rt, options.image)?);
-    let mut input = Counted::new(open_input(rt, options.input)?);
+    let machine = &options.machine;
+    let lines = open_lines(rt, machine.image);
+    let is_dialogue = options.interactive || lines.is_terminal();
+    let mut lines = Counted::new(lines);
+    let mut image = Counted::new(open_image(rt, machine.image)?);
+    let mut input = Counted::new(open_input(rt, machine.input)?);
     let mut out = Counted::new(io::writer(rt));
-    debug_session(
+    answer_lines(
         rt.alloc(),
         &mut image,
         &mut input,
-        &options.job,
+        &machine.job,
         &mut lines,
         &mut out,
+        is_dialogue,
     )?;
     Ok(Outcome::Ended)
+}
+
+/// Answers lines with a debugger, as they come or as a script.
+fn answer_lines<I: Read, R: Read, C: Read, W: Write>(
+    alloc: Global,
+    image: &mut Counted<I>,
+    input: &mut Counted<R>,
+    job: &Job,
+    lines: &mut Counted<C>,
+    out: &mut Counted<W>,
+    is_dialogue: bool,
+) -> Result<(), SessionError>
+    ensures ok { OnOk result (console_fault job.now ≡ None) }
+    ensures err { IfErr result (IsDebugError job.now) }
+{
+    if is_dialogue {
+        debug_dialogue(alloc, image, input, job, lines, out)
+    } else {
+        debug_session(alloc, image, input, job, lines, out)
+    }
 }
 
 /// Opens the image, and writes its listing.

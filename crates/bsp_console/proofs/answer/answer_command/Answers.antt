@@ -12,14 +12,14 @@ use Rattle.bsp_debug.specs.Made.{events_of}
 use Rattle.bsp_console.proofs.Costs.{costs_are}
 use Rattle.bsp_console.proofs.answer.answer_command.Goals as goal
 
-pub reply_lines-requires : goal.reply_lines-requires
+pub reply_text-requires : goal.reply_text-requires
 unfolding after
-reply_lines-requires g c = λ rows is.
+reply_text-requires g c = λ rows is.
     let d = c.args.debugger.now in
     let makes = subst (Makes d.points d.machine c.args.command (events_of c.command.new.self.last)) is c.in-Ok.ensures.ok in
     let are = costs_are _ _ c.args.command _ rows makes in
     let same : c.command.new.self.machine ≡ d.machine = rw are.0 at c.command.ensures.machine in
-    are.1 ∙ sym (ap (λ m. m.ledger) same)
+    are.1 ∙ sym (c.ledger.ensures ∙ ap (λ m. m.ledger) c.machine.ensures ∙ ap (λ m. m.ledger) same)
 
 -- a refusal is told of a debugger that is as it was, but for what the last command made
 told : (fault : Option DebugError) (done : Type 0) (old new : DebuggerState) (text : List ℕ) (e : DebugError)

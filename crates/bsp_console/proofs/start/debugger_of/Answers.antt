@@ -7,7 +7,7 @@ use Rattle.machine_core.specs.Machine.{MachineState, settings_fault}
 use Rattle.node_memory.specs.Image.{is_segment_outside}
 use Rattle.bsp_debug.specs.Debugger.{DebuggerState}
 use Rattle.bsp_session.specs.Outcome.{error_of_machine}
-use Rattle.bsp_console.proofs.session.debugger_of.Goals as goal
+use Rattle.bsp_console.proofs.start.debugger_of.Goals as goal
 
 within : (fault : Option MachineError) (outside : Bool) → option_map error_of_machine fault ≡ None
     → (option_or fault (cond outside (Some SegmentOutside) None) ≡ Some SegmentOutside → ⊥) → outside ≡ false

@@ -6,9 +6,9 @@ use Rattle.debug_lines.specs.Lines.{line_of}
 use Rattle.bsp_session.specs.Streams.{stream}
 use Rattle.bsp_console.specs.Console.{most_script}
 use Rattle.bsp_console.specs.Talk.{Answered}
-use Rattle.bsp_console.proofs.Scripts.{is_quit-true, is_quit-false}
+use Rattle.bsp_console.proofs.Scripts.{is_quit-true, is_quit-false, with_left}
 use Rattle.bsp_console.proofs.Talking.{given-more, is_talking-first, talked-end, talked-quit, talking-step, talk-error, talk-stops}
-use Rattle.bsp_console.proofs.talk.answer_lines.Goals as goal
+use Rattle.bsp_console.proofs.dialogue.answer_lines.Goals as goal
 
 pub loop-lines-init : goal.loop-lines-init
 loop-lines-init g c = record {
@@ -25,8 +25,8 @@ returns-in_err-next_line-clause-err g c =
     let few : length c.next_line.new.self.read ≤ most_script = subst (λ m. length c.next_line.new.self.read ≤ m) (c.next_line.ensures.most ∙ t.most) c.next_line.ensures.limit in
     rw (exit.1, exit.2) (talk-error _ _ _ c.loop-lines.debugger (stream g.C.Read.remaining c.args.commands.now c.next_line.new.from) (stream g.W.Write.contents c.args.out.now c.loop-lines.out)
     (g.C.Read.remaining c.loop-lines.commands.inner) c.loop-lines.lines c.next_line.new.self c.loop-lines.commands.failures c.in_err-next_line.field-0.0
-    t (λ e. (c.next_line.ensures.over e).2) few c.loop-lines.invariant.commands
-    (λ e. said.too_long (ap Err e)) (λ e. said.longer (ap Err e)) (λ e. said.fault (ap Err e)) (λ e. said.no_memory (ap Err e)))
+    t (λ e. let still = c.next_line.ensures.over e in (still.2, ap (λ r. g.C.Read.remaining r.inner) still.1)) few said.err.0 said.err.2 c.loop-lines.invariant.commands
+    (λ e. said.too_long (ap Err e)) (λ e. said.fault (ap Err e)) (λ e. said.no_memory (ap Err e)))
 
 pub returns-clause-ok : goal.returns-clause-ok
 returns-clause-ok g c =
@@ -49,17 +49,19 @@ returns-then-is_quit-clause-ok g c =
     (g.C.Read.remaining c.loop-lines.commands.inner) c.loop-lines.lines c.next_line.new.self t c.in_ok-next_line.ensures.bytes (c.next_line.ensures.line some)
     (λ e. let still = c.next_line.ensures.over e in (still.2, ap (λ r. g.C.Read.remaining r.inner) still.1)) few quits
 
-pub returns-in_err-answer_to-clause-err : goal.returns-in_err-answer_to-clause-err
-returns-in_err-answer_to-clause-err g c =
-    let exit = err_from_is_err_and c.from_residual-in_err-answer_to.result c.from_residual-in_err-answer_to.ensures.1 in
+pub returns-in_err-answer_at_once-clause-err : goal.returns-in_err-answer_at_once-clause-err
+returns-in_err-answer_at_once-clause-err g c =
+    let exit = err_from_is_err_and c.from_residual-in_err-answer_at_once.result c.from_residual-in_err-answer_at_once.ensures.1 in
     let t = c.loop-lines.invariant.talking in
     let few : length c.next_line.new.self.read ≤ most_script = subst (λ m. length c.next_line.new.self.read ≤ m) (c.next_line.ensures.most ∙ t.most) c.next_line.ensures.limit in
     let some : c.next_line.result ≡ Ok true = c.in_ok-next_line.was {u = tt} ∙ ap Ok c.if-branch.true in
     let line : c.parse_line-line.result ≡ line_of c.next_line.new.self.line = c.parse_line-line.ensures ∙ ap line_of c.line.ensures in
     let other : line_of c.next_line.new.self.line ≡ Quit → ⊥ = λ quits. is_quit-false _ (sym c.is_quit.ensures ∙ c.if-is_quit.false) (line ∙ quits) in
-    rw (exit.1, exit.2) (talk-stops _ _ _ c.loop-lines.debugger c.answer_to.new.debugger (stream g.C.Read.remaining c.args.commands.now c.next_line.new.from) (stream g.W.Write.contents c.args.out.now c.answer_to.new.out)
-    (g.C.Read.remaining c.loop-lines.commands.inner) (g.W.Write.contents c.loop-lines.out.inner) c.loop-lines.lines c.next_line.new.self c.parse_line-line.result c.loop-lines.out.failures c.in_err-answer_to.field-0.0
-    t c.in_ok-next_line.ensures.bytes (c.next_line.ensures.line some) (λ e. (c.next_line.ensures.over e).2) few line other c.loop-lines.invariant.out c.in_err-answer_to.ensures.err)
+    rw (exit.1, exit.2) (talk-stops _ _ _ c.loop-lines.debugger c.answer_at_once.new.debugger (stream g.C.Read.remaining c.args.commands.now c.next_line.new.from) (stream g.W.Write.contents c.args.out.now c.answer_at_once.new.out)
+    (g.C.Read.remaining c.loop-lines.commands.inner) (g.W.Write.contents c.loop-lines.out.inner) c.loop-lines.lines c.next_line.new.self c.parse_line-line.result c.loop-lines.out.failures c.in_err-answer_at_once.field-0.0
+    t c.in_ok-next_line.ensures.bytes (c.next_line.ensures.line some)
+    (λ e. let still = c.next_line.ensures.over e in (still.2, ap (λ r. g.C.Read.remaining r.inner) still.1)) few line other c.loop-lines.invariant.out
+    (with_left c.in_err-answer_at_once.ensures.err (λ refused. (refused.0, ap (λ o. g.W.Write.contents o.inner) refused.1))))
 
 pub loop-lines-smaller : goal.loop-lines-smaller
 loop-lines-smaller g c =
@@ -77,14 +79,14 @@ loop-lines-preserved g c =
     let some : c.next_line.result ≡ Ok true = c.in_ok-next_line.was {u = tt} ∙ ap Ok c.if-branch.true in
     let line : c.parse_line-line.result ≡ line_of c.next_line.new.self.line = c.parse_line-line.ensures ∙ ap line_of c.line.ensures in
     let other : line_of c.next_line.new.self.line ≡ Quit → ⊥ = λ quits. is_quit-false _ (sym c.is_quit.ensures ∙ c.if-is_quit.false) (line ∙ quits) in
-    let (text, answered, written) = c.in_ok-answer_to.ensures.ok in
+    let (text, answered, written) = c.in_ok-answer_at_once.ensures.ok in
     record {
-      talking = talking-step _ _ _ c.loop-lines.debugger c.answer_to.new.debugger _ (g.C.Read.remaining c.loop-lines.commands.inner) (g.C.Read.remaining c.next_line.new.from.inner)
+      talking = talking-step _ _ _ c.loop-lines.debugger c.answer_at_once.new.debugger _ (g.C.Read.remaining c.loop-lines.commands.inner) (g.C.Read.remaining c.next_line.new.from.inner)
           _ (g.W.Write.contents c.loop-lines.out.inner) _ c.loop-lines.lines c.next_line.new.self text
           t c.in_ok-next_line.ensures.bytes (c.next_line.ensures.line some)
           (λ e. let still = c.next_line.ensures.over e in (still.2, ap (λ r. g.C.Read.remaining r.inner) still.1)) c.next_line.ensures.ends
           c.next_line.ensures.most c.next_line.ensures.limit c.next_line.ensures.within other
-          (subst (λ asked. Answered c.args.job.now.g c.args.job.now.l asked c.loop-lines.debugger text c.answer_to.new.debugger) line answered) written;
+          (subst (λ asked. Answered c.args.job.now.g c.args.job.now.l asked c.loop-lines.debugger text c.answer_at_once.new.debugger) line answered) written;
       commands = omega arith;
       out = omega arith;
     }

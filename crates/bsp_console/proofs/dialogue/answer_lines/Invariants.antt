@@ -1,7 +1,7 @@
 -- How far the lines were answered.
 use Rattle.std.proofs.Common.{◌≤◌, ◌-◌}
 use Rattle.bsp_console.proofs.Talking.{IsTalking}
-use Rattle.bsp_console.proofs.talk.answer_lines.Given as goal
+use Rattle.bsp_console.proofs.dialogue.answer_lines.Given as goal
 
 abbrev pub invariant-loop-lines : goal.invariant-loop-lines
 invariant-loop-lines g l = record {

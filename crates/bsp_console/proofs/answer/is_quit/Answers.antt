@@ -1,6 +1,6 @@
 use Rattle.std.proofs.Common.{sym, refl}
 use Rattle.bsp_console.proofs.Scripts.{is_quit-other}
-use Rattle.bsp_console.proofs.talk.is_quit.Goals as goal
+use Rattle.bsp_console.proofs.answer.is_quit.Goals as goal
 
 pub returns-in-Quit : goal.returns-in-Quit
 returns-in-Quit c = rw c.in-Quit.is refl

@@ -5,7 +5,7 @@ use Rattle.bsp_session.specs.declared.errors.SessionError.{SessionError}
 use Rattle.bsp_session.specs.declared.errors.SessionError.TheVariants.{BadSettings, TooLong, Text, BadImage, SegmentOutside, ReadFault, WriteFault, NoWorker, NoMemory}
 use Rattle.bsp_session.specs.Streams.{Stream}
 use Rattle.bsp_console.specs.Talk.{answered_lines}
-use Rattle.bsp_console.specs.Console.{Begins, Console, IsErrorOfFile}
+use Rattle.bsp_console.specs.Console.{Begins, Console, RefusesImage}
 use Rattle.bsp_console.specs.Dialogue.{IsErrorOfDialogue, IsErrorOfTalk}
 use Rattle.bsp_console.specs.Script.{IsErrorOfLines, IsErrorOfScript, ReadsScript}
 
@@ -21,7 +21,7 @@ error_of_talk c start b NoWorker p = absurd p
 error_of_talk c start b NoMemory p = inr (inr (record { start = start; begins = b; done = p }))
 
 -- they are none of the image's file
-pub talk-no_file : (g l : ℕ) (script out : Stream) (start : DebuggerState) (e : SessionError) → IsErrorOfTalk g l script out start e → IsErrorOfFile e → ⊥
+pub talk-no_file : (g l : ℕ) (script out : Stream) (start : DebuggerState) (e : SessionError) → IsErrorOfTalk g l script out start e → RefusesImage e → ⊥
 talk-no_file g l script out start (BadSettings cause) p file = p
 talk-no_file g l script out start TooLong p file = file
 talk-no_file g l script out start (Text cause) p file = p

@@ -59,7 +59,7 @@ IsErrorOfFiles image input job NoMemory = EndsAtFile IsCutShort image input job
 IsErrorOfFiles image input job _ = ⊥
 
 -- they were not, and nothing else was touched
-pub record EndsUnread (c : Console) (e : SessionError) : Type 0 where
+pub record StopsAtFiles (c : Console) (e : SessionError) : Type 0 where
   pub cause : IsErrorOfFiles c.image c.input c.job e
   pub unread : IsUntouched c.script
   pub unwritten : IsUntouched c.out
@@ -84,11 +84,11 @@ IsErrorOfImage job i NoMemory = Unit {0}
 IsErrorOfImage job i _ = ⊥
 
 -- the image's file was refused
-abbrev pub IsErrorOfFile : SessionError → Type 0
-IsErrorOfFile (Text cause) = Unit {0}
-IsErrorOfFile (BadImage cause) = Unit {0}
-IsErrorOfFile SegmentOutside = Unit {0}
-IsErrorOfFile _ = ⊥
+abbrev pub RefusesImage : SessionError → Type 0
+RefusesImage (Text cause) = Unit {0}
+RefusesImage (BadImage cause) = Unit {0}
+RefusesImage SegmentOutside = Unit {0}
+RefusesImage _ = ⊥
 
 -- both were read, and this is the debugger with which the lines begin
 pub record Begins (c : Console) (start : DebuggerState) : Type 0 where

@@ -7,7 +7,7 @@ use Rattle.bsp_session.specs.declared.errors.SessionError.{SessionError}
 use Rattle.bsp_session.specs.declared.errors.SessionError.TheVariants.{BadSettings, TooLong, Text, BadImage, SegmentOutside, ReadFault, WriteFault, NoWorker, NoMemory}
 use Rattle.bsp_session.specs.Streams.{Stream, IsUntouched, ReadsPast, HasFailed}
 use Rattle.bsp_console.specs.Talk.{HasQuit, LacksQuit, answered_lines, ended_lines, lines_of, until_quit}
-use Rattle.bsp_console.specs.Console.{Console, Begins, CutsReply, EndsUnread, HasNoDebugger, StopsBefore, WritesReplies, most_script}
+use Rattle.bsp_console.specs.Console.{Console, Begins, CutsReply, StopsAtFiles, HasNoDebugger, StopsBefore, WritesReplies, most_script}
 
 -- the debugger began, and this is what was done with the lines
 pub record BeginsTo (what : DebuggerState → Type 0) (c : Console) : Type 0 where
@@ -95,12 +95,12 @@ IsRefusedAtOnce c e = HasNoDebugger c e × IsUntouched c.script
 
 -- what is known where the session ended by an error
 abbrev pub IsErrorOfDialogue : Console → SessionError → Type 0
-IsErrorOfDialogue c (BadSettings cause) = EndsUnread c (BadSettings cause)
-IsErrorOfDialogue c TooLong = EndsUnread c TooLong ⊎ EndsTalking c TooLong
+IsErrorOfDialogue c (BadSettings cause) = StopsAtFiles c (BadSettings cause)
+IsErrorOfDialogue c TooLong = StopsAtFiles c TooLong ⊎ EndsTalking c TooLong
 IsErrorOfDialogue c (Text cause) = IsRefusedAtOnce c (Text cause)
 IsErrorOfDialogue c (BadImage cause) = IsRefusedAtOnce c (BadImage cause)
 IsErrorOfDialogue c SegmentOutside = IsRefusedAtOnce c SegmentOutside
-IsErrorOfDialogue c ReadFault = EndsUnread c ReadFault ⊎ EndsTalking c ReadFault
+IsErrorOfDialogue c ReadFault = StopsAtFiles c ReadFault ⊎ EndsTalking c ReadFault
 IsErrorOfDialogue c WriteFault = EndsTalking c WriteFault
 IsErrorOfDialogue c NoWorker = ⊥
-IsErrorOfDialogue c NoMemory = EndsUnread c NoMemory ⊎ IsRefusedAtOnce c NoMemory ⊎ EndsTalking c NoMemory
+IsErrorOfDialogue c NoMemory = StopsAtFiles c NoMemory ⊎ IsRefusedAtOnce c NoMemory ⊎ EndsTalking c NoMemory

@@ -6,7 +6,7 @@ use Rattle.bsp_session.specs.declared.errors.SessionError.{SessionError}
 use Rattle.bsp_session.specs.declared.errors.SessionError.TheVariants.{BadSettings, TooLong, Text, BadImage, SegmentOutside, ReadFault, WriteFault, NoWorker, NoMemory}
 use Rattle.bsp_session.specs.Streams.{Stream, IsUntouched, ReadsWhole, ReadsPast, HasFailed, IsCutShort}
 use Rattle.bsp_console.specs.Talk.{answered_lines}
-use Rattle.bsp_console.specs.Console.{Console, Begins, CutsReply, EndsUnread, HasNoDebugger, ReadsFiles, StopsBefore, WritesReplies, most_script}
+use Rattle.bsp_console.specs.Console.{Console, Begins, CutsReply, StopsAtFiles, HasNoDebugger, ReadsFiles, StopsBefore, WritesReplies, most_script}
 
 -- the script was read
 abbrev pub ReadsScript : Console → List ℕ → Type 0
@@ -21,8 +21,8 @@ pub record EndsAtScript (cause : ℕ → Stream → Type 0) (c : Console) : Type
   pub unwritten : IsUntouched c.out
 
 -- the three were read, and there is no debugger
-abbrev pub IsRefusedImage : Console → SessionError → Type 0
-IsRefusedImage c e = HasNoDebugger c e × ((s : List ℕ) × ReadsScript c s)
+abbrev pub IsRefusedAfterReading : Console → SessionError → Type 0
+IsRefusedAfterReading c e = HasNoDebugger c e × ((s : List ℕ) × ReadsScript c s)
 
 -- the three were read, and this was done with the lines that are answered
 pub record EndsAtLines (done : List (List ℕ) → DebuggerState → Type 0) (c : Console) : Type 0 where
@@ -52,12 +52,12 @@ EndsAnswering c e = EndsAtLines (λ lines start. IsErrorOfLines c.job.g c.job.l 
 
 -- what is known where the session ended by an error
 abbrev pub IsErrorOfScript : Console → SessionError → Type 0
-IsErrorOfScript c (BadSettings cause) = EndsUnread c (BadSettings cause)
-IsErrorOfScript c TooLong = EndsUnread c TooLong ⊎ EndsAtScript ReadsPast c
-IsErrorOfScript c (Text cause) = IsRefusedImage c (Text cause)
-IsErrorOfScript c (BadImage cause) = IsRefusedImage c (BadImage cause)
-IsErrorOfScript c SegmentOutside = IsRefusedImage c SegmentOutside
-IsErrorOfScript c ReadFault = EndsUnread c ReadFault ⊎ EndsAtScript (λ _ r. HasFailed r) c
+IsErrorOfScript c (BadSettings cause) = StopsAtFiles c (BadSettings cause)
+IsErrorOfScript c TooLong = StopsAtFiles c TooLong ⊎ EndsAtScript ReadsPast c
+IsErrorOfScript c (Text cause) = IsRefusedAfterReading c (Text cause)
+IsErrorOfScript c (BadImage cause) = IsRefusedAfterReading c (BadImage cause)
+IsErrorOfScript c SegmentOutside = IsRefusedAfterReading c SegmentOutside
+IsErrorOfScript c ReadFault = StopsAtFiles c ReadFault ⊎ EndsAtScript (λ _ r. HasFailed r) c
 IsErrorOfScript c WriteFault = EndsAnswering c WriteFault
 IsErrorOfScript c NoWorker = ⊥
-IsErrorOfScript c NoMemory = EndsUnread c NoMemory ⊎ EndsAtScript IsCutShort c ⊎ IsRefusedImage c NoMemory ⊎ EndsAnswering c NoMemory
+IsErrorOfScript c NoMemory = StopsAtFiles c NoMemory ⊎ EndsAtScript IsCutShort c ⊎ IsRefusedAfterReading c NoMemory ⊎ EndsAnswering c NoMemory

@@ -6,7 +6,7 @@ ghost use Rattle.counted_io.specs.Counted.{HasRisen};
 ghost use Rattle.bsp_session.specs.declared.errors.BadSetting.{BadSetting as BadSettingCause};
 ghost use Rattle.bsp_session.specs.Streams.{stream};
 ghost use Rattle.bsp_console.specs.Talk.{Answered};
-ghost use Rattle.bsp_console.specs.Console.{IsErrorOfFile, console_fault, console_of};
+ghost use Rattle.bsp_console.specs.Console.{RefusesImage, console_fault, console_of};
 ghost use Rattle.bsp_console.specs.Dialogue.{AnswersDialogue, HasTalked, IsErrorOfDialogue, IsErrorOfTalk};
 
 use crate::answer::{answer_to, is_quit};
@@ -58,7 +58,7 @@ pub fn debug_dialogue<A: Allocator + Copy, I: Read, R: Read, C: Read, W: Write>(
     // Where nothing was read or written by the clauses above, the whole reader or writer is as it was.
     ensures settings_first { console_fault job.now ≢ None → (image.new ≡ image.old)
         × (input.new ≡ input.old) × (commands.new ≡ commands.old) × (out.new ≡ out.old) }
-    ensures no_lines { IfErr result (λ e. IsErrorOfFile e
+    ensures no_lines { IfErr result (λ e. RefusesImage e
         → (commands.new ≡ commands.old) × (out.new ≡ out.old)) }
 {
     let (file, input) = read_files(alloc, image, input, job)?;

@@ -14,37 +14,51 @@ static inline void must_be_within(const char *name_and_rest)
 }
 #define MUST_BE_WITHIN(name) must_be_within(name " is called outside bsp_begin and bsp_end")
 
+/* Whether bsp_init was called: what stands before bsp_begin is then rank 0's alone. */
+static int is_initialized = 0;
+
 void bsp_init(void (*spmd)(void), int argc, char **argv)
 {
     (void)argc;
     (void)argv;
     if (bsp_part != BSP_BEFORE)
         bsp_stop("bsp_init is called after bsp_begin");
+    is_initialized = 1;
     if (bsp_pid() != 0) {
         spmd();
         exit(0);
     }
 }
 
+/* The run cannot begin with so many nodes. Where all ranks find that, one line is enough. */
+__attribute__((noreturn)) static void refuse_nodes(int maxprocs)
+{
+    if (maxprocs < 1)
+        bsp_stop_with("bsp_begin is called with ", maxprocs,
+                      " processes, and takes 1 or more: call bsp_init first where rank 0 alone has the number");
+    if (bsp_pid() == 0)
+        bsp_stop_with("there are more nodes than the program takes in bsp_begin: give --nodes ", maxprocs, "");
+    for (;;)
+        machine_call_2(CALL_ABORT, 0, 0);
+}
+
 void bsp_begin(int maxprocs)
 {
     if (bsp_part != BSP_BEFORE)
         bsp_stop("bsp_begin is called twice");
-    if (bsp_nprocs() > maxprocs) {
-        /* One line is enough. */
-        if (bsp_pid() == 0)
-            bsp_stop_with("bsp_begin takes ", maxprocs, " processes at most: give --nodes a number that is no greater");
-        for (;;)
-            machine_call_2(CALL_ABORT, 0, 0);
-    }
+    if (bsp_nprocs() > maxprocs && !(is_initialized && bsp_pid() != 0))
+        refuse_nodes(maxprocs);
     bsp_part = BSP_WITHIN;
 }
 
-void bsp_end(void)
+/* bsp_end, with 0 as a value that nobody asks for: a `void main` which ends with bsp_end returns it. */
+int bsp_end_with_0(void) __asm__("bsp_end");
+int bsp_end_with_0(void)
 {
     MUST_BE_WITHIN("bsp_end");
     bsp_stdio_flush();
     bsp_part = BSP_AFTER;
+    return 0;
 }
 
 int bsp_nprocs(void)
@@ -70,6 +84,7 @@ static struct {
 void bsp_sync(void)
 {
     MUST_BE_WITHIN("bsp_sync");
+    bsp_look_at_guards();
     /* What was printed belongs to this superstep. */
     bsp_stdio_flush();
     machine_call_0(CALL_SYNC);
@@ -183,4 +198,9 @@ int bsp_hpmove(void **tag_ptr, void **payload_ptr)
     machine_call_2(CALL_MOVE, (long)room.next, status);
     room.next += rounded(status);
     return status;
+}
+
+double bsp_time(void)
+{
+    return 0.0;
 }

@@ -3,8 +3,8 @@
  * Names, types and meanings are BSPlib's. What differs, and what BSPlib leaves open:
  *
  * - Each of the p nodes that --nodes gives starts the program by itself. So bsp_begin starts no processes: all p nodes
- *   take part, and where p is above maxprocs the run is aborted with a line that says so. bsp_nprocs and bsp_pid can be
- *   called anywhere.
+ *   take part, and where p is above maxprocs the run is aborted with a line that says which --nodes to give. After
+ *   bsp_init the maxprocs of rank 0 alone is looked at. bsp_nprocs and bsp_pid can be called anywhere.
  * - What stands before bsp_begin and after bsp_end is run by every node, unless bsp_init was called: then rank 0 alone
  *   returns from it, and every other rank calls spmd and ends.
  * - bsp_end does not end the node; main has to return 0, or call exit(0). What was asked for after the last bsp_sync
@@ -15,15 +15,25 @@
  * - bsp_hpmove copies too, into a buffer of this library which it takes from malloc. What it gave can be read and
  *   written until the next bsp_sync.
  * - bsp_abort stops its own node; the others run on to the end of the superstep, in which the run is then stopped.
- * - bsp_time is missing, since the machine has no clock: the report gives the cost of each superstep.
+ * - bsp_time answers 0, and the compiler warns of each call, since the machine has no clock: the report gives the cost of
+ *   each superstep.
  * - A negative size is refused: bsp_move aborts, bsp_set_tagsize stops the node with fault BadSize, and every other
  *   call with fault RangeOutside. A rank that there is not is fault BadRank, and an area that was not registered when
  *   the superstep began is fault NotRegistered. A put or a get that passes the end of its area, or whose offset is
  *   negative, is refused by the exchange: OutsideArea.
  * - A call outside bsp_begin and bsp_end aborts with a line that says so. So does a program that ends between them.
+ * - bsp_sync, and the end of the program, look at the bytes at address 0 and at those before the first variable, where
+ *   nothing has its place: one that was written aborts with a line that says so.
+ *
+ * Broadcasts, reductions and the like, which BSPlib builds of these, are in bsp_level1.h.
  */
 #ifndef BSP_H
 #define BSP_H
+
+/* What other headers of BSPlib call the types of ranks, of their number and of sizes. */
+typedef int bsp_pid_t;
+typedef int bsp_nprocs_t;
+typedef int bsp_size_t;
 
 #ifdef __cplusplus
 extern "C" {
@@ -60,8 +70,8 @@ void bsp_get_tag(int *status, void *tag);
 void bsp_move(void *payload, int reception_nbytes);
 int bsp_hpmove(void **tag_ptr, void **payload_ptr);
 
-/* Declared so that its use fails, with a reason. */
-__attribute__((error("the machine has no clock: the report (--report) gives the cost of each superstep")))
+/* Always 0. */
+__attribute__((warning("the machine has no clock, so this answers 0: the report gives the cost of each superstep")))
 double bsp_time(void);
 
 #ifdef __cplusplus

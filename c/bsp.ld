@@ -1,5 +1,5 @@
 /* The memory of a node: from 0 on the stack, which grows down, so that one which is too deep leaves the memory and stops its
-   node; then code and data; then the heap, up to the memory's size. */
+   node; then code and constants, in pages of their own; then variables; then the heap, up to the memory's size. */
 ENTRY(_start)
 
 PHDRS
@@ -14,8 +14,10 @@ SECTIONS
     __stack_size = DEFINED(__stack_size) ? __stack_size : 131072;
     . = ALIGN(__stack_size, 16);
     __stack_top = .;
+    /* NULL points here: the last bytes that a stack comes to. */
+    bsp_null = 0;
 
-    .text : {
+    .text ALIGN(4096) : {
         KEEP(*(.text.start))
         *(.text.unlikely .text.unlikely.* .text.startup .text.startup.* .text .text.* .gnu.linkonce.t.*)
     } :code
@@ -32,7 +34,12 @@ SECTIONS
         __fini_array_end = .;
     } :code
 
-    . = ALIGN(16);
+    /* Nothing is stored between the last constant and the end of this guard, so an index below the first variable shows. */
+    .guard ALIGN(4096) : {
+        . += 48;
+        bsp_guard = .;
+        LONG(0) LONG(0) LONG(0) LONG(0)
+    } :data
     .data : {
         *(.data .data.* .gnu.linkonce.d.*)
         . = ALIGN(8);
@@ -53,6 +60,7 @@ SECTIONS
         *(.bss .bss.* .gnu.linkonce.b.* COMMON)
         . = ALIGN(16);
     } :data
+    bsp_goes_back = DEFINED(fseek) || DEFINED(fseeko) ? 1 : 0;
     __heap_start = .;
     _end = .;
     end = .;

@@ -46,9 +46,33 @@ void bsp_stdio_flush(void);
 /* The next byte of the input, or -1. */
 int bsp_stdio_get(void);
 
+/* Up to `count` bytes of the input, from the next one on: how many there were. */
+int bsp_input_read(void *to, int count);
+
 /* Writes "bsp: rank R: ", the text, the number where the text is followed by one, and the rest, and stops this node. */
 __attribute__((noreturn)) void bsp_stop(const char *text);
 __attribute__((noreturn)) void bsp_stop_with(const char *text, int number, const char *rest);
+
+/* Where nothing has its place: what NULL points to, and what an index below the first variable comes to. */
+extern const volatile unsigned bsp_null[4], bsp_guard[4];
+__attribute__((noreturn, cold)) void bsp_stop_for_guards(void);
+
+/* Stops this node where one of these was written. A few instructions, since each bsp_sync has them. */
+static inline void bsp_look_at_guards(void)
+{
+    unsigned null = bsp_null[0] | bsp_null[1] | bsp_null[2] | bsp_null[3];
+    if ((null | bsp_guard[0] | bsp_guard[1] | bsp_guard[2] | bsp_guard[3]) != 0)
+        bsp_stop_for_guards();
+}
+
+/* The files that came in front of the input, each of which open finds by its name. */
+struct bsp_file {
+    const char *name;
+    const char *bytes;
+    size_t size;
+};
+extern struct bsp_file *bsp_files;
+extern int bsp_file_count;
 
 /* Where the program is: before bsp_begin, between it and bsp_end, or after that. */
 extern enum bsp_part { BSP_BEFORE, BSP_WITHIN, BSP_AFTER } bsp_part;

@@ -11,17 +11,6 @@ extern void (*__init_array_start[])(void), (*__init_array_end[])(void);
 extern int main(int argc, char **argv);
 __attribute__((noreturn)) extern void exit(int status);
 
-__attribute__((noreturn)) void bsp_start(void)
-{
-    static char name[] = "program";
-    static char *argv[] = {name, NULL};
-    for (void (**it)(void) = __preinit_array_start; it != __preinit_array_end; it++)
-        (*it)();
-    for (void (**it)(void) = __init_array_start; it != __init_array_end; it++)
-        (*it)();
-    exit(main(1, argv));
-}
-
 /* For references that a C library makes, which calls the functions of .fini_array at exit by itself. */
 void _init(void) {}
 void _fini(void) {}
@@ -46,34 +35,33 @@ int bsp_stdio_put(char byte)
     return 0;
 }
 
+/* Bytes of the input that were read and not taken yet. */
+static struct {
+    char bytes[256];
+    int next, end;
+} in;
+
+static int fill(void)
+{
+    in.next = 0;
+    in.end = machine_call_2(CALL_READ, (long)in.bytes, sizeof in.bytes);
+    return in.end;
+}
+
 int bsp_stdio_get(void)
 {
-    static char in[256];
-    static int place = 0, count = 0;
-    if (place == count) {
-        place = 0;
-        count = machine_call_2(CALL_READ, (long)in, sizeof in);
-        if (count == 0)
-            return -1;
-    }
-    return (unsigned char)in[place++];
+    if (in.next == in.end && fill() == 0)
+        return -1;
+    return (unsigned char)in.bytes[in.next++];
 }
 
-/* Weak, as all that a C library might want here: a program may have functions of these names. */
-__attribute__((weak)) int write(int file, const void *bytes, size_t count)
+/* Up to `count` bytes of the input: those that are left in the buffer first, and then those behind it. */
+int bsp_input_read(void *to, int count)
 {
-    if (file != 1 && file != 2)
-        return -1;
-    bsp_stdio_flush();
-    machine_call_2(CALL_WRITE, (long)bytes, count);
-    return count;
-}
-
-__attribute__((weak)) int read(int file, void *bytes, size_t count)
-{
-    if (file != 0)
-        return -1;
-    return machine_call_2(CALL_READ, (long)bytes, count);
+    int done = 0;
+    while (done < count && in.next < in.end)
+        ((char *)to)[done++] = in.bytes[in.next++];
+    return done < count ? done + machine_call_2(CALL_READ, (long)to + done, count - done) : done;
 }
 
 void *sbrk(ptrdiff_t change)
@@ -140,8 +128,103 @@ void bsp_stop_with(const char *text, int number, const char *rest)
     end_line();
 }
 
+void bsp_stop_for_guards(void)
+{
+    if ((bsp_null[0] | bsp_null[1] | bsp_null[2] | bsp_null[3]) != 0)
+        bsp_stop("memory at address 0 was written: through a pointer that is NULL, or by a stack that is too deep");
+    bsp_stop("memory before the first variable was written, as by an index below 0");
+}
+
+/* What bsprun puts in front of the input, where the program is given arguments or files. No text begins with a zero byte. All
+   numbers have 4 bytes, the lowest first, and stand at multiples of 4; texts end with a zero byte.
+
+       magic, bytes of the whole block, arguments, files
+       for each file how many bytes it has
+       the arguments; then for each file its name and its bytes */
+static const char magic[8] = "\0bsprun\1";
+
+struct block {
+    char magic[8];
+    unsigned size, arguments, files;
+};
+
+struct bsp_file *bsp_files = NULL;
+int bsp_file_count = 0;
+
+static char *take_text(char **at)
+{
+    char *text = *at;
+    while (*(*at)++ != '\0') {
+    }
+    return text;
+}
+
+static void *room(size_t size)
+{
+    void *place = sbrk((ptrdiff_t)((size + 15) & ~(size_t)15));
+    if (size > 0x7ffffff0 || place == (void *)-1)
+        bsp_stop("the arguments and files of bsprun do not fit the memory: give --memory");
+    return place;
+}
+
+/* Takes the block out of the input, where there is one: the number of arguments. */
+static int take_block(char ***argv)
+{
+    const struct block *head = (const struct block *)in.bytes;
+    char *at;
+    unsigned size, i;
+    if (fill() < (int)sizeof *head)
+        return 1;
+    for (i = 0; i < sizeof magic; i++)
+        if (in.bytes[i] != magic[i])
+            return 1;
+    size = head->size;
+    at = room(size);
+    head = (const struct block *)at;
+    bsp_input_read(at, (int)size);
+    *argv = room((head->arguments + 1) * sizeof **argv);
+    bsp_files = room(head->files * sizeof *bsp_files);
+    bsp_file_count = (int)head->files;
+    at += sizeof *head;
+    for (i = 0; i < head->files; i++, at += sizeof(unsigned))
+        bsp_files[i].size = *(unsigned *)at;
+    for (i = 0; i < head->arguments; i++)
+        (*argv)[i] = take_text(&at);
+    for (i = 0; i < head->files; i++) {
+        bsp_files[i].name = take_text(&at);
+        bsp_files[i].bytes = at;
+        at += bsp_files[i].size;
+    }
+    return (int)head->arguments;
+}
+
+/* What main answers. A main that is declared void answers what was left in a register. */
+__attribute__((noreturn)) static void end_of_main(int status)
+{
+    if (status < 0 || status > 255)
+        bsp_stop_with("main returned no value of its own, but ", status, ": make it int main, and return 0 at its end");
+    if (status != 0)
+        bsp_stop_with("the program ended with status ", status,
+                      ", which main returned: 0 says that all went well, and a void main returns no value of its own");
+    exit(0);
+}
+
+__attribute__((noreturn)) void bsp_start(void)
+{
+    static char name[] = "program";
+    static char *alone[] = {name, NULL};
+    char **argv = alone;
+    int argc = take_block(&argv);
+    for (void (**it)(void) = __preinit_array_start; it != __preinit_array_end; it++)
+        (*it)();
+    for (void (**it)(void) = __init_array_start; it != __init_array_end; it++)
+        (*it)();
+    end_of_main(main(argc, argv));
+}
+
 __attribute__((noreturn)) void _exit(int status)
 {
+    bsp_look_at_guards();
     if (status != 0)
         bsp_stop_with("the program ended with status ", status, "");
     if (bsp_part == BSP_WITHIN)

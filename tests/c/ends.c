@@ -68,7 +68,7 @@ int main(void)
         bsp_sync();
     bsp_end();
 #elif END == 16
-    bsp_time();
+    return bsp_time() != 0;
 #elif END == 17
     bsp_begin(2);
     bsp_push_reg(&word, sizeof word);

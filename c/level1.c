@@ -1,0 +1,122 @@
+/* The collective functions of level 1, over those of bsp.h. */
+#include "bsp_level1.h"
+#include "machine.h"
+
+extern void *malloc(size_t size);
+extern void free(void *place);
+extern void *memmove(void *to, const void *from, size_t count);
+
+/* Blocks of all ranks have to have a size that a whole number can say. */
+static void must_be_size(int nbytes)
+{
+    if (nbytes < 0 || nbytes > 0x7fffffff / bsp_nprocs())
+        bsp_stop("a collective function is called with a size that is negative or too large");
+}
+
+static void must_be_rank(int root)
+{
+    if (root < 0 || root >= bsp_nprocs())
+        bsp_stop_with("a collective function is called with a root that is no rank: ", root, "");
+}
+
+/* Registers `blocks` blocks of nbytes at `area` for the superstep that begins with the return of this function. */
+static void open_area(void *area, int blocks, int nbytes)
+{
+    must_be_size(nbytes);
+    bsp_push_reg(area, blocks * nbytes);
+    bsp_sync();
+}
+
+static void close_area(void *area)
+{
+    bsp_pop_reg(area);
+    bsp_sync();
+}
+
+/* The address of a block. */
+static char *block(const void *blocks, int number, int nbytes)
+{
+    return (char *)blocks + number * nbytes;
+}
+
+/* A block for this rank itself is copied, so that it is not counted as sent. */
+static void give(int rank, const void *src, void *area, int number, int nbytes)
+{
+    if (rank == bsp_pid())
+        memmove(block(area, number, nbytes), src, (size_t)nbytes);
+    else
+        bsp_put(rank, src, area, number * nbytes, nbytes);
+}
+
+void bsp_bcast(int root, const void *src, void *dst, int nbytes)
+{
+    int rank;
+    must_be_rank(root);
+    open_area(dst, 1, nbytes);
+    if (bsp_pid() == root)
+        for (rank = 0; rank < bsp_nprocs(); rank++)
+            give(rank, src, dst, 0, nbytes);
+    close_area(dst);
+}
+
+void bsp_scatter(int root, const void *src, void *dst, int nbytes)
+{
+    int rank;
+    must_be_rank(root);
+    open_area(dst, 1, nbytes);
+    if (bsp_pid() == root)
+        for (rank = 0; rank < bsp_nprocs(); rank++)
+            give(rank, block(src, rank, nbytes), dst, 0, nbytes);
+    close_area(dst);
+}
+
+void bsp_gather(int root, const void *src, void *dst, int nbytes)
+{
+    int is_root = bsp_pid() == root;
+    must_be_rank(root);
+    open_area(dst, is_root ? bsp_nprocs() : 0, nbytes);
+    give(root, src, dst, bsp_pid(), nbytes);
+    close_area(dst);
+}
+
+void bsp_total_exchange(const void *src, void *dst, int nbytes)
+{
+    int rank;
+    open_area(dst, bsp_nprocs(), nbytes);
+    for (rank = 0; rank < bsp_nprocs(); rank++)
+        give(rank, block(src, rank, nbytes), dst, bsp_pid(), nbytes);
+    close_area(dst);
+}
+
+/* What op makes of the src of the ranks before `end`, in their order, where each rank gives its own to those from `first` on. */
+static void reduce(bsp_operator op, const void *src, void *dst, int nbytes, int first, int end)
+{
+    int rank;
+    char *operands;
+    must_be_size(nbytes);
+    operands = malloc((size_t)bsp_nprocs() * (size_t)nbytes + 1);
+    if (operands == NULL)
+        bsp_stop("a collective function has no memory for the operands of all ranks");
+    open_area(operands, bsp_nprocs(), nbytes);
+    for (rank = first; rank < bsp_nprocs(); rank++)
+        give(rank, src, operands, bsp_pid(), nbytes);
+    close_area(operands);
+    memmove(dst, operands, (size_t)nbytes);
+    for (rank = 1; rank < end; rank++) {
+        /* The operator may write its result before it has read both operands, so these are apart from it. */
+        char *left = block(operands, rank - 1, nbytes);
+        memmove(left, dst, (size_t)nbytes);
+        op(dst, left, block(operands, rank, nbytes), &nbytes);
+    }
+    free(operands);
+}
+
+void bsp_fold(bsp_operator op, const void *src, void *dst, int nbytes)
+{
+    reduce(op, src, dst, nbytes, 0, bsp_nprocs());
+}
+
+void bsp_scan(bsp_operator op, const void *src, void *dst, int nbytes)
+{
+    reduce(op, src, dst, nbytes, bsp_pid(), bsp_pid() + 1);
+}

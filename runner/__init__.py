@@ -1,0 +1,1 @@
+"""The parts of bsprun, the person's way to run a program. Python's standard library is all that they want."""

@@ -11,6 +11,7 @@ import sys
 import tempfile
 from collections.abc import Callable
 from dataclasses import dataclass
+from typing import NoReturn
 
 from . import emulator, report
 from .block import MAGIC, block
@@ -42,9 +43,17 @@ def number(what: str, least: int, most: int) -> Callable[[str], int]:
     return read
 
 
+class Parser(argparse.ArgumentParser):
+    """A reader of the command line, for which a wrong one has the emulator's status for that."""
+
+    def error(self, message: str) -> NoReturn:
+        """Says what is wrong."""
+        self.exit(1, f"bsprun: {message}; bsprun --help tells the options\n")
+
+
 def arguments(words: list[str]) -> argparse.Namespace:
     """The command line; it ends the program where it is wrong."""
-    parser = argparse.ArgumentParser(
+    parser = Parser(
         prog="bsprun",
         usage="bsprun [-n P] [options] PROGRAM [ARGS..]",
         description="Runs a BSP program on P nodes. PROGRAM is an ELF file, a text of assembly (.s), a raw image (.raw), or a"
@@ -55,7 +64,7 @@ def arguments(words: list[str]) -> argparse.Namespace:
     add("-n", "--nodes", type=number("the number of nodes", 1, 256), default=1, metavar="P", help="nodes, 1 if not said")
     add("--input", metavar="FILE", help="the program's input; standard input if not said, where it is no terminal")
     add("--file", metavar="FILE", action="append", default=[], help="a file that fopen can read; any number of them")
-    add("--report", metavar="FILE", help="the cost of each superstep, into FILE: as CSV or JSON where it ends so; - is standard error")
+    add("--report", metavar="FILE", help="the costs, into FILE: as CSV or JSON where its name says so; - is standard error")
     add("--summary", action="store_true", help="the totals and the dearest supersteps, on standard error")
     add("--warn", action="store_true", help="look for what is likely a mistake, also in a run that ends well; takes long")
     add("--limit", type=number("the limit of instructions", 1, 1 << 40), default=1 << 40, metavar="COUNT")

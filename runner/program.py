@@ -39,6 +39,7 @@ class Code:
     variables: list[tuple[int, int, str]] = field(default_factory=list)
     names: dict[str, int] = field(default_factory=dict)
     lines: list[tuple[int, int]] = field(default_factory=list)
+    text: str = ""
     debug_info: pathlib.Path | None = None
 
     def word(self, address: int) -> int | None:
@@ -130,6 +131,7 @@ def read_text(emulator: list[str], path: pathlib.Path, folder: pathlib.Path) -> 
     places = struct.unpack_from(f"<{len(lines)}I", content, end - start)
     code.segments = [(start, content[: end - start])]
     code.lines = list(zip(places, range(1, len(lines) + 1)))
+    code.text = path.name
     for address, number in code.lines:
         words_of_line = lines[number - 1].split("#")[0].split(":")
         code.functions += [(address, 0, word.strip()) for word in words_of_line[:-1] if word.strip().isidentifier()]
@@ -167,4 +169,4 @@ def text_line(code: Code, address: int) -> list[tuple[str, str]]:
     """The line of a text that an address lies in, and the label before it."""
     here = [number for place, number in code.lines if place <= address]
     function = code.function(address)
-    return [(function[1] if function else "", f"line {here[-1]}")] if here else []
+    return [(function[1] if function else "", f"{code.text}:{here[-1]}")] if here else []

@@ -13,6 +13,7 @@ A case is a folder with some of these files:
   typed     a file that says that standard input is a terminal in a dialogue, and else it is a pipe
   closed    a file that says that standard output is closed before the program starts
   terminal  a file that says that the script `bspemu` is run in the program's place, with a terminal as standard error
+  script    the name of a script at the repository's top that is run in the program's place, over the program
   address_space    how many bytes of address space the program may have, all that it wants where it is missing
   stdout    what standard output must hold, to the byte, empty where it is missing
   stdout.contains, stderr.contains    texts, one a line, that must stand in it, in place of an exact match
@@ -123,6 +124,8 @@ def run(program, case, words):
     if (case / "terminal").exists():
         return at_terminal(case, [str(case.parent.parent.parent / "bspemu"), *words])
     command = [str(program), *words]
+    if (case / "script").exists():
+        command[0] = str(case.parent.parent.parent / read(case / "script").decode().strip())
     if (case / "dialogue").exists():
         return converse(case, command)
     if (case / "closed").exists():
@@ -134,6 +137,7 @@ def run(program, case, words):
         timeout=SECONDS,
         check=False,
         preexec_fn=limited(case),
+        env={**os.environ, "BSPEMU": str(program)},
     )
 
 

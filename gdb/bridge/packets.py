@@ -1,0 +1,141 @@
+"""gdb's remote serial protocol as bytes: packets with their checksums, acknowledgements, and the byte that interrupts."""
+
+from __future__ import annotations
+
+import os
+import select
+from typing import Optional, Union
+
+# The longest packet that either side sends, in bytes, without its frame.
+PACKET_SIZE = 0x10000
+INTERRUPT = b"\x03"
+# How often one packet is sent, or asked for, before the connection is given up.
+TRIES = 5
+
+
+class NotGdb(Exception):
+    """What came is not gdb's protocol."""
+
+
+class Closed(Exception):
+    """The other side has closed the connection."""
+
+
+def checksum(payload: bytes) -> int:
+    """The sum of a packet's bytes that follows it, modulo 256."""
+    return sum(payload) % 256
+
+
+def frame(payload: bytes) -> bytes:
+    """A packet as it is sent. The payload is text or hexadecimal digits; what else there is has been escaped."""
+    return b"$%s#%02x" % (payload, checksum(payload))
+
+
+def escape(data: bytes) -> bytes:
+    """Bytes as the protocol spells them within a packet."""
+    escaped = bytearray()
+    for byte in data:
+        if byte in b"$#}*":
+            escaped += bytes([0x7D, byte ^ 0x20])
+        else:
+            escaped.append(byte)
+    return bytes(escaped)
+
+
+def hexadecimal(text: Union[str, bytes]) -> bytes:
+    """A text as hexadecimal digits, two a byte."""
+    data = text.encode() if isinstance(text, str) else text
+    return data.hex().encode()
+
+
+class Connection:
+    """Packets over two file descriptors, which may be the same one."""
+
+    def __init__(self, source: int, target: int) -> None:
+        self._source = source
+        self._target = target
+        self._waiting = b""
+        self._last = b""
+        self._acknowledges = True
+        self._tries = 0
+
+    def stop_acknowledging(self) -> None:
+        """From now on neither side acknowledges packets."""
+        self._acknowledges = False
+
+    def send(self, payload: bytes) -> None:
+        """Sends a packet."""
+        self._last = frame(payload)
+        self._write(self._last)
+
+    def receive(self) -> bytes:
+        """The payload of the next packet, or `INTERRUPT`."""
+        while True:
+            self._skip_acknowledgements()
+            if self._waiting.startswith(INTERRUPT):
+                self._waiting = self._waiting[1:]
+                return INTERRUPT
+            payload = self._take_packet()
+            if payload is not None:
+                return payload
+            self._read()
+
+    def is_interrupted(self) -> bool:
+        """Whether gdb has asked to interrupt a run that goes on. It sends nothing else then."""
+        while select.select([self._source], [], [], 0)[0]:
+            self._read()
+        self._skip_acknowledgements()
+        found = self._waiting.startswith(INTERRUPT)
+        self._waiting = self._waiting[1:] if found else self._waiting
+        return found
+
+    def _skip_acknowledgements(self) -> None:
+        while self._waiting[:1] in (b"+", b"-"):
+            if self._waiting[:1] == b"-":
+                self._count_try()
+                self._write(self._last)
+            else:
+                self._tries = 0
+            self._waiting = self._waiting[1:]
+
+    def _take_packet(self) -> Optional[bytes]:
+        """The first packet that waits, if it is there as a whole."""
+        if self._waiting and not self._waiting.startswith(b"$"):
+            raise NotGdb
+        end = self._waiting.find(b"#")
+        if end < 0 or len(self._waiting) < end + 3:
+            if len(self._waiting) > PACKET_SIZE + 4:
+                raise NotGdb
+            return None
+        payload, digits = self._waiting[1:end], self._waiting[end + 1 : end + 3]
+        self._waiting = self._waiting[end + 3 :]
+        if not self._acknowledges:
+            return payload
+        if digits.lower() == b"%02x" % checksum(payload):
+            self._tries = 0
+            self._write(b"+")
+            return payload
+        self._count_try()
+        self._write(b"-")
+        return None
+
+    def _count_try(self) -> None:
+        self._tries += 1
+        if self._tries == TRIES:
+            raise NotGdb
+
+    def _read(self) -> None:
+        try:
+            data = os.read(self._source, PACKET_SIZE)
+        except OSError as fault:
+            raise Closed from fault
+        if not data:
+            raise Closed
+        self._waiting += data
+
+    def _write(self, data: bytes) -> None:
+        try:
+            while data:
+                data = data[os.write(self._target, data) :]
+        except OSError as fault:
+            raise Closed from fault

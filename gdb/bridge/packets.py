@@ -4,7 +4,7 @@ from __future__ import annotations
 
 import os
 import select
-from typing import Optional, Union
+from typing import Optional, Tuple, Union
 
 # The longest packet that either side sends, in bytes, without its frame.
 PACKET_SIZE = 0x10000
@@ -75,10 +75,11 @@ class Connection:
             if self._waiting.startswith(INTERRUPT):
                 self._waiting = self._waiting[1:]
                 return INTERRUPT
-            payload = self._take_packet()
-            if payload is not None:
-                return payload
-            self._read()
+            whole = self._take_packet()
+            if whole is None:
+                self._read()
+            elif self._accepts(*whole):
+                return whole[0]
 
     def is_interrupted(self) -> bool:
         """Whether gdb has asked to interrupt a run that goes on. It sends nothing else then."""
@@ -98,8 +99,8 @@ class Connection:
                 self._tries = 0
             self._waiting = self._waiting[1:]
 
-    def _take_packet(self) -> Optional[bytes]:
-        """The first packet that waits, if it is there as a whole."""
+    def _take_packet(self) -> Optional[Tuple[bytes, bytes]]:
+        """The payload and the checksum of the first packet that waits, if it is there as a whole."""
         if self._waiting and not self._waiting.startswith(b"$"):
             raise NotGdb
         end = self._waiting.find(b"#")
@@ -107,17 +108,21 @@ class Connection:
             if len(self._waiting) > PACKET_SIZE + 4:
                 raise NotGdb
             return None
-        payload, digits = self._waiting[1:end], self._waiting[end + 1 : end + 3]
+        whole = self._waiting[1:end], self._waiting[end + 1 : end + 3]
         self._waiting = self._waiting[end + 3 :]
+        return whole
+
+    def _accepts(self, payload: bytes, digits: bytes) -> bool:
+        """Whether a packet has come as it was sent. It is acknowledged, or asked for again."""
         if not self._acknowledges:
-            return payload
-        if digits.lower() == b"%02x" % checksum(payload):
+            return True
+        is_right = digits.lower() == b"%02x" % checksum(payload)
+        if is_right:
             self._tries = 0
-            self._write(b"+")
-            return payload
-        self._count_try()
-        self._write(b"-")
-        return None
+        else:
+            self._count_try()
+        self._write(b"+" if is_right else b"-")
+        return is_right
 
     def _count_try(self) -> None:
         self._tries += 1

@@ -7,7 +7,7 @@ from dataclasses import dataclass, field, replace
 from typing import Callable, Iterable, List, Optional, Set, Union
 
 from bridge import words
-from bridge.machine import ALL_STEPS, MOST_POINTS, Arrival, AtRank, BrokenOff, Machine, Node, Over, Point
+from bridge.machine import ALL_STEPS, MOST_POINTS, Arrival, AtRank, AtSuperstep, BrokenOff, Machine, Node, Over, Point
 
 # How many addresses may have breakpoints: beside these a superstep and a rank are points of the bridge's own.
 MOST_BREAKPOINTS = MOST_POINTS - 2
@@ -121,6 +121,8 @@ class Runner:
             self._show_output(is_due=halt is not None)
         if isinstance(arrival, Over):
             self.show(f"{arrival.outcome}\n".encode())
+        elif arrival == AtSuperstep(self.machine.superstep) and halt is not None:
+            self.show(f"superstep {self.machine.superstep} begins\n".encode())
         return halt
 
     def _go_by_windows(self, superstep: int) -> Arrival:
@@ -194,7 +196,6 @@ class Runner:
             running = [node.rank for node in self.machine.nodes() if node.runs]
             return self._look_on(running[0] if running else current)
         if arrival.superstep in self.supersteps:
-            self.show(f"superstep {arrival.superstep} begins\n".encode())
             return Stop(current, words.NONE)
         return Stop(current, words.INTERRUPTED) if self._has_interrupt() else None
 

@@ -56,14 +56,14 @@ def rank_of(outcome: str, otherwise: int) -> int:
 
 
 def target_description() -> str:
-    """What gdb is told of the registers."""
+    """What gdb is told of the registers. Without an operating system, gdb has the target make its single steps."""
     rows = "".join(
         f'<reg name="{name}" bitsize="32" type="{_TYPES.get(name, "int")}" regnum="{number}"/>'
         for number, name in enumerate(REGISTERS + ["pc"])
     )
     return (
         '<?xml version="1.0"?><!DOCTYPE target SYSTEM "gdb-target.dtd"><target version="1.0">'
-        f'<architecture>riscv:rv32</architecture><feature name="org.gnu.gdb.riscv.cpu">{rows}</feature></target>'
+        f'<architecture>riscv:rv32</architecture><osabi>none</osabi><feature name="org.gnu.gdb.riscv.cpu">{rows}</feature></target>'
     )
 
 

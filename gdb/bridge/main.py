@@ -6,6 +6,7 @@ import os
 import pathlib
 import shlex
 import shutil
+import signal
 import socket
 import subprocess
 import sys
@@ -65,6 +66,8 @@ def main(words: Sequence[str]) -> int:
         if job.port is not None:
             serve_port(job, job.port)
         elif job.is_pipe:
+            # At a terminal Ctrl-C is for gdb.
+            signal.signal(signal.SIGINT, signal.SIG_IGN)
             serve(job, Connection(0, 1))
         else:
             start_gdb(job)

@@ -31,7 +31,7 @@ def answer(runner: Runner, command: str) -> bytes:
     if name == "superstep":
         return _text([f"superstep {machine.superstep}"])
     if name == "turn":
-        return _text([machine.turn()])
+        return _text([runner.turn()])
     if name == "costs":
         return _text(machine.costs())
     return machine.output() if name == "output" else HELP.encode()

@@ -54,14 +54,17 @@ class Runner:
     breakpoints: Set[int] = field(default_factory=set)
     supersteps: Set[int] = field(default_factory=set)
     _shown: int = 0
+    _is_behind: bool = False
     _next_look: float = 0.0
-    _interrupted_at: Optional[float] = None
+    # Until when an interrupt waits, and whether it is already known that some superstep takes longer.
+    _deadline: Optional[float] = None
+    _is_searching: bool = False
 
     # What gdb can say.
 
     def go(self, current: int) -> Halt:
         """All ranks go on, in the debugger's order. A stop that is at no rank is told at the current one."""
-        self._interrupted_at = None
+        self._deadline = None
         count = 1
         while True:
             started = time.monotonic()
@@ -72,7 +75,7 @@ class Runner:
 
     def go_alone(self, rank: int) -> Halt:
         """A rank goes on by itself. Where it has stopped by itself, the others go on to the end of the superstep, and then it again."""
-        self._interrupted_at = None
+        self._deadline = None
         while True:
             nodes = self.machine.nodes()
             if nodes[rank].runs and any(node.runs for node in nodes[:rank]):
@@ -84,7 +87,7 @@ class Runner:
 
     def step(self, rank: int) -> Halt:
         """A rank makes an instruction; before that, where it has stopped by itself, the others go on, and the turn is made."""
-        self._interrupted_at = None
+        self._deadline = None
         while not self.machine.node(rank).runs:
             halt = self._go_piece(1, rank)
             if halt is not None:
@@ -104,6 +107,12 @@ class Runner:
             if self.is_interrupted():
                 return Stop(rank, words.INTERRUPTED)
 
+    def turn(self) -> str:
+        """Makes the turn, if no rank runs. Answers the debugger's line."""
+        line = self.machine.turn()
+        self._show_output()
+        return line
+
     # Pieces of a run.
 
     def _go_piece(self, count: int, current: int) -> Optional[Halt]:
@@ -116,9 +125,12 @@ class Runner:
             arrival = self._go_to(self._points(range(self.machine.ranks)) + [min([before + count] + ahead)])
         else:
             arrival = self._go_by_windows(before)
+        if isinstance(arrival, BrokenOff) and count > 1:
+            return self._search(count, current)
         halt = self._halt_of(arrival, current)
-        if isinstance(arrival, Over) or self.machine.superstep > before:
-            self._show_output(is_due=halt is not None)
+        self._is_behind |= isinstance(arrival, Over) or self.machine.superstep > before
+        if self._is_behind and (halt is not None or time.monotonic() >= self._next_look):
+            self._show_output()
         if isinstance(arrival, Over):
             self.show(f"{arrival.outcome}\n".encode())
         elif arrival == AtSuperstep(self.machine.superstep) and halt is not None:
@@ -142,13 +154,11 @@ class Runner:
     def _run_alone(self, nodes: List[Node], rank: int) -> Optional[Halt]:
         """A rank runs by itself to a breakpoint or to where it stops, though lower ones have not done so.
 
-        The debugger's `go` begins with the lowest rank. So another machine at the same place tells how far it is: there the lower
-        ranks go first, and as ranks do not meet before the turn, this one makes the same steps there as here.
+        The debugger's `go` begins with the lowest rank. So another machine at the same place tells how far it is: there `go` takes the
+        lower ranks first, past all points, and as ranks do not meet before the turn, this one makes the same steps there as here.
         """
         scout = self.machine.at(self.machine.place())
         try:
-            for node in nodes[:rank]:
-                scout.step(node.rank, ALL_STEPS)
             points = self._points([rank]) + [scout.superstep + 1]
             arrival = scout.go(points, self._must_break_off)
             count = scout.node(rank).ticks - nodes[rank].ticks if isinstance(arrival, AtRank) else ALL_STEPS
@@ -158,6 +168,19 @@ class Runner:
             return self._look_on(rank)
         self.machine.step(rank, count)
         return Stop(rank, words.TRAP, is_breakpoint=True) if count != ALL_STEPS else self._stop_at(rank)
+
+    def _search(self, count: int, current: int) -> Halt:
+        """After an interrupt in some supersteps of which one takes long: goes on to that one."""
+        self._is_searching = True
+        try:
+            for _ in range(count):
+                self._deadline = time.monotonic() + PATIENCE
+                halt = self._go_piece(1, current)
+                if halt is not None:
+                    return halt
+        finally:
+            self._is_searching = False
+        return Stop(current, words.INTERRUPTED)
 
     def _look_on(self, rank: int) -> Halt:
         """After an interrupt, with the machine where it stood before: a rank that runs goes on a little, for gdb to show where it is."""
@@ -179,12 +202,12 @@ class Runner:
 
     def _must_break_off(self) -> bool:
         """Whether a run was to be interrupted, and has not come to the end of a superstep for a while since."""
-        return self._has_interrupt() and time.monotonic() - (self._interrupted_at or 0.0) > PATIENCE
+        return self._has_interrupt() and time.monotonic() > (self._deadline or 0.0)
 
     def _has_interrupt(self) -> bool:
-        if self._interrupted_at is None and self.is_interrupted():
-            self._interrupted_at = time.monotonic()
-        return self._interrupted_at is not None
+        if self._deadline is None and self.is_interrupted():
+            self._deadline = time.monotonic() + PATIENCE
+        return self._deadline is not None
 
     def _halt_of(self, arrival: Arrival, current: int) -> Optional[Halt]:
         """What gdb is told of where a piece has come to; nothing where it is to go on."""
@@ -197,7 +220,7 @@ class Runner:
             return self._look_on(running[0] if running else current)
         if arrival.superstep in self.supersteps:
             return Stop(current, words.NONE)
-        return Stop(current, words.INTERRUPTED) if self._has_interrupt() else None
+        return Stop(current, words.INTERRUPTED) if self._has_interrupt() and not self._is_searching else None
 
     def _halt_of_outcome(self, outcome: str, current: int) -> Halt:
         if outcome == "ended":
@@ -219,13 +242,11 @@ class Runner:
             return replace(halt, signal=words.NONE)
         return halt
 
-    def _show_output(self, is_due: bool) -> None:
-        """Shows what was written since the last time. It takes as long as all output is, so it is not asked for all the time."""
+    def _show_output(self) -> None:
+        """Shows what was written since the last time. It takes as long as all output is, so it is not done all the time."""
         started = time.monotonic()
-        if not is_due and started < self._next_look:
-            return
         output = self.machine.output()
         if len(output) > self._shown:
             self.show(output[self._shown :])
-            self._shown = len(output)
+        self._shown, self._is_behind = len(output), False
         self._next_look = started + (1 + PAUSE) * (time.monotonic() - started)

@@ -33,16 +33,24 @@ class Stub:
         self._halt: Halt = Stop(0, words.TRAP)
         self._is_hardware: Dict[int, bool] = {}
         self._is_over = False
-        self._exact: Dict[str, Answer] = {
+        self._exact = self._answers_to_words()
+        self._beginning = self._answers_to_beginnings()
+
+    def _answers_to_words(self) -> Dict[str, Answer]:
+        """The answers to packets that are just these words."""
+        return {
             "QStartNoAckMode": self._stop_acknowledging,
-            "qfThreadInfo": lambda _: b"m" + b",".join(b"%x" % (rank + 1) for rank in range(machine.ranks)),
+            "qfThreadInfo": lambda _: b"m" + b",".join(b"%x" % (rank + 1) for rank in range(self._machine.ranks)),
             "qsThreadInfo": lambda _: b"l",
             "qC": lambda _: b"QC%x" % (self._current + 1),
             "vCont?": lambda _: b"vCont;c;C;s;S;r",
             "?": lambda _: self._told(self._halt),
             "g": lambda _: b"".join(map(_register, self._registers())),
         }
-        self._beginning: Dict[str, Answer] = {
+
+    def _answers_to_beginnings(self) -> Dict[str, Answer]:
+        """The answers to packets that begin so, by what comes behind."""
+        return {
             "qSupported": lambda _: FEATURES.encode(),
             "qAttached": lambda _: b"0",
             "qThreadExtraInfo,": lambda text: hexadecimal(self._state(int(text, 16) - 1)),
@@ -52,7 +60,7 @@ class Stub:
             "vKill": self._end,
             "D": self._end,
             "H": self._choose,
-            "T": lambda text: OK if 0 < int(text, 16) <= machine.ranks else BAD,
+            "T": lambda text: OK if 0 < int(text, 16) <= self._machine.ranks else BAD,
             "p": self._read_register,
             "m": self._read_memory,
             "Z0,": lambda text: self._add_breakpoint(text, is_hardware=False),

@@ -47,6 +47,12 @@ int main(void)
     if (s == 1)
         __asm__ volatile("ebreak");
 #endif
+#ifdef LOOP
+    for (int i = 0; i < LOOP; i++)
+        bsp_sync();
+    while (seen != -1)
+        mine.from++;
+#endif
     bsp_end();
     return 0;
 }

@@ -21,7 +21,8 @@ ghost use Rattle.std.specs.Prelude.{◌≡◌, ◌<◌, ◌≤◌, IfErr, IfOk, 
 ghost use Rattle.std.specs.Io.{ReadsAtMost, WritesAtMost};
 ghost use Rattle.std.specs.Io.KnownBytes.{Appends, Consumes, IsAtEnd, Keeps, ReadConsumes, WriteAppends};
 ghost use Rattle.counted_io.specs.Counted.{HasRisen, is_failed_write, next_count};
-ghost use Rattle.counted_io.specs.Transfers.{AppendsPrefix, ConsumesPrefix, ConsumesWithin};
+ghost use Rattle.counted_io.specs.Streams.{IsReadErrorOf, stream};
+ghost use Rattle.counted_io.specs.Transfers.{AppendsPrefix};
 
 use std::alloc::{AllocError, Allocator};
 use std::io;
@@ -177,14 +178,7 @@ pub fn read_at_most<A: Allocator + Copy, R: Read>(
     ensures whole { IfOk result (λ input.
         IfSome (R.remaining from.old.inner) (λ all. input.items ≡ all)) }
 
-    ensures too_long { result ≡ Err ReadError.TooLong
-        → IfSome (R.remaining from.old.inner) (λ all. most < length all) }
-    ensures fault { result ≡ Err ReadError.ReadFault
-        → HasRisen from.old.failures from.new.failures }
-    ensures no_memory { result ≡ Err ReadError.NoMemory
-        → ConsumesWithin (R.remaining from.old.inner) (R.remaining from.new.inner) most }
-    ensures err { OnErr result
-        (ConsumesPrefix (R.remaining from.old.inner) (R.remaining from.new.inner)) }
+    ensures err { IfErr result (λ e. IsReadErrorOf most (stream R.remaining from.old from.new) e) }
     ensures never_falls { from.old.failures ≤ from.new.failures }
 {
     let mut input = Vec::new(alloc);

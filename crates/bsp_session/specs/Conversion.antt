@@ -1,43 +1,114 @@
--- The sessions that run nothing: a listing, and a saved image.
-use Rattle.std.specs.Prelude.{◌≡◌, List, ℕ, Option, Some}
+-- The sessions that run nothing: the file of an image is read, and a text of the image is written, which is its listing or
+-- the file that it is saved as.
+use Rattle.std.specs.Prelude.{◌≡◌, ◌<◌, ◌⊎◌, List, ◌++◌, ℕ, length, Option, Some}
+use Rattle.std.specs.List.{flat_map}
 use Rattle.std.specs.Io.KnownBytes.{Appends}
 use Rattle.counted_io.specs.Transfers.{AppendsPrefix}
-use Rattle.node_memory.specs.Image.{Image}
+use Rattle.counted_io.specs.declared.ReadError.{ReadError}
+use Rattle.counted_io.specs.declared.ReadError.TheVariants as read
+use Rattle.elf_image.specs.Spelling.{spelling_of}
+use Rattle.node_memory.specs.Image.{Image, Segment}
+use Rattle.rv_listing.specs.declared.lines.Line.{Line}
+use Rattle.rv_listing.specs.Listing.{ended_text, lines_of, listing_of}
 use Rattle.bsp_session.specs.declared.errors.SessionError.{SessionError}
-use Rattle.bsp_session.specs.declared.errors.SessionError.TheVariants.{BadSettings, SegmentOutside, NoWorker}
+use Rattle.bsp_session.specs.declared.errors.SessionError.TheVariants.{TooLong, Text, BadImage, ReadFault, WriteFault, NoMemory}
 use Rattle.bsp_session.specs.declared.job.Format.{Format}
 use Rattle.bsp_session.specs.Images.{most_bytes, Gives, image_fault}
-use Rattle.bsp_session.specs.Streams.{Stream, ReadsWhole}
+use Rattle.bsp_session.specs.Streams.{Stream, IsUntouched, ReadsWhole, HasFailed, IsReadErrorOf}
 
--- a file was read, and gives an image
-pub record ReadsImage (image : Stream) (format : Format) (m : Image) : Type 0 where
+-- what such a session reads, what it writes to, and the format of the file
+pub record Conversion : Type 0 where
+  pub file : Stream
+  pub out : Stream
+  pub format : Format
+
+abbrev pub conversion_of : (file out : Stream) → Format → Conversion
+conversion_of file out format = record { file = file; out = out; format = format }
+
+-- the file was read, and gives an image
+pub record ReadsImage (c : Conversion) (m : Image) : Type 0 where
   pub i : List ℕ
-  pub read : ReadsWhole image i (most_bytes format)
-  pub gives : Gives format i m
+  pub read : ReadsWhole c.file i (most_bytes c.format)
+  pub gives : Gives c.format i m
 
--- all of a text that an image has was written
-pub record WritesOf (text_of : Image → List ℕ) (image : Stream) (format : Format)
-    (out_before out_after : Option (List ℕ)) : Type 0 where
+-- an answer: all of the image's text was written
+pub record WritesText (text_of : Image → List ℕ) (c : Conversion) : Type 0 where
   pub m : Image
-  pub given : ReadsImage image format m
-  pub written : Appends out_before out_after (text_of m)
+  pub given : ReadsImage c m
+  pub written : Appends c.out.before c.out.after (text_of m)
 
--- some first bytes of it were written, and not all
-pub record WritesPrefixOf (text_of : Image → List ℕ) (image : Stream) (format : Format)
-    (out_before out_after : Option (List ℕ)) : Type 0 where
+-- the writer failed after some first bytes of the text were written, and not all
+pub record WritesPart (text_of : Image → List ℕ) (c : Conversion) : Type 0 where
   pub m : Image
-  pub given : ReadsImage image format m
-  pub written : AppendsPrefix out_before out_after (text_of m)
+  pub given : ReadsImage c m
+  pub written : AppendsPrefix c.out.before c.out.after (text_of m)
+  pub failed : HasFailed c.out
 
--- a file was read, and is refused for this
-pub record IsRefusedImage (image : Stream) (format : Format) (e : SessionError) : Type 0 where
+-- some first lines are appended to known bytes, and not all of them
+pub record AppendsFirstLines (old new : Option (List ℕ)) (lines : List Line) : Type 0 where
+  pub first : List Line
+  pub rest : List Line
+  pub split : lines ≡ first ++ rest
+  pub some_left : 0 < length rest
+  pub written : Appends old new (flat_map ended_text first)
+
+-- the lines of a segment's listing, and those of an image's, segment by segment
+abbrev pub lines_of_segment : Segment → List Line
+lines_of_segment s = lines_of s.addr s.bytes
+
+abbrev pub lines_of_image : Image → List Line
+lines_of_image m = flat_map lines_of_segment m.segments
+
+-- what is known of a writer where lines were not all written: it failed after some first bytes of them, or memory was refused after
+-- some first lines, each whole
+abbrev pub IsErrorOfLines : Stream → List Line → SessionError → Type 0
+IsErrorOfLines out lines WriteFault = AppendsPrefix out.before out.after (flat_map ended_text lines) × HasFailed out
+IsErrorOfLines out lines NoMemory = AppendsFirstLines out.before out.after lines
+IsErrorOfLines out lines _ = ⊥
+
+-- some first lines of the image's listing were written, each whole, and not all of them
+pub record ListsFirstLines (c : Conversion) : Type 0 where
+  pub m : Image
+  pub given : ReadsImage c m
+  pub written : AppendsFirstLines c.out.before c.out.after (lines_of_image m)
+
+-- the file was not read whole, for this, and nothing was written
+pub record EndsUnread (c : Conversion) (why : ReadError) : Type 0 where
+  pub ended : IsReadErrorOf (most_bytes c.format) c.file why
+  pub unwritten : IsUntouched c.out
+
+-- the file was read, and is refused for this; nothing was written
+pub record IsRefused (c : Conversion) (e : SessionError) : Type 0 where
   pub i : List ℕ
-  pub read : ReadsWhole image i (most_bytes format)
-  pub refused : image_fault format i ≡ Some e
+  pub read : ReadsWhole c.file i (most_bytes c.format)
+  pub refused : image_fault c.format i ≡ Some e
+  pub unwritten : IsUntouched c.out
 
--- an error of a session that makes no machine: there are no settings, and no memory that an image could reach past
-abbrev pub IsErrorWithoutMachine : SessionError → Type 0
-IsErrorWithoutMachine (BadSettings cause) = ⊥
-IsErrorWithoutMachine SegmentOutside = ⊥
-IsErrorWithoutMachine NoWorker = ⊥
-IsErrorWithoutMachine _ = Unit {0}
+-- the file was read, and nothing was written
+pub record EndsUnwritten (c : Conversion) : Type 0 where
+  pub i : List ℕ
+  pub read : ReadsWhole c.file i (most_bytes c.format)
+  pub unwritten : IsUntouched c.out
+
+-- what is known where memory was refused before anything was written
+abbrev pub LacksMemory : Conversion → Type 0
+LacksMemory c = EndsUnread c read.NoMemory ⊎ EndsUnwritten c
+
+-- what is known where a listing ended by an error. There are no settings, no memory that an image could reach past, and no workers
+abbrev pub IsErrorOfListing : Conversion → SessionError → Type 0
+IsErrorOfListing c TooLong = EndsUnread c read.TooLong
+IsErrorOfListing c (Text cause) = IsRefused c (Text cause)
+IsErrorOfListing c (BadImage cause) = IsRefused c (BadImage cause)
+IsErrorOfListing c ReadFault = EndsUnread c read.ReadFault
+IsErrorOfListing c WriteFault = WritesPart listing_of c
+IsErrorOfListing c NoMemory = LacksMemory c ⊎ ListsFirstLines c
+IsErrorOfListing c _ = ⊥
+
+-- what is known where an assembly ended by an error. What it reads is a text, so it is refused as no other file
+abbrev pub IsErrorOfAssembly : Conversion → SessionError → Type 0
+IsErrorOfAssembly c TooLong = EndsUnread c read.TooLong
+IsErrorOfAssembly c (Text cause) = IsRefused c (Text cause)
+IsErrorOfAssembly c ReadFault = EndsUnread c read.ReadFault
+IsErrorOfAssembly c WriteFault = WritesPart spelling_of c
+IsErrorOfAssembly c NoMemory = LacksMemory c
+IsErrorOfAssembly c _ = ⊥

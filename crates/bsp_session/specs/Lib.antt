@@ -1,7 +1,6 @@
+pub mod Conversion
 pub mod Images
-pub mod Listing
 pub mod Outcome
 pub mod Streams
 pub mod Report
 pub mod Session
-pub mod Stages

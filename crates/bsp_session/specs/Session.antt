@@ -4,6 +4,8 @@ use Rattle.std.specs.Prelude.{◌≡◌, ℕ, ◌^◌, ◌<◌, ◌⊎◌, false
 use Rattle.std.specs.Option.{option_or}
 use Rattle.std.specs.Io.KnownBytes.{Appends}
 use Rattle.counted_io.specs.Transfers.{AppendsPrefix}
+use Rattle.counted_io.specs.declared.ReadError.{ReadError}
+use Rattle.counted_io.specs.declared.ReadError.TheVariants as read
 use Rattle.node_memory.specs.Image.{Image, is_segment_outside}
 use Rattle.machine_core.specs.declared.outcome.Outcome.{Outcome}
 use Rattle.machine_core.specs.declared.settings.Settings.{Settings}
@@ -11,11 +13,22 @@ use Rattle.machine_core.specs.Machine.{MachineState, fresh, settings_fault}
 use Rattle.machine_core.specs.Turn.{end_of}
 use Rattle.phase_pool.specs.Numbers.{numbers_fault}
 use Rattle.bsp_session.specs.declared.errors.SessionError.{SessionError}
+use Rattle.bsp_session.specs.declared.errors.SessionError.TheVariants.{BadSettings, TooLong, Text, BadImage, SegmentOutside, ReadFault, WriteFault, NoWorker, NoMemory}
 use Rattle.bsp_session.specs.declared.job.Job.{Job}
 use Rattle.bsp_session.specs.Images.{most_bytes, Gives, image_fault}
 use Rattle.bsp_session.specs.Outcome.{error_of_machine, error_of_pool}
-use Rattle.bsp_session.specs.Streams.{Stream, IsUntouched, ReadsWhole, ReadsPast, HasFailed, IsCutShort}
+use Rattle.bsp_session.specs.Streams.{Stream, IsUntouched, ReadsWhole, HasFailed, IsReadErrorOf}
 use Rattle.bsp_session.specs.Report.{report_of}
+
+-- what a session reads, what it writes to, and what it is asked. The bytes of the writer are those that it holds
+pub record Session : Type 0 where
+  pub image : Stream
+  pub input : Stream
+  pub out : Stream
+  pub job : Job
+
+abbrev pub session_of : (image input out : Stream) → Job → Session
+session_of image input out job = record { image = image; input = input; out = out; job = job }
 
 -- the most bytes of an input (own limit)
 abbrev pub most_input : ℕ
@@ -27,87 +40,100 @@ job_fault job =
     option_or (option_map error_of_machine (settings_fault job.settings))
     (option_map error_of_pool (numbers_fault job.workers job.slice))
 
--- the settings are good, and an image's file and an input were read
-pub record ReadsBoth (image input : Stream) (job : Job) (i n : List ℕ) : Type 0 where
-  pub settings : job_fault job ≡ None
-  pub image_read : ReadsWhole image i (most_bytes job.format)
-  pub input_read : ReadsWhole input n most_input
-
 -- the machine at the end of its run
 abbrev pub run_of : Image → List ℕ → Settings → MachineState
 run_of image input settings = end_of (fresh image input settings)
 
--- both were read, and the file gives an image that fits the memory
-pub record HasMachine (image input : Stream) (job : Job) (i n : List ℕ) (m : Image) : Type 0 where
-  pub read : ReadsBoth image input job i n
-  pub gives : Gives job.format i m
+-- the settings are good, and an image's file and an input were read
+pub record ReadsBoth (s : Session) (i n : List ℕ) : Type 0 where
+  pub settings : job_fault s.job ≡ None
+  pub image_read : ReadsWhole s.image i (most_bytes s.job.format)
+  pub input_read : ReadsWhole s.input n most_input
+
+-- a file's image, which fits the memory
+pub record HasImage (job : Job) (file : List ℕ) (m : Image) : Type 0 where
+  pub gives : Gives job.format file m
   pub fits : is_segment_outside m job.settings.memory ≡ false
 
--- an answer: how the run ended, after the whole of its report was written
-pub record Answers (image input : Stream) (job : Job)
-    (out_before out_after : Option (List ℕ)) (o : Outcome) : Type 0 where
-  pub i : List ℕ
-  pub n : List ℕ
+-- a file's image, a part of which lies past the memory
+pub record PassesMemory (job : Job) (file : List ℕ) : Type 0 where
   pub m : Image
-  pub machine : HasMachine image input job i n m
-  pub outcome : (run_of m n job.settings).outcome ≡ Some o
-  pub written : Appends out_before out_after (report_of job (run_of m n job.settings))
-
--- what is known where the writer failed: some first bytes of the report were written, and not all
-pub record WritesPrefix (image input : Stream) (job : Job)
-    (out_before out_after : Option (List ℕ)) : Type 0 where
-  pub i : List ℕ
-  pub n : List ℕ
-  pub m : Image
-  pub machine : HasMachine image input job i n m
-  pub written : AppendsPrefix out_before out_after (report_of job (run_of m n job.settings))
-
--- a cause, which may have to do with the limit, ended the reading of the image, and the input was not touched; or the image was
--- read, and the cause ended the reading of the input
-abbrev pub EndsAtReader : (ℕ → Stream → Type 0) → Stream → Stream → Job → Type 0
-EndsAtReader cause image input job =
-    (cause (most_bytes job.format) image × IsUntouched input)
-    ⊎ ((i : List ℕ) × ReadsWhole image i (most_bytes job.format) × cause most_input input)
-
--- the settings are good, and the session ended while it read
-pub record EndsReading (cause : ℕ → Stream → Type 0) (image input : Stream) (job : Job) : Type 0 where
-  pub settings : job_fault job ≡ None
-  pub ended : EndsAtReader cause image input job
-
--- the image, or after it the input, has more bytes than its limit
-abbrev pub IsTooLong : Stream → Stream → Job → Type 0
-IsTooLong image input job = EndsReading ReadsPast image input job
-
--- the image, or after it the input, could not be read
-abbrev pub IsReadFault : Stream → Stream → Job → Type 0
-IsReadFault image input job = EndsReading (λ _ r. HasFailed r) image input job
-
--- the file gives no image, and is refused for this
-pub record IsRefused (image input : Stream) (job : Job) (e : SessionError) : Type 0 where
-  pub i : List ℕ
-  pub n : List ℕ
-  pub read : ReadsBoth image input job i n
-  pub refused : image_fault job.format i ≡ Some e
-
--- a part of the image lies past the memory
-pub record IsOutside (image input : Stream) (job : Job) : Type 0 where
-  pub i : List ℕ
-  pub n : List ℕ
-  pub m : Image
-  pub read : ReadsBoth image input job i n
-  pub gives : Gives job.format i m
+  pub gives : Gives job.format file m
   pub outside : is_segment_outside m job.settings.memory ≡ true
 
--- what is known where a thread could not be started: one is wanted only where there are several workers and several nodes
-pub record LacksWorker (image input : Stream) (job : Job) : Type 0 where
-  pub i : List ℕ
-  pub n : List ℕ
+-- there are an image that fits, several workers and several nodes
+pub record NeedsWorkers (job : Job) (file : List ℕ) : Type 0 where
   pub m : Image
-  pub machine : HasMachine image input job i n m
+  pub image : HasImage job file m
   pub workers : 1 < job.workers
   pub nodes : 1 < job.settings.nodes
 
--- what is known where memory was refused: the image or the input was being read, within its limit, or both were read
-abbrev pub IsOutOfMemory : Stream → Stream → Job → Type 0
-IsOutOfMemory image input job =
-    EndsReading IsCutShort image input job ⊎ ((i : List ℕ) × (n : List ℕ) × ReadsBoth image input job i n)
+-- both were read, the file gives an image that fits, and this is the machine at the end of its run
+pub record RunsTo (s : Session) (end : MachineState) : Type 0 where
+  pub i : List ℕ
+  pub n : List ℕ
+  pub m : Image
+  pub read : ReadsBoth s i n
+  pub image : HasImage s.job i m
+  pub ends : end ≡ run_of m n s.job.settings
+
+-- an answer: how the run ended, after the whole of its report was written
+pub record Reports (s : Session) (o : Outcome) : Type 0 where
+  pub end : MachineState
+  pub runs : RunsTo s end
+  pub outcome : end.outcome ≡ Some o
+  pub written : Appends s.out.before s.out.after (report_of s.job end)
+
+-- the writer failed after some first bytes of the report were written, and not all
+pub record ReportsPart (s : Session) : Type 0 where
+  pub end : MachineState
+  pub runs : RunsTo s end
+  pub written : AppendsPrefix s.out.before s.out.after (report_of s.job end)
+  pub failed : HasFailed s.out
+
+-- nothing was read or written
+pub record IsUntouchedSession (s : Session) : Type 0 where
+  pub image : IsUntouched s.image
+  pub input : IsUntouched s.input
+  pub out : IsUntouched s.out
+
+-- the image was not read whole, and the input was not touched; or the image was read, and the input was not read whole
+abbrev pub EndsAtReader : Session → ReadError → Type 0
+EndsAtReader s why =
+    (IsReadErrorOf (most_bytes s.job.format) s.image why × IsUntouched s.input)
+    ⊎ ((i : List ℕ) × ReadsWhole s.image i (most_bytes s.job.format) × IsReadErrorOf most_input s.input why)
+
+-- the settings are good, and the session ended while it read, for this
+pub record EndsReading (s : Session) (why : ReadError) : Type 0 where
+  pub settings : job_fault s.job ≡ None
+  pub ended : EndsAtReader s why
+  pub unwritten : IsUntouched s.out
+
+-- why a file does not run to an outcome: it gives no image, or none that fits, or memory or a thread was refused
+abbrev pub IsErrorOfRun : Job → List ℕ → SessionError → Type 0
+IsErrorOfRun job file (Text cause) = image_fault job.format file ≡ Some (Text cause)
+IsErrorOfRun job file (BadImage cause) = image_fault job.format file ≡ Some (BadImage cause)
+IsErrorOfRun job file SegmentOutside = PassesMemory job file
+IsErrorOfRun job file NoWorker = NeedsWorkers job file
+IsErrorOfRun job file NoMemory = Unit {0}
+IsErrorOfRun job file _ = ⊥
+
+-- both were read, and there is no outcome, for this
+pub record EndsUnrun (s : Session) (e : SessionError) : Type 0 where
+  pub i : List ℕ
+  pub n : List ℕ
+  pub read : ReadsBoth s i n
+  pub cause : IsErrorOfRun s.job i e
+  pub unwritten : IsUntouched s.out
+
+-- what is known where a session ended by an error
+abbrev pub IsErrorOf : Session → SessionError → Type 0
+IsErrorOf s (BadSettings cause) = (job_fault s.job ≡ Some (BadSettings cause)) × IsUntouchedSession s
+IsErrorOf s TooLong = EndsReading s read.TooLong
+IsErrorOf s (Text cause) = EndsUnrun s (Text cause)
+IsErrorOf s (BadImage cause) = EndsUnrun s (BadImage cause)
+IsErrorOf s SegmentOutside = EndsUnrun s SegmentOutside
+IsErrorOf s ReadFault = EndsReading s read.ReadFault
+IsErrorOf s WriteFault = ReportsPart s
+IsErrorOf s NoWorker = EndsUnrun s NoWorker
+IsErrorOf s NoMemory = EndsReading s read.NoMemory ⊎ EndsUnrun s NoMemory

@@ -13,8 +13,7 @@ use Rattle.phase_pool.specs.declared.error.PoolError.TheVariants.{BadWorkers, Ba
 use Rattle.phase_pool.specs.Numbers.{numbers_fault}
 use Rattle.bsp_session.specs.declared.job.Job.{Job}
 use Rattle.bsp_session.specs.Outcome.{error_of_machine, error_of_pool}
-use Rattle.bsp_session.specs.Session.{job_fault}
-use Rattle.bsp_session.specs.Stages.{NeedsWorkers, EndsUnrun}
+use Rattle.bsp_session.specs.Session.{IsErrorOfRun, NeedsWorkers, job_fault}
 
 neither : {X Y E : Type 0} (f : X → E) (h : Y → E) (x : Option X) (y : Option Y)
     → option_or (option_map f x) (option_map h y) ≡ None → y ≡ None
@@ -54,11 +53,11 @@ pub length-fresh : (image : Image) (input : List ℕ) (s : Settings) → length 
 length-fresh image input s = length-map-range_with_len (λ rank. start_node image rank s.nodes s.memory s.limit) 0 s.nodes
 
 -- a run is refused for want of a thread or of memory alone
-pub EndsUnrun-of_pool : (job : Job) (file : List ℕ) (cause : PoolError) → (cause ≡ NoWorker) ⊎ (cause ≡ NoMemory)
-    → (cause ≡ NoWorker → NeedsWorkers job file) → EndsUnrun job file (error_of_pool cause)
-EndsUnrun-of_pool job file NoWorker kinds lacking = lacking refl
-EndsUnrun-of_pool job file NoMemory kinds lacking = tt
-EndsUnrun-of_pool job file BadWorkers (inl is) lacking = cc
-EndsUnrun-of_pool job file BadWorkers (inr is) lacking = cc
-EndsUnrun-of_pool job file BadSlice (inl is) lacking = cc
-EndsUnrun-of_pool job file BadSlice (inr is) lacking = cc
+pub IsErrorOfRun-of_pool : (job : Job) (file : List ℕ) (cause : PoolError) → (cause ≡ NoWorker) ⊎ (cause ≡ NoMemory)
+    → (cause ≡ NoWorker → NeedsWorkers job file) → IsErrorOfRun job file (error_of_pool cause)
+IsErrorOfRun-of_pool job file NoWorker kinds lacking = lacking refl
+IsErrorOfRun-of_pool job file NoMemory kinds lacking = tt
+IsErrorOfRun-of_pool job file BadWorkers (inl is) lacking = cc
+IsErrorOfRun-of_pool job file BadWorkers (inr is) lacking = cc
+IsErrorOfRun-of_pool job file BadSlice (inl is) lacking = cc
+IsErrorOfRun-of_pool job file BadSlice (inr is) lacking = cc

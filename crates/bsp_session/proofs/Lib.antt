@@ -1,3 +1,5 @@
+pub mod Conversions
 pub mod Jobs
 pub mod Outputs
 pub mod Refusals
+pub mod SessionErrors

@@ -3,7 +3,10 @@ use Rattle.std.proofs.Common.{◌≡◌, ◌≢◌, ℕ, List, Bool, true, false
 use Rattle.std.specs.Prelude.{IsErrOf, ◌↔◌}
 use Rattle.std.specs.Option.{option_or}
 use Rattle.node_memory.specs.Image.{Image, is_segment_outside}
+use Rattle.elf_image.specs.declared.error.ElfError.{ElfError}
 use Rattle.elf_image.specs.Faults.{file_fault}
+use Rattle.rv_asm.specs.declared.errors.AsmError.{AsmError}
+use Rattle.rv_asm.specs.declared.errors.AsmKind.{AsmKind}
 use Rattle.rv_asm.specs.Faults.{text_fault}
 use Rattle.machine_core.specs.declared.error.MachineError.{MachineError}
 use Rattle.machine_core.specs.declared.error.MachineError.TheVariants as machine
@@ -15,8 +18,7 @@ use Rattle.bsp_session.specs.declared.job.Format.TheVariants.{Elf, Raw, Asm}
 use Rattle.bsp_session.specs.declared.job.Job.{Job}
 use Rattle.bsp_session.specs.Images.{Gives, image_fault}
 use Rattle.bsp_session.specs.Outcome.{error_of_machine}
-use Rattle.bsp_session.specs.Session.{job_fault}
-use Rattle.bsp_session.specs.Stages.{EndsUnrun}
+use Rattle.bsp_session.specs.Session.{IsErrorOfRun, job_fault}
 use Rattle.bsp_session.proofs.Jobs.{settings_are_in_range}
 
 -- a file is refused as a text or as an ELF file alone
@@ -36,16 +38,31 @@ is_of_file Elf file e is = of_file BadImage (file_fault file) e (λ cause. tt) i
 is_of_file Raw file e is = cc
 is_of_file Asm file e is = of_file (λ fault. Text (record { line = fault.0; kind = fault.1 })) (text_fault file) e (λ fault. tt) is
 
-pub EndsUnrun-of_image : (job : Job) (file : List ℕ) (e : SessionError) → (e ≢ NoMemory → image_fault job.format file ≡ Some e) → EndsUnrun job file e
-EndsUnrun-of_image job file (Text cause) made = made (λ is. cc)
-EndsUnrun-of_image job file (BadImage cause) made = made (λ is. cc)
-EndsUnrun-of_image job file NoMemory made = tt
-EndsUnrun-of_image job file (BadSettings cause) made = absurd (is_of_file job.format file (BadSettings cause) (made (λ is. cc)))
-EndsUnrun-of_image job file TooLong made = absurd (is_of_file job.format file TooLong (made (λ is. cc)))
-EndsUnrun-of_image job file SegmentOutside made = absurd (is_of_file job.format file SegmentOutside (made (λ is. cc)))
-EndsUnrun-of_image job file ReadFault made = absurd (is_of_file job.format file ReadFault (made (λ is. cc)))
-EndsUnrun-of_image job file WriteFault made = absurd (is_of_file job.format file WriteFault (made (λ is. cc)))
-EndsUnrun-of_image job file NoWorker made = absurd (is_of_file job.format file NoWorker (made (λ is. cc)))
+-- what holds of want of memory, and of a text's or an ELF file's refusal, holds of each error of an image
+pub of_image : (format : Format) (file : List ℕ) (P : SessionError → Type 0) → P NoMemory
+    → ((cause : AsmError) → image_fault format file ≡ Some (Text cause) → P (Text cause))
+    → ((cause : ElfError) → image_fault format file ≡ Some (BadImage cause) → P (BadImage cause))
+    → (e : SessionError) → (e ≢ NoMemory → image_fault format file ≡ Some e) → P e
+of_image format file P memory text image (Text cause) made = text cause (made (λ is. cc))
+of_image format file P memory text image (BadImage cause) made = image cause (made (λ is. cc))
+of_image format file P memory text image NoMemory made = memory
+of_image format file P memory text image (BadSettings cause) made = absurd (is_of_file format file (BadSettings cause) (made (λ is. cc)))
+of_image format file P memory text image TooLong made = absurd (is_of_file format file TooLong (made (λ is. cc)))
+of_image format file P memory text image SegmentOutside made = absurd (is_of_file format file SegmentOutside (made (λ is. cc)))
+of_image format file P memory text image ReadFault made = absurd (is_of_file format file ReadFault (made (λ is. cc)))
+of_image format file P memory text image WriteFault made = absurd (is_of_file format file WriteFault (made (λ is. cc)))
+of_image format file P memory text image NoWorker made = absurd (is_of_file format file NoWorker (made (λ is. cc)))
+
+-- no text is refused as an ELF file
+pub text_alone : (file : List ℕ) (cause : ElfError) → image_fault Asm file ≡ Some (BadImage cause) → ⊥
+text_alone file cause is = not_image (text_fault file) is
+  where
+    not_image : (fault : Option (ℕ × AsmKind)) → option_map (λ f. Text (record { line = f.0; kind = f.1 })) fault ≡ Some (BadImage cause) → ⊥
+    not_image None made = cc
+    not_image (Some f) made = cc
+
+pub IsErrorOfRun-of_image : (job : Job) (file : List ℕ) (e : SessionError) → (e ≢ NoMemory → image_fault job.format file ≡ Some e) → IsErrorOfRun job file e
+IsErrorOfRun-of_image job file e made = of_image job.format file (IsErrorOfRun job file) tt (λ cause is. is) (λ cause is. is) e made
 
 -- where the settings are good, a machine is refused for a part past the memory alone
 only_outside : (fault : Option MachineError) (outside : Bool) (cause : MachineError) → fault ≡ None
@@ -58,16 +75,16 @@ only_outside (Some fault) outside cause none made = cc
 abbrev Refuses : {X : Type 0} → Result X MachineError → Image → Job → MachineError → Type 0
 Refuses r m job cause = IsErrOf r cause ↔ (machine_fault m job.settings ≡ Some cause)
 
-pub EndsUnrun-of_machine : {X : Type 0} (job : Job) (file : List ℕ) (m : Image) (r : Result X MachineError) (cause : MachineError)
+pub IsErrorOfRun-of_machine : {X : Type 0} (job : Job) (file : List ℕ) (m : Image) (r : Result X MachineError) (cause : MachineError)
     → job_fault job ≡ None → Gives job.format file m → r ≡ Err cause
     → Refuses r m job machine.BadNodes → Refuses r m job machine.BadMemory → Refuses r m job machine.BadLimit → Refuses r m job machine.SegmentOutside
-    → EndsUnrun job file (error_of_machine cause)
-EndsUnrun-of_machine job file m r cause none gives is nodes memory limit outside = of_cause cause is
+    → IsErrorOfRun job file (error_of_machine cause)
+IsErrorOfRun-of_machine job file m r cause none gives is nodes memory limit outside = of_cause cause is
   where
     outside_of : (cause : MachineError) → machine_fault m job.settings ≡ Some cause → (cause ≡ machine.SegmentOutside) × (is_segment_outside m job.settings.memory ≡ true)
     outside_of cause = only_outside (settings_fault job.settings) (is_segment_outside m job.settings.memory) cause (settings_are_in_range job none)
 
-    of_cause : (cause : MachineError) → r ≡ Err cause → EndsUnrun job file (error_of_machine cause)
+    of_cause : (cause : MachineError) → r ≡ Err cause → IsErrorOfRun job file (error_of_machine cause)
     of_cause machine.BadNodes is = let other = (outside_of machine.BadNodes (nodes.0 is)).0 in cc
     of_cause machine.BadMemory is = let other = (outside_of machine.BadMemory (memory.0 is)).0 in cc
     of_cause machine.BadLimit is = let other = (outside_of machine.BadLimit (limit.0 is)).0 in cc

@@ -45,8 +45,7 @@ impl fmt::Display for BadSetting {
     }
 }
 
-/// Why a session gave no outcome: the cause of the first stage that failed, of settings, reading of the image, reading of
-/// the input, the image itself, the machine, its run and the report.
+/// Why a session failed: the cause of the first of its stages that did. Each session says which stages it has, and in which order.
 ///
 /// Its text is the line, without a program's name, that a user is shown.
 #[derive(Clone, Copy, Debug, PartialEq, Eq, Error)]
@@ -54,7 +53,7 @@ pub enum SessionError {
     /// A setting is out of its range. Nothing was read or written.
     #[error("settings refused: {0}")]
     BadSettings(BadSetting),
-    /// The image, or after it the input, has more bytes than its limit.
+    /// What was to be read has more bytes than its limit: an image, an input or a debugger's lines.
     #[error("too long")]
     TooLong,
     /// The image is a text with a fault.
@@ -66,13 +65,13 @@ pub enum SessionError {
     /// The image reaches past the memory of a node.
     #[error("image refused: SegmentOutside")]
     SegmentOutside,
-    /// A call of the image's reader failed, or after that reading one of the input's.
+    /// A call of a reader failed: of an image's, an input's or that of a debugger's lines.
     #[error("read failed")]
     ReadFault,
-    /// A call of the writer failed. Some first bytes of what was to be written may have been, and not all.
+    /// A call of the writer failed. Some first bytes of what was to be written may have been.
     #[error("write failed")]
     WriteFault,
-    /// A thread could not be started.
+    /// A thread could not be started. Only the run of a program starts any.
     #[error("no worker")]
     NoWorker,
     /// A request for memory was refused.
@@ -80,12 +79,13 @@ pub enum SessionError {
     NoMemory,
 }
 
-/// The exit status with which a program answers a session (own rule).
+/// The exit status with which a program answers a session (own rule). The `Ok` of a session that has no outcome, as a listing or
+/// a debugger's, counts as [`Outcome::Ended`].
 ///
 /// | Status | Answer |
 /// |---|---|
 /// | 0 | every node ended |
-/// | 1 | settings, image or input refused |
+/// | 1 | settings refused, or an image, an input or a debugger's lines |
 /// | 2 | a node's fault or `abort` |
 /// | 3 | a node's limit of ticks |
 /// | 4 | nodes that wait for one that ended, or an exchange that is refused |

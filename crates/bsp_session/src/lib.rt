@@ -13,13 +13,15 @@
 //!   and the image fitted every node's memory. The whole report of the machine at its end was written, and nothing else.
 //! - An error is that of the first stage that failed: settings, image, input, machine, run, report. Bad settings are
 //!   answered exactly where a setting is out of its range, and then nothing was read. Where the image could not be read,
-//!   nothing of the input was.
+//!   nothing of the input was. What is too long was read past its limit, and what could not be read within it.
 //! - The report is whole before its first byte is written: every error but a fault of the writer leaves the writer as it
 //!   was, and after such a fault some first bytes of the report are written, and not all of them.
 //! - A fault of a reader or of the writer is answered only where more of its calls had failed than before.
 //! - [`SessionError::NoMemory`] is answered only where a request for memory was refused, [`SessionError::NoWorker`] only where a
 //!   thread could not be started, and neither for bad settings. No clause counts refusals: the tests refuse each request in turn.
 //!   `NoMemory` says nothing of the stages that come after.
+//! - A listing ([`list_session`]) and a saved image ([`asm_session`]) have the same rules, for the stages that they have. Only a
+//!   listing may be refused memory after something was written: it ends after a whole line then.
 //! - Workers have no part in what is written: the report is that of the definitions, which know none.
 //!
 //! A session waits for its own threads alone. It ends if these and the calls of its readers and its writer do: a node makes at most as many steps as its limit of

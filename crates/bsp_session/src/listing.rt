@@ -1,16 +1,13 @@
 //! The sessions that run nothing: the listing of an image, and the image of a text.
 
-ghost use Rattle.std.specs.Prelude.{◌≡◌, ◌≢◌, ◌≤◌, ◌⊎◌, ◌++◌, ℕ, List, [], IfOk, IfErr, OnOk, OnErr, Some, None, string_bytes};
+ghost use Rattle.std.specs.Prelude.{◌≡◌, ◌≢◌, ◌≤◌, ◌⊎◌, ◌++◌, List, [], IfErr, OnOk, string_bytes};
+ghost use Rattle.std.specs.List.{flat_map};
 ghost use Rattle.std.specs.Io.KnownBytes.{Appends};
-ghost use Rattle.counted_io.specs.Counted.{HasRisen};
-ghost use Rattle.counted_io.specs.Transfers.{AppendsPrefix};
 ghost use Rattle.elf_image.specs.Spelling.{spelling_of};
-ghost use Rattle.rv_asm.specs.declared.errors.AsmError.{AsmError as AsmErrorValue};
-ghost use Rattle.elf_image.specs.declared.error.ElfError.{ElfError as ElfErrorValue};
-ghost use Rattle.rv_listing.specs.Listing.{listing_of, listing_of_segment};
-ghost use Rattle.bsp_session.specs.Listing.{IsErrorWithoutMachine, IsRefusedImage, WritesOf, WritesPrefixOf};
-ghost use Rattle.bsp_session.specs.Images.{most_bytes};
-ghost use Rattle.bsp_session.specs.Streams.{stream, HasFailed, ReadsPast};
+ghost use Rattle.rv_listing.specs.declared.lines.Line.{Line};
+ghost use Rattle.rv_listing.specs.Listing.{ended_text, listing_of, listing_of_segment};
+ghost use Rattle.bsp_session.specs.Conversion.{IsErrorOfAssembly, IsErrorOfLines, IsErrorOfListing, ListsFirstLines, ReadsImage, WritesText, conversion_of, lines_of_image, lines_of_segment};
+ghost use Rattle.bsp_session.specs.Streams.{Stream, stream};
 
 use crate::errors::SessionError;
 use crate::images::image_of;
@@ -35,35 +32,22 @@ const BLOCK: usize = 1 << 16;
 /// 2. [`SessionError::Text`] or [`SessionError::BadImage`].
 /// 3. [`SessionError::WriteFault`], after some first bytes of the listing, and not all, were written.
 ///
-/// [`SessionError::NoMemory`] is answered where a request for memory was refused, which may be after some first bytes of
-/// the listing were written.
+/// [`SessionError::NoMemory`] is answered where a request for memory was refused, which may be after some first lines of
+/// the listing, each whole, were written.
 pub fn list_session<A: Allocator + Copy, I: Read, W: Write>(
     alloc: A,
     format: Format,
     image: &mut Counted<I>,
     out: &mut Counted<W>,
 ) -> Result<(), SessionError>
-    ensures ok { OnOk result (WritesOf listing_of (stream I.remaining image.old image.new) format
-        (W.contents out.old.inner) (W.contents out.new.inner)) }
-    ensures kinds { IfErr result IsErrorWithoutMachine }
-    ensures too_long { result ≡ Err SessionError.TooLong
-        → ReadsPast (most_bytes format) (stream I.remaining image.old image.new) }
-    ensures read_fault { result ≡ Err SessionError.ReadFault
-        → HasFailed (stream I.remaining image.old image.new) }
-    ensures text { (cause : AsmErrorValue) → result ≡ Err (SessionError.Text cause)
-        → IsRefusedImage (stream I.remaining image.old image.new) format (SessionError.Text cause) }
-    ensures bad_image { (cause : ElfErrorValue) → result ≡ Err (SessionError.BadImage cause)
-        → IsRefusedImage (stream I.remaining image.old image.new) format (SessionError.BadImage cause) }
-    ensures write_fault { result ≡ Err SessionError.WriteFault
-        → WritesPrefixOf listing_of (stream I.remaining image.old image.new) format
-        (W.contents out.old.inner) (W.contents out.new.inner) }
-    ensures write_failed { result ≡ Err SessionError.WriteFault
-        → HasRisen out.old.failures out.new.failures }
-    ensures no_memory { result ≡ Err SessionError.NoMemory
-        → (out.new ≡ out.old) ⊎ WritesPrefixOf listing_of (stream I.remaining image.old image.new) format
-        (W.contents out.old.inner) (W.contents out.new.inner) }
+    ensures ok { OnOk result (WritesText listing_of (conversion_of
+        (stream I.remaining image.old image.new) (stream W.contents out.old out.new) format)) }
+    ensures err { IfErr result (λ e. IsErrorOfListing (conversion_of
+        (stream I.remaining image.old image.new) (stream W.contents out.old out.new) format) e) }
+    // A writer that is not written to stays as it was, also where its bytes are not known.
     ensures nothing_written { IfErr result (λ e. e ≢ SessionError.WriteFault
-        → e ≢ SessionError.NoMemory → out.new ≡ out.old) }
+        → (out.new ≡ out.old) ⊎ ((e ≡ SessionError.NoMemory) × ListsFirstLines (conversion_of
+        (stream I.remaining image.old image.new) (stream W.contents out.old out.new) format))) }
 {
     let bytes = read_at_most(alloc, image, format.most_bytes())?;
     let image = image_of(alloc, format, bytes.as_slice())?;
@@ -73,28 +57,18 @@ pub fn list_session<A: Allocator + Copy, I: Read, W: Write>(
 /// Assembles the text that `text` gives, and writes its image to `out` as an ELF file. The reader is read to its end.
 ///
 /// # Errors
-/// As [`list_session`], with the saved image in the place of the listing; [`SessionError::NoMemory`] comes before
-/// anything is written.
+/// As [`list_session`], with the saved image in the place of the listing. What is read is a text, so it is refused as
+/// [`SessionError::Text`] alone; [`SessionError::NoMemory`] comes before anything is written.
 pub fn asm_session<A: Allocator + Copy, T: Read, W: Write>(
     alloc: A,
     text: &mut Counted<T>,
     out: &mut Counted<W>,
 ) -> Result<(), SessionError>
-    ensures ok { OnOk result (WritesOf spelling_of (stream T.remaining text.old text.new) Format.Asm
-        (W.contents out.old.inner) (W.contents out.new.inner)) }
-    ensures kinds { IfErr result IsErrorWithoutMachine }
-    ensures too_long { result ≡ Err SessionError.TooLong
-        → ReadsPast (most_bytes Format.Asm) (stream T.remaining text.old text.new) }
-    ensures read_fault { result ≡ Err SessionError.ReadFault
-        → HasFailed (stream T.remaining text.old text.new) }
-    ensures text { (cause : AsmErrorValue) → result ≡ Err (SessionError.Text cause)
-        → IsRefusedImage (stream T.remaining text.old text.new) Format.Asm (SessionError.Text cause) }
-    ensures no_file { (cause : ElfErrorValue) → result ≢ Err (SessionError.BadImage cause) }
-    ensures write_fault { result ≡ Err SessionError.WriteFault
-        → WritesPrefixOf spelling_of (stream T.remaining text.old text.new) Format.Asm
-        (W.contents out.old.inner) (W.contents out.new.inner) }
-    ensures write_failed { result ≡ Err SessionError.WriteFault
-        → HasRisen out.old.failures out.new.failures }
+    ensures ok { OnOk result (WritesText spelling_of (conversion_of
+        (stream T.remaining text.old text.new) (stream W.contents out.old out.new) Format.Asm)) }
+    ensures err { IfErr result (λ e. IsErrorOfAssembly (conversion_of
+        (stream T.remaining text.old text.new) (stream W.contents out.old out.new) Format.Asm) e) }
+    // A writer that is not written to stays as it was, also where its bytes are not known.
     ensures nothing_written { IfErr result (λ e. e ≢ SessionError.WriteFault → out.new ≡ out.old) }
 {
     let bytes = read_at_most(alloc, text, Format::Asm.most_bytes())?;
@@ -110,11 +84,10 @@ fn write_saved<A: Allocator + Copy, W: Write>(
 ) -> Result<(), SessionError>
     ensures ok { OnOk result
         (Appends (W.contents out.old.inner) (W.contents out.new.inner) (spelling_of image.now)) }
-    ensures kinds { IfErr result (λ e.
-        (e ≡ SessionError.WriteFault) ⊎ (e ≡ SessionError.NoMemory)) }
-    ensures prefix { result ≡ Err SessionError.WriteFault → AppendsPrefix
-        (W.contents out.old.inner) (W.contents out.new.inner) (spelling_of image.now) }
-    ensures fault { result ≡ Err SessionError.WriteFault → HasRisen out.old.failures out.new.failures }
+    // For a text that was read, and has this image.
+    ensures err { IfErr result (λ e. (text : Stream)
+        → ReadsImage (conversion_of text (stream W.contents out.old out.new) Format.Asm) image.now
+        → IsErrorOfAssembly (conversion_of text (stream W.contents out.old out.new) Format.Asm) e) }
     ensures nothing_written { IfErr result (λ e. e ≢ SessionError.WriteFault → out.new ≡ out.old) }
 {
     let file = save(alloc, image)?;
@@ -129,12 +102,8 @@ fn write_listing<A: Allocator + Copy, W: Write>(
 ) -> Result<(), SessionError>
     ensures ok { OnOk result
         (Appends (W.contents out.old.inner) (W.contents out.new.inner) (listing_of image.now)) }
-    ensures err { OnErr result
-        (AppendsPrefix (W.contents out.old.inner) (W.contents out.new.inner) (listing_of image.now)) }
-    ensures kinds { IfErr result (λ e.
-        (e ≡ SessionError.WriteFault) ⊎ (e ≡ SessionError.NoMemory)) }
-    ensures fault { result ≡ Err SessionError.WriteFault → HasRisen out.old.failures out.new.failures }
-    ensures never_falls { out.old.failures ≤ out.new.failures }
+    ensures err { IfErr result (λ e.
+        IsErrorOfLines (stream W.contents out.old out.new) (lines_of_image image.now) e) }
 {
     for segment in image.segments.as_slice() {
         write_segment(alloc, segment, out)?;
@@ -150,11 +119,8 @@ fn write_segment<A: Allocator + Copy, W: Write>(
 ) -> Result<(), SessionError>
     ensures ok { OnOk result (Appends
         (W.contents out.old.inner) (W.contents out.new.inner) (listing_of_segment segment.now)) }
-    ensures err { OnErr result (AppendsPrefix
-        (W.contents out.old.inner) (W.contents out.new.inner) (listing_of_segment segment.now)) }
-    ensures kinds { IfErr result (λ e.
-        (e ≡ SessionError.WriteFault) ⊎ (e ≡ SessionError.NoMemory)) }
-    ensures fault { result ≡ Err SessionError.WriteFault → HasRisen out.old.failures out.new.failures }
+    ensures err { IfErr result (λ e.
+        IsErrorOfLines (stream W.contents out.old out.new) (lines_of_segment segment.now) e) }
     ensures never_falls { out.old.failures ≤ out.new.failures }
 {
     let mut block = String::new(alloc);
@@ -169,14 +135,12 @@ fn write_blocks<A: Allocator + Copy, W: Write>(
     out: &mut Counted<W>,
 ) -> Result<(), SessionError>
     requires { string_bytes block.old ≡ [] }
-    ensures ok { OnOk result ((written : List ℕ)
-        × Appends (W.contents out.old.inner) (W.contents out.new.inner) written
-        × (listing_of_segment segment.now ≡ written ++ string_bytes block.new)) }
-    ensures err { OnErr result (AppendsPrefix
-        (W.contents out.old.inner) (W.contents out.new.inner) (listing_of_segment segment.now)) }
-    ensures kinds { IfErr result (λ e.
-        (e ≡ SessionError.WriteFault) ⊎ (e ≡ SessionError.NoMemory)) }
-    ensures fault { result ≡ Err SessionError.WriteFault → HasRisen out.old.failures out.new.failures }
+    ensures ok { OnOk result ((done waiting : List Line)
+        × (lines_of_segment segment.now ≡ done ++ waiting)
+        × Appends (W.contents out.old.inner) (W.contents out.new.inner) (flat_map ended_text done)
+        × (string_bytes block.new ≡ flat_map ended_text waiting)) }
+    ensures err { IfErr result (λ e.
+        IsErrorOfLines (stream W.contents out.old out.new) (lines_of_segment segment.now) e) }
     ensures never_falls { out.old.failures ≤ out.new.failures }
 {
     for line in Lines::new(segment) {

@@ -1,21 +1,15 @@
 //! The session that runs a program.
 
-ghost use Rattle.std.specs.Prelude.{◌≡◌, ◌≢◌, ◌↔◌, ◌⊎◌, ◌<◌, ◌≤◌, length, string_bytes, Some, None, Err, IfOk, IfErr, OnOk, IsErrOf};
-ghost use Rattle.std.specs.Io.KnownBytes.{Appends};
-ghost use Rattle.counted_io.specs.Counted.{HasRisen};
-ghost use Rattle.counted_io.specs.Transfers.{AppendsPrefix};
-ghost use Rattle.elf_image.specs.declared.error.ElfError.{ElfError as ElfErrorValue};
-ghost use Rattle.rv_asm.specs.declared.errors.AsmError.{AsmError as AsmErrorValue};
+ghost use Rattle.std.specs.Prelude.{◌≡◌, ◌≢◌, ◌↔◌, ◌⊎◌, ◌<◌, ◌≤◌, length, string_bytes, Some, None, IfOk, IfErr, OnOk, IsErrOf};
 ghost use Rattle.node_memory.specs.Image.{Image};
 ghost use Rattle.machine_core.specs.Machine.{fresh};
 ghost use Rattle.machine_core.specs.Turn.{end_of};
 ghost use Rattle.phase_pool.specs.Numbers.{numbers_fault};
 ghost use Rattle.bsp_session.specs.declared.errors.BadSetting.{BadSetting as BadSettingCause};
 ghost use Rattle.bsp_session.specs.Images.{most_bytes};
-ghost use Rattle.bsp_session.specs.Streams.{stream};
-ghost use Rattle.bsp_session.specs.Report.{report_lines as report_lines_of, report_of};
-ghost use Rattle.bsp_session.specs.Session.{Answers, job_fault, run_of, ReadsBoth, IsTooLong, IsReadFault, IsRefused, IsOutside, IsOutOfMemory, LacksWorker, WritesPrefix};
-ghost use Rattle.bsp_session.specs.Stages.{HasImage, EndsUnread, EndsUnrun};
+ghost use Rattle.bsp_session.specs.Streams.{IsUntouched, Stream, stream};
+ghost use Rattle.bsp_session.specs.Report.{report_lines as report_lines_of};
+ghost use Rattle.bsp_session.specs.Session.{HasImage, IsErrorOf, IsErrorOfRun, ReadsBoth, Reports, job_fault, run_of, session_of};
 
 use crate::errors::SessionError;
 use crate::images::image_of;
@@ -56,43 +50,17 @@ pub fn session<T: Threads + Wait + Sync, A: Allocator + Copy + Send, I: Read, R:
     job: &Job,
     out: &mut Counted<W>,
 ) -> Result<Outcome, SessionError>
-    ensures ok { IfOk result (λ outcome. Answers (stream I.remaining image.old image.new)
-        (stream R.remaining input.old input.new) job.now
-        (W.contents out.old.inner) (W.contents out.new.inner) outcome) }
+    ensures ok { IfOk result (λ outcome. Reports (session_of (stream I.remaining image.old image.new)
+        (stream R.remaining input.old input.new) (stream W.contents out.old out.new) job.now) outcome) }
+    ensures err { IfErr result (λ e. IsErrorOf (session_of (stream I.remaining image.old image.new)
+        (stream R.remaining input.old input.new) (stream W.contents out.old out.new) job.now) e) }
 
     ensures bad_settings { (cause : BadSettingCause)
         → IsErrOf result (SessionError.BadSettings cause)
         ↔ (job_fault job.now ≡ Some (SessionError.BadSettings cause)) }
+    // What is not touched stays as it was, also where its bytes are not known.
     ensures settings_first { job_fault job.now ≢ None
         → (image.new ≡ image.old) × (input.new ≡ input.old) }
-    ensures too_long { result ≡ Err SessionError.TooLong
-        → IsTooLong (stream I.remaining image.old image.new)
-        (stream R.remaining input.old input.new) job.now }
-    ensures read_fault { result ≡ Err SessionError.ReadFault
-        → IsReadFault (stream I.remaining image.old image.new)
-        (stream R.remaining input.old input.new) job.now }
-    ensures text { (cause : AsmErrorValue) → result ≡ Err (SessionError.Text cause)
-        → IsRefused (stream I.remaining image.old image.new)
-        (stream R.remaining input.old input.new) job.now (SessionError.Text cause) }
-    ensures bad_image { (cause : ElfErrorValue) → result ≡ Err (SessionError.BadImage cause)
-        → IsRefused (stream I.remaining image.old image.new)
-        (stream R.remaining input.old input.new) job.now (SessionError.BadImage cause) }
-    ensures outside { result ≡ Err SessionError.SegmentOutside
-        → IsOutside (stream I.remaining image.old image.new)
-        (stream R.remaining input.old input.new) job.now }
-    ensures no_worker { result ≡ Err SessionError.NoWorker
-        → LacksWorker (stream I.remaining image.old image.new)
-        (stream R.remaining input.old input.new) job.now }
-    ensures no_memory { result ≡ Err SessionError.NoMemory
-        → IsOutOfMemory (stream I.remaining image.old image.new)
-        (stream R.remaining input.old input.new) job.now }
-
-    ensures write_fault { result ≡ Err SessionError.WriteFault
-        → WritesPrefix (stream I.remaining image.old image.new)
-        (stream R.remaining input.old input.new) job.now
-        (W.contents out.old.inner) (W.contents out.new.inner) }
-    ensures write_failed { result ≡ Err SessionError.WriteFault
-        → HasRisen out.old.failures out.new.failures }
     ensures nothing_written { IfErr result (λ e.
         e ≢ SessionError.WriteFault → out.new ≡ out.old) }
 {
@@ -107,10 +75,13 @@ fn read_both<A: Allocator + Copy, I: Read, R: Read>(
     input: &mut Counted<R>,
     job: &Job,
 ) -> Result<(Vec<u8, A>, Vec<u8, A>), SessionError>
-    ensures ok { IfOk result (λ read. ReadsBoth (stream I.remaining image.old image.new)
-        (stream R.remaining input.old input.new) job.now read.0.items read.1.items) }
-    ensures err { IfErr result (λ e. EndsUnread (stream I.remaining image.old image.new)
-        (stream R.remaining input.old input.new) job.now e) }
+    ensures ok { IfOk result (λ read. (out : Stream)
+        → ReadsBoth (session_of (stream I.remaining image.old image.new)
+        (stream R.remaining input.old input.new) out job.now) read.0.items read.1.items) }
+    // With a writer that was not touched, an error is the session's.
+    ensures err { IfErr result (λ e. (out : Stream) → IsUntouched out
+        → IsErrorOf (session_of (stream I.remaining image.old image.new)
+        (stream R.remaining input.old input.new) out job.now) e) }
     ensures settings_first { job_fault job.now ≢ None
         → (image.new ≡ image.old) × (input.new ≡ input.old) }
 {
@@ -141,17 +112,13 @@ fn run_and_report<T: Threads + Wait + Sync, A: Allocator + Copy + Send, W: Write
 ) -> Result<Outcome, SessionError>
     requires settings { job_fault job.now ≡ None }
     requires limit { length file.now ≤ most_bytes job.now.format }
-    ensures ok { IfOk result (λ outcome. (m : Image) × HasImage job.now file.now m
-        × ((run_of m input.now job.now.settings).outcome ≡ Some outcome)
-        × Appends (W.contents out.old.inner) (W.contents out.new.inner)
-        (report_of job.now (run_of m input.now job.now.settings))) }
-    ensures err { IfErr result (λ e. (e ≡ SessionError.WriteFault) ⊎ EndsUnrun job.now file.now e) }
-    ensures prefix { result ≡ Err SessionError.WriteFault
-        → (m : Image) × HasImage job.now file.now m
-        × AppendsPrefix (W.contents out.old.inner) (W.contents out.new.inner)
-        (report_of job.now (run_of m input.now job.now.settings)) }
-    ensures write_failed { result ≡ Err SessionError.WriteFault
-        → HasRisen out.old.failures out.new.failures }
+    // For a session that read these bytes, its answer and its errors.
+    ensures ok { IfOk result (λ outcome. (i n : Stream)
+        → ReadsBoth (session_of i n (stream W.contents out.old out.new) job.now) file.now input.now
+        → Reports (session_of i n (stream W.contents out.old out.new) job.now) outcome) }
+    ensures err { IfErr result (λ e. (i n : Stream)
+        → ReadsBoth (session_of i n (stream W.contents out.old out.new) job.now) file.now input.now
+        → IsErrorOf (session_of i n (stream W.contents out.old out.new) job.now) e) }
     ensures nothing_written { IfErr result (λ e.
         e ≢ SessionError.WriteFault → out.new ≡ out.old) }
 {
@@ -175,7 +142,7 @@ fn run_file<T: Threads + Wait + Sync, A: Allocator + Copy + Send>(
         × (ran.1 ≡ run_of m input.now job.now.settings)) }
     ensures outcome { IfOk result (λ ran. ran.1.outcome ≡ Some ran.0) }
     ensures lines { IfOk result (λ ran. string_bytes ran.2 ≡ report_lines_of job.now ran.1) }
-    ensures err { IfErr result (λ e. EndsUnrun job.now file.now e) }
+    ensures err { IfErr result (λ e. IsErrorOfRun job.now file.now e) }
 {
     let mut machine = machine_of(alloc, file, input, job)?;
     let outcome = run_to_outcome(rt, &mut machine, job)?;
@@ -194,7 +161,7 @@ fn machine_of<A: Allocator + Copy>(
     requires limit { length file.now ≤ most_bytes job.now.format }
     ensures ok { IfOk result (λ machine. (m : Image) × HasImage job.now file.now m
         × (machine ≡ fresh m input.now job.now.settings)) }
-    ensures err { IfErr result (λ e. EndsUnrun job.now file.now e) }
+    ensures err { IfErr result (λ e. IsErrorOfRun job.now file.now e) }
 {
     let image = image_of(alloc, job.format, file)?;
     Ok(Machine::new(alloc, &image, input, job.settings)?)

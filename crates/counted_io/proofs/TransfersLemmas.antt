@@ -17,13 +17,7 @@ AppendsPrefix-stopped old new all done rest split left appended =
     let front : done ≡ take (length done) all = sym (ap (take (length done)) split ∙ take-append_seam done rest) in
     (length done, omega (arith, ap length split, length-append done rest), subst (Appends old new) front appended)
 
--- a reader that lost some bytes had at least as many
-pub longer_than : (a b : Option (List ℕ)) (bytes : List ℕ) (most : ℕ) → Consumes a b bytes → most < length bytes → IfSome a (λ all. most < length all)
-longer_than None b bytes most p q = tt
-longer_than (Some x) None bytes most p q = absurd p
-longer_than (Some x) (Some y) bytes most p q = omega (arith, ap length p, length-append bytes y)
-
--- the same, where some bytes were read before
+-- a reader that lost some bytes, where some were read before, had at least as many
 pub longer_with : (a b : Option (List ℕ)) (bytes : List ℕ) (read most : ℕ) → Consumes a b bytes → most < read + length bytes → IfSome a (λ all. most < read + length all)
 longer_with None b bytes read most p q = tt
 longer_with (Some x) None bytes read most p q = absurd p

@@ -7,14 +7,15 @@
 //! [`LineReader`] gives an input's lines one by one, for those who answer a line before the next one comes: it reads only
 //! where no whole line waits. All of these end on every reader and writer, and callers may rely on this:
 //!
-//! - Where the reader's bytes are known to contracts, `Ok` of a whole input has read all of them, `TooLong` says that they
-//!   are more than the limit, and a refusal has taken a prefix of them.
+//! - Where the reader's bytes are known to contracts, `Ok` of a whole input has read all of them, `TooLong` more of them than
+//!   the limit, and every other error no more than it.
 //! - Where the writer's bytes are known, `Ok` has appended all of the output, and a fault a prefix that lacks some.
 //! - A fault of the reader or the writer is answered only where the count rose in that call.
 //! - The lines that were given are those of the bytes that were read, in their order. No byte is lost at an error, but
 //!   the one by which the input passes its limit: so the next line can be asked for again.
-//! - `NoMemory` is answered only where a growth was refused, for bytes within the limit. No clause can count refusals:
-//!   the tests refuse each growth in turn. That an interruption is tried again, and how often, is shown by tests too.
+//! - `NoMemory` is answered only where a growth was refused, for bytes within the limit. No clause can count refusals, or calls
+//!   of a reader or writer: the tests refuse each growth in turn, and look at each call that is passed on. That an interruption
+//!   is tried again, and how often, is shown by tests too.
 #![tactic(auto)]
 
 ghost use Rattle.std.specs.Prelude.{◌≡◌, ◌<◌, ◌≤◌, IfErr, IfOk, IfSome, OnErr, OnOk, Ok, is_err, length};
@@ -164,8 +165,11 @@ const CHUNK: usize = 4096;
 
 /// The bytes of `from` up to its end, if there are at most `most`.
 ///
-/// An interrupted read is tried again; 65,536 interruptions in a row are a fault of the reader. What was read before
-/// a refusal is lost.
+/// An interrupted read is tried again; 65,536 interruptions in a row are a fault of the reader.
+///
+/// # Errors
+/// What was read is lost: more than `most` bytes at [`ReadError::TooLong`], and no more than these at
+/// [`ReadError::ReadFault`] and [`ReadError::NoMemory`].
 pub fn read_at_most<A: Allocator + Copy, R: Read>(
     alloc: A,
     from: &mut Counted<R>,

@@ -1,7 +1,10 @@
-use Rattle.std.proofs.Common.{◌∙◌, ap, sym, [], ◌++◌, string_bytes, append-nil}
+-- The last block has the lines that were not written before it.
+use Rattle.std.proofs.Common.{◌∙◌, ap, sym, [], ◌++◌, append-nil}
+use Rattle.std.specs.List.{flat_map}
 use Rattle.std.proofs.KnownBytes.{Appends-trans}
+use Rattle.std.proofs.lemmas.Grind.{flat_map-append}
 use Rattle.std.proofs.lemmas.Result.{err_from_is_err_and}
-use Rattle.rv_listing.specs.Listing.{listing_of_segment}
+use Rattle.rv_listing.specs.Listing.{ended_text}
 use Rattle.bsp_session.proofs.Outputs.{AppendsPrefix-behind, HasRisen-above}
 use Rattle.bsp_session.proofs.listing.write_segment.Goals as goal
 
@@ -11,21 +14,23 @@ write_blocks-requires g c = c.new-block.ensures.bytes
 pub returns-in_err-write_blocks-clause-err : goal.returns-in_err-write_blocks-clause-err
 returns-in_err-write_blocks-clause-err g c =
     let p = err_from_is_err_and c.from_residual.result c.from_residual.ensures.1 in
-    rw p.1 c.in_err-write_blocks.ensures.err
+    rw (p.1, p.2) c.in_err-write_blocks.ensures.err
 
 -- a prefix of the last block, after all before it
 pub returns-in_err-write_whole-clause-err : goal.returns-in_err-write_whole-clause-err
 returns-in_err-write_whole-clause-err g c =
     let p = err_from_is_err_and c.from_residual-in_err-write_whole.result c.from_residual-in_err-write_whole.ensures.1 in
-    let w = c.in_ok-write_blocks.ensures.ok in
-    let block = string_bytes c.write_blocks.new.block in
-    rw p.1 (AppendsPrefix-behind w.0 block [] (listing_of_segment c.args.segment.now) _ _ _
-    (w.2 ∙ ap (λ bs. w.0 ++ bs) (sym (append-nil block))) w.1 (rw c.as_bytes.ensures.value at c.in_err-write_whole.ensures.err))
-
-pub returns-in_err-write_whole-clause-fault : goal.returns-in_err-write_whole-clause-fault
-returns-in_err-write_whole-clause-fault g c = λ _. HasRisen-above _ _ _ c.write_blocks.ensures.never_falls c.in_err-write_whole.ensures.fault
+    let (done, waiting, is, appended, block) = c.in_ok-write_blocks.ensures.ok in
+    let whole = ap (flat_map ended_text) is ∙ flat_map-append ended_text done waiting
+    ∙ ap (λ bs. flat_map ended_text done ++ bs) (sym (append-nil (flat_map ended_text waiting))) in
+    rw (p.1, p.2) (
+      AppendsPrefix-behind (flat_map ended_text done) (flat_map ended_text waiting) [] _ _ _ _ whole appended
+          (rw (c.as_bytes.ensures.value, block) at c.in_err-write_whole.ensures.err),
+      HasRisen-above _ _ _ c.write_blocks.ensures.never_falls c.in_err-write_whole.ensures.fault,
+    )
 
 pub returns-clause-ok : goal.returns-clause-ok
 returns-clause-ok g c =
-    let w = c.in_ok-write_blocks.ensures.ok in
-    rw w.2 (Appends-trans _ _ _ _ _ w.1 (rw c.as_bytes.ensures.value at c.in_ok-write_whole.ensures.ok))
+    let (done, waiting, is, appended, block) = c.in_ok-write_blocks.ensures.ok in
+    rw (ap (flat_map ended_text) is ∙ flat_map-append ended_text done waiting)
+    (Appends-trans _ _ _ _ _ appended (rw (c.as_bytes.ensures.value, block) at c.in_ok-write_whole.ensures.ok))

@@ -6,6 +6,7 @@ use Rattle.machine_core.specs.Machine.{MachineState}
 use Rattle.bsp_session.specs.declared.job.Job.{Job}
 use Rattle.bsp_session.specs.Report.{report_lines, report_of}
 use Rattle.bsp_session.specs.Session.{run_of}
+use Rattle.bsp_session.proofs.SessionErrors.{IsErrorOf-run}
 use Rattle.bsp_session.proofs.sessions.run_and_report.Goals as goal
 
 -- the output of a machine at its end and the lines after it are its report
@@ -20,28 +21,34 @@ returns-in_err-outcome-clause-nothing_written g c =
     let p = err_from_is_err_and c.from_residual.result c.from_residual.ensures.1 in
     rw p.1 (λ other. refl)
 
-pub returns-in_err-write_report-clause-write_failed : goal.returns-in_err-write_report-clause-write_failed
-returns-in_err-write_report-clause-write_failed g c = λ failed. c.in_err-write_report.ensures.fault
+pub returns-in_err-outcome-clause-err : goal.returns-in_err-outcome-clause-err
+returns-in_err-outcome-clause-err g c =
+    let p = err_from_is_err_and c.from_residual.result c.from_residual.ensures.1 in
+    rw (p.1, p.2) (λ i n both. IsErrorOf-run _ c.args.file.now c.args.input.now _ both c.in_err-outcome.ensures.err (record { bytes = refl; failures = refl }))
 
-pub returns-in_err-write_report-clause-prefix : goal.returns-in_err-write_report-clause-prefix
-returns-in_err-write_report-clause-prefix g c = λ failed.
-    let ran = c.in_ok-outcome.ensures.machine in (
-      ran.0,
-      ran.1,
-      subst (AppendsPrefix (g.W.Write.contents c.args.out.now.inner) (g.W.Write.contents c.write_report.new.out.inner))
+pub returns-in_err-write_report-clause-err : goal.returns-in_err-write_report-clause-err
+returns-in_err-write_report-clause-err g c =
+    let p = err_from_is_err_and c.from_residual-in_err-write_report.result c.from_residual-in_err-write_report.ensures.1 in
+    let ran = c.in_ok-outcome.ensures.machine in
+    rw (p.1, p.2) (λ i n both. record {
+      end = run_of ran.0 c.args.input.now c.args.job.now.settings;
+      runs = record { i = c.args.file.now; n = c.args.input.now; m = ran.0; read = both; image = ran.1; ends = refl };
+      written = subst (AppendsPrefix (g.W.Write.contents c.args.out.now.inner) (g.W.Write.contents c.write_report.new.out.inner))
           (is_report c.args.job.now c.in_ok-outcome.machine (run_of ran.0 c.args.input.now c.args.job.now.settings)
           c.output.result.now c.as_bytes.result.now (string_bytes c.in_ok-outcome.lines) c.output.ensures c.as_bytes.ensures.value c.in_ok-outcome.ensures.lines ran.2)
-          c.in_err-write_report.ensures.err,
-    )
+          c.in_err-write_report.ensures.err;
+      failed = c.in_err-write_report.ensures.fault;
+    })
 
 pub returns-clause-ok : goal.returns-clause-ok
 returns-clause-ok g c =
-    let ran = c.in_ok-outcome.ensures.machine in (
-      ran.0,
-      ran.1,
-      sym (ap (λ (m : MachineState). m.outcome) {y = run_of ran.0 c.args.input.now c.args.job.now.settings} ran.2) ∙ c.in_ok-outcome.ensures.outcome,
-      subst (Appends (g.W.Write.contents c.args.out.now.inner) (g.W.Write.contents c.write_report.new.out.inner))
+    let ran = c.in_ok-outcome.ensures.machine in
+    λ i n both. record {
+      end = run_of ran.0 c.args.input.now c.args.job.now.settings;
+      runs = record { i = c.args.file.now; n = c.args.input.now; m = ran.0; read = both; image = ran.1; ends = refl };
+      outcome = sym (ap (λ (m : MachineState). m.outcome) {y = run_of ran.0 c.args.input.now c.args.job.now.settings} ran.2) ∙ c.in_ok-outcome.ensures.outcome;
+      written = subst (Appends (g.W.Write.contents c.args.out.now.inner) (g.W.Write.contents c.write_report.new.out.inner))
           (is_report c.args.job.now c.in_ok-outcome.machine (run_of ran.0 c.args.input.now c.args.job.now.settings)
           c.output.result.now c.as_bytes.result.now (string_bytes c.in_ok-outcome.lines) c.output.ensures c.as_bytes.ensures.value c.in_ok-outcome.ensures.lines ran.2)
-          c.in_ok-write_report.ensures.ok,
-    )
+          c.in_ok-write_report.ensures.ok;
+    }

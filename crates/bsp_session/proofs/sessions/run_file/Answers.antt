@@ -2,7 +2,7 @@ use Rattle.std.proofs.Common.{◌∙◌, ap, length, Err}
 use Rattle.std.proofs.lemmas.Result.{err_from_is_err_and}
 use Rattle.phase_pool.specs.declared.error.PoolError.{PoolError}
 use Rattle.machine_core.specs.Machine.{MachineState}
-use Rattle.bsp_session.proofs.Jobs.{EndsUnrun-of_pool, length-fresh, numbers_are_in_range}
+use Rattle.bsp_session.proofs.Jobs.{IsErrorOfRun-of_pool, length-fresh, numbers_are_in_range}
 use Rattle.bsp_session.proofs.sessions.run_file.Goals as goal
 
 pub run_to_outcome-requires-after_bounds : goal.run_to_outcome-requires-after_bounds
@@ -14,7 +14,7 @@ returns-in_err-outcome-clause-err g c =
     let p = err_from_is_err_and c.from_residual-in_err-outcome.result c.from_residual-in_err-outcome.ensures.1 in
     let made = c.in_ok-machine.ensures.ok in
     let all = ap (λ (m : MachineState). length m.nodes) made.2 ∙ length-fresh made.0 c.args.input.now c.args.job.now.settings in
-    rw (p.1, p.2) (EndsUnrun-of_pool c.args.job.now c.args.file.now c.in_err-outcome.field-0.0 c.in_err-outcome.ensures.kinds
+    rw (p.1, p.2) (IsErrorOfRun-of_pool c.args.job.now c.args.file.now c.in_err-outcome.field-0.0 c.in_err-outcome.ensures.kinds
     (λ is.
     let known = c.in_err-outcome.ensures.no_worker (ap (λ (e : PoolError). Err e) is) in
     record { m = made.0; image = made.1; workers = known.0; nodes = rw all at known.1 }))

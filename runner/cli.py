@@ -185,7 +185,8 @@ def summary(job: Job, found: report.Report) -> list[str]:
         share = 100 * report.cost_of(superstep, g, l) / max(found.total, 1)
         text = " ".join(f"{name} {value}" for name, value in superstep.costs.items())
         node = nodes[superstep.number]
-        where = f", up to {place(job.code, node)}" if node else ""
+        end = "the end of the program" if node and node.state == "ended" else node and place(job.code, node)
+        where = f", up to {end}" if end else ""
         lines.append(f"  superstep {superstep.number}: {text}, {share:.1f} % of the total{where}")
     return lines
 

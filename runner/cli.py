@@ -23,21 +23,23 @@ from .warn import warnings
 from .why import Why
 
 REPO = pathlib.Path(__file__).resolve().parent.parent
+PAGE = 4096
 MOST_INPUT = 16 << 20
 DEAREST = 5
 KINDS = ("elf", "asm", "raw", "c")
 
 
-def number(what: str, least: int, most: int) -> Callable[[str], int]:
-    """A reader of whole numbers of this range, which says the range where it refuses."""
+def number(what: str, least: int, most: int, unit: int = 1) -> Callable[[str], int]:
+    """A reader of whole numbers of this range, multiples of a unit, which says the range where it refuses."""
+    kind = "a whole number" if unit == 1 else f"a multiple of {unit}"
 
     def read(text: str) -> int:
         try:
             value = int(text, 0)
         except ValueError:
             value = least - 1
-        if not least <= value <= most:
-            raise argparse.ArgumentTypeError(f"{text!r}: {what} is a whole number from {least} to {most}")
+        if not least <= value <= most or value % unit:
+            raise argparse.ArgumentTypeError(f"{text!r}: {what} is {kind} from {least} to {most}")
         return value
 
     return read
@@ -67,12 +69,30 @@ def arguments(words: list[str]) -> argparse.Namespace:
     add("--report", metavar="FILE", help="the costs, into FILE: as CSV or JSON where its name says so; - is standard error")
     add("--summary", action="store_true", help="the totals and the dearest supersteps, on standard error")
     add("--warn", action="store_true", help="look for what is likely a mistake, also in a run that ends well; takes long")
-    add("--limit", type=number("the limit of instructions", 1, 1 << 40), default=1 << 40, metavar="COUNT")
-    add("--memory", type=number("the memory of a node in bytes", 4096, 1 << 24), default=1 << 20, metavar="BYTES")
+    add(
+        "--limit",
+        type=number("the limit of instructions", 1, 1 << 40),
+        default=1 << 40,
+        metavar="COUNT",
+        help="instructions of a node, 2^40 if not said",
+    )
+    add(
+        "--memory",
+        type=number("the memory of a node in bytes", PAGE, 1 << 24, PAGE),
+        default=1 << 20,
+        metavar="BYTES",
+        help="of a node, 1048576 if not said",
+    )
     add("--stack", type=number("the room of the stack in bytes", 16, 1 << 24), metavar="BYTES", help="of a .c program")
-    add("--workers", type=number("the number of threads", 1, 64), default=1, metavar="COUNT")
-    add("--g", type=number("the price of a byte", 0, (1 << 64) - 1), default=0, metavar="TICKS")
-    add("--l", type=number("the price of a superstep's end", 0, (1 << 64) - 1), default=0, metavar="TICKS")
+    add("--workers", type=number("the number of threads", 1, 64), default=1, metavar="COUNT", help="threads of the host")
+    add("--g", type=number("the price of a byte", 0, (1 << 64) - 1), default=0, metavar="TICKS", help="of a byte of h")
+    add(
+        "--l",
+        type=number("the price of a superstep's end", 0, (1 << 64) - 1),
+        default=0,
+        metavar="TICKS",
+        help="of the end of a superstep",
+    )
     add("--format", choices=KINDS, help="what PROGRAM is, where its bytes and its name do not tell")
     add("program", metavar="PROGRAM")
     add("args", metavar="ARGS", nargs=argparse.REMAINDER, help="the arguments of main")
@@ -136,7 +156,8 @@ def prepared(options: argparse.Namespace, folder: pathlib.Path) -> Job:
         code = read_elf(content)
         code.debug_info = image
     if code.need > options.memory:
-        raise Refused(f"{options.program} wants {code.need} bytes of memory: give --memory with as many or more")
+        need = -(-code.need // PAGE) * PAGE
+        raise Refused(f"{options.program} wants {need} bytes of memory for its code and variables: give --memory {need} or more")
     given = given_input(options, content)
     settings = [str(image), "--format", kind, "--nodes", str(options.nodes), "--memory", str(options.memory)]
     settings += ["--limit", str(options.limit)]

@@ -10,7 +10,8 @@ from dataclasses import dataclass
 REGISTER = re.compile(r"x(\d+)=([0-9a-f]{8})")
 NODE = re.compile(r"rank (\d+) pc ([0-9a-f]{8}) ticks (\d+) state (.+)")
 ALL = 1 << 63
-MOST_STOPS = 40_000
+# The debugger takes 1 MiB of lines, of which a stop takes 12 bytes at most; a superstep has 65,536 requests at most.
+MOST_STOPS = 80_000
 STACK_BYTES = 1 << 17
 
 
@@ -125,4 +126,4 @@ class Debugger:
                 nodes.append(node_of(regs))
             if count >= most:
                 return nodes
-            count = min(8 * count, most)
+            count = min(64 * count, most)

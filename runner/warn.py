@@ -2,14 +2,19 @@
 
 from __future__ import annotations
 
+from collections.abc import Callable
 from dataclasses import dataclass
 
 from .calls import CHANGES, POP, PUSH, PUTS, REQUESTS, SYNC, Areas, Call, Tracer
+from .debugger import MOST_STOPS
 from .places import written
 from .report import Report
 
 MOST_TOLD = 5
 TRACED = (*REQUESTS, *CHANGES, SYNC)
+
+# A line that tells of something that was found: made only where it is told, since finding its places takes runs.
+Finding = Callable[[], str]
 
 
 @dataclass(frozen=True)
@@ -28,12 +33,15 @@ class Steps:
 
     def __init__(self, trace: Tracer, nodes: int) -> None:
         self.trace, self.nodes = trace, nodes
+        self.is_whole = True
         self.made: list[list[list[Call]]] = [self.parted(rank) for rank in range(nodes)]
 
     def parted(self, rank: int) -> list[list[Call]]:
         """The calls of a rank, a list for each superstep."""
         steps: list[list[Call]] = [[]]
-        for call in self.trace.calls(rank, TRACED):
+        calls = self.trace.calls(rank, TRACED)
+        self.is_whole &= not calls or calls[-1].stop < MOST_STOPS
+        for call in calls:
             if call.number == SYNC:
                 steps.append([])
             else:
@@ -56,10 +64,12 @@ def warnings(trace: Tracer, nodes: int, report: Report) -> list[str]:
     ends = pending(steps, last) if report.outcome == "ended" else []
     found = [*ends, *other_order(steps, last), *meeting(steps, last)]
     more = [f"  and {len(found) - MOST_TOLD} more"] if len(found) > MOST_TOLD else []
-    return [f"bsprun: warning: {it}" for it in (finding() for finding in found[:MOST_TOLD])] + more
+    if not steps.is_whole:
+        more.append(f"  and no more than the first {MOST_STOPS} calls of a rank were looked at")
+    return [f"bsprun: warning: {finding()}" for finding in found[:MOST_TOLD]] + more
 
 
-def pending(steps: Steps, last: int) -> list:
+def pending(steps: Steps, last: int) -> list[Finding]:
     """The requests of the last superstep, which come to nothing, the first of each rank."""
     found = []
     for rank in range(steps.nodes):
@@ -72,7 +82,7 @@ def pending(steps: Steps, last: int) -> list:
     return found
 
 
-def other_order(steps: Steps, last: int) -> list:
+def other_order(steps: Steps, last: int) -> list[Finding]:
     """Registrations that a rank makes of the same addresses as rank 0, but in another order."""
     found = []
     for superstep in range(last + 1):
@@ -90,7 +100,7 @@ def other_order(steps: Steps, last: int) -> list:
     return found
 
 
-def meeting(steps: Steps, last: int) -> list:
+def meeting(steps: Steps, last: int) -> list[Finding]:
     """Puts of one superstep that write the same byte, each pair of places once."""
     areas = [Areas() for _ in range(steps.nodes)]
     found, told = [], set()

@@ -31,8 +31,8 @@ class Why:
         """The lines that tell why, for each outcome but `ended`."""
         superstep = report.supersteps[-1].number
         outcome = report.outcome
-        if found := re.match(r"rank (\d+) stopped: (.+)", outcome):
-            return self.stopped(report)
+        if re.match(r"rank \d+ stopped: ", outcome):
+            return self.stopped(superstep)
         if found := re.match(r"desync: rank (\d+) ended, rank (\d+) synced", outcome):
             return self.desync(int(found[1]), int(found[2]), superstep)
         if found := re.match(r"refused: OutsideArea rank (\d+) request (\d+)", outcome):
@@ -48,9 +48,8 @@ class Why:
 
     # A node that was stopped.
 
-    def stopped(self, report: Report) -> list[str]:
+    def stopped(self, superstep: int) -> list[str]:
         """The nodes that were stopped in the last superstep, each place once."""
-        superstep = report.supersteps[-1].number
         stopped = self.stopped_ranks(superstep)
         lines: list[str] = []
         told: set[str] = set()

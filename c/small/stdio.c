@@ -5,6 +5,21 @@
 
 #include "../machine.h"
 
+/* Below the streams, as POSIX has them. Weak, since a program may have functions of these names. */
+__attribute__((weak)) int write(int file, const void *bytes, size_t count)
+{
+    if (file != 1 && file != 2)
+        return -1;
+    bsp_stdio_flush();
+    machine_call_2(CALL_WRITE, (long)bytes, (long)count);
+    return (int)count;
+}
+
+__attribute__((weak)) int read(int file, void *bytes, size_t count)
+{
+    return file == 0 ? bsp_input_read(bytes, (int)count) : -1;
+}
+
 struct bsp_stream {
     int file;
 };

@@ -186,6 +186,7 @@ def given_input(options: argparse.Namespace, content: bytes) -> bytes | None:
 
 def tell(lines: list[str]) -> None:
     """Writes lines on standard error."""
+    emulator.show("")
     for line in lines:
         print(line, file=sys.stderr)
 
@@ -232,6 +233,7 @@ def deliver(job: Job, done: emulator.Done) -> int:
     if options.summary:
         tell(summary(job, found))
     if found.outcome != "ended":
+        emulator.show("looking for the place")
         tell([f"bsprun: {found.outcome}", *Why(job.code, job.debugger(), options.nodes, options.limit).lines(found)])
     if options.warn:
         tell(warnings(Tracer(job.code, job.debugger()), options.nodes, found))

@@ -21,7 +21,6 @@ class Done:
 
 def run(words: list[str]) -> Done:
     """Runs the emulator to its end. At a terminal the time is shown, so that one sees that a long run lives."""
-    shows = sys.stderr.isatty()
     start = time.monotonic()
     # Ctrl-C is this script's to act on.
     child = subprocess.Popen(
@@ -33,16 +32,16 @@ def run(words: list[str]) -> Done:
                 stdout, stderr = child.communicate(timeout=1)
                 return Done(stdout, stderr, child.returncode)
             except subprocess.TimeoutExpired:
-                tell(shows, int(time.monotonic() - start))
+                if (seconds := int(time.monotonic() - start)) >= QUIET_SECONDS:
+                    show(f"running, {seconds} s")
     finally:
         if child.poll() is None:
             child.kill()
             child.wait()
-        if shows:
-            print("\r\033[K", end="", file=sys.stderr, flush=True)
+        show("")
 
 
-def tell(shows: bool, seconds: int) -> None:
-    """Says how long a run has taken so far."""
-    if shows and seconds >= QUIET_SECONDS:
-        print(f"\r\033[Kbsprun: running, {seconds} s", end="", file=sys.stderr, flush=True)
+def show(text: str) -> None:
+    """What is under way, in the place of what was shown before; at a terminal alone."""
+    if sys.stderr is not None and sys.stderr.isatty():
+        print(f"\r\033[K{'bsprun: ' if text else ''}{text}", end="", file=sys.stderr, flush=True)

@@ -237,6 +237,8 @@ class Why:
         """Which limit of a superstep was met."""
         if node.x[17] == PUSH:
             return [f"{MOST_AREAS} areas are registered, and {MOST_REQUESTS} pushes in a superstep are the most"]
+        if node.x[17] not in REQUESTS:
+            return [f"{MOST_BYTES} bytes in a superstep are the most, over puts, gets, messages and output"]
         made = self.trace.calls_in(node.rank, (*REQUESTS, WRITE), superstep)
         asked = [it for it in made if it.number in REQUESTS]
         if len(asked) > MOST_REQUESTS:

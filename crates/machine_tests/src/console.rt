@@ -110,7 +110,7 @@ impl Write for Sink {
     }
 }
 
-fn sink(alloc: Global, room: usize, flushes: u32) -> Sink {
+fn with_room(alloc: Global, room: usize, flushes: u32) -> Sink {
     Sink {
         held: Vec::new(alloc),
         room,
@@ -177,7 +177,7 @@ fn a_writer_that_fails_keeps_what_it_took(rt: HostRuntime) -> Result<(), Fail> {
     let all = REPLIES.len();
     for is_dialogue in [false, true] {
         for room in 0..=all {
-            let out = sink(alloc, room, 100);
+            let out = with_room(alloc, room, 100);
             let (answer, out) = run(alloc, is_dialogue, &image, SCRIPT.as_bytes(), out);
             let wanted = if room < all {
                 Err(SessionError::WriteFault)
@@ -210,7 +210,7 @@ fn a_flush_that_fails_leaves_its_reply(rt: HostRuntime) -> Result<(), Fail> {
         (true, 12, fault, REPLIES),
         (true, 13, Ok(()), REPLIES),
     ] {
-        let out = sink(alloc, 1000, flushes);
+        let out = with_room(alloc, 1000, flushes);
         let (given, out) = run(alloc, is_dialogue, &image, SCRIPT.as_bytes(), out);
         let is_expected = given == answer && out.held.as_slice() == held.as_bytes();
         assert!(rt; is_expected, "with {flushes} flushes");

@@ -1,12 +1,12 @@
 //! Tests of `debug_lines`.
 
-ghost use Rattle.std.specs.Prelude.{◌<◌, ◌^◌, IfOk};
-ghost use Rattle.cost_ledger.specs.CostRow.{total_cost};
-ghost use Rattle.bsp_debug.specs.Reply.{answer};
-ghost use Rattle.debug_lines.specs.Replies.{costs_of};
+ghost use Rattle.std.specs.Prelude.{◌≡◌, List, IfOk};
+ghost use Rattle.cost_ledger.specs.declared.CostRow.{CostRow as CostRowValue};
+ghost use Rattle.bsp_debug.specs.Reply.{answer, costs};
 
 use bsp_debug::Reply;
 use bsp_requests::Message;
+use cost_ledger::Ledger;
 use debug_lines::reply_text;
 use list_vec::ListVec;
 use refusing_allocator::RefusingAllocator;
@@ -22,11 +22,12 @@ from 3 tag 0a00 payload -
 from 0 tag - payload 1234
 ";
 
-/// Whether a reply has this text.
+/// Whether a reply, which is none of costs, has this text.
 fn has_text(alloc: &Heap, reply: &Reply<Global>, wanted: &str) -> Result<bool, AllocError>
-    requires { total_cost 2 10 (costs_of (answer reply.now)) < 2 ^ 128 }
+    requires { (rows : List CostRowValue) → answer reply.now ≡ costs rows → ⊥ }
 {
-    Ok(reply_text(alloc, reply, 2, 10)?.as_str() == wanted)
+    let ledger = Ledger::new(alloc);
+    Ok(reply_text(alloc, reply, &ledger, 2, 10)?.as_str() == wanted)
 }
 
 /// Sees that a reply has a text, and that each refusal of memory is answered.
@@ -36,7 +37,7 @@ fn expect_text(
     reply: &Reply<Global>,
     wanted: &str,
 ) -> Result<(), AllocError>
-    requires { total_cost 2 10 (costs_of (answer reply.now)) < 2 ^ 128 }
+    requires { (rows : List CostRowValue) → answer reply.now ≡ costs rows → ⊥ }
 {
     assert!(rt; has_text(heap, reply, wanted)?);
     let requests = heap.requests();
@@ -64,7 +65,7 @@ fn message(
 
 // Two messages: one with a tag and no payload, and one with a payload and no tag.
 fn queue(alloc: Global) -> Result<Reply<Global>, AllocError>
-    ensures { IfOk result (λ reply. total_cost 2 10 (costs_of (answer reply)) < 2 ^ 128) }
+    ensures { IfOk result (λ reply. (rows : List CostRowValue) → answer reply ≡ costs rows → ⊥) }
 {
     let first = message(alloc, 3, &[10, 0], b"")?;
     let second = message(alloc, 0, b"", &[0x12, 0x34])?;

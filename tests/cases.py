@@ -5,6 +5,8 @@ A case is a folder with some of these files:
             folder that is empty before the case and gone after it
   args.2, args.3, ..    further runs of the program, made one after another, each where the one before it ended with
             status 0; what all of them wrote is compared, and the last one's status
+  before    what the file `{temp}/written` holds before the first run
+  links     other names of that file, which are links in `{temp}`: each line is `symbolic` or `hard`, a space and a name
   written   what the file `{temp}/written` must hold afterwards
   stdin     standard input, empty where it is missing
   stdin.repeat    a line with a number, and a text that follows so many times after what `stdin` has
@@ -141,10 +143,21 @@ def run(program, case, words):
     )
 
 
+def prepare(case, temp):
+    """Makes the file that the case begins with, and the links to it."""
+    written = pathlib.Path(temp) / "written"
+    if (case / "before").exists():
+        written.write_bytes(read(case / "before"))
+    for kind, name in (line.split() for line in read(case / "links").decode().splitlines()):
+        make = {"symbolic": os.symlink, "hard": os.link}[kind]
+        make(written, written.with_name(name))
+
+
 def run_case(program, case, repo):
     stdout, stderr, status = b"", b"", 0
     with tempfile.TemporaryDirectory() as temp:
         places = {"case": case, "repo": repo, "temp": temp}
+        prepare(case, temp)
         for path in [case / "args", *sorted(case.glob("args.*"))]:
             done = run(program, case, arguments(path, places))
             stdout, stderr, status = stdout + done.stdout, stderr + done.stderr, done.returncode

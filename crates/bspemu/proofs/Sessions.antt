@@ -1,14 +1,13 @@
 -- What an answer of a session says of its settings.
-use Rattle.std.proofs.Common.{◌≡◌, ◌<◌, arith, refl, subst, Option, Some, None, Result, Err, Ok}
+use Rattle.std.proofs.Common.{◌≡◌, arith, refl, subst, Option, Some, None, Result, Err, Ok}
 use Rattle.std.specs.Prelude.{IfErr, IsErrOf, OnOk, ◌↔◌}
-use Rattle.machine_core.specs.declared.outcome.Outcome.{Outcome}
 use Rattle.bsp_console.specs.Console.{console_fault}
 use Rattle.bsp_session.specs.declared.errors.BadSetting.{BadSetting}
 use Rattle.bsp_session.specs.declared.errors.SessionError.{SessionError}
 use Rattle.bsp_session.specs.declared.errors.SessionError.TheVariants.{BadSettings, TooLong, Text, BadImage, SegmentOutside, ReadFault, WriteFault, NoWorker, NoMemory}
 use Rattle.bsp_session.specs.declared.job.Job.{Job}
 use Rattle.bsp_session.specs.Session.{job_fault}
-use Rattle.bspemu.specs.Program.{IsDebugError, IsSessionError}
+use Rattle.bspemu.specs.Program.{IsDebugError}
 
 -- settings with this fault are refused for it, and no others are
 abbrev RefusesSettings : {X : Type 0} → Option SessionError → Result X SessionError → Type 0
@@ -45,14 +44,6 @@ no_fault (Some e) r settings refuses other = refused e (settings e refl) refuses
     refused : (e : SessionError) → IsSetting e → RefusesSettings (Some e) r → Some e ≡ None
     refused (BadSettings cause) setting refuses = absurd (other cause ((refuses cause).1 refl))
     refused _ setting refuses = absurd setting
-
-pub session_error : (job : Job) (r : Result Outcome SessionError) (e : SessionError) → r ≡ Err e → RefusesSettings (job_fault job) r
-    → (e ≡ NoWorker → (1 < job.workers) × (1 < job.settings.nodes)) → IsSessionError job e
-session_error job r (BadSettings cause) is refuses lacks = (refuses cause).0 is
-session_error job r NoWorker is refuses lacks =
-    let wanted = lacks refl in
-    (no_fault (job_fault job) r (is_setting job) refuses (λ cause bad. cc), wanted.0, wanted.1)
-session_error job r _ is refuses lacks = no_fault (job_fault job) r (is_setting job) refuses (λ cause bad. cc)
 
 -- a session's error is one of the debugger's, since it wants no thread
 debug_error : {X : Type 0} (job : Job) (r : Result X SessionError) (e : SessionError) → r ≡ Err e → RefusesSettings (console_fault job) r

@@ -1,5 +1,5 @@
 -- How the program ends (own rules).
-use Rattle.std.specs.Prelude.{◌≡◌, ◌≢◌, ◌<◌, ◌≤◌, ◌⊎◌, ◌++◌, false, length, ℕ, Option, None, List, Some, Result, Ok, Err, codes}
+use Rattle.std.specs.Prelude.{◌≡◌, ◌≢◌, ◌⊎◌, ◌++◌, ℕ, Option, None, List, Some, Result, Ok, Err, codes}
 use Rattle.std.specs.Borrow.{Bor}
 use Rattle.clap.specs.Words.{Text, kind_of}
 use Rattle.clap.specs.declared.error.Error.{Error}
@@ -7,15 +7,15 @@ use Rattle.clap.specs.declared.error.kind.ErrorKind.{ErrorKind}
 use Rattle.clap.specs.declared.error.kind.ErrorKind.TheVariants.{DisplayHelp, DisplayVersion, OutOfMemory}
 use Rattle.bsp_console.specs.Console.{console_fault}
 use Rattle.bsp_session.specs.declared.errors.SessionError.{SessionError}
-use Rattle.bsp_session.specs.declared.errors.SessionError.TheVariants.{BadSettings, NoWorker}
+use Rattle.bsp_session.specs.declared.errors.SessionError.TheVariants.{BadSettings}
+use Rattle.bsp_session.specs.declared.job.Format.{Format}
+use Rattle.bsp_session.specs.declared.job.Format.TheVariants.{Asm}
 use Rattle.bsp_session.specs.declared.job.Job.{Job}
 use Rattle.machine_core.specs.declared.outcome.Outcome.{Outcome}
 use Rattle.machine_core.specs.declared.outcome.Outcome.TheVariants.{Ended}
-use Rattle.node_memory.specs.Image.{Image, is_segment_outside}
-use Rattle.bsp_session.specs.Images.{Gives, most_bytes}
-use Rattle.bsp_session.specs.Listing.{IsErrorWithoutMachine}
+use Rattle.bsp_session.specs.Conversion.{Conversion, IsErrorOfAssembly, IsErrorOfListing}
 use Rattle.bsp_session.specs.Outcome.{status_of}
-use Rattle.bsp_session.specs.Session.{job_fault, most_input, run_of}
+use Rattle.bsp_session.specs.Session.{IsErrorOf, Reports, Session as BatchSession}
 use Rattle.bspemu.specs.declared.options.MachineOptions.{MachineOptions}
 use Rattle.bspemu.specs.declared.options.ListOptions.{ListOptions}
 use Rattle.bspemu.specs.declared.options.AsmOptions.{AsmOptions}
@@ -30,32 +30,20 @@ abbrev pub text_of_error : RunError → Option Text
 text_of_error (CannotOpen path) = Some (codes "cannot open " ++ path.now)
 text_of_error (Session error) = None
 
--- the outcome of a machine's run, for some bytes of an image's file, which give an image, and of an input
-pub record HasOutcome (job : Job) (o : Outcome) : Type 0 where
-  pub file : List ℕ
-  pub input : List ℕ
-  pub image : Image
-  pub settings : job_fault job ≡ None
-  pub file_limited : length file ≤ most_bytes job.format
-  pub input_limited : length input ≤ most_input
-  pub gives : Gives job.format file image
-  pub fits : is_segment_outside image job.settings.memory ≡ false
-  pub outcome : (run_of image input job.settings).outcome ≡ Some o
-
 -- the options name this file: as the image, which is not standard input, or as the input
 abbrev pub NamesFile : MachineOptions → Bor Text → Type 0
 NamesFile o path = ((o.image.now ≢ codes "-") × (o.image ≡ path)) ⊎ (o.input ≡ Some path)
 
--- an error of a session: only settings out of their ranges are refused as such, and a thread can be lacking only where there are
--- several workers and several nodes
+-- an outcome and an error that a session with this job can have, whatever it reads and writes
+abbrev pub IsSessionOutcome : Job → Outcome → Type 0
+IsSessionOutcome job outcome = (s : BatchSession) × (s.job ≡ job) × Reports s outcome
+
 abbrev pub IsSessionError : Job → SessionError → Type 0
-IsSessionError job (BadSettings cause) = job_fault job ≡ Some (BadSettings cause)
-IsSessionError job NoWorker = (job_fault job ≡ None) × (1 < job.workers) × (1 < job.settings.nodes)
-IsSessionError job _ = job_fault job ≡ None
+IsSessionError job error = (s : BatchSession) × (s.job ≡ job) × IsErrorOf s error
 
 -- an answer that a run with these options can have
 abbrev pub IsAnswerOfRun : MachineOptions → Result Outcome RunError → Type 0
-IsAnswerOfRun o (Ok outcome) = HasOutcome o.job outcome
+IsAnswerOfRun o (Ok outcome) = IsSessionOutcome o.job outcome
 IsAnswerOfRun o (Err (CannotOpen path)) = NamesFile o path
 IsAnswerOfRun o (Err (Session error)) = IsSessionError o.job error
 
@@ -71,17 +59,25 @@ IsAnswerOfDebug o (Ok outcome) = (outcome ≡ Ended) × (console_fault o.job ≡
 IsAnswerOfDebug o (Err (CannotOpen path)) = NamesFile o path
 IsAnswerOfDebug o (Err (Session error)) = IsDebugError o.job error
 
+-- an error that the listing of a file in this format can have
+abbrev pub IsListError : Format → SessionError → Type 0
+IsListError format error = (c : Conversion) × (c.format ≡ format) × IsErrorOfListing c error
+
 -- an answer that a listing with these options can have
 abbrev pub IsAnswerOfList : ListOptions → Result Outcome RunError → Type 0
 IsAnswerOfList o (Ok outcome) = outcome ≡ Ended
 IsAnswerOfList o (Err (CannotOpen path)) = (o.image.now ≢ codes "-") × (o.image ≡ path)
-IsAnswerOfList o (Err (Session error)) = IsErrorWithoutMachine error
+IsAnswerOfList o (Err (Session error)) = IsListError o.format error
+
+-- an error that an assembly can have
+abbrev pub IsAsmError : SessionError → Type 0
+IsAsmError error = (c : Conversion) × (c.format ≡ Asm) × IsErrorOfAssembly c error
 
 -- an answer that an assembly with these options can have
 abbrev pub IsAnswerOfAsm : AsmOptions → Result Outcome RunError → Type 0
 IsAnswerOfAsm o (Ok outcome) = outcome ≡ Ended
 IsAnswerOfAsm o (Err (CannotOpen path)) = (o.text ≡ path) ⊎ (o.image ≡ path)
-IsAnswerOfAsm o (Err (Session error)) = IsErrorWithoutMachine error
+IsAnswerOfAsm o (Err (Session error)) = IsAsmError error
 
 -- an answer that an action can have
 abbrev pub IsAnswer : Action → Result Outcome RunError → Type 0

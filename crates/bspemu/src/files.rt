@@ -5,7 +5,9 @@ ghost use Rattle.std.specs.Io.{ReadsAtMost};
 ghost use Rattle.std.specs.Io.KnownBytes.{ReadConsumes};
 ghost use Rattle.bspemu.specs.Source.{bytes_left, image_place, file, input_place, lines_place, place_of, standard_input};
 
+use std::fs::OpenFile;
 use std::io::{ErrorKind, IsTerminal, Read};
+use std::os::unix::fs::MetadataExt;
 use std::rt::Files;
 use std::{fs, io};
 
@@ -117,9 +119,26 @@ pub fn open_file<'a, R: Files>(rt: &R, path: &'a str) -> Result<R::File, CannotO
     fs::open(rt, path).map_err(|_| CannotOpen(path))
 }
 
-/// The file at `path`, to be written: it is created where there is none, and else emptied.
-pub fn create<'a, R: Files>(rt: &R, path: &'a str) -> Result<R::File, CannotOpen<'a>>
+/// The file at `path`, to be written: it is created where there is none, and else emptied. It may not be `source`, which is
+/// still to be read, under whatever name.
+pub fn create<'a, R: Files>(
+    rt: &R,
+    path: &'a str,
+    source: &R::File,
+) -> Result<R::File, CannotOpen<'a>>
     ensures { IfErr result (λ e. e.0 ≡ path.entry) }
 {
+    if is_at(rt, path, source) {
+        return Err(CannotOpen(path));
+    }
     fs::create(rt, path).map_err(|_| CannotOpen(path))
+}
+
+/// Whether `path` leads to this file. Links and other spellings of a path lead to one file, which its device and its number
+/// there name.
+fn is_at<R: Files>(rt: &R, path: &str, file: &R::File) -> bool {
+    match (fs::metadata(rt, path), file.metadata()) {
+        (Ok(there), Ok(here)) => there.dev() == here.dev() && there.ino() == here.ino(),
+        _ => false,
+    }
 }

@@ -214,15 +214,16 @@ fn list<'a, R: AllocGlobal + Files + Input + Print>(
     Ok(Outcome::Ended)
 }
 
-/// Opens the text, creates the file of the image, or empties it, and saves the text's image there.
+/// Opens the text, creates the file of the image, or empties it, and saves the text's image there. The two may not be one file.
 fn assemble<'a, R: AllocGlobal + Files + Input>(
     rt: &R,
     options: &AsmOptions<'a>,
 ) -> Result<Outcome, RunError<'a>>
     ensures { IsAnswerOfAsm options.now result }
 {
-    let mut text = Counted::new(open_file(rt, options.text)?);
-    let mut image = Counted::new(create(rt, options.image)?);
+    let text = open_file(rt, options.text)?;
+    let mut image = Counted::new(create(rt, options.image, &text)?);
+    let mut text = Counted::new(text);
     asm_session(rt.alloc(), &mut text, &mut image)?;
     Ok(Outcome::Ended)
 }

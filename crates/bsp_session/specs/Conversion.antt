@@ -9,7 +9,7 @@ use Rattle.counted_io.specs.declared.ReadError.TheVariants as read
 use Rattle.elf_image.specs.Spelling.{spelling_of}
 use Rattle.node_memory.specs.Image.{Image, Segment}
 use Rattle.rv_listing.specs.declared.lines.Line.{Line}
-use Rattle.rv_listing.specs.Listing.{ended_text, lines_of, listing_of}
+use Rattle.rv_listing.specs.Listing.{ended_text, listing_lines, listing_of}
 use Rattle.bsp_session.specs.declared.errors.SessionError.{SessionError}
 use Rattle.bsp_session.specs.declared.errors.SessionError.TheVariants.{TooLong, Text, BadImage, ReadFault, WriteFault, NoMemory}
 use Rattle.bsp_session.specs.declared.job.Format.{Format}
@@ -54,7 +54,7 @@ pub record AppendsFirstLines (old new : Option (List ℕ)) (lines : List Line) :
 
 -- the lines of a segment's listing, and those of an image's, segment by segment
 abbrev pub lines_of_segment : Segment → List Line
-lines_of_segment s = lines_of s.addr s.bytes
+lines_of_segment s = listing_lines s.addr s.bytes
 
 abbrev pub lines_of_image : Image → List Line
 lines_of_image m = flat_map lines_of_segment m.segments

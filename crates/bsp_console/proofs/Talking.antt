@@ -298,13 +298,6 @@ passes before mid after old new consumed over =
     ap length (sym (append_assoc old bytes (byte ∷ []))) ∙ length-append (old ++ bytes) (byte ∷ []) ∙ ap (λ t. length t + 1) (sym grown) in
     (old ++ (bytes ++ byte ∷ []), omega (arith, size, over.full), Consumes-trans before mid after old (bytes ++ byte ∷ []) consumed lost)
 
--- it has more bytes than the limit, where they are known
-past_known : (most : ℕ) (before after : Option (List ℕ)) → (prefix : List ℕ) × (most < length prefix) × Consumes before after prefix
-    → IfSome before (λ all. most < length all)
-past_known most None after past = tt
-past_known most (Some xs) None (prefix, more, c) = absurd c
-past_known most (Some xs) (Some ys) (prefix, more, c) = omega (arith, ap length c, length-append prefix ys)
-
 -- the next line could not be read
 pub talk-error : (g l : ℕ) (start d : DebuggerState) (script out : Stream) (mid : Option (List ℕ)) (old new : LineReaderState) (failures : ℕ) (r : ReadError)
     → IsTalking g l start script.before mid out.before out.after old d → (old.ended ≡ true → (new.read ≡ old.read) × (script.after ≡ mid))
@@ -339,8 +332,8 @@ talk-error g l start d script out mid old new failures r t still few given lacks
               (λ ended. ((still ended).0, none_lost mid script.after bytes byte lost (t.over ended)));
         };
         lost = byte_lost mid script.after bytes byte lost;
-        past = past_known most_script script.before script.after
-            (passes script.before mid script.after old.read new.read t.consumed (subst (PassesLimit mid script.after old.read new.read) t.most over));
+        past = passes script.before mid script.after old.read new.read t.consumed
+            (subst (PassesLimit mid script.after old.read new.read) t.most over);
       }
 
   ends : (cause : Stream → List (List ℕ) → Type 0) → cause script t.asked → EndsAtLine g l cause script out start

@@ -249,8 +249,8 @@ fn a_reader_that_fails_is_met_where_it_is_read(rt: HostRuntime) -> Result<(), Fa
 #[derive(Drop)]
 struct Asks<'a> {
     lines: &'a [&'a str],
-    asked: u32,
-    heard: &'a Cell<u32>,
+    asked: usize,
+    heard: &'a Cell<usize>,
 }
 
 impl Read for Asks<'_> {
@@ -258,13 +258,12 @@ impl Read for Asks<'_> {
         if self.heard.get() != self.asked {
             return Err(io::Error::from(ErrorKind::Other));
         }
-        let Some((line, rest)) = self.lines.split_first() else {
+        let Some(line) = self.lines.get(self.asked) else {
             return Ok(0);
         };
         let line = line.as_bytes();
         let count = buf.len().min(line.len());
         buf[..count].copy_from_slice(&line[..count]);
-        self.lines = rest;
         self.asked = self.asked.saturating_add(1);
         Ok(count)
     }
@@ -274,7 +273,7 @@ impl Read for Asks<'_> {
 #[derive(Drop)]
 struct Hears<'a> {
     waits: bool,
-    heard: &'a Cell<u32>,
+    heard: &'a Cell<usize>,
 }
 
 impl Write for Hears<'_> {

@@ -1,5 +1,5 @@
 -- Lemmas on transfers that go on or stop.
-use Rattle.std.proofs.Common.{◌≡◌, ℕ, ◌+◌, ◌<◌, ◌≤◌, ◌-◌, List, ◌++◌, length, take, drop, sym, ap, ◌∙◌, subst, arith, append_assoc, take-append-drop, length-append, IfSome, Option, None, Some}
+use Rattle.std.proofs.Common.{◌≡◌, ℕ, ◌+◌, ◌<◌, ◌≤◌, ◌-◌, List, ◌++◌, length, take, drop, sym, ap, ◌∙◌, subst, arith, append_assoc, take-append-drop, length-append, Option}
 use Rattle.std.proofs.lemmas.List.{length-take-le, take_rest}
 use lib.Seq.{take-append_seam}
 use Rattle.std.specs.Io.KnownBytes.{Appends, Consumes}
@@ -16,12 +16,6 @@ pub AppendsPrefix-stopped : (old new : Option (List ℕ)) (all done rest : List 
 AppendsPrefix-stopped old new all done rest split left appended =
     let front : done ≡ take (length done) all = sym (ap (take (length done)) split ∙ take-append_seam done rest) in
     (length done, omega (arith, ap length split, length-append done rest), subst (Appends old new) front appended)
-
--- a reader that lost some bytes, where some were read before, had at least as many
-pub longer_with : (a b : Option (List ℕ)) (bytes : List ℕ) (read most : ℕ) → Consumes a b bytes → most < read + length bytes → IfSome a (λ all. most < read + length all)
-longer_with None b bytes read most p q = tt
-longer_with (Some x) None bytes read most p q = absurd p
-longer_with (Some x) (Some y) bytes read most p q = omega (arith, ap length p, length-append bytes y)
 
 -- one read passed the room that was left
 pub past_room : (bytes chunk : List ℕ) (count room : ℕ) → count ≤ length chunk → room < count → length bytes + room < length (bytes ++ take count chunk)

@@ -1,10 +1,9 @@
 //! The lines of a text that is read as they are wanted.
 
-ghost use Rattle.std.specs.Prelude.{◌≡◌, ◌≢◌, ◌+◌, ◌<◌, ◌≤◌, ◌⊎◌, ◌∷◌, [], IfErr, IfNone, IfOk, IfSome, IsOk, OnErr, OnOk, Ok, drop, false, length, slice_index, true, ℕ};
+ghost use Rattle.std.specs.Prelude.{◌≡◌, ◌+◌, ◌<◌, ◌≤◌, ◌⊎◌, ◌∷◌, [], IfNone, IfOk, IfSome, IsOk, OnErr, OnOk, Ok, drop, false, length, slice_index, true, ℕ};
 ghost use Rattle.std.specs.Io.KnownBytes.{Consumes, IsAtEnd, Keeps};
 ghost use Rattle.counted_io.specs.Counted.{HasRisen};
 ghost use Rattle.counted_io.specs.Lines.{GivesLast, GivesLine, GivesNone, HasFeed, IsFirstFeed, IsOver, LacksFeed, LacksFeedWithin, PassesLimit, ReadsOn};
-ghost use Rattle.counted_io.specs.Transfers.{ConsumesPrefix};
 
 use crate::{CHUNK, Counted, ReadError, read_retrying};
 use std::alloc::Allocator;
@@ -125,35 +124,6 @@ impl<A: Allocator> LineReader<A> {
         ensures { result.now ≡ self.now.line }
     {
         &self.text[self.start..self.end]
-    }
-
-    /// Reads the rest of the text, and gives it up.
-    pub fn finish<R: Read>(self, from: &mut Counted<R>) -> Result<(), ReadError>
-        ensures end { OnOk result (IsAtEnd (R.remaining from.new.inner)) }
-        ensures whole { OnOk result (IfSome (R.remaining from.old.inner)
-            (λ all. length self.read + length all ≤ self.most)) }
-
-        ensures too_long { result ≡ Err ReadError.TooLong
-            → IfSome (R.remaining from.old.inner)
-            (λ all. self.most < length self.read + length all) }
-        ensures fault { result ≡ Err ReadError.ReadFault
-            → HasRisen from.old.failures from.new.failures }
-        ensures kind { IfErr result (λ e. e ≢ ReadError.NoMemory) }
-        ensures bytes { ConsumesPrefix (R.remaining from.old.inner) (R.remaining from.new.inner) }
-        ensures never_falls { from.old.failures ≤ from.new.failures }
-    {
-        let mut room = self.most - self.text.len();
-        let mut chunk = [0; CHUNK];
-        loop {
-            let count = read_retrying(from, &mut chunk)?;
-            if count == 0 {
-                return Ok(());
-            }
-            if count > room {
-                return Err(ReadError::TooLong);
-            }
-            room -= count;
-        }
     }
 }
 

@@ -193,7 +193,6 @@ fn a_line_is_given_by_the_read_that_brings_its_line_feed(rt: HostRuntime) {
         assert!(rt; lines.line() == line && from.inner().reads == reads);
     }
     assert!(rt; lines.next_line(&mut from) == Ok(false) && lines.line().is_empty());
-    assert!(rt; lines.finish(&mut from) == Ok(()));
 }
 
 #[test]

@@ -7,7 +7,7 @@ use Rattle.clap.specs.declared.error.kind.ErrorKind.{ErrorKind}
 use Rattle.clap.specs.declared.error.kind.ErrorKind.TheVariants.{DisplayHelp, DisplayVersion, OutOfMemory}
 use Rattle.bsp_console.specs.Console.{console_fault}
 use Rattle.bsp_session.specs.declared.errors.SessionError.{SessionError}
-use Rattle.bsp_session.specs.declared.errors.SessionError.TheVariants.{BadSettings}
+use Rattle.bsp_session.specs.declared.errors.SessionError.TheVariants.{BadSettings, NoWorker}
 use Rattle.bsp_session.specs.declared.job.Format.{Format}
 use Rattle.bsp_session.specs.declared.job.Format.TheVariants.{Asm}
 use Rattle.bsp_session.specs.declared.job.Job.{Job}

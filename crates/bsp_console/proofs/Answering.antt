@@ -13,7 +13,7 @@ use Rattle.bsp_session.specs.declared.errors.SessionError.TheVariants.{WriteFaul
 use Rattle.bsp_session.specs.Streams.{Stream}
 use Rattle.bsp_console.specs.Talk.{Answered, Talks, until_quit}
 use Rattle.bsp_console.specs.Console.{WritesReplies}
-use Rattle.bsp_console.specs.Script.{IsErrorOfLines}
+use Rattle.bsp_console.specs.Script.{IsErrorOfReplies}
 use Rattle.bsp_console.proofs.Scripts.{HasRisen-above, Talks-push, other-goes_on, quit-ends, take_while-quit, take_while-through}
 
 -- some first lines of those asked were answered, and these are left
@@ -70,14 +70,14 @@ pub answering-stops : (g l : ℕ) (asked left more : List (List ℕ)) (line : Li
     → ((e ≡ NoMemory) × (out.after ≡ held))
     ⊎ ((e ≡ WriteFault) × HasRisen failures out.failures_after
     × (text : List ℕ) × Answered g l read d text next × AppendsPrefix held out.after text)
-    → IsErrorOfLines g l asked start out e
+    → IsErrorOfReplies g l asked start out e
 answering-stops g l asked left more line read start d next out held failures e a is reads other before why = cases why where
   are : asked ≡ a.done ++ line ∷ until_quit more
   are = a.are ∙ ap (λ ls. a.done ++ ls) (ap until_quit is ∙ take_while-through (line ∷ []) more (other-goes_on line other, tt))
 
   cases : ((e ≡ NoMemory) × (out.after ≡ held))
       ⊎ ((e ≡ WriteFault) × HasRisen failures out.failures_after
-      × (text : List ℕ) × Answered g l read d text next × AppendsPrefix held out.after text) → IsErrorOfLines g l asked start out e
+      × (text : List ℕ) × Answered g l read d text next × AppendsPrefix held out.after text) → IsErrorOfReplies g l asked start out e
   cases (inl (cause, unwritten)) = rw cause (record {
     done = a.done;
     next = line;

@@ -7,7 +7,7 @@ use Rattle.bsp_session.specs.Streams.{Stream}
 use Rattle.bsp_console.specs.Talk.{answered_lines}
 use Rattle.bsp_console.specs.Console.{Begins, Console, RefusesImage}
 use Rattle.bsp_console.specs.Dialogue.{IsErrorOfDialogue, IsErrorOfTalk}
-use Rattle.bsp_console.specs.Script.{IsErrorOfLines, IsErrorOfScript, ReadsScript}
+use Rattle.bsp_console.specs.Script.{IsErrorOfReplies, IsErrorOfScript, ReadsScript}
 
 pub error_of_talk : (c : Console) (start : DebuggerState) → Begins c start → (e : SessionError) → IsErrorOfTalk c.job.g c.job.l c.script c.out start e → IsErrorOfDialogue c e
 error_of_talk c start b (BadSettings cause) p = absurd p
@@ -33,7 +33,7 @@ talk-no_file g l script out start NoWorker p file = p
 talk-no_file g l script out start NoMemory p file = file
 
 pub error_of_lines : (c : Console) (start : DebuggerState) (s : List ℕ) → Begins c start → ReadsScript c s
-    → (e : SessionError) → IsErrorOfLines c.job.g c.job.l (answered_lines s) start c.out e → IsErrorOfScript c e
+    → (e : SessionError) → IsErrorOfReplies c.job.g c.job.l (answered_lines s) start c.out e → IsErrorOfScript c e
 error_of_lines c start s b r (BadSettings cause) p = absurd p
 error_of_lines c start s b r TooLong p = absurd p
 error_of_lines c start s b r (Text cause) p = absurd p
@@ -45,7 +45,7 @@ error_of_lines c start s b r NoWorker p = absurd p
 error_of_lines c start s b r NoMemory p = inr (inr (inr (record { start = start; begins = b; script = s; script_read = r; ended = p })))
 
 -- they are of the writer or of memory
-pub lines-written : (g l : ℕ) (lines : List (List ℕ)) (start : DebuggerState) (out : Stream) (e : SessionError) → IsErrorOfLines g l lines start out e
+pub lines-written : (g l : ℕ) (lines : List (List ℕ)) (start : DebuggerState) (out : Stream) (e : SessionError) → IsErrorOfReplies g l lines start out e
     → e ≢ WriteFault → e ≢ NoMemory → ⊥
 lines-written g l lines start out (BadSettings cause) p write memory = p
 lines-written g l lines start out TooLong p write memory = p

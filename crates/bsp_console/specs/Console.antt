@@ -12,7 +12,7 @@ use Rattle.bsp_session.specs.declared.errors.SessionError.TheVariants.{BadSettin
 use Rattle.bsp_session.specs.declared.job.Job.{Job}
 use Rattle.bsp_session.specs.Images.{most_bytes, Gives, image_fault}
 use Rattle.bsp_session.specs.Outcome.{error_of_machine}
-use Rattle.bsp_session.specs.Streams.{Stream, IsUntouched, ReadsWhole, ReadsPast, HasFailed, IsCutShort}
+use Rattle.bsp_session.specs.Streams.{Stream, IsUntouched, ReadsWhole, ReadsPast, HasFailed, FailsWithin, IsCutShort}
 use Rattle.bsp_session.specs.Session.{most_input}
 use Rattle.bsp_console.specs.Talk.{Answered, Talks}
 
@@ -54,7 +54,7 @@ pub record EndsAtFile (cause : ℕ → Stream → Type 0) (image input : Stream)
 abbrev pub IsErrorOfFiles : (image input : Stream) → Job → SessionError → Type 0
 IsErrorOfFiles image input job (BadSettings cause) = (console_fault job ≡ Some (BadSettings cause)) × IsUntouched image × IsUntouched input
 IsErrorOfFiles image input job TooLong = EndsAtFile ReadsPast image input job
-IsErrorOfFiles image input job ReadFault = EndsAtFile (λ _ r. HasFailed r) image input job
+IsErrorOfFiles image input job ReadFault = EndsAtFile FailsWithin image input job
 IsErrorOfFiles image input job NoMemory = EndsAtFile IsCutShort image input job
 IsErrorOfFiles image input job _ = ⊥
 

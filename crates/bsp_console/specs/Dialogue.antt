@@ -27,8 +27,8 @@ pub record HasTalked (g l : ℕ) (script out : Stream) (start : DebuggerState) :
 
 -- ---- errors
 
--- these are the whole lines of some first bytes of a script, behind which `rest` is left: those that a line feed ended, and where nothing
--- is left also the last one
+-- these are the whole lines of some first bytes of a script, behind which `rest` is left: those that a line feed ended; or where nothing
+-- is left all lines, if the end was found, and so the last one too
 abbrev pub AreWholeLines : (bytes : List ℕ) → (rest : Option (List ℕ)) → List (List ℕ) → Type 0
 AreWholeLines bytes rest lines = (lines ≡ ended_lines bytes) ⊎ (IsAtEnd rest × (lines ≡ lines_of bytes))
 

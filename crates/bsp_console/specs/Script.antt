@@ -4,7 +4,7 @@ use Rattle.std.specs.Prelude.{◌≡◌, ℕ, ◌<◌, ◌⊎◌, List, length}
 use Rattle.bsp_debug.specs.Debugger.{DebuggerState}
 use Rattle.bsp_session.specs.declared.errors.SessionError.{SessionError}
 use Rattle.bsp_session.specs.declared.errors.SessionError.TheVariants.{BadSettings, TooLong, Text, BadImage, SegmentOutside, ReadFault, WriteFault, NoWorker, NoMemory}
-use Rattle.bsp_session.specs.Streams.{Stream, IsUntouched, ReadsWhole, ReadsPast, HasFailed, IsCutShort}
+use Rattle.bsp_session.specs.Streams.{Stream, IsUntouched, ReadsWhole, ReadsPast, FailsWithin, IsCutShort}
 use Rattle.bsp_console.specs.Talk.{answered_lines}
 use Rattle.bsp_console.specs.Console.{Console, Begins, CutsReply, StopsAtFiles, HasNoDebugger, ReadsFiles, StopsBefore, WritesReplies, most_script}
 
@@ -41,14 +41,14 @@ abbrev pub CutsShort : (g l : ℕ) → List (List ℕ) → DebuggerState → (ou
 CutsShort g l lines start out = (cut : CutsReply g l lines start out) × (cut.count < length cut.reply)
 
 -- what is known where the lines ended by an error
-abbrev pub IsErrorOfLines : (g l : ℕ) → List (List ℕ) → DebuggerState → (out : Stream) → SessionError → Type 0
-IsErrorOfLines g l lines start out WriteFault = CutsShort g l lines start out
-IsErrorOfLines g l lines start out NoMemory = StopsBefore g l lines start out
-IsErrorOfLines g l lines start out _ = ⊥
+abbrev pub IsErrorOfReplies : (g l : ℕ) → List (List ℕ) → DebuggerState → (out : Stream) → SessionError → Type 0
+IsErrorOfReplies g l lines start out WriteFault = CutsShort g l lines start out
+IsErrorOfReplies g l lines start out NoMemory = StopsBefore g l lines start out
+IsErrorOfReplies g l lines start out _ = ⊥
 
 -- the lines ended by this error
 abbrev pub EndsAnswering : Console → SessionError → Type 0
-EndsAnswering c e = EndsAtLines (λ lines start. IsErrorOfLines c.job.g c.job.l lines start c.out e) c
+EndsAnswering c e = EndsAtLines (λ lines start. IsErrorOfReplies c.job.g c.job.l lines start c.out e) c
 
 -- what is known where the session ended by an error
 abbrev pub IsErrorOfScript : Console → SessionError → Type 0
@@ -57,7 +57,7 @@ IsErrorOfScript c TooLong = StopsAtFiles c TooLong ⊎ EndsAtScript ReadsPast c
 IsErrorOfScript c (Text cause) = IsRefusedAfterReading c (Text cause)
 IsErrorOfScript c (BadImage cause) = IsRefusedAfterReading c (BadImage cause)
 IsErrorOfScript c SegmentOutside = IsRefusedAfterReading c SegmentOutside
-IsErrorOfScript c ReadFault = StopsAtFiles c ReadFault ⊎ EndsAtScript (λ _ r. HasFailed r) c
+IsErrorOfScript c ReadFault = StopsAtFiles c ReadFault ⊎ EndsAtScript FailsWithin c
 IsErrorOfScript c WriteFault = EndsAnswering c WriteFault
 IsErrorOfScript c NoWorker = ⊥
 IsErrorOfScript c NoMemory = StopsAtFiles c NoMemory ⊎ EndsAtScript IsCutShort c ⊎ IsRefusedAfterReading c NoMemory ⊎ EndsAnswering c NoMemory

@@ -6,7 +6,7 @@ ghost use Rattle.bsp_session.specs.declared.errors.BadSetting.{BadSetting as Bad
 ghost use Rattle.bsp_session.specs.Streams.{stream};
 ghost use Rattle.bsp_console.specs.Talk.{answered_lines, lines_of};
 ghost use Rattle.bsp_console.specs.Console.{WritesReplies, console_fault, console_of};
-ghost use Rattle.bsp_console.specs.Script.{AnswersScript, IsErrorOfLines, IsErrorOfScript};
+ghost use Rattle.bsp_console.specs.Script.{AnswersScript, IsErrorOfReplies, IsErrorOfScript};
 
 use crate::answer::{answer_to, is_quit};
 use crate::start::{debugger_of, read_files};
@@ -75,7 +75,7 @@ fn answer_script<A: Allocator + Copy, W: Write>(
 ) -> Result<(), SessionError>
     ensures ok { OnOk result (WritesReplies job.now.g job.now.l (answered_lines script.now)
         debugger.old (stream W.contents out.old out.new)) }
-    ensures err { IfErr result (IsErrorOfLines job.now.g job.now.l (answered_lines script.now)
+    ensures err { IfErr result (IsErrorOfReplies job.now.g job.now.l (answered_lines script.now)
         debugger.old (stream W.contents out.old out.new)) }
 {
     let mut rest = Some(script);

@@ -4,7 +4,7 @@ use Rattle.std.proofs.lemmas.Result.{IfErr-weaker, on_ok_weaker}
 use Rattle.bsp_session.specs.Streams.{stream}
 use Rattle.bsp_console.specs.Talk.{answered_lines}
 use Rattle.bsp_console.specs.Console.{Begins, Console, IsDebuggerOf, WritesReplies, console_of}
-use Rattle.bsp_console.specs.Script.{AnswersScript, IsErrorOfLines, IsErrorOfScript, ReadsScript}
+use Rattle.bsp_console.specs.Script.{AnswersScript, IsErrorOfReplies, IsErrorOfScript, ReadsScript}
 use Rattle.bsp_console.proofs.Errors.{error_of_lines, lines-written}
 use Rattle.bsp_console.proofs.script.debug_session.Goals as goal
 
@@ -42,13 +42,13 @@ returns-clause-err g c =
       consumed = c.in_ok-script.ensures.bytes;
       whole = c.in_ok-script.ensures.whole;
     } in
-    IfErr-weaker c.answer_script.result (IsErrorOfLines c.args.job.now.g c.args.job.now.l (answered_lines c.as_slice-3.result.now) c.in_ok-debugger.debugger session.out) (IsErrorOfScript session)
+    IfErr-weaker c.answer_script.result (IsErrorOfReplies c.args.job.now.g c.args.job.now.l (answered_lines c.as_slice-3.result.now) c.in_ok-debugger.debugger session.out) (IsErrorOfScript session)
     (λ e ended. error_of_lines session c.in_ok-debugger.debugger c.in_ok-script.script.items begins read e
-    (subst (λ s. IsErrorOfLines c.args.job.now.g c.args.job.now.l (answered_lines s) c.in_ok-debugger.debugger session.out e) c.as_slice-3.ensures.value ended))
+    (subst (λ s. IsErrorOfReplies c.args.job.now.g c.args.job.now.l (answered_lines s) c.in_ok-debugger.debugger session.out e) c.as_slice-3.ensures.value ended))
     c.answer_script.ensures.err
 
 pub returns-clause-nothing_written : goal.returns-clause-nothing_written
 returns-clause-nothing_written g c =
     let out = stream g.W.Write.contents c.args.out.now c.answer_script.new.out in
-    IfErr-weaker c.answer_script.result (IsErrorOfLines c.args.job.now.g c.args.job.now.l (answered_lines c.as_slice-3.result.now) c.in_ok-debugger.debugger out) _
+    IfErr-weaker c.answer_script.result (IsErrorOfReplies c.args.job.now.g c.args.job.now.l (answered_lines c.as_slice-3.result.now) c.in_ok-debugger.debugger out) _
     (λ e ended write memory. absurd (lines-written _ _ _ c.in_ok-debugger.debugger out e ended write memory)) c.answer_script.ensures.err

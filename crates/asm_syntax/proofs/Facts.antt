@@ -18,7 +18,7 @@ use Rattle.asm_syntax.specs.Forms.{form_named, reading}
 use Rattle.asm_syntax.specs.Operands.{Based, Address, Target, IsTarget, register_in, number_in, based_in, address_in, target_in, text_in, operands_in, fits_target}
 use Rattle.asm_syntax.specs.Parse.{line_of, line_with, labels_in, behind_labels, statement_in, statement_of_form}
 use Rattle.asm_syntax.specs.Ranges.{Range, up_to, signed, unsigned, is_within, IsWithin}
-use Rattle.asm_syntax.specs.Shapes.{none, one, two, three, each_of, with_both, no_operands, a_register, two_registers, three_registers, a_number, register_and_number, registers_and_number, register_and_address, a_target, register_and_target, registers_and_target, targets, numbers, a_text}
+use Rattle.asm_syntax.specs.Shapes.{none, one, two, three, one_or_more, with_both, no_operands, a_register, two_registers, three_registers, a_number, register_and_number, registers_and_number, register_and_address, a_target, register_and_target, registers_and_target, targets, numbers, a_text}
 use Rattle.asm_syntax.specs.Statements.{Statement, Line, IsInRange, half_range, byte_range, word_range, most_space, most_align}
 use Rattle.asm_syntax.specs.Tokens.{Token, name, tokens_of}
 use Rattle.asm_syntax.proofs.InRange.{is_within-true, fits_target-true, judged-ok, judged-each}
@@ -269,10 +269,10 @@ registers_and_target-fault : (os : List (List Token)) → registers_and_target o
 registers_and_target-fault os = judged-fault {X = ℕ × ℕ × Target} (λ p. fits_target p.2) (three register_in register_in target_in os)
 
 targets-fault : (os : List (List Token)) → targets os ≢ Err NoMemory
-targets-fault os = judged-fault {X = List Target} (list_all fits_target) (each_of target_in os)
+targets-fault os = judged-fault {X = List Target} (list_all fits_target) (one_or_more target_in os)
 
 numbers-fault : (range : Range) (os : List (List Token)) → numbers range os ≢ Err NoMemory
-numbers-fault range os = judged-fault {X = List ℤ} (list_all (is_within range)) (each_of number_in os)
+numbers-fault range os = judged-fault {X = List ℤ} (list_all (is_within range)) (one_or_more number_in os)
 
 a_text-fault : (os : List (List Token)) → a_text os ≢ Err NoMemory
 a_text-fault os = judged-fault {X = List ℕ} (λ _. true) (one text_in os)

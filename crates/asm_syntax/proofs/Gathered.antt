@@ -7,7 +7,7 @@ use Rattle.asm_syntax.specs.declared.error.LineError.{LineError}
 use Rattle.asm_syntax.specs.declared.error.LineError.TheVariants.{BadOperand, OutOfRange}
 use Rattle.asm_syntax.specs.declared.token.Token.{Token as TokenCode}
 use Rattle.asm_syntax.specs.Faults.{judged}
-use Rattle.asm_syntax.specs.Shapes.{all_of, each_of, with_both}
+use Rattle.asm_syntax.specs.Shapes.{all_of, one_or_more, with_both}
 use Rattle.asm_syntax.specs.Tokens.{Token}
 use Rattle.asm_syntax.specs.TokenViews.{token_value, operand_values}
 
@@ -94,6 +94,6 @@ pub gathered-last : {X : Type 0} (fits : X → Bool) (read : List Token → Opti
 gathered-last fits read ops i so_far done all = at_drop_all (λ os. behind (gathered fits read os) so_far done) ops i all
 
 -- of some operands, one or more are all
-pub each_of-all : {X : Type 0} (read : List Token → Option X) (ops : List (Bor (List TokenCode))) → 0 < length ops → each_of read (operand_values ops) ≡ all_of read (operand_values ops)
-each_of-all read [] some = absurd (omega arith)
-each_of-all read (o ∷ os) some = refl
+pub one_or_more-all : {X : Type 0} (read : List Token → Option X) (ops : List (Bor (List TokenCode))) → 0 < length ops → one_or_more read (operand_values ops) ≡ all_of read (operand_values ops)
+one_or_more-all read [] some = absurd (omega arith)
+one_or_more-all read (o ∷ os) some = refl

@@ -10,7 +10,7 @@ use Rattle.asm_syntax.specs.declared.error.LineError.{LineError}
 use Rattle.asm_syntax.specs.Faults.{judged}
 use Rattle.asm_syntax.specs.Operands.{Target, offset_range, fits_target, IsTarget}
 use Rattle.asm_syntax.specs.Ranges.{Range, is_within, IsWithin}
-use Rattle.asm_syntax.specs.Shapes.{all_of, each_of, with_both}
+use Rattle.asm_syntax.specs.Shapes.{all_of, one_or_more, with_both}
 use Rattle.asm_syntax.specs.Tokens.{Token}
 
 pub is_within-true : (range : Range) (n : ℤ) → is_within range n ≡ true → IsWithin range n
@@ -37,11 +37,11 @@ judged-ok {X} fits (Some y) x h = by_test (cases_Bool (fits y)) where
   by_test (inr fails) = absurd (none (rw fails at h))
 
 -- there is one operand or more
-each_of-some : {X : Type 0} (read : List Token → Option X) (ops : List (List Token)) (xs : List X) → each_of read ops ≡ Some xs → 0 < length xs
-each_of-some {X} read [] xs h = absurd (none h) where
+one_or_more-some : {X : Type 0} (read : List Token → Option X) (ops : List (List Token)) (xs : List X) → one_or_more read ops ≡ Some xs → 0 < length xs
+one_or_more-some {X} read [] xs h = absurd (none h) where
   none : ◌≡◌ {A = Option (List X)} None (Some xs) → ⊥
   none h = cc
-each_of-some {X} read (operand ∷ rest) xs h = by_read (read operand) (all_of read rest) h where
+one_or_more-some {X} read (operand ∷ rest) xs h = by_read (read operand) (all_of read rest) h where
   none : ◌≡◌ {A = Option (List X)} None (Some xs) → ⊥
   none h = cc
 
@@ -53,7 +53,7 @@ each_of-some {X} read (operand ∷ rest) xs h = by_read (read operand) (all_of r
       rw (← is) (omega arith)
 
 -- one or more operands that are judged to be in range
-pub judged-each : {X : Type 0} (fits : X → Bool) (read : List Token → Option X) (ops : List (List Token)) (xs : List X) → judged (list_all fits) (each_of read ops) ≡ Ok xs → (0 < length xs) × All (λ x. fits x ≡ true) xs
+pub judged-each : {X : Type 0} (fits : X → Bool) (read : List Token → Option X) (ops : List (List Token)) (xs : List X) → judged (list_all fits) (one_or_more read ops) ≡ Ok xs → (0 < length xs) × All (λ x. fits x ≡ true) xs
 judged-each fits read ops xs h =
-    let found = judged-ok (list_all fits) (each_of read ops) xs h in
-    (each_of-some read ops xs found.0, AllPass-from_list_all fits xs found.1)
+    let found = judged-ok (list_all fits) (one_or_more read ops) xs h in
+    (one_or_more-some read ops xs found.0, AllPass-from_list_all fits xs found.1)

@@ -8,7 +8,7 @@ abbrev pub if_ok : {X Y : Type 0} → (X → Y) → Result X LineError → Resul
 if_ok f (Ok x) = Ok (f x)
 if_ok f (Err fault) = Err fault
 
--- operands whose numbers have to pass a test of their ranges; there are none where their number or kinds are wrong
+-- operands that are as many as wanted and each of its kind, or none; then their ranges are tested
 abbrev pub judged : {X : Type 0} → (X → Bool) → Option X → Result X LineError
 judged fits None = Err BadOperand
 judged fits (Some x) = if fits x then Ok x else Err OutOfRange

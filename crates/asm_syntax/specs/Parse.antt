@@ -20,7 +20,7 @@ abbrev pub behind_labels : List Token → List Token
 behind_labels (name label ∷ colon ∷ rest) = behind_labels rest
 behind_labels ts = ts
 
--- the statement of the form that a mnemonic has, and of operands
+-- what operands say behind a mnemonic, where that has a form
 abbrev pub statement_of_form : Option Form → List (List Token) → Result Statement LineError
 statement_of_form None operands = Err UnknownMnemonic
 statement_of_form (Some form) operands = reading form operands

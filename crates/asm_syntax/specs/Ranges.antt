@@ -1,4 +1,5 @@
--- Ranges of numbers. A range is written once; that a number is in it is a test, `is_within`, and a fact, `IsWithin`.
+-- Ranges of numbers. A range is written once; that a number is in it is a test, `is_within`, and a fact, `IsWithin`. The ranges of an
+-- instruction's own operands stand as facts in `rv_tables`, which knows of no texts; the law `a_statement_is_in_range` ties both.
 use Rattle.std.specs.Prelude.{ℕ, ◌-◌, ◌^◌, ◌&&◌, Bool, ℤ, pos, neg_ℤ, int_le, ◌≤ℤ◌}
 
 -- the numbers from `low` to `high`

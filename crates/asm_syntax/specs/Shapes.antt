@@ -9,7 +9,7 @@ use Rattle.asm_syntax.specs.Operands.{Address, Target, register_in, number_in, a
 use Rattle.asm_syntax.specs.Ranges.{Range, signed, is_within}
 use Rattle.asm_syntax.specs.Tokens.{Token}
 
--- no operands
+-- no operands: what is read of them, where there are none
 abbrev pub none : List (List Token) → Option (Unit {0})
 none [] = Some tt
 none _ = None
@@ -32,16 +32,16 @@ three first second third (a ∷ b ∷ c ∷ []) =
     option_and_then (λ x. with_both (second b) (third c) (λ y z. (x, y, z))) (first a)
 three first second third _ = None
 
--- all operands, or all of one or more
+-- any number of operands, or one at least, all by one reader
 abbrev pub all_of : {X : Type 0} → (List Token → Option X) → List (List Token) → Option (List X)
 all_of read [] = Some []
 all_of read (operand ∷ rest) = with_both (read operand) (all_of read rest) (λ x xs. x ∷ xs)
 
-abbrev pub each_of : {X : Type 0} → (List Token → Option X) → List (List Token) → Option (List X)
-each_of read [] = None
-each_of read (operand ∷ rest) = all_of read (operand ∷ rest)
+abbrev pub one_or_more : {X : Type 0} → (List Token → Option X) → List (List Token) → Option (List X)
+one_or_more read [] = None
+one_or_more read (operand ∷ rest) = all_of read (operand ∷ rest)
 
--- no operands
+-- nothing
 abbrev pub no_operands : List (List Token) → Result (Unit {0}) LineError
 no_operands os = judged (λ _. true) (none os)
 
@@ -87,11 +87,11 @@ registers_and_target os = judged (λ (rs1, rs2, t). fits_target t) (three regist
 
 -- `target,..`, one or more
 abbrev pub targets : List (List Token) → Result (List Target) LineError
-targets os = judged (list_all fits_target) (each_of target_in os)
+targets os = judged (list_all fits_target) (one_or_more target_in os)
 
 -- `n,..`, one or more
 abbrev pub numbers : Range → List (List Token) → Result (List ℤ) LineError
-numbers range os = judged (list_all (is_within range)) (each_of number_in os)
+numbers range os = judged (list_all (is_within range)) (one_or_more number_in os)
 
 -- `"text"`
 abbrev pub a_text : List (List Token) → Result (List ℕ) LineError

@@ -56,7 +56,7 @@ most_space = 2 ^ 24
 abbrev pub most_align : ℕ
 most_align = 12
 
--- each register is one, an instruction's operands fit, and each other number is in its range
+-- each register has a number below 32, an instruction's operands fit, and each other number is in its range
 abbrev pub IsInRange : Statement → Type 0
 IsInRange (instruction i) = IsEncodable i
 IsInRange (branch op rs1 rs2 target) = IsRegister rs1 × IsRegister rs2 × IsTarget target

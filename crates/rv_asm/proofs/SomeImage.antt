@@ -1,9 +1,9 @@
 -- A text without a fault has an image.
-use Rattle.std.proofs.Common.{◌≡◌, ℕ, suc, ◌+◌, ◌^◌, ◌<◌, ◌≤◌, ◌-◌, ◌==◌, Bool, true, false, not, ◌&&◌, ◌||◌, List, [], ◌∷◌, ◌++◌, length, map, flat_map, replicate, All, Option, Some, None, is_none, IsSome, IsSomeAnd, IfSome, Ok, option_map, option_and_then, ℤ, pos, negsuc, T, eqb-true, neg_ℤ, int_le, int_lt, int_rem, unsigned_abs, refl, sym, ◌∙◌, ap, subst, if◌then◌else◌, arith, w16, w32}
+use Rattle.std.proofs.Common.{◌≡◌, ℕ, suc, ◌+◌, ◌^◌, ◌<◌, ◌≤◌, ◌-◌, ◌==◌, Bool, true, false, not, ◌&&◌, ◌||◌, List, [], ◌∷◌, ◌++◌, length, map, flat_map, replicate, All, Option, Some, None, is_none, IsSome, IsSomeAnd, IfSome, Ok, option_map, option_and_then, ℤ, pos, negsuc, T, eqb-true, neg_ℤ, ◌≤ℤ◌, ◌<ℤ◌, int_le, int_rem, unsigned_abs, refl, sym, ◌∙◌, ap, subst, if◌then◌else◌, arith, w16, w32}
 use Rattle.std.specs.Int.{cast_signed, to_le_bytes}
 use Rattle.std.specs.Option.{option_map_or, option_or}
 use Rattle.std.proofs.lemmas.Int.{ints}
-use lib.Signed.{le_z_yes, lt_z_yes}
+use lib.Signed.{le_z_yes}
 use Rattle.std.proofs.lemmas.List.Elements.{All-nil, All-cons, All-head, All-tail}
 use Rattle.node_memory.specs.Image.{Image, segments_from_0}
 use Rattle.rv_tables.specs.declared.instr.Instr.{Instr}
@@ -21,7 +21,7 @@ use Rattle.rv_asm.specs.Faults.{text_fault, fault_alone, fault_of_use, fault_of_
 use Rattle.rv_asm.specs.Layout.{Spell, is_short, lui_addi, load_of, word_bytes, size_of, HasBytes}
 use Rattle.rv_asm.specs.Places.{places_of, symbols_of, line_statement, end_of_statement, end_from}
 use Rattle.rv_asm.specs.Symbols.{Symbols}
-use Rattle.rv_asm.specs.Targets.{modulo, value_of, offset_to, is_reached}
+use Rattle.rv_asm.specs.Targets.{modulo, value_of, offset_to, is_signed, is_reached}
 use Rattle.rv_asm.specs.Text.{LineHasBytes, AreLaid, IsImageOfText, last_entry}
 use Rattle.rv_asm.proofs.EachWord.{word_of}
 use Rattle.rv_asm.proofs.Laying.{uses_from, uses-placed, ok_parts}
@@ -44,8 +44,13 @@ and_true : (a b : Bool) → (a && b) ≡ true → (a ≡ true) × (b ≡ true)
 and_true true b h = (refl, h)
 and_true false b h = cc
 
-within : (width : ℕ) (z : ℤ) → (int_le (neg_ℤ (pos (2 ^ (width - 1)))) z && int_lt z (pos (2 ^ (width - 1)))) ≡ true → IsSigned width z
-within width z h = let p = and_true (int_le (neg_ℤ (pos (2 ^ (width - 1)))) z) (int_lt z (pos (2 ^ (width - 1)))) h in (le_z_yes (subst T (sym p.0) tt), lt_z_yes (subst T (sym p.1) tt))
+below : (k : ℕ) (z : ℤ) → 0 < k → z ≤ℤ pos (k - 1) → z <ℤ pos k
+below k z some h = omega (arith, ints)
+
+within : (width : ℕ) (z : ℤ) → 0 < 2 ^ (width - 1) → is_signed width z ≡ true → IsSigned width z
+within width z some h =
+    let p = and_true (int_le (neg_ℤ (pos (2 ^ (width - 1)))) z) (int_le z (pos (2 ^ (width - 1) - 1))) h in
+    (le_z_yes (subst T (sym p.0) tt), below (2 ^ (width - 1)) z some (le_z_yes (subst T (sym p.1) tt)))
 
 zero_abs : (x : ℤ) → (unsigned_abs x == 0) ≡ true → x ≡ pos 0
 zero_abs (pos n) h = ap pos (eqb-true n 0 h)
@@ -58,7 +63,7 @@ extended : (n : ℕ) → n < 2 ^ 12 → IsSigned 12 (sign_extended 12 n)
 extended n h = grind (arith, ints)
 
 short_immediate : (word : ℕ) → is_short word ≡ true → IsImmediate (cast_signed w32 word)
-short_immediate word e = within 12 (cast_signed w32 word) e
+short_immediate word e = within 12 (cast_signed w32 word) (omega arith) e
 
 low_immediate : (word : ℕ) → IsImmediate (sign_extended 12 (bits word 11 0))
 low_immediate word = let low : bits word 11 0 < 2 ^ 12 = omega arith in extended (bits word 11 0) low
@@ -76,10 +81,10 @@ load_spelled rd word true e rd_in =
 load_spelled rd word false e rd_in = subst (λ is. (own : List ℕ) × Spell is own) (sym (load_of-long rd word e)) (lui_addi_spelled rd word rd_in)
 
 reached_branch : (offset : ℤ) → is_reached 13 offset ≡ true → IsBranchOffset offset
-reached_branch offset e = let p = and_true _ _ e in (within 13 offset p.0, even offset p.1)
+reached_branch offset e = let p = and_true _ _ e in (within 13 offset (omega arith) p.0, even offset p.1)
 
 reached_jump : (offset : ℤ) → is_reached 21 offset ≡ true → IsJumpOffset offset
-reached_jump offset e = let p = and_true _ _ e in (within 21 offset p.0, even offset p.1)
+reached_jump offset e = let p = and_true _ _ e in (within 21 offset (omega arith) p.0, even offset p.1)
 
 -- the tests of a use of labels
 abbrev pub by_uses : Bool → Bool → Option AsmKind

@@ -10,10 +10,10 @@ Symbols = List ℕ → Option ℕ
 abbrev pub no_symbols : Symbols
 no_symbols name = None
 
--- one label more
+-- with a label added
 abbrev pub with_symbol : Symbols → List ℕ → ℕ → Symbols
 with_symbol symbols label address name = if bytes_eq label name then Some address else symbols name
 
--- the labels of a line more
+-- with the labels of a line added
 abbrev pub with_labels : Symbols → List (List ℕ) → ℕ → Symbols
 with_labels symbols labels address = fold (λ known label. with_symbol known label address) symbols labels

@@ -1,9 +1,10 @@
 -- The values of targets, and how far jumps go to them.
-use Rattle.std.specs.Prelude.{ℕ, ◌^◌, ◌-◌, ◌==◌, Bool, false, not, ◌&&◌, ℤ, pos, neg_ℤ, ◌+ℤ◌, ◌-ℤ◌, int_lt, int_le, int_rem, unsigned_abs, List, [], ◌∷◌, Option, Some, None, is_none, option_map}
+use Rattle.std.specs.Prelude.{ℕ, ◌^◌, ◌==◌, Bool, false, not, ◌&&◌, ℤ, pos, ◌+ℤ◌, ◌-ℤ◌, int_rem, unsigned_abs, List, [], ◌∷◌, Option, Some, None, is_none, option_map}
 use Rattle.std.specs.Int.{w32, cast_signed, int_rem_euclid}
 use Rattle.std.specs.List.{list_any}
 use Rattle.std.specs.Option.{option_map_or}
 use Rattle.asm_syntax.specs.Operands.{Target}
+use Rattle.asm_syntax.specs.Ranges.{signed, is_within}
 use Rattle.asm_syntax.specs.Statements.{Statement, branch, jump_and_link, load_address, words, entry}
 use Rattle.rv_asm.specs.Symbols.{Symbols}
 
@@ -26,7 +27,7 @@ offset_to address value = cast_signed w32 (modulo (2 ^ 32) (pos value -ℤ pos a
 
 -- a number that two's complement of `width` bits has
 abbrev pub is_signed : ℕ → ℤ → Bool
-is_signed width z = int_le (neg_ℤ (pos (2 ^ (width - 1)))) z && int_lt z (pos (2 ^ (width - 1)))
+is_signed width z = is_within (signed width) z
 
 -- an offset is an even number that a field of `width` bits has
 abbrev pub is_reached : ℕ → ℤ → Bool

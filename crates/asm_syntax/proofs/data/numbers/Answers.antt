@@ -7,7 +7,7 @@ use Rattle.asm_syntax.specs.declared.error.LineError.TheVariants.{OutOfRange}
 use Rattle.asm_syntax.specs.Faults.{judged}
 use Rattle.asm_syntax.specs.Operands.{number_in}
 use Rattle.asm_syntax.specs.Ranges.{from_to, is_within}
-use Rattle.asm_syntax.proofs.Gathered.{behind, gathered-ok, gathered-out, gathered-fault, gathered-last, each_of-all}
+use Rattle.asm_syntax.proofs.Gathered.{behind, gathered-ok, gathered-out, gathered-fault, gathered-last, one_or_more-all}
 use Rattle.asm_syntax.proofs.data.numbers.Goals as goal
 use Rattle.asm_syntax.proofs.data.numbers.Goals.{in-Ok+in_ok-push-in-Ok, in-Err+else-ne}
 
@@ -19,7 +19,7 @@ returns-then-ne-clause-err g c =
     let other : c.in-Err.fault ≢ OutOfRange = search rules in
     let so_far = rw (low, high) at c.loop-operand.invariant.1 in
     let found = rw (low, high) at c.in-Err.ensures.value in
-    λ _. ap (judged (list_all (is_within (from_to c.args.low c.args.high)))) (each_of-all number_in ops c.loop-operand.invariant.0)
+    λ _. ap (judged (list_all (is_within (from_to c.args.low c.args.high)))) (one_or_more-all number_in ops c.loop-operand.invariant.0)
     ∙ (sym so_far
     ∙ gathered-fault (is_within (from_to c.args.low c.args.high)) number_in ops c.loop-operand.operand-index _ c.loop-operand.fits c.loop-operand.numbers.items c.in-Err.fault c.loop-operand-test.true (sym found) other)
 
@@ -52,7 +52,7 @@ returns-then-fits-clause-ok g c =
     let ops = c.args.operands.now in
     let so_far = rw (low, high) at c.loop-operand.invariant.1 in
     let all = gathered-last (is_within (from_to c.args.low c.args.high)) number_in ops c.loop-operand.operand-index c.loop-operand.fits c.loop-operand.numbers.items (omega arith) in
-    ap (judged (list_all (is_within (from_to c.args.low c.args.high)))) (each_of-all number_in ops c.loop-operand.invariant.0)
+    ap (judged (list_all (is_within (from_to c.args.low c.args.high)))) (one_or_more-all number_in ops c.loop-operand.invariant.0)
     ∙ (sym so_far ∙ (all ∙ (ap (λ fits. behind (Ok []) fits c.loop-operand.numbers.items) c.if-fits.true ∙ ap Ok (append-nil c.loop-operand.numbers.items))))
 
 pub returns-else-fits-clause-err : goal.returns-else-fits-clause-err
@@ -62,5 +62,5 @@ returns-else-fits-clause-err g c =
     let ops = c.args.operands.now in
     let so_far = rw (low, high) at c.loop-operand.invariant.1 in
     let all = gathered-last (is_within (from_to c.args.low c.args.high)) number_in ops c.loop-operand.operand-index c.loop-operand.fits c.loop-operand.numbers.items (omega arith) in
-    λ _. ap (judged (list_all (is_within (from_to c.args.low c.args.high)))) (each_of-all number_in ops c.loop-operand.invariant.0)
+    λ _. ap (judged (list_all (is_within (from_to c.args.low c.args.high)))) (one_or_more-all number_in ops c.loop-operand.invariant.0)
     ∙ (sym so_far ∙ (all ∙ ap (λ fits. behind (Ok []) fits c.loop-operand.numbers.items) c.if-fits.false))

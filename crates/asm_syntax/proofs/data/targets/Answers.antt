@@ -4,7 +4,7 @@ use Rattle.asm_syntax.specs.declared.error.LineError.TheVariants.{OutOfRange}
 use Rattle.asm_syntax.specs.Faults.{judged}
 use Rattle.asm_syntax.specs.Operands.{target_in, fits_target}
 use Rattle.asm_syntax.specs.Views.{target_value}
-use Rattle.asm_syntax.proofs.Gathered.{pushed, skipped, gathered-fault, each_of-all}
+use Rattle.asm_syntax.proofs.Gathered.{pushed, skipped, gathered-fault, one_or_more-all}
 use Rattle.asm_syntax.proofs.data.targets.Goals as goal
 use Rattle.asm_syntax.proofs.data.targets.Goals.{in-Ok+in_ok-push-in-Ok, in-Err+else-ne}
 
@@ -12,7 +12,7 @@ pub returns-then-ne-clause-err : goal.returns-then-ne-clause-err
 returns-then-ne-clause-err g c =
     let ops = c.args.operands.now in
     let other : c.in-Err.fault ≢ OutOfRange = search rules in
-    λ _. ap (judged (list_all fits_target)) (each_of-all target_in ops c.loop-operand.invariant.0)
+    λ _. ap (judged (list_all fits_target)) (one_or_more-all target_in ops c.loop-operand.invariant.0)
     ∙ (sym c.loop-operand.invariant.1
     ∙ gathered-fault fits_target target_in ops c.loop-operand.operand-index _ c.loop-operand.fits (map target_value c.loop-operand.targets.items) c.in-Err.fault c.loop-operand-test.true (sym c.in-Err.ensures) other)
 

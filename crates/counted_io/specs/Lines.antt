@@ -56,6 +56,8 @@ pub record PassesLimit (old_rest new_rest : Option (List ℕ)) (old new : List �
   pub bytes : (bytes : List ℕ) × (byte : ℕ) × Consumes old_rest new_rest (bytes ++ byte ∷ []) × (new ≡ old ++ bytes)
   pub full : length new ≡ most
 
+-- ---- for private contracts, which speak of a part of a text by its indices
+
 -- the first line feed of a text from `start` on is at `at`
 pub record IsFirstFeed (text : List ℕ) (start at : ℕ) : Type 0 where
   pub from : start ≤ at

@@ -15,42 +15,42 @@ pub record Stream : Type 0 where
 
 abbrev pub stream : {T : Type 0} → (T → Option (List ℕ))
     → CountedState T → CountedState T → Stream
-stream remaining old new = record {
-  before = remaining old.inner;
-  after = remaining new.inner;
+stream known old new = record {
+  before = known old.inner;
+  after = known new.inner;
   failures_before = old.failures;
   failures_after = new.failures;
 }
 
 -- nothing was read or written, and no call failed
-pub record IsUntouched (r : Stream) : Type 0 where
-  pub bytes : r.after ≡ r.before
-  pub failures : r.failures_after ≡ r.failures_before
+pub record IsUntouched (s : Stream) : Type 0 where
+  pub bytes : s.after ≡ s.before
+  pub failures : s.failures_after ≡ s.failures_before
 
 -- `bytes` were read, up to the end: at most `most`, and all that the reader had, where that is known
-pub record ReadsWhole (r : Stream) (bytes : List ℕ) (most : ℕ) : Type 0 where
+pub record ReadsWhole (s : Stream) (bytes : List ℕ) (most : ℕ) : Type 0 where
   pub limited : length bytes ≤ most
-  pub consumed : Consumes r.before r.after bytes
-  pub whole : IfSome r.before (λ all. bytes ≡ all)
+  pub consumed : Consumes s.before s.after bytes
+  pub whole : IfSome s.before (λ all. bytes ≡ all)
 
 -- a call failed
 abbrev pub HasFailed : Stream → Type 0
-HasFailed r = HasRisen r.failures_before r.failures_after
+HasFailed s = HasRisen s.failures_before s.failures_after
 
 -- more bytes than a limit were read
 abbrev pub ReadsPast : ℕ → Stream → Type 0
-ReadsPast most r = ConsumesPast r.before r.after most
+ReadsPast most s = ConsumesPast s.before s.after most
 
 -- a call failed, after no more bytes than a limit were read
 abbrev pub FailsWithin : ℕ → Stream → Type 0
-FailsWithin most r = HasFailed r × ConsumesAtMost r.before r.after most
+FailsWithin most s = HasFailed s × ConsumesAtMost s.before s.after most
 
 -- some bytes were read, no more than a limit
 abbrev pub IsCutShort : ℕ → Stream → Type 0
-IsCutShort most r = ConsumesWithin r.before r.after most
+IsCutShort most s = ConsumesWithin s.before s.after most
 
 -- why a text of at most so many bytes was not read whole
 abbrev pub IsReadErrorOf : ℕ → Stream → ReadError → Type 0
-IsReadErrorOf most r TooLong = ReadsPast most r
-IsReadErrorOf most r ReadFault = FailsWithin most r
-IsReadErrorOf most r NoMemory = IsCutShort most r
+IsReadErrorOf most s TooLong = ReadsPast most s
+IsReadErrorOf most s ReadFault = FailsWithin most s
+IsReadErrorOf most s NoMemory = IsCutShort most s

@@ -18,11 +18,11 @@
 //!   is tried again, and how often, is shown by tests too.
 #![tactic(auto)]
 
-ghost use Rattle.std.specs.Prelude.{◌≡◌, ◌<◌, ◌≤◌, IfErr, IfOk, IfSome, OnErr, OnOk, Ok, is_err, length};
+ghost use Rattle.std.specs.Prelude.{◌≡◌, ◌<◌, ◌≤◌, IfErr, IfOk, OnErr, OnOk, Ok, is_err, length};
 ghost use Rattle.std.specs.Io.{ReadsAtMost, WritesAtMost};
-ghost use Rattle.std.specs.Io.KnownBytes.{Appends, Consumes, IsAtEnd, Keeps, ReadConsumes, WriteAppends};
+ghost use Rattle.std.specs.Io.KnownBytes.{Appends, IsAtEnd, Keeps, ReadConsumes, WriteAppends};
 ghost use Rattle.counted_io.specs.Counted.{HasRisen, is_failed_write, next_count};
-ghost use Rattle.counted_io.specs.Streams.{IsReadErrorOf, stream};
+ghost use Rattle.counted_io.specs.Streams.{IsReadErrorOf, ReadsWhole, stream};
 ghost use Rattle.counted_io.specs.Transfers.{AppendsPrefix};
 
 use std::alloc::{AllocError, Allocator};
@@ -175,12 +175,8 @@ pub fn read_at_most<A: Allocator + Copy, R: Read>(
     from: &mut Counted<R>,
     most: usize,
 ) -> Result<Vec<u8, A>, ReadError>
-    ensures limit { IfOk result (λ input. length input.items ≤ most) }
-    ensures bytes { IfOk result (λ input.
-        Consumes (R.remaining from.old.inner) (R.remaining from.new.inner) input.items) }
+    ensures ok { IfOk result (λ input. ReadsWhole (stream R.remaining from.old from.new) input.items most) }
     ensures end { OnOk result (IsAtEnd (R.remaining from.new.inner)) }
-    ensures whole { IfOk result (λ input.
-        IfSome (R.remaining from.old.inner) (λ all. input.items ≡ all)) }
 
     ensures err { IfErr result (λ e. IsReadErrorOf most (stream R.remaining from.old from.new) e) }
     ensures never_falls { from.old.failures ≤ from.new.failures }

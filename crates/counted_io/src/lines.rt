@@ -91,9 +91,6 @@ impl<A: Allocator> LineReader<A> {
         ensures no_memory { result ≡ Err ReadError.NoMemory
             → ReadsOn (R.remaining from.old.inner) (R.remaining from.new.inner)
             self.old.read self.new.read }
-        ensures longer { result ≡ Err ReadError.TooLong
-            → IfSome (R.remaining from.old.inner)
-            (λ all. self.old.most < length self.old.read + length all) }
         // An error gives nothing, and comes only where no whole line waits.
         ensures err { OnErr result ((self.new.given ≡ self.old.given) × (self.new.line ≡ [])
             × LacksFeed (drop self.new.given self.new.read)) }

@@ -15,19 +15,17 @@ returns-clause-ok g c =
     let made : IsDebuggerOf c.args.job.now c.in_ok-file.file.items c.as_slice-2.result.now c.in_ok-debugger.debugger = rw c.as_slice.ensures.value at c.in_ok-debugger.ensures.ok in
     let debugger : IsDebuggerOf c.args.job.now c.in_ok-file.file.items c.in_ok-file.input.items c.in_ok-debugger.debugger = rw c.as_slice-2.ensures.value at made in
     let begins : Begins session c.in_ok-debugger.debugger = record { i = c.in_ok-file.file.items; n = c.in_ok-file.input.items; read = c.in_ok-file.ensures.ok; debugger = debugger } in
-    let read : ReadsScript session c.in_ok-script.script.items = record {
-      limited = c.in_ok-script.ensures.limit;
-      consumed = c.in_ok-script.ensures.bytes;
-      whole = c.in_ok-script.ensures.whole;
-    } in
+    let read : ReadsScript session c.in_ok-script.script.items = c.in_ok-script.ensures.ok in
     on_ok_weaker c.answer_script.result
     (λ (replies : WritesReplies c.args.job.now.g c.args.job.now.l (answered_lines c.as_slice-3.result.now) c.in_ok-debugger.debugger session.out).
     let all : AnswersScript session = record {
       start = c.in_ok-debugger.debugger;
       begins = begins;
-      script = c.in_ok-script.script.items;
-      script_read = read;
-      ended = subst (λ s. WritesReplies c.args.job.now.g c.args.job.now.l (answered_lines s) c.in_ok-debugger.debugger session.out) c.as_slice-3.ensures.value replies;
+      came = record {
+        script = c.in_ok-script.script.items;
+        read = read;
+        done = subst (λ s. WritesReplies c.args.job.now.g c.args.job.now.l (answered_lines s) c.in_ok-debugger.debugger session.out) c.as_slice-3.ensures.value replies;
+      };
     } in all) c.answer_script.ensures.ok
 
 pub returns-clause-err : goal.returns-clause-err
@@ -37,11 +35,7 @@ returns-clause-err g c =
     let made : IsDebuggerOf c.args.job.now c.in_ok-file.file.items c.as_slice-2.result.now c.in_ok-debugger.debugger = rw c.as_slice.ensures.value at c.in_ok-debugger.ensures.ok in
     let debugger : IsDebuggerOf c.args.job.now c.in_ok-file.file.items c.in_ok-file.input.items c.in_ok-debugger.debugger = rw c.as_slice-2.ensures.value at made in
     let begins : Begins session c.in_ok-debugger.debugger = record { i = c.in_ok-file.file.items; n = c.in_ok-file.input.items; read = c.in_ok-file.ensures.ok; debugger = debugger } in
-    let read : ReadsScript session c.in_ok-script.script.items = record {
-      limited = c.in_ok-script.ensures.limit;
-      consumed = c.in_ok-script.ensures.bytes;
-      whole = c.in_ok-script.ensures.whole;
-    } in
+    let read : ReadsScript session c.in_ok-script.script.items = c.in_ok-script.ensures.ok in
     IfErr-weaker c.answer_script.result (IsErrorOfReplies c.args.job.now.g c.args.job.now.l (answered_lines c.as_slice-3.result.now) c.in_ok-debugger.debugger session.out) (IsErrorOfScript session)
     (λ e ended. error_of_lines session c.in_ok-debugger.debugger c.in_ok-script.script.items begins read e
     (subst (λ s. IsErrorOfReplies c.args.job.now.g c.args.job.now.l (answered_lines s) c.in_ok-debugger.debugger session.out e) c.as_slice-3.ensures.value ended))

@@ -1,5 +1,5 @@
 -- The lines of a script, answered one after another: what holds between two of them, and what is known where they end.
-use Rattle.std.proofs.Common.{◌≡◌, ◌∙◌, ℕ, ◌<◌, ◌≤◌, ◌⊎◌, inl, inr, List, [], ◌∷◌, ◌++◌, length, take, Option, refl, sym, ap, subst, append-nil, append_assoc}
+use Rattle.std.proofs.Common.{◌≡◌, ◌∙◌, ℕ, ◌≤◌, ◌⊎◌, inl, inr, List, [], ◌∷◌, ◌++◌, take, Option, refl, sym, ap, subst, append-nil, append_assoc, arith}
 use Rattle.std.specs.Io.KnownBytes.{Appends}
 use Rattle.std.proofs.KnownBytes.{Appends-trans, Appends-nil}
 use Rattle.counted_io.specs.Counted.{HasRisen}
@@ -98,6 +98,7 @@ answering-stops g l asked left more line read start d next out held failures e a
       after = next;
       answered = subst (λ asks. Answered g l asks d text next) reads answered;
       count = count;
+      within = omega arith;
       written = Appends-trans out.before held out.after a.text (take count text) a.written appended;
       failed = HasRisen-above _ failures _ before rose;
     },

@@ -1,5 +1,5 @@
 -- The errors of the lines, as errors of the sessions.
-use Rattle.std.proofs.Common.{◌≢◌, ℕ, List, inl, inr, refl}
+use Rattle.std.proofs.Common.{◌≢◌, ℕ, List, inr, refl}
 use Rattle.bsp_debug.specs.Debugger.{DebuggerState}
 use Rattle.bsp_session.specs.declared.errors.SessionError.{SessionError}
 use Rattle.bsp_session.specs.declared.errors.SessionError.TheVariants.{BadSettings, TooLong, Text, BadImage, SegmentOutside, ReadFault, WriteFault, NoWorker, NoMemory}
@@ -11,14 +11,14 @@ use Rattle.bsp_console.specs.Script.{IsErrorOfReplies, IsErrorOfScript, ReadsScr
 
 pub error_of_talk : (c : Console) (start : DebuggerState) → Begins c start → (e : SessionError) → IsErrorOfTalk c.job.g c.job.l c.script c.out start e → IsErrorOfDialogue c e
 error_of_talk c start b (BadSettings cause) p = absurd p
-error_of_talk c start b TooLong p = inr (record { start = start; begins = b; done = p })
+error_of_talk c start b TooLong p = inr (record { start = start; begins = b; came = p })
 error_of_talk c start b (Text cause) p = absurd p
 error_of_talk c start b (BadImage cause) p = absurd p
 error_of_talk c start b SegmentOutside p = absurd p
-error_of_talk c start b ReadFault p = inr (record { start = start; begins = b; done = p })
-error_of_talk c start b WriteFault p = record { start = start; begins = b; done = p }
+error_of_talk c start b ReadFault p = inr (record { start = start; begins = b; came = p })
+error_of_talk c start b WriteFault p = record { start = start; begins = b; came = p }
 error_of_talk c start b NoWorker p = absurd p
-error_of_talk c start b NoMemory p = inr (inr (record { start = start; begins = b; done = p }))
+error_of_talk c start b NoMemory p = inr (inr (record { start = start; begins = b; came = p }))
 
 -- they are none of the image's file
 pub talk-no_file : (g l : ℕ) (script out : Stream) (start : DebuggerState) (e : SessionError) → IsErrorOfTalk g l script out start e → RefusesImage e → ⊥
@@ -40,9 +40,9 @@ error_of_lines c start s b r (Text cause) p = absurd p
 error_of_lines c start s b r (BadImage cause) p = absurd p
 error_of_lines c start s b r SegmentOutside p = absurd p
 error_of_lines c start s b r ReadFault p = absurd p
-error_of_lines c start s b r WriteFault p = record { start = start; begins = b; script = s; script_read = r; ended = p }
+error_of_lines c start s b r WriteFault p = record { start = start; begins = b; came = record { script = s; read = r; done = p } }
 error_of_lines c start s b r NoWorker p = absurd p
-error_of_lines c start s b r NoMemory p = inr (inr (inr (record { start = start; begins = b; script = s; script_read = r; ended = p })))
+error_of_lines c start s b r NoMemory p = inr (inr (inr (record { start = start; begins = b; came = record { script = s; read = r; done = p } })))
 
 -- they are of the writer or of memory
 pub lines-written : (g l : ℕ) (lines : List (List ℕ)) (start : DebuggerState) (out : Stream) (e : SessionError) → IsErrorOfReplies g l lines start out e

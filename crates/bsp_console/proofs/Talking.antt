@@ -1,5 +1,5 @@
 -- A dialogue: what holds between two lines, and what is known where it ends.
-use Rattle.std.proofs.Common.{◌≡◌, ℕ, ◌+◌, ◌-◌, ◌<◌, ◌≤◌, ◌⊎◌, inl, inr, true, false, List, [], ◌∷◌, ◌++◌, length, take, drop, get_or, Option, Some, None, IfSome, refl, sym, ap, subst, ◌∙◌, arith, append-nil, append_assoc, length-append, length-drop, take-append-drop}
+use Rattle.std.proofs.Common.{◌≡◌, ℕ, ◌+◌, ◌-◌, ◌<◌, ◌≤◌, ◌⊎◌, inl, inr, true, false, List, [], ◌∷◌, ◌++◌, length, take, drop, get_or, Option, Some, None, refl, sym, ap, subst, ◌∙◌, arith, append-nil, append_assoc, length-append, length-drop, take-append-drop}
 use Rattle.std.proofs.lemmas.List.{take-append-le, take_at, length-take-le, get_or_at, get_or-take}
 use Rattle.std.specs.Io.KnownBytes.{Appends, Consumes, IsAtEnd}
 use Rattle.std.proofs.KnownBytes.{Appends-trans, Appends-nil, Consumes-nil, Consumes-trans}
@@ -15,8 +15,8 @@ use Rattle.debug_lines.specs.declared.line.Line.TheVariants.{Quit}
 use Rattle.debug_lines.specs.Lines.{line_of}
 use Rattle.bsp_session.specs.declared.errors.SessionError.{SessionError}
 use Rattle.bsp_session.specs.declared.errors.SessionError.TheVariants.{WriteFault, NoMemory}
-use Rattle.bsp_session.specs.Streams.{Stream, ReadsPast}
-use Rattle.bsp_console.specs.Talk.{Answered, Talks, lines_of, goes_on, answered_lines, ended_lines, until_quit, LacksQuit, HasQuit}
+use Rattle.bsp_session.specs.Streams.{Stream}
+use Rattle.bsp_console.specs.Talk.{Answered, Talks, lines_of, goes_on, answered_lines, until_quit, HasQuit}
 use Rattle.bsp_console.specs.Console.{most_script, WritesReplies}
 use Rattle.bsp_console.specs.Dialogue.{AreWholeLines, EndsAtLine, HasTalked, IsErrorOfTalk, IsUnreadable, PassesScript, ReadsLines}
 use Rattle.bsp_console.proofs.Scripts.{AllGoOn, AllGoOn-push, LacksQuit-all, Talks-push, HasRisen-above, init-append, lines_of-line, lines_of-last, take_while-through, take_while-quit, length-lines_of, line_of-nil, quit-ends, other-goes_on}
@@ -173,7 +173,7 @@ has_quit script asked more line is some quits =
       line,
       omega (arith, length-take-le (length (lines_of script) - 1) (lines_of script) (omega arith)),
       get_or-take (length (lines_of script) - 1) (lines_of script) (length asked) line (omega arith) ∙ place,
-      quits,
+      quit-ends line quits,
     )
 
 -- a line `quit` is given
@@ -381,7 +381,7 @@ pub talk-stops : (g l : ℕ) (start d next : DebuggerState) (script out : Stream
     → length new.read ≤ most_script → line ≡ line_of new.line → (line_of new.line ≡ Quit → ⊥) → out.failures_before ≤ failures
     → ((e ≡ NoMemory) × (out.after ≡ held))
     ⊎ ((e ≡ WriteFault) × HasRisen failures out.failures_after
-    × (text : List ℕ) × (count : ℕ) × Answered g l line d text next × Appends held out.after (take count text))
+    × (text : List ℕ) × (count : ℕ) × (count ≤ length text) × Answered g l line d text next × Appends held out.after (take count text))
     → IsErrorOfTalk g l script out start e
 talk-stops g l start d next script out mid held old new line failures e t (bytes, consumed, grown) gives still few is other before why = cases why where
   cut : HasCutOff t.asked old
@@ -411,7 +411,7 @@ talk-stops g l start d next script out mid held old new line failures e t (bytes
 
   cases : ((e ≡ NoMemory) × (out.after ≡ held))
       ⊎ ((e ≡ WriteFault) × HasRisen failures out.failures_after
-      × (text : List ℕ) × (count : ℕ) × Answered g l line d text next × Appends held out.after (take count text)) → IsErrorOfTalk g l script out start e
+      × (text : List ℕ) × (count : ℕ) × (count ≤ length text) × Answered g l line d text next × Appends held out.after (take count text)) → IsErrorOfTalk g l script out start e
   cases (inl (cause, unwritten)) = rw cause (inr (record {
     lines = lines;
     read = read_lines;
@@ -423,7 +423,7 @@ talk-stops g l start d next script out mid held old new line failures e t (bytes
       written = record { text = t.text; now = d; talks = t.talks; written = subst (λ a. Appends out.before a t.text) (sym unwritten) t.written };
     };
   }))
-  cases (inr (cause, rose, text, count, answered, appended)) = rw cause (record {
+  cases (inr (cause, rose, text, count, within, answered, appended)) = rw cause (record {
     lines = lines;
     read = read_lines;
     done = record {
@@ -438,6 +438,7 @@ talk-stops g l start d next script out mid held old new line failures e t (bytes
       after = next;
       answered = subst (λ asked. Answered g l asked d text next) is answered;
       count = count;
+      within = within;
       written = Appends-trans out.before held out.after t.text (take count text) t.written appended;
       failed = HasRisen-above _ failures _ before rose;
     };

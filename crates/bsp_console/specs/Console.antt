@@ -1,19 +1,18 @@
 -- What the two sessions with the debugger share: what they read and write, the debugger with which the lines begin, and the replies that
 -- stand written. All over the bytes of readers and of a writer, where they are known.
-use Rattle.std.specs.Prelude.{◌≡◌, ℕ, ◌^◌, ◌⊎◌, false, true, List, [], ◌∷◌, ◌++◌, take, Option, None, Some, option_map}
+use Rattle.std.specs.Prelude.{◌≡◌, ℕ, ◌^◌, ◌≤◌, List, [], ◌∷◌, ◌++◌, length, take, Option, option_map}
 use Rattle.std.specs.Io.KnownBytes.{Appends}
-use Rattle.node_memory.specs.Image.{Image, is_segment_outside}
+use Rattle.node_memory.specs.Image.{Image}
 use Rattle.machine_core.specs.declared.settings.Settings.{Settings}
 use Rattle.machine_core.specs.Machine.{fresh, settings_fault}
 use Rattle.bsp_debug.specs.Debugger.{DebuggerState}
 use Rattle.debug_lines.specs.Lines.{line_of}
 use Rattle.bsp_session.specs.declared.errors.SessionError.{SessionError}
-use Rattle.bsp_session.specs.declared.errors.SessionError.TheVariants.{BadSettings, TooLong, Text, BadImage, SegmentOutside, ReadFault, NoMemory}
+use Rattle.bsp_session.specs.declared.errors.SessionError.TheVariants.{Text, BadImage, SegmentOutside}
 use Rattle.bsp_session.specs.declared.job.Job.{Job}
-use Rattle.bsp_session.specs.Images.{most_bytes, Gives, image_fault}
 use Rattle.bsp_session.specs.Outcome.{error_of_machine}
-use Rattle.bsp_session.specs.Streams.{Stream, IsUntouched, ReadsWhole, ReadsPast, HasFailed, FailsWithin, IsCutShort}
-use Rattle.bsp_session.specs.Session.{most_input}
+use Rattle.bsp_session.specs.Streams.{Stream, IsUntouched, HasFailed}
+use Rattle.bsp_session.specs.Session.{HasImage, IsErrorOfFiles, IsErrorOfImage, ReadsFiles}
 use Rattle.bsp_console.specs.Talk.{Answered, Talks}
 
 -- what a session reads, what it writes to, and what it is asked. The bytes of the writer are those that it holds
@@ -37,30 +36,9 @@ most_script = 2 ^ 20
 abbrev pub console_fault : Job → Option SessionError
 console_fault job = option_map error_of_machine (settings_fault job.settings)
 
--- the settings are good, and an image's file and an input were read
-pub record ReadsFiles (image input : Stream) (job : Job) (i n : List ℕ) : Type 0 where
-  pub settings : console_fault job ≡ None
-  pub image_read : ReadsWhole image i (most_bytes job.format)
-  pub input_read : ReadsWhole input n most_input
-
--- the settings are good, and a cause, which may have to do with a limit, ended the reading of the image, and the input was not touched; or
--- the image was read, and the cause ended the reading of the input
-pub record EndsAtFile (cause : ℕ → Stream → Type 0) (image input : Stream) (job : Job) : Type 0 where
-  pub settings : console_fault job ≡ None
-  pub ended : (cause (most_bytes job.format) image × IsUntouched input)
-      ⊎ ((i : List ℕ) × ReadsWhole image i (most_bytes job.format) × cause most_input input)
-
--- why an image's file and an input were not both read
-abbrev pub IsErrorOfFiles : (image input : Stream) → Job → SessionError → Type 0
-IsErrorOfFiles image input job (BadSettings cause) = (console_fault job ≡ Some (BadSettings cause)) × IsUntouched image × IsUntouched input
-IsErrorOfFiles image input job TooLong = EndsAtFile ReadsPast image input job
-IsErrorOfFiles image input job ReadFault = EndsAtFile FailsWithin image input job
-IsErrorOfFiles image input job NoMemory = EndsAtFile IsCutShort image input job
-IsErrorOfFiles image input job _ = ⊥
-
--- they were not, and nothing else was touched
+-- a setting was bad, or an image's file and an input were not both read, for this; nothing else was touched
 pub record StopsAtFiles (c : Console) (e : SessionError) : Type 0 where
-  pub cause : IsErrorOfFiles c.image c.input c.job e
+  pub cause : IsErrorOfFiles console_fault c.job c.image c.input e
   pub unread : IsUntouched c.script
   pub unwritten : IsUntouched c.out
 
@@ -70,18 +48,9 @@ first_debugger image input settings = record { machine = fresh image input setti
 
 -- the file gives an image that fits the memory, and the debugger is that of its machine
 pub record IsDebuggerOf (job : Job) (i n : List ℕ) (d : DebuggerState) : Type 0 where
-  pub image : Image
-  pub gives : Gives job.format i image
-  pub fits : is_segment_outside image job.settings.memory ≡ false
-  pub is : d ≡ first_debugger image n job.settings
-
--- why there is no debugger of a file and an input that were read
-abbrev pub IsErrorOfImage : Job → List ℕ → SessionError → Type 0
-IsErrorOfImage job i (Text cause) = image_fault job.format i ≡ Some (Text cause)
-IsErrorOfImage job i (BadImage cause) = image_fault job.format i ≡ Some (BadImage cause)
-IsErrorOfImage job i SegmentOutside = (image : Image) × Gives job.format i image × (is_segment_outside image job.settings.memory ≡ true)
-IsErrorOfImage job i NoMemory = Unit {0}
-IsErrorOfImage job i _ = ⊥
+  pub m : Image
+  pub image : HasImage job i m
+  pub is : d ≡ first_debugger m n job.settings
 
 -- the image's file was refused
 abbrev pub RefusesImage : SessionError → Type 0
@@ -94,14 +63,20 @@ RefusesImage _ = ⊥
 pub record Begins (c : Console) (start : DebuggerState) : Type 0 where
   pub i : List ℕ
   pub n : List ℕ
-  pub read : ReadsFiles c.image c.input c.job i n
+  pub read : ReadsFiles console_fault c.job c.image c.input i n
   pub debugger : IsDebuggerOf c.job i n start
 
--- both were read, there is no debugger, and nothing was written
+-- the debugger began, and this came of it
+pub record BeginsTo (what : DebuggerState → Type 0) (c : Console) : Type 0 where
+  pub start : DebuggerState
+  pub begins : Begins c start
+  pub came : what start
+
+-- both were read, there is no debugger, for this, and nothing was written
 pub record HasNoDebugger (c : Console) (e : SessionError) : Type 0 where
   pub i : List ℕ
   pub n : List ℕ
-  pub read : ReadsFiles c.image c.input c.job i n
+  pub read : ReadsFiles console_fault c.job c.image c.input i n
   pub cause : IsErrorOfImage c.job i e
   pub unwritten : IsUntouched c.out
 
@@ -122,7 +97,7 @@ pub record StopsBefore (g l : ℕ) (lines : List (List ℕ)) (start : DebuggerSt
   pub are : lines ≡ done ++ next ∷ rest
   pub written : WritesReplies g l done start out
 
--- the writer failed: of the replies to these lines those to some first ones were written, and `count` bytes of the next one
+-- the writer failed: the replies to the first lines `done` were written whole, and of the reply to `next` the first `count` bytes
 pub record CutsReply (g l : ℕ) (lines : List (List ℕ)) (start : DebuggerState) (out : Stream) : Type 0 where
   pub done : List (List ℕ)
   pub next : List ℕ
@@ -135,5 +110,6 @@ pub record CutsReply (g l : ℕ) (lines : List (List ℕ)) (start : DebuggerStat
   pub after : DebuggerState
   pub answered : Answered g l (line_of next) before reply after
   pub count : ℕ
+  pub within : count ≤ length reply
   pub written : Appends out.before out.after (text ++ take count reply)
   pub failed : HasFailed out

@@ -7,13 +7,7 @@ use Rattle.bsp_session.specs.declared.errors.SessionError.{SessionError}
 use Rattle.bsp_session.specs.declared.errors.SessionError.TheVariants.{BadSettings, TooLong, Text, BadImage, SegmentOutside, ReadFault, WriteFault, NoWorker, NoMemory}
 use Rattle.bsp_session.specs.Streams.{Stream, IsUntouched, ReadsPast, HasFailed}
 use Rattle.bsp_console.specs.Talk.{HasQuit, LacksQuit, answered_lines, ended_lines, lines_of, until_quit}
-use Rattle.bsp_console.specs.Console.{Console, Begins, CutsReply, StopsAtFiles, HasNoDebugger, StopsBefore, WritesReplies, most_script}
-
--- the debugger began, and this is what was done with the lines
-pub record BeginsTo (what : DebuggerState → Type 0) (c : Console) : Type 0 where
-  pub start : DebuggerState
-  pub begins : Begins c start
-  pub done : what start
+use Rattle.bsp_console.specs.Console.{Console, BeginsTo, CutsReply, StopsAtFiles, HasNoDebugger, StopsBefore, WritesReplies, most_script}
 
 -- ---- an answer
 

@@ -96,4 +96,4 @@ ended_lines script = take (length (lines_of script) - 1) (lines_of script)
 
 -- a line that a line feed ended is `quit`
 abbrev pub HasQuit : List ℕ → Type 0
-HasQuit script = Any (λ line. line_of line ≡ Quit) (ended_lines script)
+HasQuit script = Any (λ line. goes_on line ≡ false) (ended_lines script)

@@ -1,6 +1,6 @@
 //! The session that is a dialogue: a line is read when it is wanted.
 
-ghost use Rattle.std.specs.Prelude.{◌≡◌, ◌≢◌, ◌≤◌, ◌⊎◌, ◌↔◌, ℕ, List, take, Some, None, IfErr, OnOk, IsErrOf};
+ghost use Rattle.std.specs.Prelude.{◌≡◌, ◌≢◌, ◌≤◌, ◌⊎◌, ◌↔◌, ℕ, List, length, take, Some, None, IfErr, OnOk, IsErrOf};
 ghost use Rattle.std.specs.Io.KnownBytes.{Appends};
 ghost use Rattle.counted_io.specs.Counted.{HasRisen};
 ghost use Rattle.bsp_session.specs.declared.errors.BadSetting.{BadSetting as BadSettingCause};
@@ -103,7 +103,7 @@ fn answer_at_once<A: Allocator + Copy, W: Write>(
         × Appends (W.contents out.old.inner) (W.contents out.new.inner) text) }
     ensures err { IfErr result (λ e. ((e ≡ SessionError.NoMemory) × (out.new ≡ out.old))
         ⊎ ((e ≡ SessionError.WriteFault) × HasRisen out.old.failures out.new.failures
-        × (text : List ℕ) × (count : ℕ)
+        × (text : List ℕ) × (count : ℕ) × (count ≤ length text)
         × Answered job.now.g job.now.l line debugger.old text debugger.new
         × Appends (W.contents out.old.inner) (W.contents out.new.inner) (take count text))) }
     ensures never_falls { out.old.failures ≤ out.new.failures }

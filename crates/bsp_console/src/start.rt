@@ -3,7 +3,8 @@
 ghost use Rattle.std.specs.Prelude.{◌≡◌, ◌≢◌, ◌≤◌, length, None, Some, IfOk, IfErr, OnOk};
 ghost use Rattle.bsp_session.specs.Images.{most_bytes};
 ghost use Rattle.bsp_session.specs.Streams.{stream};
-ghost use Rattle.bsp_console.specs.Console.{IsDebuggerOf, IsErrorOfFiles, IsErrorOfImage, ReadsFiles, console_fault};
+ghost use Rattle.bsp_session.specs.Session.{IsErrorOfFiles, IsErrorOfImage, ReadsFiles};
+ghost use Rattle.bsp_console.specs.Console.{IsDebuggerOf, console_fault};
 
 use bsp_debug::Debugger;
 use bsp_session::{INPUT_BYTES, Job, SessionError, image_of};
@@ -19,10 +20,10 @@ pub(crate) fn read_files<A: Allocator + Copy, I: Read, R: Read>(
     input: &mut Counted<R>,
     job: &Job,
 ) -> Result<(Vec<u8, A>, Vec<u8, A>), SessionError>
-    ensures ok { IfOk result (λ read. ReadsFiles (stream I.remaining image.old image.new)
-        (stream R.remaining input.old input.new) job.now read.0.items read.1.items) }
-    ensures err { IfErr result (IsErrorOfFiles (stream I.remaining image.old image.new)
-        (stream R.remaining input.old input.new) job.now) }
+    ensures ok { IfOk result (λ read. ReadsFiles console_fault job.now (stream I.remaining image.old image.new)
+        (stream R.remaining input.old input.new) read.0.items read.1.items) }
+    ensures err { IfErr result (IsErrorOfFiles console_fault job.now (stream I.remaining image.old image.new)
+        (stream R.remaining input.old input.new)) }
     ensures settings_first { console_fault job.now ≢ None
         → (image.new ≡ image.old) × (input.new ≡ input.old) }
 {

@@ -1,5 +1,5 @@
--- The sessions that run nothing: the file of an image is read, and a text of the image is written, which is its listing or
--- the file that it is saved as.
+-- The sessions that run nothing: the file of an image is read, and what is written is the image's listing, or the file that it is
+-- saved as.
 use Rattle.std.specs.Prelude.{◌≡◌, ◌<◌, ◌⊎◌, List, ◌++◌, ℕ, length, Option, Some}
 use Rattle.std.specs.List.{flat_map}
 use Rattle.std.specs.Io.KnownBytes.{Appends}
@@ -31,17 +31,24 @@ pub record ReadsImage (c : Conversion) (m : Image) : Type 0 where
   pub read : ReadsWhole c.file i (most_bytes c.format)
   pub gives : Gives c.format i m
 
--- an answer: all of the image's text was written
-pub record WritesText (text_of : Image → List ℕ) (c : Conversion) : Type 0 where
+-- all of what is to be written of the image was
+pub record WritesWhole (written_of : Image → List ℕ) (c : Conversion) : Type 0 where
   pub m : Image
   pub given : ReadsImage c m
-  pub written : Appends c.out.before c.out.after (text_of m)
+  pub written : Appends c.out.before c.out.after (written_of m)
 
--- the writer failed after some first bytes of the text were written, and not all
-pub record WritesPart (text_of : Image → List ℕ) (c : Conversion) : Type 0 where
+-- an answer of a listing, and one of an assembly
+abbrev pub AnswersListing : Conversion → Type 0
+AnswersListing c = WritesWhole listing_of c
+
+abbrev pub AnswersAssembly : Conversion → Type 0
+AnswersAssembly c = WritesWhole spelling_of c
+
+-- the writer failed after some first bytes of it were written, and not all
+pub record WritesPart (written_of : Image → List ℕ) (c : Conversion) : Type 0 where
   pub m : Image
   pub given : ReadsImage c m
-  pub written : AppendsPrefix c.out.before c.out.after (text_of m)
+  pub written : AppendsPrefix c.out.before c.out.after (written_of m)
   pub failed : HasFailed c.out
 
 -- some first lines are appended to known bytes, and not all of them

@@ -34,21 +34,28 @@ session_of image input out job = record { image = image; input = input; out = ou
 abbrev pub most_input : ℕ
 most_input = 2 ^ 24
 
--- the first setting that is out of its range: of the machine, and then of the workers and the slice
-abbrev pub job_fault : Job → Option SessionError
-job_fault job =
-    option_or (option_map error_of_machine (settings_fault job.settings))
-    (option_map error_of_pool (numbers_fault job.workers job.slice))
-
--- the machine at the end of its run
-abbrev pub run_of : Image → List ℕ → Settings → MachineState
-run_of image input settings = end_of (fresh image input settings)
+-- ---- what the sessions that make a machine share; `fault` is their test of a job's settings
 
 -- the settings are good, and an image's file and an input were read
-pub record ReadsBoth (s : Session) (i n : List ℕ) : Type 0 where
-  pub settings : job_fault s.job ≡ None
-  pub image_read : ReadsWhole s.image i (most_bytes s.job.format)
-  pub input_read : ReadsWhole s.input n most_input
+pub record ReadsFiles (fault : Job → Option SessionError) (job : Job) (image input : Stream) (i n : List ℕ) : Type 0 where
+  pub settings : fault job ≡ None
+  pub image_read : ReadsWhole image i (most_bytes job.format)
+  pub input_read : ReadsWhole input n most_input
+
+-- the settings are good; the image was not read whole, for this, and the input was not touched, or the image was read, and the input was
+-- not read whole
+pub record EndsAtFile (fault : Job → Option SessionError) (job : Job) (image input : Stream) (why : ReadError) : Type 0 where
+  pub settings : fault job ≡ None
+  pub ended : (IsReadErrorOf (most_bytes job.format) image why × IsUntouched input)
+      ⊎ ((i : List ℕ) × ReadsWhole image i (most_bytes job.format) × IsReadErrorOf most_input input why)
+
+-- why they were not both read
+abbrev pub IsErrorOfFiles : (fault : Job → Option SessionError) → Job → (image input : Stream) → SessionError → Type 0
+IsErrorOfFiles fault job image input (BadSettings cause) = (fault job ≡ Some (BadSettings cause)) × IsUntouched image × IsUntouched input
+IsErrorOfFiles fault job image input TooLong = EndsAtFile fault job image input read.TooLong
+IsErrorOfFiles fault job image input ReadFault = EndsAtFile fault job image input read.ReadFault
+IsErrorOfFiles fault job image input NoMemory = EndsAtFile fault job image input read.NoMemory
+IsErrorOfFiles fault job image input _ = ⊥
 
 -- a file's image, which fits the memory
 pub record HasImage (job : Job) (file : List ℕ) (m : Image) : Type 0 where
@@ -60,6 +67,30 @@ pub record PassesMemory (job : Job) (file : List ℕ) : Type 0 where
   pub m : Image
   pub gives : Gives job.format file m
   pub outside : is_segment_outside m job.settings.memory ≡ true
+
+-- why a file gives no machine: it gives no image, or none that fits, or memory was refused
+abbrev pub IsErrorOfImage : Job → List ℕ → SessionError → Type 0
+IsErrorOfImage job file (Text cause) = image_fault job.format file ≡ Some (Text cause)
+IsErrorOfImage job file (BadImage cause) = image_fault job.format file ≡ Some (BadImage cause)
+IsErrorOfImage job file SegmentOutside = PassesMemory job file
+IsErrorOfImage job file NoMemory = Unit {0}
+IsErrorOfImage job file _ = ⊥
+
+-- ---- the session of a run
+
+-- the first setting that is out of its range: of the machine, and then of the workers and the slice
+abbrev pub job_fault : Job → Option SessionError
+job_fault job =
+    option_or (option_map error_of_machine (settings_fault job.settings))
+    (option_map error_of_pool (numbers_fault job.workers job.slice))
+
+-- the machine at the end of its run
+abbrev pub run_of : Image → List ℕ → Settings → MachineState
+run_of image input settings = end_of (fresh image input settings)
+
+-- both were read
+abbrev pub ReadsBoth : Session → (i n : List ℕ) → Type 0
+ReadsBoth s i n = ReadsFiles job_fault s.job s.image s.input i n
 
 -- there are an image that fits, several workers and several nodes
 pub record NeedsWorkers (job : Job) (file : List ℕ) : Type 0 where
@@ -91,32 +122,15 @@ pub record ReportsPart (s : Session) : Type 0 where
   pub written : AppendsPrefix s.out.before s.out.after (report_of s.job end)
   pub failed : HasFailed s.out
 
--- nothing was read or written
-pub record IsUntouchedSession (s : Session) : Type 0 where
-  pub image : IsUntouched s.image
-  pub input : IsUntouched s.input
-  pub out : IsUntouched s.out
-
--- the image was not read whole, and the input was not touched; or the image was read, and the input was not read whole
-abbrev pub EndsAtReader : Session → ReadError → Type 0
-EndsAtReader s why =
-    (IsReadErrorOf (most_bytes s.job.format) s.image why × IsUntouched s.input)
-    ⊎ ((i : List ℕ) × ReadsWhole s.image i (most_bytes s.job.format) × IsReadErrorOf most_input s.input why)
-
--- the settings are good, and the session ended while it read, for this
-pub record EndsReading (s : Session) (why : ReadError) : Type 0 where
-  pub settings : job_fault s.job ≡ None
-  pub ended : EndsAtReader s why
+-- a setting was bad, or the two were not both read, for this; nothing was written
+pub record EndsReading (s : Session) (e : SessionError) : Type 0 where
+  pub cause : IsErrorOfFiles job_fault s.job s.image s.input e
   pub unwritten : IsUntouched s.out
 
--- why a file does not run to an outcome: it gives no image, or none that fits, or memory or a thread was refused
+-- why a file does not run to an outcome: it gives no machine, or a thread was refused
 abbrev pub IsErrorOfRun : Job → List ℕ → SessionError → Type 0
-IsErrorOfRun job file (Text cause) = image_fault job.format file ≡ Some (Text cause)
-IsErrorOfRun job file (BadImage cause) = image_fault job.format file ≡ Some (BadImage cause)
-IsErrorOfRun job file SegmentOutside = PassesMemory job file
 IsErrorOfRun job file NoWorker = NeedsWorkers job file
-IsErrorOfRun job file NoMemory = Unit {0}
-IsErrorOfRun job file _ = ⊥
+IsErrorOfRun job file e = IsErrorOfImage job file e
 
 -- both were read, and there is no outcome, for this
 pub record EndsUnrun (s : Session) (e : SessionError) : Type 0 where
@@ -128,12 +142,12 @@ pub record EndsUnrun (s : Session) (e : SessionError) : Type 0 where
 
 -- what is known where a session ended by an error
 abbrev pub IsErrorOf : Session → SessionError → Type 0
-IsErrorOf s (BadSettings cause) = (job_fault s.job ≡ Some (BadSettings cause)) × IsUntouchedSession s
-IsErrorOf s TooLong = EndsReading s read.TooLong
+IsErrorOf s (BadSettings cause) = EndsReading s (BadSettings cause)
+IsErrorOf s TooLong = EndsReading s TooLong
 IsErrorOf s (Text cause) = EndsUnrun s (Text cause)
 IsErrorOf s (BadImage cause) = EndsUnrun s (BadImage cause)
 IsErrorOf s SegmentOutside = EndsUnrun s SegmentOutside
-IsErrorOf s ReadFault = EndsReading s read.ReadFault
+IsErrorOf s ReadFault = EndsReading s ReadFault
 IsErrorOf s WriteFault = ReportsPart s
 IsErrorOf s NoWorker = EndsUnrun s NoWorker
-IsErrorOf s NoMemory = EndsReading s read.NoMemory ⊎ EndsUnrun s NoMemory
+IsErrorOf s NoMemory = EndsReading s NoMemory ⊎ EndsUnrun s NoMemory

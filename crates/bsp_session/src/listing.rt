@@ -6,7 +6,7 @@ ghost use Rattle.std.specs.Io.KnownBytes.{Appends};
 ghost use Rattle.elf_image.specs.Spelling.{spelling_of};
 ghost use Rattle.rv_listing.specs.declared.lines.Line.{Line};
 ghost use Rattle.rv_listing.specs.Listing.{ended_text, listing_of, listing_of_segment};
-ghost use Rattle.bsp_session.specs.Conversion.{IsErrorOfAssembly, IsErrorOfLines, IsErrorOfListing, ListsFirstLines, ReadsImage, WritesText, conversion_of, lines_of_image, lines_of_segment};
+ghost use Rattle.bsp_session.specs.Conversion.{AnswersAssembly, AnswersListing, IsErrorOfAssembly, IsErrorOfLines, IsErrorOfListing, ListsFirstLines, ReadsImage, conversion_of, lines_of_image, lines_of_segment};
 ghost use Rattle.bsp_session.specs.Streams.{Stream, stream};
 
 use crate::errors::SessionError;
@@ -40,7 +40,7 @@ pub fn list_session<A: Allocator + Copy, I: Read, W: Write>(
     image: &mut Counted<I>,
     out: &mut Counted<W>,
 ) -> Result<(), SessionError>
-    ensures ok { OnOk result (WritesText listing_of (conversion_of
+    ensures ok { OnOk result (AnswersListing (conversion_of
         (stream I.remaining image.old image.new) (stream W.contents out.old out.new) format)) }
     ensures err { IfErr result (λ e. IsErrorOfListing (conversion_of
         (stream I.remaining image.old image.new) (stream W.contents out.old out.new) format) e) }
@@ -64,7 +64,7 @@ pub fn asm_session<A: Allocator + Copy, T: Read, W: Write>(
     text: &mut Counted<T>,
     out: &mut Counted<W>,
 ) -> Result<(), SessionError>
-    ensures ok { OnOk result (WritesText spelling_of (conversion_of
+    ensures ok { OnOk result (AnswersAssembly (conversion_of
         (stream T.remaining text.old text.new) (stream W.contents out.old out.new) Format.Asm)) }
     ensures err { IfErr result (λ e. IsErrorOfAssembly (conversion_of
         (stream T.remaining text.old text.new) (stream W.contents out.old out.new) Format.Asm) e) }

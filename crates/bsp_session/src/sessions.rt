@@ -7,9 +7,9 @@ ghost use Rattle.machine_core.specs.Turn.{end_of};
 ghost use Rattle.phase_pool.specs.Numbers.{numbers_fault};
 ghost use Rattle.bsp_session.specs.declared.errors.BadSetting.{BadSetting as BadSettingCause};
 ghost use Rattle.bsp_session.specs.Images.{most_bytes};
-ghost use Rattle.bsp_session.specs.Streams.{IsUntouched, Stream, stream};
+ghost use Rattle.bsp_session.specs.Streams.{Stream, stream};
 ghost use Rattle.bsp_session.specs.Report.{report_lines as report_lines_of};
-ghost use Rattle.bsp_session.specs.Session.{HasImage, IsErrorOf, IsErrorOfRun, ReadsBoth, Reports, job_fault, run_of, session_of};
+ghost use Rattle.bsp_session.specs.Session.{HasImage, IsErrorOf, IsErrorOfFiles, IsErrorOfRun, ReadsBoth, ReadsFiles, Reports, job_fault, run_of, session_of};
 
 use crate::errors::SessionError;
 use crate::images::image_of;
@@ -75,13 +75,10 @@ fn read_both<A: Allocator + Copy, I: Read, R: Read>(
     input: &mut Counted<R>,
     job: &Job,
 ) -> Result<(Vec<u8, A>, Vec<u8, A>), SessionError>
-    ensures ok { IfOk result (λ read. (out : Stream)
-        → ReadsBoth (session_of (stream I.remaining image.old image.new)
-        (stream R.remaining input.old input.new) out job.now) read.0.items read.1.items) }
-    // With a writer that was not touched, an error is the session's.
-    ensures err { IfErr result (λ e. (out : Stream) → IsUntouched out
-        → IsErrorOf (session_of (stream I.remaining image.old image.new)
-        (stream R.remaining input.old input.new) out job.now) e) }
+    ensures ok { IfOk result (λ read. ReadsFiles job_fault job.now (stream I.remaining image.old image.new)
+        (stream R.remaining input.old input.new) read.0.items read.1.items) }
+    ensures err { IfErr result (IsErrorOfFiles job_fault job.now (stream I.remaining image.old image.new)
+        (stream R.remaining input.old input.new)) }
     ensures settings_first { job_fault job.now ≢ None
         → (image.new ≡ image.old) × (input.new ≡ input.old) }
 {

@@ -15,7 +15,7 @@ returns-clause-ok g c =
     let begins : Begins session c.in_ok-debugger.debugger = record { i = c.in_ok-file.file.items; n = c.in_ok-file.input.items; read = c.in_ok-file.ensures.ok; debugger = debugger } in
     on_ok_weaker c.answer_lines.result
     (λ (talked : HasTalked c.args.job.now.g c.args.job.now.l session.script session.out c.in_ok-debugger.debugger).
-    let all : AnswersDialogue session = record { start = c.in_ok-debugger.debugger; begins = begins; done = talked } in all) c.answer_lines.ensures.ok
+    let all : AnswersDialogue session = record { start = c.in_ok-debugger.debugger; begins = begins; came = talked } in all) c.answer_lines.ensures.ok
 
 pub returns-clause-err : goal.returns-clause-err
 returns-clause-err g c =

@@ -17,9 +17,11 @@ within (Some e) outside none fits = absurd (cc)
 
 pub returns-clause-ok : goal.returns-clause-ok
 returns-clause-ok g c = record {
-  image = c.in_ok-image.image;
-  gives = search rules;
-  fits = within (settings_fault c.args.job.now.settings) (is_segment_outside c.in_ok-image.image c.args.job.now.settings.memory) c.requires.settings
-      (λ outside. let refused = c.in_ok-machine.ensures.segment_outside.1 outside in cc);
+  m = c.in_ok-image.image;
+  image = record {
+    gives = search rules;
+    fits = within (settings_fault c.args.job.now.settings) (is_segment_outside c.in_ok-image.image c.args.job.now.settings.memory) c.requires.settings
+        (λ outside. let refused = c.in_ok-machine.ensures.segment_outside.1 outside in cc);
+  };
   is = c.new-2.ensures ∙ ap (λ (m : MachineState). let d : DebuggerState = record { machine = m; points = []; last = [] } in d) c.in_ok-machine.ensures.ok;
 }

@@ -3,27 +3,29 @@ use Rattle.std.proofs.Common.{Err, refl}
 use Rattle.std.proofs.lemmas.Result.{IfErr-weaker, IfOk-weaker, err_from_is_err_and}
 use Rattle.bsp_session.specs.Session.{IsErrorOf, Reports, ReadsBoth, Session, session_of}
 use Rattle.bsp_session.specs.Streams.{Stream, stream}
-use Rattle.bsp_session.proofs.SessionErrors.{IfOk-always, settings_exact}
+use Rattle.bsp_session.proofs.SessionErrors.{IfOk-always, IsErrorOf-files, settings_exact}
 use Rattle.bsp_session.proofs.sessions.session.Goals as goal
 
 pub returns-in_err-file-clause-err : goal.returns-in_err-file-clause-err
 returns-in_err-file-clause-err g c =
     let p = err_from_is_err_and c.from_residual.result c.from_residual.ensures.1 in
-    rw (p.1, p.2) (c.in_err-file.ensures.err (stream g.W.Write.contents c.args.out.now c.args.out.now) (record { bytes = refl; failures = refl }))
+    let s : Session = session_of (stream g.I.Read.remaining c.args.image.now c.read_both.new.image) (stream g.R.Read.remaining c.args.input.now c.read_both.new.input)
+    (stream g.W.Write.contents c.args.out.now c.args.out.now) c.args.job.now in
+    rw (p.1, p.2) (IsErrorOf-files s _ c.in_err-file.ensures.err (record { bytes = refl; failures = refl }))
 
 pub returns-in_err-file-clause-bad_settings : goal.returns-in_err-file-clause-bad_settings
 returns-in_err-file-clause-bad_settings g c =
     let p = err_from_is_err_and c.from_residual.result c.from_residual.ensures.1 in
     let unwritten = stream g.W.Write.contents c.args.out.now c.args.out.now in
     let s : Session = session_of (stream g.I.Read.remaining c.args.image.now c.read_both.new.image) (stream g.R.Read.remaining c.args.input.now c.read_both.new.input) unwritten c.args.job.now in
-    rw (p.1, p.2) (settings_exact s (Err _) tt (c.in_err-file.ensures.err unwritten (record { bytes = refl; failures = refl })))
+    rw (p.1, p.2) (settings_exact s (Err _) tt (IsErrorOf-files s _ c.in_err-file.ensures.err (record { bytes = refl; failures = refl })))
 
 pub run_and_report-requires-clause-settings : goal.run_and_report-requires-clause-settings
-run_and_report-requires-clause-settings g c = λ lifetimes bounds. (c.in_ok-file.ensures.ok (stream g.W.Write.contents c.args.out.now c.args.out.now)).settings
+run_and_report-requires-clause-settings g c = λ lifetimes bounds. c.in_ok-file.ensures.ok.settings
 
 pub run_and_report-requires-clause-limit : goal.run_and_report-requires-clause-limit
 run_and_report-requires-clause-limit g c = λ lifetimes bounds.
-    rw c.as_slice.ensures.value (c.in_ok-file.ensures.ok (stream g.W.Write.contents c.args.out.now c.args.out.now)).image_read.limited
+    rw c.as_slice.ensures.value c.in_ok-file.ensures.ok.image_read.limited
 
 pub returns-clause-ok : goal.returns-clause-ok
 returns-clause-ok g c =
@@ -31,7 +33,7 @@ returns-clause-ok g c =
     let n = stream g.R.Read.remaining c.args.input.now c.read_both.new.input in
     let s : Session = session_of i n (stream g.W.Write.contents c.args.out.now c.run_and_report.new.out) c.args.job.now in
     let both : ReadsBoth s c.as_slice.result.now c.as_slice-2.result.now =
-    rw (c.as_slice.ensures.value, c.as_slice-2.ensures.value) (c.in_ok-file.ensures.ok s.out) in
+    rw (c.as_slice.ensures.value, c.as_slice-2.ensures.value) c.in_ok-file.ensures.ok in
     IfOk-weaker c.run_and_report.result (λ outcome. (i n : Stream) → ReadsBoth (session_of i n s.out s.job) c.as_slice.result.now c.as_slice-2.result.now → Reports (session_of i n s.out s.job) outcome) (Reports s)
     (λ outcome told. told i n both) c.run_and_report.ensures.ok
 
@@ -41,7 +43,7 @@ returns-clause-err g c =
     let n = stream g.R.Read.remaining c.args.input.now c.read_both.new.input in
     let s : Session = session_of i n (stream g.W.Write.contents c.args.out.now c.run_and_report.new.out) c.args.job.now in
     let both : ReadsBoth s c.as_slice.result.now c.as_slice-2.result.now =
-    rw (c.as_slice.ensures.value, c.as_slice-2.ensures.value) (c.in_ok-file.ensures.ok s.out) in
+    rw (c.as_slice.ensures.value, c.as_slice-2.ensures.value) c.in_ok-file.ensures.ok in
     IfErr-weaker c.run_and_report.result (λ e. (i n : Stream) → ReadsBoth (session_of i n s.out s.job) c.as_slice.result.now c.as_slice-2.result.now → IsErrorOf (session_of i n s.out s.job) e) (IsErrorOf s)
     (λ e told. told i n both) c.run_and_report.ensures.err
 
@@ -51,7 +53,7 @@ returns-clause-bad_settings g c =
     let n = stream g.R.Read.remaining c.args.input.now c.read_both.new.input in
     let s : Session = session_of i n (stream g.W.Write.contents c.args.out.now c.run_and_report.new.out) c.args.job.now in
     let both : ReadsBoth s c.as_slice.result.now c.as_slice-2.result.now =
-    rw (c.as_slice.ensures.value, c.as_slice-2.ensures.value) (c.in_ok-file.ensures.ok s.out) in
+    rw (c.as_slice.ensures.value, c.as_slice-2.ensures.value) c.in_ok-file.ensures.ok in
     settings_exact s c.run_and_report.result (IfOk-always c.run_and_report.result both.settings)
     (IfErr-weaker c.run_and_report.result (λ e. (i n : Stream) → ReadsBoth (session_of i n s.out s.job) c.as_slice.result.now c.as_slice-2.result.now → IsErrorOf (session_of i n s.out s.job) e) (IsErrorOf s)
     (λ e told. told i n both) c.run_and_report.ensures.err)

@@ -1,4 +1,3 @@
 mod Commands
 mod Getters
 mod Laws
-mod Sessions

@@ -5,15 +5,16 @@ use Rattle.clap.specs.Words.{Text, kind_of}
 use Rattle.clap.specs.declared.error.Error.{Error}
 use Rattle.clap.specs.declared.error.kind.ErrorKind.{ErrorKind}
 use Rattle.clap.specs.declared.error.kind.ErrorKind.TheVariants.{DisplayHelp, DisplayVersion, OutOfMemory}
-use Rattle.bsp_console.specs.Console.{console_fault}
+use Rattle.bsp_console.specs.Console.{Console}
+use Rattle.bsp_console.specs.Dialogue.{AnswersDialogue, IsErrorOfDialogue}
+use Rattle.bsp_console.specs.Script.{AnswersScript, IsErrorOfScript}
 use Rattle.bsp_session.specs.declared.errors.SessionError.{SessionError}
-use Rattle.bsp_session.specs.declared.errors.SessionError.TheVariants.{BadSettings, NoWorker}
 use Rattle.bsp_session.specs.declared.job.Format.{Format}
 use Rattle.bsp_session.specs.declared.job.Format.TheVariants.{Asm}
 use Rattle.bsp_session.specs.declared.job.Job.{Job}
 use Rattle.machine_core.specs.declared.outcome.Outcome.{Outcome}
 use Rattle.machine_core.specs.declared.outcome.Outcome.TheVariants.{Ended}
-use Rattle.bsp_session.specs.Conversion.{Conversion, IsErrorOfAssembly, IsErrorOfListing}
+use Rattle.bsp_session.specs.Conversion.{AnswersAssembly, AnswersListing, Conversion, IsErrorOfAssembly, IsErrorOfListing}
 use Rattle.bsp_session.specs.Outcome.{status_of}
 use Rattle.bsp_session.specs.Session.{IsErrorOf, Reports, Session as BatchSession}
 use Rattle.bspemu.specs.declared.options.MachineOptions.{MachineOptions}
@@ -47,35 +48,42 @@ IsAnswerOfRun o (Ok outcome) = IsSessionOutcome o.job outcome
 IsAnswerOfRun o (Err (CannotOpen path)) = NamesFile o path
 IsAnswerOfRun o (Err (Session error)) = IsSessionError o.job error
 
--- an error of a session with the debugger: only settings of the machine out of their ranges are refused as such, and no thread is wanted
+-- lines were all answered with a debugger of such a job, and an error that this can have, whatever is read and written
+abbrev pub AnswersLines : Job → Type 0
+AnswersLines job = (c : Console) × (c.job ≡ job) × (AnswersScript c ⊎ AnswersDialogue c)
+
 abbrev pub IsDebugError : Job → SessionError → Type 0
-IsDebugError job (BadSettings cause) = console_fault job ≡ Some (BadSettings cause)
-IsDebugError job NoWorker = ⊥
-IsDebugError job _ = console_fault job ≡ None
+IsDebugError job error = (c : Console) × (c.job ≡ job) × (IsErrorOfScript c error ⊎ IsErrorOfDialogue c error)
 
 -- an answer that a debugger with these options can have
 abbrev pub IsAnswerOfDebug : MachineOptions → Result Outcome RunError → Type 0
-IsAnswerOfDebug o (Ok outcome) = (outcome ≡ Ended) × (console_fault o.job ≡ None)
+IsAnswerOfDebug o (Ok outcome) = (outcome ≡ Ended) × AnswersLines o.job
 IsAnswerOfDebug o (Err (CannotOpen path)) = NamesFile o path
 IsAnswerOfDebug o (Err (Session error)) = IsDebugError o.job error
 
--- an error that the listing of a file in this format can have
+-- a file in this format was listed, and an error that this can have
+abbrev pub IsListed : Format → Type 0
+IsListed format = (c : Conversion) × (c.format ≡ format) × AnswersListing c
+
 abbrev pub IsListError : Format → SessionError → Type 0
 IsListError format error = (c : Conversion) × (c.format ≡ format) × IsErrorOfListing c error
 
 -- an answer that a listing with these options can have
 abbrev pub IsAnswerOfList : ListOptions → Result Outcome RunError → Type 0
-IsAnswerOfList o (Ok outcome) = outcome ≡ Ended
+IsAnswerOfList o (Ok outcome) = (outcome ≡ Ended) × IsListed o.format
 IsAnswerOfList o (Err (CannotOpen path)) = (o.image.now ≢ codes "-") × (o.image ≡ path)
 IsAnswerOfList o (Err (Session error)) = IsListError o.format error
 
--- an error that an assembly can have
+-- the image of a text was saved, and an error that this can have
+abbrev pub IsSaved : Type 0
+IsSaved = (c : Conversion) × (c.format ≡ Asm) × AnswersAssembly c
+
 abbrev pub IsAsmError : SessionError → Type 0
 IsAsmError error = (c : Conversion) × (c.format ≡ Asm) × IsErrorOfAssembly c error
 
 -- an answer that an assembly with these options can have
 abbrev pub IsAnswerOfAsm : AsmOptions → Result Outcome RunError → Type 0
-IsAnswerOfAsm o (Ok outcome) = outcome ≡ Ended
+IsAnswerOfAsm o (Ok outcome) = (outcome ≡ Ended) × IsSaved
 IsAnswerOfAsm o (Err (CannotOpen path)) = (o.text ≡ path) ⊎ (o.image ≡ path)
 IsAnswerOfAsm o (Err (Session error)) = IsAsmError error
 

@@ -1,9 +1,8 @@
 //! From the command line to the exit status.
 
-ghost use Rattle.std.specs.Prelude.{◌≡◌, ◌⊎◌, None, IfErr, OnOk, map};
+ghost use Rattle.std.specs.Prelude.{◌≡◌, ◌⊎◌, IfErr, OnOk, map};
 ghost use Rattle.clap.specs.Words.{kind_of};
-ghost use Rattle.bsp_console.specs.Console.{console_fault};
-ghost use Rattle.bspemu.specs.Program.{Ends, EndsOnItsWords, IsAnswer, IsAnswerOfAsm, IsAnswerOfDebug, IsAnswerOfList, IsDebugError};
+ghost use Rattle.bspemu.specs.Program.{AnswersLines, Ends, EndsOnItsWords, IsAnswer, IsAnswerOfAsm, IsAnswerOfDebug, IsAnswerOfList, IsDebugError};
 ghost use Rattle.bspemu.specs.Program.{IsAnswerOfRun, IsStatusOfKind, status_of_answer};
 
 use crate::files::{CannotOpen, create, open_file, open_image, open_input, open_lines};
@@ -191,7 +190,7 @@ fn answer_lines<I: Read, R: Read, C: Read, W: Write>(
     out: &mut Counted<W>,
     is_dialogue: bool,
 ) -> Result<(), SessionError>
-    ensures ok { OnOk result (console_fault job.now ≡ None) }
+    ensures ok { OnOk result (AnswersLines job.now) }
     ensures err { IfErr result (IsDebugError job.now) }
 {
     if is_dialogue {

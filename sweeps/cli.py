@@ -5,6 +5,7 @@ from __future__ import annotations
 import argparse
 import pathlib
 import shlex
+import signal
 import sys
 from typing import NoReturn
 
@@ -13,7 +14,7 @@ from runner.program import Refused
 
 from . import engines, job, table
 from .points import Run, points, runs
-from .programs import REPO, programs
+from .programs import REPO, digest, programs
 from .progress import Progress
 from .store import MAIN, Place, Store
 
@@ -104,10 +105,12 @@ class Sweep:
         self.places = {run: store.place(run) for run in runs(self.points)}
 
     def commands(self, wanted: dict[Run, Place], copy: str) -> pathlib.Path:
-        """The list of commands that make these runs."""
-        path = self.folder / f"commands-{copy}"
+        """The list of commands that make these runs, in a file of their own: another sweep may be under way."""
         script = shlex.quote(str(REPO / "bspsweep"))
-        path.write_text("".join(f"{script} --make {shlex.quote(str(it.folder))} {copy}\n" for it in wanted.values()))
+        text = "".join(f"{script} --make {shlex.quote(str(it.folder))} {copy}\n" for it in wanted.values())
+        path = self.folder / "lists" / digest(text.encode())[:16]
+        path.parent.mkdir(parents=True, exist_ok=True)
+        path.write_text(text)
         return path
 
     def make(self, engine: engines.Engine, wanted: dict[Run, Place], copy: str) -> None:
@@ -192,6 +195,7 @@ def main(words: list[str]) -> int:
     """Sweeps; the status is 1 where a run could not be made, or a check found a difference."""
     if words[:1] == ["--make"]:
         return job.make(*words[1:])
+    signal.signal(signal.SIGTERM, job.stop)
     try:
         return sweep(arguments(words), words)
     except Refused as refused:

@@ -67,13 +67,15 @@ def array(commands: pathlib.Path, jobs: int) -> pathlib.Path:
     tasks = min(len(commands.read_text().splitlines()), MOST_TASKS)
     at_a_time = f"%{jobs}" if jobs else ""
     script = commands.with_suffix(".sbatch")
+    said = commands.with_suffix(".said")
+    said.mkdir(exist_ok=True)
     script.write_text(
         "#!/bin/sh\n"
         "#SBATCH --job-name=bspsweep\n"
         f"#SBATCH --array=0-{tasks - 1}{at_a_time}\n"
-        f"#SBATCH --output={shlex.quote(str(commands.parent))}/task-%a.out\n"
+        f"#SBATCH --output={shlex.quote(str(said))}/%a\n"
         "#SBATCH --ntasks=1\n"
         f"# Task number K makes the lines K + 1, K + {tasks + 1}, .. of the list.\n"
-        f'awk "NR % {tasks} == (SLURM_ARRAY_TASK_ID + 1) % {tasks}" {shlex.quote(str(commands))} | sh\n'
+        f"awk -v task=\"$SLURM_ARRAY_TASK_ID\" 'NR % {tasks} == (task + 1) % {tasks}' {shlex.quote(str(commands))} | sh\n"
     )
     return script

@@ -7,9 +7,12 @@ import json
 import os
 import pathlib
 import shlex
+import signal
 import subprocess
+import sys
 import tempfile
 import time
+from typing import NoReturn
 
 from .programs import REPO
 from .store import Place, write
@@ -26,8 +29,7 @@ def make(folder: str, copy: str) -> int:
     with tempfile.TemporaryDirectory(prefix="bspsweep-") as temp:
         report = pathlib.Path(temp) / "report.json"
         words = [str(REPO / "bsprun"), *PRICES, "--report", str(report), *job["words"], *shlex.split(job["args"])]
-        places = {"cwd": job["folder"], "env": {**os.environ, "BSPEMU": job["emulator"]}}
-        done = subprocess.run(words, stdin=subprocess.DEVNULL, capture_output=True, check=False, **places)
+        done = run(words, job)
         content = report.read_bytes() if report.exists() else b""
     write(place.seconds(copy), f"{time.monotonic() - start:.3f}\n")
     if not content:
@@ -36,6 +38,34 @@ def make(folder: str, copy: str) -> int:
     place.failure(copy).unlink(missing_ok=True)
     write(place.record(copy), json.dumps(record(content, done), indent=1) + "\n")
     return 0
+
+
+def stop(*_: object) -> NoReturn:
+    """What being told to end comes to."""
+    raise KeyboardInterrupt
+
+
+def run(words: list[str], job: dict) -> subprocess.CompletedProcess:
+    """Runs bsprun to its end. Where this process is told to end before, bsprun is told so in the way in which it ends the emulator."""
+    signal.signal(signal.SIGTERM, stop)
+    child = subprocess.Popen(
+        words,
+        stdin=subprocess.DEVNULL,
+        stdout=subprocess.PIPE,
+        stderr=subprocess.PIPE,
+        cwd=job["folder"],
+        env={**os.environ, "BSPEMU": job["emulator"]},
+        start_new_session=True,
+        # It may have been started from the background, where Ctrl-C is of no effect.
+        preexec_fn=lambda: signal.signal(signal.SIGINT, signal.SIG_DFL),
+    )
+    try:
+        stdout, stderr = child.communicate()
+    except KeyboardInterrupt:
+        child.send_signal(signal.SIGINT)
+        child.wait()
+        sys.exit(130)
+    return subprocess.CompletedProcess(words, child.returncode, stdout, stderr)
 
 
 def record(report: bytes, done: subprocess.CompletedProcess) -> dict:

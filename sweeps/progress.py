@@ -2,6 +2,7 @@
 
 from __future__ import annotations
 
+import os
 import signal
 import subprocess
 import sys
@@ -11,6 +12,8 @@ from .points import Run
 from .store import Place
 
 PAUSE = 0.1
+# Files that another host wrote may be seen here a little later.
+LATE = 20
 
 
 class Progress:
@@ -59,9 +62,13 @@ class Progress:
                     self.look()
                     self.show(self.text())
         except KeyboardInterrupt:
-            child.send_signal(signal.SIGTERM)
+            os.killpg(child.pid, signal.SIGTERM)
             child.wait()
             raise
-        self.look()
+        for _ in range(LATE):
+            self.look()
+            if not self.left:
+                break
+            time.sleep(PAUSE)
         self.show(self.text(), "\n")
         return said

@@ -7,6 +7,7 @@ import os
 import sys
 
 SYSTEM = "/usr/bin/python3"
+AGAIN = "BSPPLOT_AGAIN"
 PACKAGES = {"matplotlib": "python3-matplotlib"}
 
 
@@ -22,8 +23,9 @@ def find(script: str, words: list[str]) -> str | None:
     the distribution's.
     """
     lacking = missing()
+    is_again = os.environ.pop(AGAIN, "")
     if not lacking:
         return None
-    if not os.environ.get("BSPPLOT_AGAIN") and os.access(SYSTEM, os.X_OK) and not os.path.samefile(sys.executable, SYSTEM):
-        os.execve(SYSTEM, [SYSTEM, script, *words], {**os.environ, "BSPPLOT_AGAIN": "1"})
+    if not is_again and os.access(SYSTEM, os.X_OK) and not os.path.samefile(sys.executable, SYSTEM):
+        os.execve(SYSTEM, [SYSTEM, script, *words], {**os.environ, AGAIN: "1"})
     return f"{' and '.join(lacking)} is missing: apt-get install {' '.join(lacking)}"

@@ -56,7 +56,9 @@ def inline(picture: Picture, name: str) -> str:
     svg = re.sub(r"<metadata>.*?</metadata>", "", svg, flags=re.DOTALL)
     svg = re.sub(r'\bid="', f'id="{name}-', svg)
     svg = re.sub(r'(href="#|url\(#)', rf"\g<1>{name}-", svg)
-    return re.sub(r'<svg height="[^"]*"', f'<svg id="{name}" role="img"', svg, count=1).replace(' width="', ' data-width="', 1)
+    head, rest = svg.split(">", 1)
+    head = re.sub(r' (?:width|height)="[^"]*"', "", head)
+    return head.replace("<svg", f'<svg id="{name}" role="img"') + ">" + rest
 
 
 def table(heads: Sequence[str], rows: Sequence[Sequence[object]]) -> str:

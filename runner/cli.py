@@ -67,6 +67,7 @@ def arguments(words: list[str]) -> argparse.Namespace:
     add("--input", metavar="FILE", help="the program's input; standard input if not said, where it is no terminal")
     add("--file", metavar="FILE", action="append", default=[], help="a file that fopen can read; any number of them")
     add("--report", metavar="FILE", help="the costs, into FILE: as CSV or JSON where its name says so; - is standard error")
+    add("--profile", metavar="FILE", help="what each rank did in each superstep, into FILE as CSV: bspplot draws it")
     add("--summary", action="store_true", help="the totals and the dearest supersteps, on standard error")
     add("--warn", action="store_true", help="look for what is likely a mistake, also in a run that ends well; takes long")
     add(
@@ -125,7 +126,8 @@ class Job:
         """The run itself."""
         options = self.options
         prices = ["--workers", str(options.workers), "--g", str(options.g), "--l", str(options.l)]
-        return emulator.run([*self.program, "run", *self.settings, *prices, "--report"])
+        profile = ["--profile", options.profile] if options.profile else []
+        return emulator.run([*self.program, "run", *self.settings, *prices, *profile, "--report"])
 
 
 def compiled(options: argparse.Namespace, folder: pathlib.Path) -> pathlib.Path:

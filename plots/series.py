@@ -5,6 +5,7 @@ from __future__ import annotations
 from collections.abc import Callable
 
 from matplotlib.axes import Axes
+from matplotlib.lines import Line2D
 from matplotlib.ticker import FixedLocator, FuncFormatter, LogLocator, MaxNLocator, NullLocator
 
 from .canvas import LINES, SMALL, Picture, picture, thousands
@@ -29,7 +30,7 @@ def draw(them: list[Line], title: str) -> Picture:
     plot(made, efficiency, "efficiency", them, names, lambda line, nodes: line.efficiency(nodes))
     efficiency.set_title("efficiency")
     efficiency.set_ylim(0, 1.1 * max(1.0, *(line.efficiency(nodes) for line in them for nodes in line.totals)))
-    made.legend(*total.get_legend_handles_labels(), 2)
+    made.legend(keys(them), names, 2)
     return made
 
 
@@ -37,7 +38,8 @@ def compare(them: list[Line], title: str) -> Picture:
     """The totals alone, with the crossings of programs that differ in nothing else."""
     made = picture(4.0, title, foot(them))
     axes = made.figure.add_subplot(made.body)
-    plot(made, axes, "total", them, labels(them), lambda line, nodes: line.totals[nodes])
+    names = labels(them)
+    plot(made, axes, "total", them, names, lambda line, nodes: line.totals[nodes])
     axes.set_ylabel("total, in ticks")
     powers(axes)
     found = crossings(them)
@@ -45,7 +47,7 @@ def compare(them: list[Line], title: str) -> Picture:
         show(made, axes, i, crossing, looks(them)[them.index(crossing.cheaper)]["color"])
     if found:
         axes.set_title("\n".join(str(it) for it in found[:6]), fontsize=SMALL + 1)
-    made.legend(*axes.get_legend_handles_labels(), 2)
+    made.legend(keys(them), names, 2)
     return made
 
 
@@ -66,13 +68,18 @@ def looks(them: list[Line]) -> list[dict[str, str]]:
     return found
 
 
+def keys(them: list[Line]) -> list[Line2D]:
+    """What the legend shows for each line."""
+    return [Line2D([], [], markersize=5, **look) for look in looks(them)]
+
+
 def plot(made: Picture, axes: Axes, kind: str, them: list[Line], names: list[str], value: Callable[[Line, int], float]) -> None:
     """A line for each of them, with a mark at each number of nodes."""
     for i, (line, name, look) in enumerate(zip(them, names, looks(them))):
         nodes = list(line.totals)
-        axes.plot(nodes, [value(line, it) for it in nodes], label=name, markersize=4, **look)
+        axes.plot(nodes, [value(line, it) for it in nodes], color=look["color"], linestyle=look["linestyle"])
         for it in nodes:
-            (mark,) = axes.plot([it], [value(line, it)], marker="o", markersize=9, alpha=0)
+            (mark,) = axes.plot([it], [value(line, it)], markersize=5, **look)
             made.mark(mark, f"{kind}-{i}-{it}", f"{name}, {it} nodes: {kind} {figures(value(line, it))}")
     axes.set_xscale("log", base=2)
     axes.set_xlabel("nodes")

@@ -86,52 +86,55 @@ def lines(rows: list[Row]) -> list[Line]:
 
 def labels(them: list[Line]) -> list[str]:
     """A text for each line, of what tells them apart; the program where nothing does."""
-    parts = [
-        [("program", it.program.rpartition("/")[2]), *it.settings, ("g, l", f"g {it.g}, l {it.l}")] for it in them
-    ]
+    return telling([[*named(it), ("", f"g {it.g}, l {it.l}")] for it in them])
+
+
+def named(line: Line) -> list[tuple[str, str]]:
+    """A line's program and its settings, the program without the folders that it lies in."""
+    return [("", line.program.rpartition("/")[2]), *line.settings]
+
+
+def telling(parts: list[list[tuple[str, str]]]) -> list[str]:
+    """A text for each of these lists of names and values, of the values that not all of them have; the first one where there are none."""
     common = set(parts[0]).intersection(*map(set, parts[1:]))
     texts = []
     for part in parts:
-        words = [value if name in ("program", "g, l") else f"{name} {value}" for name, value in part if (name, value) not in common]
+        words = [f"{name} {value}".strip() for name, value in part if (name, value) not in common]
         texts.append(", ".join(words) or part[0][1])
     return texts
 
 
 @dataclass(frozen=True)
 class Crossing:
-    """Where one program begins to cost less than another: the last number of nodes at which it does not, and the first at which it
-    does, with the totals of both there."""
+    """The first number of nodes at which a line, which cost more on fewer nodes, costs less than another; and a name for it."""
 
     cheaper: Line
-    dearer: Line
-    before: int
     nodes: int
+    name: str
 
     def __str__(self) -> str:
-        return f"from {self.nodes} nodes on {self.cheaper.program.rpartition('/')[2]} costs less, at g {self.cheaper.g} and l {self.cheaper.l}"
+        return f"from {self.nodes} nodes on {self.name} costs less, at g {self.cheaper.g} and l {self.cheaper.l}"
 
 
 def crossings(them: list[Line]) -> list[Crossing]:
-    """The crossings of each two programs with the same settings and prices."""
+    """The crossings of each two lines with the same prices that differ in the program, or in one setting, and in nothing else."""
+    names = telling([named(it) for it in them])
     found = []
     for i, one in enumerate(them):
-        for other in them[i + 1 :]:
-            if (one.settings, one.g, one.l) == (other.settings, other.g, other.l):
-                found += crossings_of(one, other)
+        for j, other in enumerate(them[i + 1 :], i + 1):
+            differing = set(named(one)).symmetric_difference(named(other))
+            if (one.g, one.l) == (other.g, other.l) and len(differing) == 2:
+                found += crossings_of(one, other, (names[i], names[j]))
     return found
 
 
-def crossings_of(one: Line, other: Line) -> list[Crossing]:
+def crossings_of(one: Line, other: Line, names: tuple[str, str]) -> list[Crossing]:
     """The crossings of two lines, along the numbers of nodes that both have."""
     found = []
-    both = [nodes for nodes in one.totals if nodes in other.totals]
     ahead = None
-    last = 0
-    for nodes in both:
-        if one.totals[nodes] == other.totals[nodes]:
-            continue
-        cheaper, dearer = (one, other) if one.totals[nodes] < other.totals[nodes] else (other, one)
+    for nodes in (it for it in one.totals if it in other.totals and one.totals[it] != other.totals[it]):
+        cheaper, name = (one, names[0]) if one.totals[nodes] < other.totals[nodes] else (other, names[1])
         if ahead is not None and cheaper is not ahead:
-            found.append(Crossing(cheaper, dearer, last, nodes))
-        ahead, last = cheaper, nodes
+            found.append(Crossing(cheaper, nodes, name))
+        ahead = cheaper
     return found

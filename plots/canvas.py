@@ -6,6 +6,7 @@ import html
 import io
 import pathlib
 import re
+import textwrap
 from collections.abc import Sequence
 from dataclasses import dataclass, field
 
@@ -23,6 +24,9 @@ LINES = ["#0072b2", "#d55e00", "#009e73", "#cc79a7", "#e69f00", "#56b4e9", "#444
 
 WIDTH = 9.6
 SMALL = 8
+# Of a title's line, and of the numbers along an axis.
+MOST_LETTERS = 85
+MOST_DIGITS = 100
 # The kinds of file, and what keeps the day and the program out of each.
 KINDS = {
     ".svg": {"Date": None, "Creator": None},
@@ -93,9 +97,10 @@ class Picture:
 
 def picture(height: float, title: str, foot: float = 0.3) -> Picture:
     """An empty picture of the width of a page, with a body and a foot of these heights in inches."""
-    figure = Figure(figsize=(WIDTH, height + foot + 0.4 * bool(title)), layout="constrained")
+    lines = textwrap.wrap(title, MOST_LETTERS)
+    figure = Figure(figsize=(WIDTH, height + foot + 0.1 + 0.25 * len(lines)), layout="constrained")
     if title:
-        figure.suptitle(title, x=0.01, ha="left", fontsize=12)
+        figure.suptitle("\n".join(lines), x=0.01, ha="left", fontsize=12)
     grid = figure.add_gridspec(2, 1, height_ratios=[height, foot])
     below = figure.add_subplot(grid[1])
     below.axis("off")
@@ -110,10 +115,17 @@ def thousands(number: float) -> str:
 def whole_numbers(axes: Axes, which: str) -> None:
     """Whole numbers at an axis, `x` or `y`, each thousand parted."""
     axis = getattr(axes, f"{which}axis")
-    axis.set_major_locator(matplotlib.ticker.MaxNLocator(nbins=9, integer=True))
+    longest = thousands(max(getattr(axes, f"get_{which}lim")()))
+    most = 9 if which == "y" else max(2, min(9, MOST_DIGITS // (len(longest) + 3)))
+    axis.set_major_locator(matplotlib.ticker.MaxNLocator(nbins=most, integer=True))
     axis.set_major_formatter(matplotlib.ticker.FuncFormatter(lambda value, _: thousands(value)))
+
+
+def width(text: str) -> float:
+    """About the share of a picture's width that a small text takes, with some room beside it."""
+    return (len(text) + 1) * SMALL * 0.64 / (WIDTH * 72 * 0.88)
 
 
 def fits(text: str, share: float) -> bool:
     """Whether a small text fits into this share of a picture's width."""
-    return (len(text) + 1) * SMALL * 0.64 <= share * WIDTH * 72 * 0.88
+    return width(text) <= share

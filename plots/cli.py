@@ -5,7 +5,7 @@ from __future__ import annotations
 import argparse
 import pathlib
 import sys
-from dataclasses import dataclass
+from dataclasses import dataclass, field
 from typing import NoReturn
 
 from runner.program import Refused
@@ -90,6 +90,7 @@ class Plan:
 
     options: argparse.Namespace
     source: sources.Source
+    notes: list[str] = field(default_factory=list)
 
     @property
     def prices(self) -> Prices:
@@ -120,8 +121,9 @@ class Plan:
         if not them:
             raise Refused(f"{self.source.name} has no such supersteps")
         if len(them) > most:
-            text = f"supersteps {them[0].number} to {them[most - 1].number} of {len(them)} are drawn; --supersteps A:B chooses others"
-            print(f"bspplot: {text}", file=sys.stderr)
+            note = f"supersteps {them[0].number} to {them[most - 1].number} are drawn, of {len(them)}: --supersteps A:B chooses others"
+            if note not in self.notes:
+                self.notes.append(note)
         return them[:most]
 
     def timeline(self) -> Picture:
@@ -183,7 +185,10 @@ def sections(plan: Plan) -> list[page.Section]:
 def write_page(plan: Plan) -> None:
     """Writes the page."""
     untitled = Plan(argparse.Namespace(**{**vars(plan.options), "title": ""}), plan.source)
-    text = page.written(plan.title or plan.source.name, settings(plan), sections(untitled))
+    parts = sections(untitled)
+    drawn = [("drawn", note) for note in untitled.notes]
+    plan.notes.extend(it for it in untitled.notes if it not in plan.notes)
+    text = page.written(plan.title or plan.source.name, settings(plan) + drawn, parts)
     try:
         pathlib.Path(plan.options.html).write_text(text)
     except OSError as error:
@@ -201,6 +206,8 @@ def draw(options: argparse.Namespace) -> None:
         make().save(getattr(options, name))
     if options.html:
         write_page(plan)
+    for note in plan.notes:
+        print(f"bspplot: {note}", file=sys.stderr)
 
 
 def main(words: list[str]) -> int:

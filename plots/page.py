@@ -13,6 +13,8 @@ from .profile import Profile, Reading
 from .sweep import Row
 
 MOST_ROWS = 500
+# Of a row with letters of the usual size.
+MOST_LETTERS = 75
 STYLE = """
 body { font-family: "DejaVu Sans", Verdana, Arial, sans-serif; font-size: 15px; line-height: 1.45; color: #222;
        max-width: 960px; margin: 24px auto; padding: 0 24px; }
@@ -20,6 +22,7 @@ h1 { font-size: 24px; overflow-wrap: anywhere; } h2 { font-size: 18px; margin-to
 svg { width: 100%; height: auto; overflow: visible; }
 table { border-collapse: collapse; font-size: 14px; }
 th, td { padding: 3px 10px; border-bottom: 1px solid #ddd; text-align: right; overflow-wrap: anywhere; }
+table.wide { font-size: 11px; } .wide th, .wide td { padding: 3px 4px; }
 th { border-bottom: 2px solid #999; } th:first-child, td:first-child { text-align: left; }
 .settings th { text-align: left; border-bottom: 1px solid #ddd; white-space: nowrap; } .settings td { text-align: left; }
 """
@@ -31,7 +34,7 @@ TIMELINE = (
 )
 COSTS = "Each superstep costs w + g·h + l ticks. The greatest of the three parts is the one to make smaller."
 MATRIX = (
-    "How many bytes went from each rank (row) to each rank (column) in all supersteps that are shown. A full row is a rank that sends to"
+    "How many bytes went from each rank (row) to each rank (column) in all supersteps together. A full row is a rank that sends to"
     " all, a full column one that receives from all; h is large where one row or column stands out."
 )
 SWEEP = (
@@ -65,7 +68,9 @@ def table(heads: Sequence[str], rows: Sequence[Sequence[object]]) -> str:
     """A table below the names of its columns."""
     top = "".join(f"<th>{html.escape(it)}</th>" for it in heads)
     lines = ["".join(f"<td>{html.escape(str(it))}</td>" for it in row) for row in rows]
-    return "<table>\n<tr>" + top + "</tr>\n" + "".join(f"<tr>{line}</tr>\n" for line in lines) + "</table>"
+    longest = max((sum(len(str(it)) for it in row) for row in rows), default=0)
+    kind = ' class="wide"' if longest > MOST_LETTERS else ""
+    return f"<table{kind}>\n<tr>" + top + "</tr>\n" + "".join(f"<tr>{line}</tr>\n" for line in lines) + "</table>"
 
 
 def cut(rows: list[list[object]]) -> tuple[list[list[object]], str]:

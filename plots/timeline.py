@@ -5,7 +5,7 @@ from __future__ import annotations
 from matplotlib.axes import Axes
 from matplotlib.patches import Patch, Rectangle
 
-from .canvas import EXCHANGE, SMALL, SYNC, WAIT, WORK, Picture, fits, picture, thousands, whole_numbers
+from .canvas import EXCHANGE, SMALL, SYNC, WAIT, WORK, Picture, fits, picture, thousands, whole_numbers, width
 from .costs import Cost, Prices
 from .profile import Reading, Superstep
 
@@ -19,11 +19,12 @@ def draw(supersteps: list[Superstep], prices: Prices, reading: Reading, title: s
     nodes = len(supersteps[0].shares)
     made = picture(min(1.0 + 0.3 * nodes, 7.5), title)
     axes = made.figure.add_subplot(made.body)
-    start = 0
+    start = named = 0
     ends = sum(Cost(it.number, it.w, it.h(reading)).total(prices) for it in supersteps)
     for superstep in supersteps:
         one = Span(superstep, start, prices, reading, max(ends, 1))
         one.draw(made, axes)
+        named = one.name(axes, named)
         start = one.end
     axes.set_xlim(0, max(ends, 1))
     axes.set_ylim(nodes - 0.5, -0.5)
@@ -56,10 +57,17 @@ class Span:
         text = f"l = {self.end - self.sync}"
         self.bar(made, axes, f"sync-{number}", f"superstep {number}: {text}", SYNC, -0.5, nodes, (self.sync, self.end))
         self.text(axes, (self.sync, self.end), nodes / 2 - 0.5, [text, thousands(self.end - self.sync)], "white")
-        if fits(str(number), (self.end - self.start) / self.whole):
-            middle = (self.start + self.end) / 2
-            axes.annotate(str(number), (middle, 1), (0, 3), xycoords=("data", "axes fraction"), textcoords="offset points", ha="center")
         axes.axvline(self.end, color="black", linewidth=0.6)
+
+    def name(self, axes: Axes, named: float) -> float:
+        """Writes its number above its middle, where that is far enough from the last number; up to where numbers are written is answered."""
+        middle = (self.start + self.end) / 2
+        text = str(self.superstep.number)
+        if not fits(text, 2 * (middle - named) / self.whole):
+            return named
+        places = {"xycoords": ("data", "axes fraction"), "textcoords": "offset points"}
+        axes.annotate(text, (middle, 1), (0, 3), ha="center", **places)
+        return middle + width(text) / 2 * self.whole
 
     def rank(self, made: Picture, axes: Axes, rank: int, ticks: int) -> None:
         """The work of a rank, with the number where there is room, and its waiting."""

@@ -3,6 +3,7 @@
 from __future__ import annotations
 
 import os
+import shutil
 import signal
 import subprocess
 import sys
@@ -42,10 +43,12 @@ class Progress:
 
     def show(self, text: str, end: str = "") -> None:
         """Shows a text in the place of the one before; without a terminal only what has an end is shown."""
+        line = f"bspsweep: {text}"
         if sys.stderr.isatty():
-            print(f"\r\033[Kbspsweep: {text}", end=end, file=sys.stderr, flush=True)
+            shown = line if end else line[: shutil.get_terminal_size().columns - 1]
+            print(f"\r\033[K{shown}", end=end, file=sys.stderr, flush=True)
         elif end:
-            print(f"bspsweep: {text}", end=end, file=sys.stderr, flush=True)
+            print(line, end=end, file=sys.stderr, flush=True)
 
     def follow(self, words: list[str]) -> str:
         """Starts an engine and shows how far it is until it ends; what it said is answered."""

@@ -17,6 +17,15 @@ from sweeps import engines
 PROGRAMS = [str(REPO / "examples/broadcast.s"), str(REPO / "examples/broadcast2.s")]
 TWELVE = ["--nodes", "2,3,8", "--prices", "1:100,4:1000", *PROGRAMS]
 GCC = "riscv64-unknown-elf-gcc"
+# Stands for ssh: it notes the host, and runs the command here.
+STUB = """\
+#!/bin/sh
+while [ "${1#-}" != "$1" ]; do shift; done
+echo "$1" >> "$(dirname "$0")/told"
+shift
+[ "$1" = -- ] && shift
+exec sh -c "$*"
+"""
 SOURCE = """\
 #include <bsp.h>
 #include <stdio.h>
@@ -44,6 +53,12 @@ def run(check: Check) -> None:
     if engines.is_gnu_parallel():
         by_engine(check, text, "parallel", ["--engine", "parallel"])
         by_engine(check, text, "a host of parallel", ["--hosts", ":", "--check"])
+        stub = check.folder.parent / "ssh"
+        stub.write_text(STUB)
+        stub.chmod(0o755)
+        by_engine(check, text, "two hosts of parallel", ["--hosts", "one,two", "--check"], {"PARALLEL_SSH": str(stub)})
+        told = set((stub.parent / "told").read_text().split())
+        check.expect("both hosts were asked", told == {"one", "two"}, told)
     else:
         check.skip("a sweep by GNU parallel", "it is missing: apt-get install parallel")
     slurm(check, text)
@@ -95,7 +110,7 @@ def slurm(check: Check, text: str) -> None:
     if why:
         check.skip("a sweep by Slurm", why)
         return
-    with cluster.Cluster(check.folder / "cluster") as here:
+    with cluster.Cluster(check.folder.parent / "cluster") as here:
         if not here.is_ready():
             check.skip("a sweep by Slurm", f"its daemons do not start here: {here.said()}")
             return

@@ -162,7 +162,7 @@ def script(sweep: Sweep, words: list[str]) -> int:
     missing = sweep.missing()
     if missing:
         path = engines.array(sweep.commands(missing, MAIN), sweep.options.jobs)
-        again = shlex.join(["./bspsweep", *(it for it in words if it != "--script")])
+        again = shlex.join([sys.argv[0], *(it for it in words if it != "--script")])
         print(f"start it:   sbatch {shlex.quote(str(path))}\ncollect it: {again}")
     else:
         print("all runs are made: the same command without --script gives the table")

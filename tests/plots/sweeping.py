@@ -5,6 +5,7 @@ from __future__ import annotations
 import csv
 import io
 import json
+import shlex
 import shutil
 import subprocess
 import time
@@ -117,7 +118,7 @@ def slurm(check: Check, text: str) -> None:
         by_engine(check, text, "slurm", ["--engine", "slurm"], here.environment)
         words = ["--folder", "by-hand", *TWELVE]
         done = check.tool("bspsweep", "--script", *words)
-        start = done.stdout.splitlines()[0].partition("sbatch ")[2]
+        start = shlex.split(done.stdout.splitlines()[0])[-1]
         begun = subprocess.run(["sbatch", "--wait", start], capture_output=True, text=True, check=False, env=here.environment)
         check.expect("a script for sbatch", begun.returncode == 0, done.stdout + begun.stderr)
         deadline = time.monotonic() + 10

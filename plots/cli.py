@@ -178,6 +178,8 @@ def sections(plan: Plan) -> list[page.Section]:
         found.append(page.Section("Who sent to whom", page.MATRIX, page.inline(plan.matrix(), "matrix")))
     if plan.source.rows:
         found.append(page.Section("Over the number of nodes", page.SWEEP, page.inline(plan.sweep(), "sweep")))
+        if sweep.crossings(plan.lines()):
+            found.append(page.Section("One against another", page.COMPARE, page.inline(plan.compare(), "compare")))
         return [*found, page.sweep_table(plan.source.rows)]
     return [*found, page.cost_table(plan.source.costs, plan.source.profile, plan.prices, plan.options.h)]
 

@@ -41,6 +41,10 @@ SWEEP = (
     "The speedup is the total on the fewest nodes divided by the total on so many. The efficiency is the speedup divided by how many times"
     " more nodes there are: 1 is the best that can be hoped for."
 )
+COMPARE = (
+    "The same totals. A dotted line stands at the first number of nodes at which a program costs less than another one that was cheaper"
+    " on fewer."
+)
 
 
 @dataclass(frozen=True)

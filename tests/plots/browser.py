@@ -76,7 +76,7 @@ def run(check: Check) -> None:
         check.skip("the page in a browser", "chromium is missing: apt-get install chromium")
         return
     pages = {"lu": (STORED / "lu.csv", ["costs", "matrix", "timeline"], 15), "total_exchange": (STORED / "total_exchange.csv", ["costs",
-        "matrix", "timeline"], 4), "table": (check.folder / "table.csv", ["sweep"], 8), "large": (large(check), ["costs", "matrix",
+        "matrix", "timeline"], 4), "table": (check.folder / "table.csv", ["compare", "sweep"], 8), "large": (large(check), ["costs", "matrix",
         "timeline"], 15)}  # fmt: skip
     for name, (source, names, rows) in pages.items():
         path = check.folder / f"{name}.html"

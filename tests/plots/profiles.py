@@ -15,6 +15,7 @@ from runner.program import Refused
 RUNS = {
     "broadcast": ["-n", "4", "examples/broadcast.s"],
     "broadcast2": ["-n", "4", "examples/broadcast2.s"],
+    "faults": ["-n", "3", "--limit", "1000", "tests/cases/text_ranks_meet_a_fault_and_the_limit/text.s"],
     "give_up": ["-n", "3", "examples/give_up.elf"],
     "inner": ["-n", "4", "examples/c/inner.elf"],
     "lu": ["-n", "4", "examples/c/lu.elf"],
@@ -28,7 +29,7 @@ RUNS = {
 # What the states of ranks do not tell as the report does.
 OUTCOMES = {"refused": "the exchange was refused"}
 # Those that the debugger counts quickly.
-QUICK = ["broadcast2", "give_up", "inner", "messages", "one_put", "prefix_sum_get", "refused", "samplesort"]
+QUICK = ["broadcast2", "faults", "give_up", "inner", "messages", "one_put", "prefix_sum_get", "refused", "samplesort"]
 DAMAGED = {
     "no superstep": (lambda lines: lines[:1], "it has no superstep"),
     "another header": (lambda lines: ["superstep,rank,to", *lines[1:]], "line 1: a profile begins with the line"),

@@ -2,6 +2,7 @@
 
 from __future__ import annotations
 
+import math
 import pathlib
 import subprocess
 import sys
@@ -70,9 +71,12 @@ def timeline(found: Profile, picture: svg.Drawing) -> str:
         wanted[f"sync-{it.number}"] = (f"superstep {it.number}: l = {L}", sync, sync + L)
         start = sync + L
     fault = said(picture, {name: text for name, (text, begin, end) in wanted.items() if end > begin})
-    places = [(begin, picture.marks[name].left) for name, (_, begin, end) in wanted.items() if end > begin]
-    places += [(end, picture.marks[name].right) for name, (_, begin, end) in wanted.items() if end > begin]
-    return fault or ("" if svg.is_straight(places) else "a bar is not where it should be")
+    if fault:
+        return fault
+    places = [(name, begin, picture.marks[name].left) for name, (_, begin, end) in wanted.items() if end > begin]
+    places += [(name, end, picture.marks[name].right) for name, (_, begin, end) in wanted.items() if end > begin]
+    rows = [(name, int(name.split("-")[2]), (mark.top + mark.bottom) / 2) for name, mark in picture.named("w").items()]
+    return "" if picture.are_at("x", places) and picture.are_at("y", rows) else "a bar is not where it should be"
 
 
 def said(picture: svg.Drawing, wanted: Dict[str, str]) -> str:
@@ -85,7 +89,7 @@ def said(picture: svg.Drawing, wanted: Dict[str, str]) -> str:
 def split(found: Profile, picture: svg.Drawing) -> str:
     """What is wrong with the bars of the costs: their heights, what they stand on, what they say, and the sums."""
     wanted: Dict[str, str] = {}
-    places: List[Tuple[float, float]] = []
+    places: List[Tuple[str, float, float]] = []
     sums = [0, 0, 0]
     for cost in costs.of_profile(found, Reading.ALL):
         low = 0
@@ -94,10 +98,10 @@ def split(found: Profile, picture: svg.Drawing) -> str:
             if part:
                 wanted[f"{name}-{cost.number}"] = f"superstep {cost.number}: {label} = {part}"
                 mark = picture.marks.get(f"{name}-{cost.number}")
-                places += [(low, mark.bottom), (low + part, mark.top)] if mark else []
+                places += [(f"{name}-{cost.number}", low, mark.bottom), (f"{name}-{cost.number}", low + part, mark.top)] if mark else []
             low += part
     fault = said(picture, wanted)
-    if not svg.is_straight(places):
+    if not picture.are_at("y", places):
         fault += "a bar has another height; "
     legend = [it for it in picture.texts if " in all, " in it]
     if [it.split(": ")[1].split(" in all")[0] for it in legend] != [thousands(it) for it in sums]:
@@ -114,9 +118,10 @@ def matrix(found: Profile, picture: svg.Drawing) -> str:
     cells = {f"bytes-{one}-{to}": f"{count} bytes from rank {one} to rank {to}" for (one, to), count in sums.items()}
     fault = said(picture, cells)
     marks = picture.marks
-    columns = [(to, marks[f"bytes-{one}-{to}"].left) for one, to in sums]
-    rows = [(one, marks[f"bytes-{one}-{to}"].top) for one, to in sums]
-    if sums and not (svg.is_straight(columns) and svg.is_straight(rows)):
+    middles = {name: ((it.left + it.right) / 2, (it.top + it.bottom) / 2) for name, it in marks.items()}
+    columns = [(name, int(name.split("-")[2]), x) for name, (x, _) in middles.items()]
+    rows = [(name, int(name.split("-")[1]), y) for name, (_, y) in middles.items()]
+    if not (picture.are_at("x", columns) and picture.are_at("y", rows)):
         fault += "a cell is not where it should be; "
     if found.nodes <= 16:
         missing = {thousands(count) for count in sums.values()} - set(picture.texts)
@@ -163,14 +168,22 @@ def sweeps(check: Check) -> None:
         numbers = {name: float(mark.text.rpartition(" ")[2]) for name, mark in marks.items()}
         right = set(numbers) == set(wanted) and all(abs(numbers[it] - wanted[it]) <= 0.006 * wanted[it] for it in wanted)
         check.expect(f"numbers of a sweep, {kind}", right, numbers)
-        if kind != "total":
-            check.expect(f"places of a sweep, {kind}", svg.is_straight([(wanted[it], marks[it].top) for it in wanted]), marks)
+        check.expect(f"places of a sweep, {kind}", are_points(picture, wanted, kind == "total"), marks)
     check.expect("speedup on 4 nodes", picture.marks["speedup-0-4"].text == "one.s, 4 nodes: speedup 2.66", picture.marks)
     check.expect("efficiency on 4 nodes", picture.marks["efficiency-1-4"].text == "two.s, 4 nodes: efficiency 0.773", picture.marks)
     compared = drawn(check, "compare", source)
     crossing = [mark.text for mark in compared.named("crossing-").values()]
     check.expect("a crossing", crossing == ["from 4 nodes on two.s costs less, at g 1 and l 10"], crossing)
     check.expect("its text", crossing[0] in compared.texts, compared.texts)
+
+
+def are_points(picture: svg.Drawing, wanted: Dict[str, float], is_of_powers: bool) -> bool:
+    """Whether points stand where the axes have them: the one of the nodes has a scale of powers, and the other may have."""
+    log = {axis: [(math.log(value), place) for value, place in them] for axis, them in picture.ticks.items() if all(it for it, _ in them)}
+    scaled = svg.Drawing(picture.marks, picture.texts, log)
+    across = [(name, math.log(int(name.split("-")[2])), picture.marks[name].left) for name in wanted]
+    up = [(name, math.log(value) if is_of_powers else value, picture.marks[name].top) for name, value in wanted.items()]
+    return scaled.are_at("x", across) and (scaled if is_of_powers else picture).are_at("y", up)
 
 
 def same_bytes(check: Check) -> None:

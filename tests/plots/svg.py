@@ -14,33 +14,34 @@ NUMBER = re.compile(r"-?\d+(?:\.\d+)?(?:e-?\d+)?")
 
 @dataclass(frozen=True)
 class Mark:
-    """A mark: what is told of it, and its left, top, right and bottom edge."""
+    """A mark: the axes that it stands in, what is told of it, and its left, top, right and bottom edge."""
 
+    axes: str
     text: str
     left: float
     top: float
     right: float
     bottom: float
 
-    @property
-    def width(self) -> float:
-        return self.right - self.left
-
-    @property
-    def height(self) -> float:
-        return self.bottom - self.top
-
 
 @dataclass(frozen=True)
 class Drawing:
-    """A picture: its marks by their names, and its texts."""
+    """A picture: its marks by their names, its texts, and the ticks along each axis, as `axes_1 x`, each with its number and its place."""
 
     marks: Dict[str, Mark]
     texts: List[str]
+    ticks: Dict[str, List[Tuple[float, float]]]
 
     def named(self, begin: str) -> Dict[str, Mark]:
         """The marks whose names begin so."""
         return {name: mark for name, mark in self.marks.items() if name.startswith(begin)}
+
+    def are_at(self, which: str, pairs: List[Tuple[str, float, float]]) -> bool:
+        """Whether marks stand where an axis, `x` or `y`, has their values: each mark's name, a value of it, and its place."""
+        found: Dict[str, List[Tuple[float, float]]] = {}
+        for name, value, place in pairs:
+            found.setdefault(self.marks[name].axes, []).append((value, place))
+        return all(self.ticks.get(f"{it} {which}") and is_straight(here + self.ticks[f"{it} {which}"]) for it, here in found.items())
 
 
 def edges(path: str) -> Tuple[float, float, float, float]:
@@ -53,19 +54,30 @@ def edges(path: str) -> Tuple[float, float, float, float]:
 def read(text: str) -> Drawing:
     """A picture from its text."""
     root = ElementTree.fromstring(text)
-    marks = {}
-    for group in root.iter(f"{SPACE}g"):
-        title = group.find(f"{SPACE}title")
-        if title is None:
-            continue
-        path = group.find(f"{SPACE}path")
-        uses = list(group.iter(f"{SPACE}use"))
-        if uses:
-            x, y = float(uses[0].get("x")), float(uses[0].get("y"))
-            marks[group.get("id")] = Mark(title.text, x, y, x, y)
-        elif path is not None:
-            marks[group.get("id")] = Mark(title.text, *edges(path.get("d")))
-    return Drawing(marks, ["".join(it.itertext()) for it in root.iter(f"{SPACE}text")])
+    marks: Dict[str, Mark] = {}
+    ticks: Dict[str, List[Tuple[float, float]]] = {}
+    for axes in root.iter(f"{SPACE}g"):
+        if axes.get("id", "").startswith("axes_"):
+            read_axes(axes, marks, ticks)
+    return Drawing(marks, ["".join(it.itertext()) for it in root.iter(f"{SPACE}text")], ticks)
+
+
+def read_axes(axes: ElementTree.Element, marks: Dict[str, Mark], ticks: Dict[str, List[Tuple[float, float]]]) -> None:
+    """Adds the marks and ticks of one part of a picture."""
+    for group in axes.iter(f"{SPACE}g"):
+        name = group.get("id", "")
+        title, path = group.find(f"{SPACE}title"), group.find(f"{SPACE}path")
+        use, label = next(group.iter(f"{SPACE}use"), None), next(group.iter(f"{SPACE}text"), None)
+        if title is not None and use is not None:
+            x, y = float(use.get("x")), float(use.get("y"))
+            marks[name] = Mark(axes.get("id"), title.text, x, y, x, y)
+        elif title is not None:
+            # The path of a line that is a mark lies in a part of its own.
+            path = path if path is not None else next(group.iter(f"{SPACE}path"))
+            marks[name] = Mark(axes.get("id"), title.text, *edges(path.get("d")))
+        elif name[1:].startswith("tick_") and use is not None and label is not None:
+            place = float(use.get(name[0]))
+            ticks.setdefault(f"{axes.get('id')} {name[0]}", []).append((float("".join(label.itertext()).replace(",", "")), place))
 
 
 def is_straight(pairs: List[Tuple[float, float]], slack: float = 0.02) -> bool:

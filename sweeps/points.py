@@ -8,8 +8,6 @@ from dataclasses import dataclass
 
 from .programs import Program
 
-Defines = tuple[tuple[str, str], ...]
-
 
 @dataclass(frozen=True)
 class Run:

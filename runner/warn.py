@@ -2,8 +2,8 @@
 
 from __future__ import annotations
 
-from collections.abc import Callable
 from dataclasses import dataclass
+from typing import Callable
 
 from .calls import CHANGES, POP, PUSH, PUTS, REQUESTS, SYNC, Areas, Call, Tracer
 from .debugger import MOST_STOPS

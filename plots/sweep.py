@@ -75,13 +75,20 @@ def parse(text: str) -> list[Row]:
 def lines(rows: list[Row]) -> list[Line]:
     """The lines of a table in the order in which they begin in it; runs that did not end are left out."""
     found: dict[tuple, Line] = {}
+    names = short_names({it.program for it in rows})
     for row in rows:
         if row.total is not None:
-            key = (row.program, row.settings, row.g, row.l)
-            found.setdefault(key, Line(row.program, row.settings, row.g, row.l)).totals[row.nodes] = row.total
+            key = (names[row.program], row.settings, row.g, row.l)
+            found.setdefault(key, Line(*key)).totals[row.nodes] = row.total
     if not found:
         raise Refused("no run in it ended")
     return [Line(it.program, it.settings, it.g, it.l, dict(sorted(it.totals.items()))) for it in found.values()]
+
+
+def short_names(programs: set[str]) -> dict[str, str]:
+    """The programs without the folders that they lie in, where that tells them apart."""
+    names = {it: it.rpartition("/")[2] for it in programs}
+    return names if len(set(names.values())) == len(programs) else {it: it for it in programs}
 
 
 def labels(them: list[Line]) -> list[str]:
@@ -90,8 +97,8 @@ def labels(them: list[Line]) -> list[str]:
 
 
 def named(line: Line) -> list[tuple[str, str]]:
-    """A line's program and its settings, the program without the folders that it lies in."""
-    return [("", line.program.rpartition("/")[2]), *line.settings]
+    """A line's program and its settings."""
+    return [("", line.program), *line.settings]
 
 
 def telling(parts: list[list[tuple[str, str]]]) -> list[str]:

@@ -51,6 +51,7 @@ def run(check: Check) -> None:
     parts(check)
     forms(check)
     sweeps(check)
+    names(check)
     same_bytes(check)
     refusals(check)
 
@@ -175,6 +176,19 @@ def sweeps(check: Check) -> None:
     crossing = [mark.text for mark in compared.named("crossing-").values()]
     check.expect("a crossing", crossing == ["from 4 nodes on two.s costs less, at g 1 and l 10"], crossing)
     check.expect("its text", crossing[0] in compared.texts, compared.texts)
+
+
+def names(check: Check) -> None:
+    """Lines are named by what tells them apart."""
+    tried = {
+        "one program": (SWEEP.replace("two.s", "one.s"), ["one.s"]),
+        "programs of one name": (SWEEP.replace("one.s", "a/x.s").replace("two.s", "b/x.s"), ["a/x.s", "b/x.s"]),
+        "programs in folders": (SWEEP.replace("one.s", "a/x.s").replace("two.s", "b/y.s"), ["x.s", "y.s"]),
+        "a constant": (SWEEP.replace("two.s,1,1,10,,,100", "one.s,1,1,10,,,200"), ["one.s, N 100", "one.s, N 200", "two.s, N 100"]),
+    }
+    for name, (text, wanted) in tried.items():
+        found = sweep.labels(sweep.lines(sweep.parse(text)))
+        check.expect(f"names of lines, {name}", found == wanted, found)
 
 
 def are_points(picture: svg.Drawing, wanted: Dict[str, float], is_of_powers: bool) -> bool:

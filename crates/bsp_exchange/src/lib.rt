@@ -37,4 +37,4 @@ mod traffic;
 
 pub use barrier::{Traffic, exchange};
 pub use fault::{ExchangeError, ExchangeFault};
-pub use sync::are_at_sync;
+pub use sync::{are_at_sync, first_fault};

@@ -4,10 +4,10 @@ ghost use Rattle.std.specs.Prelude.{false, ◌≡◌, None, Some, find, option_c
 ghost use Rattle.node_core.specs.Node.{PreparedNode};
 ghost use Rattle.bsp_exchange.specs.Exchange.{AreAtSync, states};
 ghost use Rattle.machine_core.specs.Closing.{Closes};
-ghost use Rattle.machine_core.specs.Turn.{was_stopped as was_stopped_of, has_ended as has_ended_of, is_waiting as is_waiting_of, lowest, outcome_of};
+ghost use Rattle.machine_core.specs.Turn.{was_stopped as was_stopped_of, has_ended as has_ended_of, is_waiting as is_waiting_of, lowest, makes_exchange as makes_exchange_of, outcome_of};
 
 use crate::outcome::Outcome;
-use bsp_exchange::{ExchangeError, exchange};
+use bsp_exchange::{ExchangeError, exchange, first_fault};
 use cost_ledger::CostRow;
 use node_core::{Node, State};
 use std::alloc::{AllocError, Allocator};
@@ -42,6 +42,16 @@ pub(crate) fn close<A: Allocator + Copy>(
         Err(ExchangeError::Fault(fault)) => Ok(Closing::Over(Outcome::Refused(fault))),
         Err(ExchangeError::NoMemory) => Err(AllocError),
     }
+}
+
+/// Whether nodes none of which runs make the exchange; else they have an outcome.
+pub(crate) fn makes_exchange<A: Allocator + Copy>(nodes: &[Node<A>]) -> bool
+    ensures { result ≡ makes_exchange_of (states nodes.now) }
+{
+    if outcome_before_exchange(nodes).is_some() {
+        return false;
+    }
+    first_fault(nodes).is_none()
 }
 
 /// The row of costs of a superstep without an exchange, in which requests count in no cost.

@@ -5,12 +5,12 @@ ghost use Rattle.node_core.specs.Node.{PreparedNode, MayRefuseStep, is_running};
 ghost use Rattle.bsp_exchange.specs.Exchange.{states};
 ghost use Rattle.machine_core.specs.declared.event.Event.TheVariants.{Step as step_of, Turn as the_turn};
 ghost use Rattle.machine_core.specs.Machine.{fresh, machine_fault};
-ghost use Rattle.machine_core.specs.Turn.{lowest, turned, with_phases, end_of};
+ghost use Rattle.machine_core.specs.Turn.{lowest, makes_exchange as makes_exchange_of, turned, with_phases, end_of};
 ghost use Rattle.machine_core.specs.Events.{is_enabled, event as event_of, after, MayRefuseEvent};
 ghost use Rattle.machine_core.specs.Walk.{walked, IsOnPhase};
 ghost use Rattle.machine_core.specs.Sound.{IsSoundMachine};
 
-use crate::closing::{Closing, close, last_row};
+use crate::closing::{Closing, close, last_row, makes_exchange};
 use crate::error::MachineError;
 use crate::event::Event;
 use crate::outcome::Outcome;
@@ -169,6 +169,13 @@ impl<A: Allocator + Copy> Machine<A> {
         Ok(())
     }
 
+    /// Whether the turn makes the exchange; else it finds the outcome. Nothing is changed.
+    pub fn makes_exchange(&self) -> bool
+        ensures { result ≡ makes_exchange_of self.now.nodes }
+    {
+        makes_exchange(&self.nodes)
+    }
+
     /// Runs each running node in rank order until it stops. After the outcome nothing is left to run.
     ///
     /// # Errors
@@ -278,6 +285,13 @@ impl<A: Allocator> Machine<A> {
         ensures { states result.now ≡ self.now.nodes }
     {
         self.nodes.as_slice()
+    }
+
+    /// The ticks that each node had made when the superstep began.
+    pub fn started(&self) -> &[u64]
+        ensures { result.now ≡ self.now.started }
+    {
+        self.started.as_slice()
     }
 
     /// How many exchanges were made: the number of the superstep, from 0.

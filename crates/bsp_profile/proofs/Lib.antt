@@ -1,0 +1,7 @@
+pub mod Added
+pub mod Told
+pub mod Others
+pub mod Machines
+pub mod Rows
+pub mod Texts
+pub mod Rest

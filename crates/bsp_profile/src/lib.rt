@@ -1,0 +1,26 @@
+//! Profiles of runs: what each rank did in each superstep, and what went from rank to rank.
+//!
+//! A [`Profile`] is the lines of a table of comma-separated values. Contracts see it as their bytes. Each superstep has a row for each
+//! rank, and then one for each two ranks between which bytes went. The work is in ticks and what was moved in bytes, as in the costs of
+//! a bulk synchronous run (BSP, Valiant 1990), of which the profile is the finer picture: [`laws`] tie the two together.
+//!
+//! What callers may rely on:
+//!
+//! - [`run`] leaves the machine as [`phase_pool::run`] does, and the profile has the lines of the supersteps that were made, and no
+//!   others, whatever the number of workers.
+//! - At every answer of `run` the lines that the profile got and those of the supersteps that are left are those of the whole run. So
+//!   one that was refused memory or a thread is taken up again by the same call.
+//! - [`Profile::turn`] changes neither machine nor profile where memory is refused.
+//! - A profile takes memory for its text, superstep by superstep, and beside it for the lines of one superstep and a table of the
+//!   bytes between its ranks.
+#![tactic(auto)]
+
+mod lines;
+mod profile;
+mod row;
+mod runs;
+mod tally;
+
+pub use profile::Profile;
+pub use row::{Flow, Row};
+pub use runs::run;

@@ -4,4 +4,5 @@ pub mod Others
 pub mod Machines
 pub mod Rows
 pub mod Texts
+pub mod Ledgers
 pub mod Rest

@@ -4,7 +4,7 @@ use Rattle.std.specs.Prelude.{All, filter, filter_map, sum_by, if◌then◌else�
 use Rattle.std.specs.List.{enumerate_from, cons_option}
 use Rattle.std.proofs.lemmas.Bool.{cases_eq, eq-eqb, ne_eqb}
 use Rattle.std.proofs.lemmas.List.{map-append, length-append}
-use Rattle.std.proofs.lemmas.List.Elements.{All-head, All-tail, filter-append, filter_map-append}
+use Rattle.std.proofs.lemmas.List.Elements.{All-cons, All-head, All-nil, All-same, All-tail, filter-append, filter_map-append}
 use Rattle.std.proofs.lemmas.List.Sums.{sum_by-append, sum_by-cons}
 use Rattle.std.proofs.lemmas.Nat.{same_from_place}
 use Rattle.bsp_requests.specs.Message.{Message}
@@ -20,13 +20,16 @@ use Rattle.bsp_profile.specs.Tally.{place, bytes_added, message_added, messages_
 
 -- ---- bytes
 
--- one transfer more
-moved-cons : (from to : ℕ) (t : Transfer) (ts : List Transfer) → moved (t ∷ ts) from to ≡ (if goes from to t then t.bytes else 0) + moved ts from to
-moved-cons from to t ts = by (goes from to t)
+-- one transfer more, of those that pass a test
+pub filtered-cons : (p : Transfer → Bool) (t : Transfer) (ts : List Transfer) → sum_by (λ (u : Transfer). u.bytes) (filter p (t ∷ ts)) ≡ (if p t then t.bytes else 0) + sum_by (λ (u : Transfer). u.bytes) (filter p ts)
+filtered-cons p t ts = by (p t)
   where
-    by : (b : Bool) → sum_by (λ (u : Transfer). u.bytes) (cond b (t ∷ filter (goes from to) ts) (filter (goes from to) ts)) ≡ (if b then t.bytes else 0) + moved ts from to
-    by true = sum_by-cons (λ (u : Transfer). u.bytes) t (filter (goes from to) ts)
+    by : (b : Bool) → sum_by (λ (u : Transfer). u.bytes) (cond b (t ∷ filter p ts) (filter p ts)) ≡ (if b then t.bytes else 0) + sum_by (λ (u : Transfer). u.bytes) (filter p ts)
+    by true = sum_by-cons (λ (u : Transfer). u.bytes) t (filter p ts)
     by false = omega arith
+
+pub moved-cons : (from to : ℕ) (t : Transfer) (ts : List Transfer) → moved (t ∷ ts) from to ≡ (if goes from to t then t.bytes else 0) + moved ts from to
+moved-cons from to t ts = filtered-cons (goes from to) t ts
 
 moved-append : (from to : ℕ) (xs ys : List Transfer) → moved (xs ++ ys) from to ≡ moved xs from to + moved ys from to
 moved-append from to xs ys =
@@ -119,6 +122,31 @@ nodes-told count from to (n ∷ ns) to_in among =
     let sum = sum_by-cons (added_by count (place count (from + 1) to)) n ns in
     let all = ap (λ ts. moved ts from to) (transfers-cons n ns) ∙ moved-append from to (moves_of n.hart.rank rs) (transfers ns) in
     omega (arith, own, rest, sum, all)
+
+-- both ranks of a transfer are ranks of so many
+pub record IsAmong (count : ℕ) (t : Transfer) : Type 0 where
+  pub from : t.from < count
+  pub to : t.to < count
+
+transfer_among : (count caller : ℕ) (q : Asked) → caller < count → target_of q < count → IsAmong count (transfer caller q)
+transfer_among count caller (asks_put p) caller_in target_in = record { from = caller_in; to = target_in }
+transfer_among count caller (asks_get g) caller_in target_in = record { from = target_in; to = caller_in }
+transfer_among count caller (asks_send m) caller_in target_in = record { from = caller_in; to = target_in }
+
+moves_among : (count caller : ℕ) (rs : List Asked) (rest : List Transfer) → caller < count → All (λ r. target_of r < count) rs → All (IsAmong count) rest → All (IsAmong count) (moves_of caller rs ++ rest)
+moves_among count caller [] rest caller_in targets among = among
+moves_among count caller (q ∷ rs) rest caller_in targets among =
+    All-cons (IsAmong count) (transfer caller q) (moves_of caller rs ++ rest) (transfer_among count caller q caller_in (All-head (λ r. target_of r < count) q rs targets))
+    (moves_among count caller rs rest caller_in (All-tail (λ r. target_of r < count) q rs targets) among)
+
+-- those of each transfer of the nodes
+pub ends_among : (count : ℕ) (ns : List NodeState) → All (IsNodeAmong count) ns → All (IsAmong count) (transfers ns)
+ends_among count [] among = All-nil (IsAmong count)
+ends_among count (n ∷ ns) among =
+    let here = All-head (IsNodeAmong count) n ns among in
+    All-same (IsAmong count) (transfers (n ∷ ns)) (moves_of n.hart.rank n.hart.communication.requests.requests ++ transfers ns) (transfers-cons n ns)
+    (moves_among count n.hart.rank n.hart.communication.requests.requests (transfers ns) (omega (arith, here.hart.ranked, here.nprocs))
+    (targets_named n count here.hart (omega (arith, here.nprocs))) (ends_among count ns (All-tail (IsNodeAmong count) n ns among)))
 
 -- ---- messages
 

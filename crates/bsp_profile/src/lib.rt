@@ -15,6 +15,7 @@
 //!   bytes between its ranks.
 #![tactic(auto)]
 
+pub mod laws;
 mod lines;
 mod profile;
 mod row;

@@ -22,6 +22,8 @@
 //!   `NoMemory` says nothing of the stages that come after.
 //! - A listing ([`list_session`]) and a saved image ([`asm_session`]) have the same rules, for the stages that they have. Only a
 //!   listing may be refused memory after something was written: it ends after a whole line then.
+//! - A run with a profile ([`profile_session`]) has the same report and the same errors. The profile is that of the run from its start,
+//!   whole before anything is written; it is written after the report. Only a fault of its own writer leaves a part of it.
 //! - Workers have no part in what is written: the report is that of the definitions, which know none.
 //!
 //! A session waits for its own threads alone. It ends if these and the calls of its readers and its writer do: a node makes at most as many steps as its limit of
@@ -35,6 +37,7 @@ mod errors;
 mod images;
 mod job;
 mod listing;
+mod profiles;
 mod report;
 mod sessions;
 
@@ -43,4 +46,5 @@ pub use images::image_of;
 pub use job::{Format, Job};
 pub use listing::{asm_session, list_session};
 pub use machine_core::{Outcome, Settings};
+pub use profiles::profile_session;
 pub use sessions::{INPUT_BYTES, session};

@@ -69,7 +69,7 @@ pub fn session<T: Threads + Wait + Sync, A: Allocator + Copy + Send, I: Read, R:
 }
 
 /// Reads the file of an image and an input, where the settings of the job are within their ranges.
-fn read_both<A: Allocator + Copy, I: Read, R: Read>(
+pub(crate) fn read_both<A: Allocator + Copy, I: Read, R: Read>(
     alloc: A,
     image: &mut Counted<I>,
     input: &mut Counted<R>,
@@ -148,7 +148,7 @@ fn run_file<T: Threads + Wait + Sync, A: Allocator + Copy + Send>(
 }
 
 /// The machine of a file and an input, at its start.
-fn machine_of<A: Allocator + Copy>(
+pub(crate) fn machine_of<A: Allocator + Copy>(
     alloc: A,
     file: &[u8],
     input: &[u8],

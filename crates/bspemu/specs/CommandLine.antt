@@ -67,7 +67,8 @@ machine_app name formats =
 
 -- `run IMAGE` with its options
 abbrev pub run_app : NameList → App
-run_app formats = with_rule (with_rule (machine_app (codes "run") formats) (flag_rule (codes "report"))) workers_rule
+run_app formats =
+    with_rule (with_rule (with_rule (machine_app (codes "run") formats) (flag_rule (codes "report"))) workers_rule) (option_rule (codes "profile"))
 
 -- `debug IMAGE` with its options
 abbrev pub debug_app : NameList → App

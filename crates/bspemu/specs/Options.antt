@@ -8,6 +8,7 @@ use Rattle.bsp_session.specs.declared.job.Format.{Format}
 use Rattle.bsp_session.specs.declared.job.Format.TheVariants.{Elf, Raw, Asm}
 use Rattle.machine_core.specs.declared.settings.Settings.{Settings}
 use Rattle.bspemu.specs.declared.options.MachineOptions.{MachineOptions}
+use Rattle.bspemu.specs.declared.options.RunOptions.{RunOptions}
 use Rattle.bspemu.specs.declared.options.DebugOptions.{DebugOptions}
 use Rattle.bspemu.specs.declared.options.ListOptions.{ListOptions}
 use Rattle.bspemu.specs.declared.options.AsmOptions.{AsmOptions}
@@ -54,10 +55,11 @@ pub record GivesMachineOptions (rows : List Row) (o : MachineOptions) : Type 0 w
   pub l : GivesNumber 32 (one_of (codes "l") rows) o.job.l
 
 -- the matches of `run` give these options
-pub record GivesRunOptions (rows : List Row) (o : MachineOptions) : Type 0 where
-  pub machine : GivesMachineOptions rows o
-  pub workers : GivesNumber 32 (one_of (codes "workers") rows) o.job.workers
-  pub report : GivesFlag (one_of (codes "report") rows) o.job.report
+pub record GivesRunOptions (rows : List Row) (o : RunOptions) : Type 0 where
+  pub machine : GivesMachineOptions rows o.machine
+  pub workers : GivesNumber 32 (one_of (codes "workers") rows) o.machine.job.workers
+  pub report : GivesFlag (one_of (codes "report") rows) o.machine.job.report
+  pub profile : first_of (codes "profile") rows ≡ option_map (λ path. path.now) o.profile
 
 -- the matches of `debug` give these options
 pub record GivesDebugOptions (rows : List Row) (o : DebugOptions) : Type 0 where

@@ -1,5 +1,5 @@
 -- How the program ends (own rules).
-use Rattle.std.specs.Prelude.{◌≡◌, ◌≢◌, ◌⊎◌, ◌++◌, ℕ, Option, None, List, Some, Result, Ok, Err, codes}
+use Rattle.std.specs.Prelude.{◌≡◌, ◌≢◌, ◌⊎◌, ◌++◌, ℕ, Option, None, List, Some, MatchOption, Result, Ok, Err, codes}
 use Rattle.std.specs.Borrow.{Bor}
 use Rattle.clap.specs.Words.{Text, kind_of}
 use Rattle.clap.specs.declared.error.Error.{Error}
@@ -16,8 +16,11 @@ use Rattle.machine_core.specs.declared.outcome.Outcome.{Outcome}
 use Rattle.machine_core.specs.declared.outcome.Outcome.TheVariants.{Ended}
 use Rattle.bsp_session.specs.Conversion.{AnswersAssembly, AnswersListing, Conversion, IsErrorOfAssembly, IsErrorOfListing}
 use Rattle.bsp_session.specs.Outcome.{status_of}
+use Rattle.bsp_session.specs.Profiles.{IsErrorOfProfiled, Profiles}
 use Rattle.bsp_session.specs.Session.{IsErrorOf, Reports, Session as BatchSession}
+use Rattle.bsp_session.specs.Streams.{Stream}
 use Rattle.bspemu.specs.declared.options.MachineOptions.{MachineOptions}
+use Rattle.bspemu.specs.declared.options.RunOptions.{RunOptions}
 use Rattle.bspemu.specs.declared.options.ListOptions.{ListOptions}
 use Rattle.bspemu.specs.declared.options.AsmOptions.{AsmOptions}
 use Rattle.bspemu.specs.declared.options.Action.{Action}
@@ -42,11 +45,28 @@ IsSessionOutcome job outcome = (s : BatchSession) × (s.job ≡ job) × Reports 
 abbrev pub IsSessionError : Job → SessionError → Type 0
 IsSessionError job error = (s : BatchSession) × (s.job ≡ job) × IsErrorOf s error
 
+-- the same for a session that also writes a profile
+abbrev pub IsProfiledOutcome : Job → Outcome → Type 0
+IsProfiledOutcome job outcome = (s : BatchSession) × (profile : Stream) × (s.job ≡ job) × Profiles s profile outcome
+
+abbrev pub IsProfiledError : Job → SessionError → Type 0
+IsProfiledError job error = (s : BatchSession) × (profile : Stream) × (s.job ≡ job) × IsErrorOfProfiled s profile error
+
+-- an answer that a run without a profile can have
+abbrev pub IsAnswerUnprofiled : MachineOptions → Result Outcome RunError → Type 0
+IsAnswerUnprofiled o (Ok outcome) = IsSessionOutcome o.job outcome
+IsAnswerUnprofiled o (Err (CannotOpen path)) = NamesFile o path
+IsAnswerUnprofiled o (Err (Session error)) = IsSessionError o.job error
+
+-- an answer that a run can have whose profile goes to a file
+abbrev pub IsAnswerProfiled : MachineOptions → Bor Text → Result Outcome RunError → Type 0
+IsAnswerProfiled o file (Ok outcome) = IsProfiledOutcome o.job outcome
+IsAnswerProfiled o file (Err (CannotOpen path)) = NamesFile o path ⊎ (file ≡ path)
+IsAnswerProfiled o file (Err (Session error)) = IsProfiledError o.job error
+
 -- an answer that a run with these options can have
-abbrev pub IsAnswerOfRun : MachineOptions → Result Outcome RunError → Type 0
-IsAnswerOfRun o (Ok outcome) = IsSessionOutcome o.job outcome
-IsAnswerOfRun o (Err (CannotOpen path)) = NamesFile o path
-IsAnswerOfRun o (Err (Session error)) = IsSessionError o.job error
+abbrev pub IsAnswerOfRun : RunOptions → Result Outcome RunError → Type 0
+IsAnswerOfRun o answer = MatchOption o.profile (IsAnswerUnprofiled o.machine answer) (λ file. IsAnswerProfiled o.machine file answer)
 
 -- lines were all answered with a debugger of such a job, and an error that this can have, whatever is read and written
 abbrev pub AnswersLines : Job → Type 0

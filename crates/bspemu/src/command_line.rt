@@ -96,7 +96,8 @@ fn run_command<'a>(alloc: Global, formats: &'a [&'a str]) -> Result<Command<'a>,
         )
         .after_help(STATUSES)
         .arg(report(alloc))?
-        .arg(workers(alloc))
+        .arg(workers(alloc))?
+        .arg(profile(alloc))
 }
 
 fn debug_command<'a>(alloc: Global, formats: &'a [&'a str]) -> Result<Command<'a>, AllocError>
@@ -263,6 +264,17 @@ fn report<'a>(alloc: Global) -> Arg<'a>
         .long("report")
         .action(ArgAction::SetTrue)
         .help("After the output write the costs of the supersteps, their total and the outcome")
+}
+
+fn profile<'a>(alloc: Global) -> Arg<'a>
+    ensures { HasRule result (option_rule (codes "profile")) }
+{
+    Arg::new(alloc, "profile")
+        .long("profile")
+        .value_name("FILE")
+        .help(
+            "File to write what each rank did in each superstep, as CSV; it is created, or emptied, before the run",
+        )
 }
 
 fn interactive<'a>(alloc: Global) -> Arg<'a>

@@ -134,6 +134,30 @@ pub fn create<'a, R: Files>(
     fs::create(rt, path).map_err(|_| CannotOpen(path))
 }
 
+/// The file at `path` for a profile, to be written: it is created where there is none, and else emptied. It may be neither the
+/// image nor the input, which are still to be read, under whatever name.
+pub fn create_profile<'a, R: Files, I>(
+    rt: &R,
+    path: &'a str,
+    image: &Source<R::File, I>,
+    input: &Source<R::File, I>,
+) -> Result<R::File, CannotOpen<'a>>
+    ensures { IfErr result (λ e. e.0 ≡ path.entry) }
+{
+    if is_source(rt, path, image) || is_source(rt, path, input) {
+        return Err(CannotOpen(path));
+    }
+    fs::create(rt, path).map_err(|_| CannotOpen(path))
+}
+
+/// Whether `path` leads to the file of a source.
+fn is_source<R: Files, I>(rt: &R, path: &str, source: &Source<R::File, I>) -> bool {
+    match source {
+        Source::File(file) => is_at(rt, path, file),
+        Source::Standard(_) | Source::Closed | Source::Empty => false,
+    }
+}
+
 /// Whether `path` leads to this file. Links and other spellings of a path lead to one file, which its device and its number
 /// there name.
 fn is_at<R: Files>(rt: &R, path: &str, file: &R::File) -> bool {

@@ -15,7 +15,7 @@ use std::convert::AsStr;
 /// How many steps a node makes before it may go to another thread.
 const SLICE: u64 = 1 << 16;
 
-/// What `bspemu run` was asked to do, and of `bspemu debug` what it has in common with that.
+/// What `bspemu run` and `bspemu debug` have in common.
 #[derive(Debug, Drop)]
 pub struct MachineOptions<'a> {
     /// The file of the program; `-` is standard input.
@@ -23,6 +23,14 @@ pub struct MachineOptions<'a> {
     /// The file of the nodes' input; with none the input is empty.
     pub input: Option<&'a str>,
     pub job: Job,
+}
+
+/// What `bspemu run` was asked to do.
+#[derive(Debug, Drop)]
+pub struct RunOptions<'a> {
+    pub machine: MachineOptions<'a>,
+    /// The file for the profile of the run; with none no profile is taken.
+    pub profile: Option<&'a str>,
 }
 
 /// What `bspemu debug` was asked to do.
@@ -54,7 +62,7 @@ pub struct AsmOptions<'a> {
 #[derive(Debug, Drop)]
 pub enum Action<'a> {
     /// Run a program.
-    Run(MachineOptions<'a>),
+    Run(RunOptions<'a>),
     /// Run a program as lines say, and answer them.
     Debug(DebugOptions<'a>),
     /// Write the listing of a program.
@@ -108,13 +116,16 @@ fn action_named<'a>(name: &str, found: &ArgMatches<'a>) -> Option<Action<'a>>
     }
 }
 
-fn options_of_run<'a>(run: &ArgMatches<'a>) -> Option<MachineOptions<'a>>
+fn options_of_run<'a>(run: &ArgMatches<'a>) -> Option<RunOptions<'a>>
     ensures some { IfSome result (GivesRunOptions (rows_of (found_of run.now))) }
     ensures none { IfNone result (IsNeverMet (GivesRunOptions (rows_of (found_of run.now)))) }
 {
     let workers = run.get_one("workers")?;
     let report = run.get_one("report")?;
-    options_of_machine(run, workers, report)
+    Some(RunOptions {
+        machine: options_of_machine(run, workers, report)?,
+        profile: run.get_str("profile"),
+    })
 }
 
 /// A debugger has no other thread, and tells costs where a line asks for them.

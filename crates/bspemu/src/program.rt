@@ -3,14 +3,18 @@
 ghost use Rattle.std.specs.Prelude.{◌≡◌, ◌⊎◌, IfErr, OnOk, map};
 ghost use Rattle.clap.specs.Words.{kind_of};
 ghost use Rattle.bspemu.specs.Program.{AnswersLines, Ends, EndsOnItsWords, IsAnswer, IsAnswerOfAsm, IsAnswerOfDebug, IsAnswerOfList, IsDebugError};
-ghost use Rattle.bspemu.specs.Program.{IsAnswerOfRun, IsStatusOfKind, status_of_answer};
+ghost use Rattle.bspemu.specs.Program.{IsAnswerOfRun, IsAnswerProfiled, IsAnswerUnprofiled, IsStatusOfKind, status_of_answer};
 
-use crate::files::{CannotOpen, create, open_file, open_image, open_input, open_lines};
+use crate::files::{
+    CannotOpen, create, create_profile, open_file, open_image, open_input, open_lines,
+};
 use crate::options::{
-    Action, AsmOptions, DebugOptions, ListOptions, MachineOptions, action_of, refusal,
+    Action, AsmOptions, DebugOptions, ListOptions, MachineOptions, RunOptions, action_of, refusal,
 };
 use bsp_console::{debug_dialogue, debug_session};
-use bsp_session::{Job, Outcome, SessionError, asm_session, list_session, session, status};
+use bsp_session::{
+    Job, Outcome, SessionError, asm_session, list_session, profile_session, session, status,
+};
 use clap::Error;
 use clap::error::ErrorKind;
 use counted_io::Counted;
@@ -132,12 +136,52 @@ fn perform<'a, R: AllocGlobal + Files + Input<Reader: IsTerminal> + Print + Thre
     }
 }
 
-/// Opens what the options name, first the image, and runs the session.
+/// Runs the session, with a profile where the options name a file for it.
 fn run<'a, R: AllocGlobal + Files + Input + Print + Threads + Wait + Sync>(
+    rt: &R,
+    options: &RunOptions<'a>,
+) -> Result<Outcome, RunError<'a>>
+    ensures { IsAnswerOfRun options.now result }
+{
+    match options.profile {
+        Some(path) => run_profiled(rt, &options.machine, path),
+        None => run_unprofiled(rt, &options.machine),
+    }
+}
+
+/// Opens what the options name, first the image, creates the file of the profile, or empties it, and runs the session. That file may
+/// be neither of the others.
+fn run_profiled<'a, R: AllocGlobal + Files + Input + Print + Threads + Wait + Sync>(
+    rt: &R,
+    options: &MachineOptions<'a>,
+    path: &'a str,
+) -> Result<Outcome, RunError<'a>>
+    ensures { IsAnswerProfiled options.now path.entry result }
+{
+    let image = open_image(rt, options.image)?;
+    let input = open_input(rt, options.input)?;
+    let mut profile = Counted::new(create_profile(rt, path, &image, &input)?);
+    let mut image = Counted::new(image);
+    let mut input = Counted::new(input);
+    let mut out = Counted::new(io::writer(rt));
+    let outcome = profile_session(
+        rt,
+        rt.alloc(),
+        &mut image,
+        &mut input,
+        &options.job,
+        &mut out,
+        &mut profile,
+    )?;
+    Ok(outcome)
+}
+
+/// Opens what the options name, first the image, and runs the session.
+fn run_unprofiled<'a, R: AllocGlobal + Files + Input + Print + Threads + Wait + Sync>(
     rt: &R,
     options: &MachineOptions<'a>,
 ) -> Result<Outcome, RunError<'a>>
-    ensures { IsAnswerOfRun options.now result }
+    ensures { IsAnswerUnprofiled options.now result }
 {
     let mut image = Counted::new(open_image(rt, options.image)?);
     let mut input = Counted::new(open_input(rt, options.input)?);

@@ -3,17 +3,10 @@ use Rattle.std.specs.Io.KnownBytes.{Appends}
 use Rattle.std.proofs.lemmas.Result.{err_from_is_err_and}
 use Rattle.counted_io.specs.Transfers.{AppendsPrefix}
 use Rattle.machine_core.specs.Machine.{MachineState}
-use Rattle.bsp_session.specs.declared.job.Job.{Job}
-use Rattle.bsp_session.specs.Report.{report_lines, report_of}
 use Rattle.bsp_session.specs.Session.{run_of}
+use Rattle.bsp_session.proofs.Reports.{is_report}
 use Rattle.bsp_session.proofs.SessionErrors.{IsErrorOf-run}
 use Rattle.bsp_session.proofs.sessions.run_and_report.Goals as goal
-
--- the output of a machine at its end and the lines after it are its report
-is_report : (job : Job) (m end : MachineState) (output lines text : List ℕ) → output ≡ m.output → lines ≡ text
-    → text ≡ report_lines job m → m ≡ end → output ++ lines ≡ report_of job end
-is_report job m end output lines text out written told ended =
-    ap (λ xs. xs ++ lines) out ∙ ap (λ ys. m.output ++ ys) (written ∙ told) ∙ ap (report_of job) ended
 
 -- no stage before the report has the writer
 pub returns-in_err-outcome-clause-nothing_written : goal.returns-in_err-outcome-clause-nothing_written

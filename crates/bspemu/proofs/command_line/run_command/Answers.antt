@@ -9,4 +9,5 @@ returns c =
     let made = c.in_ok-machine_command.ensures in
     let named : HasApp c.after_help.result (machine_app (codes "run") c.args.formats) = record { is = search rules; local = search rules } in
     let report = with_arg _ _ _ _ _ c.in_ok-arg.ensures named c.report.ensures in
-    IfOk-weaker c.arg-2.result _ _ (λ r adds. with_arg _ _ _ _ _ adds report c.workers.ensures) c.arg-2.ensures
+    let workers = with_arg _ _ _ _ _ c.in_ok-arg-2.ensures report c.workers.ensures in
+    IfOk-weaker c.arg-3.result _ _ (λ r adds. with_arg _ _ _ _ _ adds workers c.profile.ensures) c.arg-3.ensures

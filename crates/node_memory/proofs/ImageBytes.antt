@@ -1,6 +1,5 @@
 -- Images byte by byte, and what a laid segment changes.
-use Rattle.std.proofs.Common.{◌≡◌, ℕ, ◌+◌, ◌<◌, ◌≤◌, Bool, true, false, cond, List, [], ◌∷◌, ◌++◌, length, get_or, take, reverse, replicate, refl, sym, ap, ◌∙◌, arith, rules, Option, Some}
-use Rattle.std.specs.Prelude.{IsTrue}
+use Rattle.std.proofs.Common.{◌≡◌, ℕ, ◌+◌, ◌*◌, ◌/◌, ◌<◌, ◌≤◌, Bool, true, false, cond, List, [], ◌∷◌, ◌++◌, length, get_or, take, reverse, replicate, refl, sym, ap, ◌∙◌, arith, Option, Some}
 use Rattle.node_memory.specs.Bytes.{is_memory_size}
 use Rattle.std.specs.Option.{option_map_or}
 use Rattle.std.proofs.lemmas.List.{places, reverse-append, take_more, take_all, length-replicate, get_or-replicate}
@@ -82,5 +81,6 @@ pub all_laid : (e size n : ℕ) (items segments : List Segment) (m : List ℕ) �
 all_laid e size n items segments m same all was =
     was ∙ ap (λ (xs : List Segment). image_bytes (image_of e xs) size) (take_all n segments (rw (← same) all))
 
-pub size_laid : (i : Image) (size : ℕ) (m : List ℕ) (valid : Bool) → valid ≡ is_memory_size size → valid ≡ true → m ≡ image_bytes i size → IsTrue (is_memory_size (length m))
-size_laid i size m valid test holds was = rw (ap length was, length-image_bytes i size, ← test, holds) search rules
+-- a memory's size is in whole pages
+pub whole_pages : (n : ℕ) → is_memory_size n ≡ true → n / 4096 * 4096 ≡ n
+whole_pages n valid = grind (arith, nat_tests)

@@ -1,27 +1,52 @@
--- What a write leaves of a memory.
-use Rattle.std.proofs.Common.{◌≡◌, ℕ, ◌+◌, ◌-◌, ◌≤◌, List, ◌++◌, length, take, drop, replicate, arith, rules, ◌∙◌, ap}
-use Rattle.std.proofs.lemmas.List.{places, same_lists, length-replicate}
+-- What a write leaves of a memory, and a range that is read or written piece by piece.
+use Rattle.std.proofs.Common.{◌≡◌, ℕ, ◌+◌, ◌-◌, ◌≤◌, List, [], ◌++◌, length, take, replicate, arith, ◌∙◌, ap}
+use Rattle.std.proofs.lemmas.List.{places, length-replicate, replicate-append-replicate}
+use Rattle.std.proofs.lemmas.Grind.{same_number_lists}
 use borrow.Rule.Slice.PartMut.{put_mid}
-use Rattle.node_memory.specs.Bytes.{with_bytes}
+use Rattle.node_memory.specs.Bytes.{bytes_at, with_bytes}
 use Rattle.node_memory.specs.Image.{Segment, with_segment}
 
 pub length-with_bytes : (m : List ℕ) (addr : ℕ) (bytes : List ℕ) → addr + length bytes ≤ length m → length (with_bytes m addr bytes) ≡ length m
 length-with_bytes m addr bytes h = grind (arith, places)
 
 -- two writes side by side are one
-two_writes : (m bs zs : List ℕ) (a size : ℕ) → length bs ≤ size → a + size ≤ length m → length zs ≡ size - length bs → put_mid (a + length bs) (a + size - (a + length bs)) (put_mid a (a + length bs - a) m bs) zs ≡ with_bytes m a (bs ++ zs)
-two_writes m bs zs a size few fits z = same_lists _ _ (search (rules, places)) (λ k d h. grind (arith, places))
+pub two_writes : (m bs zs : List ℕ) (a b : ℕ) → b ≡ a + length bs → a + length bs + length zs ≤ length m → with_bytes (with_bytes m a bs) b zs ≡ with_bytes m a (bs ++ zs)
+two_writes m bs zs a b at fits = rw at (same_number_lists _ _ (grind (arith, places)) (λ k below. grind (arith, places)))
 
--- a segment's two writes: `ys` are the bytes that were written, and `zs` the zeros, as many as `room` is long
-pub with_segment_is : (m bs ys zs room : List ℕ) (s t : Segment) → s ≡ t → bs ≡ s.bytes → ys ≡ bs → length s.bytes ≤ s.size → s.addr + s.size ≤ length m → zs ≡ replicate (length room) 0 → length room ≡ s.size - length bs → put_mid (s.addr + length bs) (s.addr + s.size - (s.addr + length bs)) (put_mid s.addr (s.addr + length bs - s.addr) m ys) zs ≡ with_segment m t
-with_segment_is m bs ys zs room s t e b y few fits z n =
-    let within : length bs ≤ s.size = rw b few in
-    let zeros : length zs ≡ s.size - length bs = ap length z ∙ length-replicate _ _ ∙ n in
-    let writes = two_writes m bs zs s.addr s.size within fits zeros in
-    let bytes : bs ++ zs ≡ s.bytes ++ replicate (s.size - length s.bytes) 0 = cc in
-    let whole : with_bytes m s.addr (bs ++ zs) ≡ with_segment m s = ap (with_bytes m s.addr) bytes in
-    cc
+-- a write of nothing
+pub no_write : (m bytes : List ℕ) (a : ℕ) → bytes ≡ [] → m ≡ with_bytes m a bytes
+no_write m bytes a none = rw none (same_number_lists _ _ (grind (arith, places)) (λ k below. grind (arith, places)))
 
--- the bytes of a memory, written from `a` on, that are left of `size` behind the n written ones
-pub length-room : (m ys : List ℕ) (a n size : ℕ) → n ≤ size → a + size ≤ length m → length ys ≡ n → length (take (a + size - (a + n)) (drop (a + n) (put_mid a (a + n - a) m ys))) ≡ size - n
-length-room m ys a n size few fits written = grind (arith, places)
+-- two reads side by side are one
+pub two_reads : (m : List ℕ) (a b n k : ℕ) → b ≡ a + n → bytes_at m a n ++ bytes_at m b k ≡ bytes_at m a (n + k)
+two_reads m a b n k at = rw at (same_number_lists _ _ (grind (arith, places)) (λ i below. grind (arith, places)))
+
+-- the first `done` of some bytes are written, and then those up to `done + n`
+pub write_more : (m now after bytes piece : List ℕ) (a b done n : ℕ) → now ≡ with_bytes m a (take done bytes) → b ≡ a + done → piece ≡ bytes_at bytes done n → after ≡ with_bytes now b piece → done + n ≤ length bytes → a + length bytes ≤ length m → after ≡ with_bytes m a (take (done + n) bytes)
+write_more m now after bytes piece a b done n was at is then within fits =
+    let written : length (take done bytes) ≡ done = grind (arith, places) in
+    let long : length piece ≡ n = rw is (grind (arith, places)) in
+    let whole : take done bytes ++ piece ≡ take (done + n) bytes = rw is (same_number_lists _ _ (grind (arith, places)) (λ k below. grind (arith, places))) in
+    let both = two_writes m (take done bytes) piece a b (omega arith) (omega arith) in
+    then ∙ ap (λ x. with_bytes x b piece) was ∙ both ∙ ap (with_bytes m a) whole
+
+-- the same of zeros
+pub clear_more : (m now after piece : List ℕ) (a b done n : ℕ) → now ≡ with_bytes m a (replicate done 0) → b ≡ a + done → piece ≡ replicate n 0 → after ≡ with_bytes now b piece → a + done + n ≤ length m → after ≡ with_bytes m a (replicate (done + n) 0)
+clear_more m now after piece a b done n was at is then fits =
+    let written : length (replicate {A = ℕ} done 0) ≡ done = length-replicate {A = ℕ} done 0 in
+    let long : length piece ≡ n = ap length is ∙ length-replicate {A = ℕ} n 0 in
+    let whole : replicate done 0 ++ piece ≡ replicate (done + n) 0 = rw is (replicate-append-replicate done n 0) in
+    let both = two_writes m (replicate done 0) piece a b (omega arith) (omega arith) in
+    then ∙ ap (λ x. with_bytes x b piece) was ∙ both ∙ ap (with_bytes m a) whole
+
+-- a segment's bytes and then its zeros
+pub segment_laid : (m bytes : List ℕ) (s : Segment) (b : ℕ) → bytes ≡ s.bytes → b ≡ s.addr + length bytes → length s.bytes ≤ s.size → s.addr + s.size ≤ length m → with_bytes (with_bytes m s.addr bytes) b (replicate (s.size - length bytes) 0) ≡ with_segment m s
+segment_laid m bytes s b is at few fits =
+    rw is (two_writes m s.bytes (replicate (s.size - length s.bytes) 0) s.addr b (at ∙ ap (λ x. s.addr + length x) is) (let n = length-replicate {A = ℕ} (s.size - length s.bytes) 0 in omega arith))
+
+-- a write to a part of a slice
+pub put_mid-with_bytes : (a n k : ℕ) (page old ys bytes : List ℕ) → old ≡ page → ys ≡ bytes → n ≡ length bytes → k ≡ n → a + n ≤ length page → put_mid a k old ys ≡ with_bytes page a bytes
+put_mid-with_bytes a n k page old ys bytes o y count e fits = rw (o, y, e) (same_number_lists _ _ (grind (arith, places)) (λ i below. grind (arith, places)))
+
+pub length-bytes_at : (m : List ℕ) (addr n : ℕ) → addr + n ≤ length m → length (bytes_at m addr n) ≡ n
+length-bytes_at m addr n h = grind (arith, places)

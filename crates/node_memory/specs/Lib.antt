@@ -1,2 +1,4 @@
 pub mod Bytes
 pub mod Image
+pub mod Pages
+pub mod Table

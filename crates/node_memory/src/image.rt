@@ -1,6 +1,6 @@
 //! Images: what a loader or an assembler makes, and a memory starts from.
 
-ghost use Rattle.std.specs.Prelude.{◌≡◌, false, length};
+ghost use Rattle.std.specs.Prelude.{◌≡◌};
 
 use list_vec::ListVec;
 use std::alloc::Allocator;
@@ -27,30 +27,13 @@ impl<A: Allocator> Model for Segment<A> {
 }
 
 impl<A: Allocator> Segment<A> {
-    ghost use Rattle.node_memory.specs.Image.{ends_past, with_segment, IsSegment};
+    ghost use Rattle.node_memory.specs.Image.{ends_past};
 
     /// Whether the segment has some size and ends past a memory of `size` bytes.
     fn ends_past(&self, size: u32) -> bool
         ensures { result ≡ ends_past size self.now }
     {
         self.size > 0 && u64::from(self.addr) + u64::from(self.size) > u64::from(size)
-    }
-
-    /// Writes the segment over `memory`: its bytes, and zeros up to its size.
-    pub(crate) fn lay(&self, memory: &mut [u8])
-        requires { ends_past (length memory.old) self.now ≡ false }
-        ensures after { memory.new ≡ with_segment memory.old self.now }
-        ensures valid { IsSegment self.now }
-    {
-        if self.size == 0 {
-            return;
-        }
-        let start = self.addr as usize;
-        let end = start + self.size as usize;
-        let bytes = self.bytes.as_slice();
-        let zeros = start + bytes.len();
-        memory[start..zeros].copy_from_slice(bytes);
-        memory[zeros..end].fill(0);
     }
 }
 

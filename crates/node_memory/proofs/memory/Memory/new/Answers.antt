@@ -1,32 +1,34 @@
-use Rattle.std.proofs.Common.{◌∙◌, ap, length}
-use Rattle.std.proofs.lemmas.List.{with_items_is}
-use Rattle.node_memory.specs.Image.{Image}
-use Rattle.node_memory.proofs.ImageBytes.{length-image_bytes, image_bytes_none, lay_fits, image_bytes_more, all_laid, size_laid}
+use Rattle.std.proofs.Common.{◌≡◌, ℕ, ◌*◌, ◌/◌, length, replicate, sym, ap, ◌∙◌, List}
+use Rattle.node_memory.specs.Image.{Image, image_bytes}
+use Rattle.node_memory.specs.Pages.{PagedMemory, none_own}
+use Rattle.node_memory.proofs.ImageBytes.{length-image_bytes, image_bytes_none, lay_fits, image_bytes_more, all_laid, whole_pages}
 use Rattle.node_memory.proofs.memory.Memory.new.Goals as goal
 
 pub loop-segment-init : goal.loop-segment-init
-loop-segment-init g c = c.in_ok-bytes.ensures.items_if_clones_equal (λ y h. h) ∙ image_bytes_none _ _
+loop-segment-init g c =
+    let whole : c.args.size / 4096 * 4096 ≡ c.args.size = whole_pages c.args.size (sym c.is_memory_size.ensures ∙ c.if-not-is_memory_size.false) in
+    ap (λ (m : PagedMemory). m.bytes) c.in_ok-laid.ensures ∙ ap (λ n. replicate n 0) whole ∙ image_bytes_none _ _
 
 pub lay-requires : goal.lay-requires
 lay-requires g c =
     let segments = c.as_slice-segment-items.ensures ∙ ap (λ (i : Image). i.segments) c.image.view_is in
-    let before = c.deref_mut.ensures.value ∙ c.loop-segment.invariant in
-    lay_fits _ _ _ _ _ _ _ segments c.loop-segment-test.true c.segment-item.is c.if-ends_past.ensures before
+    lay_fits _ _ _ _ _ _ _ segments c.loop-segment-test.true c.segment-item.is c.if-ends_past.ensures c.loop-segment.invariant
 
 pub loop-segment-preserved : goal.loop-segment-preserved
 loop-segment-preserved g c =
     let segments = c.as_slice-segment-items.ensures ∙ ap (λ (i : Image). i.segments) c.image.view_is in
-    let before = c.deref_mut.ensures.value ∙ c.loop-segment.invariant in
-    ◌∙◌ {b = c.lay.new.memory} (with_items_is c.loop-segment.bytes c.lay.new.memory cc)
-    (image_bytes_more _ _ _ _ _ _ _ _ c.lay.ensures.after segments c.loop-segment-test.true c.segment-item.is c.lay.ensures.valid c.if-ends_past.ensures before)
-
-pub invariant_of-result : goal.invariant_of-result
-invariant_of-result g c = size_laid _ _ _ _ c.is_memory_size.ensures c.if-not-is_memory_size.false c.loop-segment.invariant
+    image_bytes_more _ _ _ _ _ _ _ _ c.in_ok-lay.ensures.after segments c.loop-segment-test.true c.segment-item.is c.lay.ensures.valid c.if-ends_past.ensures c.loop-segment.invariant
 
 pub returns-clause-ok : goal.returns-clause-ok
 returns-clause-ok g c =
     let segments = c.as_slice-segment-items.ensures ∙ ap (λ (i : Image). i.segments) c.image.view_is in
-    all_laid _ _ _ _ _ _ segments c.loop-segment-test.false c.loop-segment.invariant
+    let laid : c.loop-segment.laid.bytes ≡ image_bytes c.args.image.now c.args.size = all_laid _ _ _ _ _ _ segments c.loop-segment-test.false c.loop-segment.invariant in
+    let size : length c.loop-segment.laid.bytes ≡ c.args.size = ap length laid ∙ length-image_bytes c.args.image.now c.args.size in
+    c.in_ok-share.ensures
+    ∙ ap (λ (bs : List ℕ). record { bytes = bs; own = none_own (length c.loop-segment.laid.bytes) }) laid
+    ∙ ap (λ (n : ℕ). record { bytes = image_bytes c.args.image.now c.args.size; own = none_own n }) size
 
 pub returns-clause-len : goal.returns-clause-len
-returns-clause-len g c = ap length c.loop-segment.invariant ∙ length-image_bytes _ _
+returns-clause-len g c =
+    let laid = ap length c.loop-segment.invariant ∙ length-image_bytes _ _ in
+    ap (λ (m : PagedMemory). length m.bytes) c.in_ok-share.ensures ∙ laid

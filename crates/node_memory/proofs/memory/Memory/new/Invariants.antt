@@ -5,4 +5,4 @@ use Rattle.node_memory.proofs.memory.Memory.new.Given as goal
 
 abbrev pub invariant-loop-segment : goal.invariant-loop-segment
 invariant-loop-segment g l =
-    l.bytes.items ≡ image_bytes (image_of l.image.entry (take l.segment-index l.image.segments)) l.size
+    l.laid.bytes ≡ image_bytes (image_of l.image.entry (take l.segment-index l.image.segments)) l.size

@@ -1,0 +1,19 @@
+use Rattle.std.proofs.Common.{◌≡◌, ◌+◌, ◌-◌, ◌≤◌, false, length, replicate, refl, ap, ◌∙◌, arith}
+use Rattle.std.proofs.lemmas.Bool.Decides.{nat_tests}
+use Rattle.node_memory.specs.Bytes.{with_bytes}
+use Rattle.node_memory.specs.Image.{Segment, ends_past, with_segment}
+use Rattle.node_memory.proofs.Writes.{segment_laid}
+use Rattle.node_memory.proofs.memory.Memory.lay.Goals as goal
+
+pub returns-clause-after : goal.returns-clause-after
+returns-clause-after g c =
+    let m = c.args.self.now.bytes in
+    let bytes = c.as_slice-bytes.result.now in
+    let inside = c.segment.inside in
+    let s : Segment = record { addr = inside.addr; bytes = inside.bytes; size = inside.size } in
+    let within : ends_past (length m) s ≡ false = ap (ends_past (length m)) c.segment.view_is ∙ c.requires in
+    let fits : inside.addr + inside.size ≤ length m = grind (arith, nat_tests) in
+    c.clear_owned.ensures.bytes
+    ∙ ap (λ x. with_bytes x (inside.addr + length bytes) (replicate (inside.size - length bytes) 0)) (c.write_owned.ensures.bytes ∙ ap (λ x. with_bytes x inside.addr bytes) c.own.ensures.bytes)
+    ∙ segment_laid m bytes s (inside.addr + length bytes) c.as_slice-bytes.ensures refl c.segment.invariant.holds_bytes fits
+    ∙ ap (with_segment m) c.segment.view_is

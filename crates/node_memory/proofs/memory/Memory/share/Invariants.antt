@@ -1,0 +1,8 @@
+use Rattle.std.proofs.Common.{take}
+use Rattle.std.specs.List.{flat_map}
+use Rattle.node_memory.specs.Table.{page_bytes, is_own}
+use Rattle.node_memory.proofs.Shown.{AllShared}
+use Rattle.node_memory.proofs.memory.Memory.share.Given as goal
+
+abbrev pub invariant-loop-page : goal.invariant-loop-page
+invariant-loop-page g l = AllShared page_bytes is_own l.pages.items (flat_map page_bytes (take l.page-index l.page-items)) l.page-index

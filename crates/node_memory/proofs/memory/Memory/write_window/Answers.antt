@@ -1,0 +1,35 @@
+use Rattle.std.proofs.Common.{◌≡◌, ◌/◌, ◌%◌, ◌<◌, true, false, length, refl, sym, ap, ◌∙◌, arith}
+use Rattle.node_memory.specs.Table.{page_bytes, is_own}
+use Rattle.node_memory.proofs.Table.{table}
+use Rattle.std.proofs.lemmas.Bool.{false≢true}
+use Rattle.std.proofs.lemmas.Option.{slice_get_within, same_Some}
+use Rattle.node_memory.proofs.Shown.{pages-shown, write-shown, flags-kept, flag-is, whole-at}
+use Rattle.node_memory.proofs.Writes.{put_mid-with_bytes}
+use Rattle.node_memory.proofs.memory.Memory.write_window.Goals as goal
+
+pub returns-in-Own-clause-bytes : goal.returns-in-Own-clause-bytes
+returns-in-Own-clause-bytes g c =
+    let t = table _ _ c.self.view_is c.self.invariant in
+    let in_table : c.args.addr / 4096 < length c.self.inside.pages.items = let e = pages-shown t in let i = slice_get_within c.args.self.now.own (c.args.addr / 4096) true c.requires.own in omega (arith, e, i) in
+    let page = c.index_mut.result.now in
+    let old : page_bytes page ≡ c.in-Own.page.value = ap page_bytes c.in-Own.is in
+    let long : length (page_bytes page) ≡ 4096 = whole-at page_bytes _ _ _ page c.self.invariant.whole refl in_table c.index_mut.ensures.value in
+    write-shown t c.args.addr c.args.bytes.now page _ in_table c.requires.one_page c.index_mut.ensures.value
+    (put_mid-with_bytes (c.args.addr % 4096) (length c.args.bytes.now) _ (page_bytes page) _ _ _ (c.deref_mut.ensures.value ∙ sym old) c.copy_from_slice.ensures.after refl (omega arith) (omega (arith, c.requires.one_page)))
+
+pub returns-in-Own-clause-same_own : goal.returns-in-Own-clause-same_own
+returns-in-Own-clause-same_own g c =
+    let t = table _ _ c.self.view_is c.self.invariant in
+    let in_table : c.args.addr / 4096 < length c.self.inside.pages.items = let e = pages-shown t in let i = slice_get_within c.args.self.now.own (c.args.addr / 4096) true c.requires.own in omega (arith, e, i) in
+    let page = c.index_mut.result.now in
+    flags-kept t _ page _ true in_table c.index_mut.ensures.value (ap is_own c.in-Own.is) refl
+
+pub returns-in-Shared-clause-bytes : goal.returns-in-Shared-clause-bytes
+returns-in-Shared-clause-bytes g c =
+    let t = table _ _ c.self.view_is c.self.invariant in
+    let in_table : c.args.addr / 4096 < length c.self.inside.pages.items = let e = pages-shown t in let i = slice_get_within c.args.self.now.own (c.args.addr / 4096) true c.requires.own in omega (arith, e, i) in
+    let page = c.index_mut.result.now in
+    let shared : is_own page ≡ false = ap is_own c.in-Shared.is in
+    let flag = flag-is t _ page in_table c.index_mut.ensures.value in
+    let own = c.requires.own in
+    absurd (false≢true (sym shared ∙ same_Some _ _ (sym flag ∙ own)))

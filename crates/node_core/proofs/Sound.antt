@@ -21,6 +21,7 @@ IsNode-ticked after s sound runs = record {
   within = omega (arith, sound.has_ticks_left runs);
   has_ticks_left = λ still. state_at-running after.state (s.ticks + 1) s.limit still (omega (arith, sound.has_ticks_left runs));
   has_stepped = λ _. omega arith;
+  is_fresh = λ none. absurd (omega (arith, none));
 }
 
 -- a node that waits is sound at the start of the next superstep
@@ -30,6 +31,7 @@ IsNode-next queue s sound waits = record {
   within = sound.within;
   has_ticks_left = λ runs. state_at-running Running s.ticks s.limit runs sound.within;
   has_stepped = λ _. sound.has_stepped (rw waits refl);
+  is_fresh = λ none. absurd (omega (arith, none, sound.has_stepped (rw waits refl)));
 }
 
 pub local_step-running : (input : List ℕ) (s : NodeState) → is_running s.state ≡ true → local_step input s ≡ ticked (executed input s.hart) s

@@ -286,7 +286,8 @@ abbrev pub ecall_effect : Option Call → List ℕ → Hart → After
 ecall_effect None input h = faults UnknownCall h
 ecall_effect (Some call) input h = call_effect call input h
 
--- a call that may ask for memory: to note a push, a pop or a request, or for bytes that it copies, even if there are none
+-- a call that may ask for memory: to note a push, a pop or a request, for bytes that it copies, even if there are none, or for copies
+-- of the pages into which it stores
 abbrev pub takes_memory : Call → Bool
 takes_memory End = false
 takes_memory Nprocs = false
@@ -298,14 +299,14 @@ takes_memory Put = true
 takes_memory Get = true
 takes_memory Hpput = true
 takes_memory Hpget = true
-takes_memory SetTagsize = false
+takes_memory SetTagsize = true
 takes_memory Send = true
-takes_memory Qsize = false
-takes_memory GetTag = false
-takes_memory Move = false
+takes_memory Qsize = true
+takes_memory GetTag = true
+takes_memory Move = true
 takes_memory Abort = true
 takes_memory Write = true
-takes_memory Read = false
+takes_memory Read = true
 
 -- a call that may be refused memory: it may ask for some, and has no fault
 pub record MayRefuseCall (call : Call) (input : List ℕ) (h : Hart) : Type 0 where

@@ -4,11 +4,13 @@
 //! anything, and asks for memory only where all of them pass.
 
 ghost use Rattle.std.specs.Prelude.{◌≡◌, [], IfOk, OnErr};
+ghost use Rattle.node_memory.specs.Pages.{KeepsOwn};
 
 use super::Hart;
 use crate::call::Call;
 use crate::state::{Fault, State};
 use bsp_requests::MAX_BYTES;
+use node_memory::WriteError;
 use std::alloc::{AllocError, Allocator};
 
 /// The registers of a call: its operands, the first of which takes its answer, and its number.
@@ -35,7 +37,8 @@ impl<A: Allocator + Copy> Hart<A> {
         ensures ok { IfOk result (λ state. ecall_effect (named_call self.old.hart) input.now self.old.hart
             ≡ record { hart = self.new.hart; state = state }) }
         ensures ready { self.new.ready ≡ room_after self.old.ready self.old.hart self.new.hart }
-        ensures err { OnErr result (self.new ≡ self.old) }
+        ensures own { KeepsOwn self.old.own self.new.own }
+        ensures err { OnErr result (self.new.hart ≡ self.old.hart) }
         ensures refuses { OnErr result (MayRefuseEcall (named_call self.old.hart) input.now self.old.hart) }
     {
         match Call::of_number(self.reg(A7)) {
@@ -48,7 +51,8 @@ impl<A: Allocator + Copy> Hart<A> {
         ensures ok { IfOk result (λ state. call_effect call input.now self.old.hart
             ≡ record { hart = self.new.hart; state = state }) }
         ensures ready { self.new.ready ≡ room_after self.old.ready self.old.hart self.new.hart }
-        ensures err { OnErr result (self.new ≡ self.old) }
+        ensures own { KeepsOwn self.old.own self.new.own }
+        ensures err { OnErr result (self.new.hart ≡ self.old.hart) }
         ensures refuses { OnErr result (MayRefuseCall call input.now self.old.hart) }
     {
         match call {
@@ -60,14 +64,14 @@ impl<A: Allocator + Copy> Hart<A> {
             Call::PopReg => self.pop_reg(),
             Call::Put | Call::Hpput => self.issue_put(),
             Call::Get | Call::Hpget => self.issue_get(),
-            Call::SetTagsize => Ok(self.set_tagsize()),
+            Call::SetTagsize => self.set_tagsize(),
             Call::Send => self.issue_send(),
-            Call::Qsize => Ok(self.qsize()),
-            Call::GetTag => Ok(self.get_tag()),
-            Call::Move => Ok(self.move_payload()),
+            Call::Qsize => self.qsize(),
+            Call::GetTag => self.get_tag(),
+            Call::Move => self.move_payload(),
             Call::Abort => self.write(State::Aborted),
             Call::Write => self.write(State::Running),
-            Call::Read => Ok(self.read(input)),
+            Call::Read => self.read(input),
         }
     }
 
@@ -88,7 +92,8 @@ impl<A: Allocator + Copy> Hart<A> {
         ensures ready { self.new.ready ≡ self.old.ready }
         ensures registrations { self.new.hart.communication.registrations
             ≡ self.old.hart.communication.registrations }
-        ensures err { OnErr result (self.new ≡ self.old) }
+        ensures own { KeepsOwn self.old.own self.new.own }
+        ensures err { OnErr result (self.new.hart ≡ self.old.hart) }
         ensures refuses { OnErr result (HaveNoFault (output_checks self.old.hart)) }
     {
         let addr = self.reg(A0);
@@ -109,24 +114,35 @@ impl<A: Allocator + Copy> Hart<A> {
     }
 
     /// The call that reads up to a1 bytes of the input to a0.
-    fn read(&mut self, input: &[u8]) -> State
-        ensures hart { call_effect Call.Read input.now self.old.hart
-            ≡ record { hart = self.new.hart; state = result } }
+    fn read(&mut self, input: &[u8]) -> Result<State, AllocError>
+        ensures ok { IfOk result (λ state. call_effect Call.Read input.now self.old.hart
+            ≡ record { hart = self.new.hart; state = state }) }
         ensures ready { self.new.ready ≡ self.old.ready }
         ensures registrations { self.new.hart.communication ≡ self.old.hart.communication }
+        ensures own { KeepsOwn self.old.own self.new.own }
+        ensures err { OnErr result (self.new.hart ≡ self.old.hart) }
+        ensures refuses { OnErr result (MayRefuseCall Call.Read input.now self.old.hart) }
     {
         let addr = self.reg(A0);
         let left = input.len().saturating_sub(self.cursor);
         let count = left.min(self.reg(A1) as usize);
         let start = self.cursor.min(input.len());
-        if self
-            .memory
-            .write_range(addr, &input[start..start + count])
-            .is_err()
-        {
-            return State::Faulted(Fault::RangeOutside);
+        match self.memory.write_range(addr, &input[start..start + count]) {
+            Ok(()) => {}
+            Err(error) => return not_written(error),
         }
         self.cursor += count;
-        self.put(A0, count as u32)
+        Ok(self.put(A0, count as u32))
+    }
+}
+
+/// The answer of a call that could not write into the memory.
+pub(super) fn not_written(error: WriteError) -> Result<State, AllocError>
+    ensures ok { IfOk result (λ state. (error ≡ WriteError.Outside) × (state ≡ State.Faulted Fault.RangeOutside)) }
+    ensures err { OnErr result (error ≡ WriteError.NoMemory) }
+{
+    match error {
+        WriteError::Outside => Ok(State::Faulted(Fault::RangeOutside)),
+        WriteError::NoMemory => Err(AllocError),
     }
 }

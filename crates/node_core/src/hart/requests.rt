@@ -2,10 +2,11 @@
 //! `bsp_put`, `bsp_get`, `bsp_send`, `bsp_set_tagsize`). Each makes all the room that it needs before it changes anything.
 
 ghost use Rattle.std.specs.Prelude.{◌≡◌, [], IfOk, OnErr};
+ghost use Rattle.node_memory.specs.Pages.{KeepsOwn};
 ghost use Rattle.node_core.specs.declared.call.Call.{Call};
 
 use super::Hart;
-use super::calls::{A0, A1, A2, A3, A4};
+use super::calls::{A0, A1, A2, A3, A4, not_written};
 use crate::state::{Fault, State};
 use bsp_requests::{Get, Outgoing, Put};
 use bsp_slots::{Area, PopError, PushError};
@@ -24,7 +25,8 @@ impl<A: Allocator + Copy> Hart<A> {
         ensures ok { IfOk result (λ state. call_effect Call.PushReg [] self.old.hart
             ≡ record { hart = self.new.hart; state = state }) }
         ensures ready { self.new.ready ≡ room_after self.old.ready self.old.hart self.new.hart }
-        ensures err { OnErr result (self.new ≡ self.old) }
+        ensures own { KeepsOwn self.old.own self.new.own }
+        ensures err { OnErr result (self.new.hart ≡ self.old.hart) }
         ensures refuses { OnErr result (MayRefuseCall Call.PushReg [] self.old.hart) }
     {
         let area = Area {
@@ -46,7 +48,8 @@ impl<A: Allocator + Copy> Hart<A> {
         ensures ok { IfOk result (λ state. call_effect Call.PopReg [] self.old.hart
             ≡ record { hart = self.new.hart; state = state }) }
         ensures ready { self.new.ready ≡ room_after self.old.ready self.old.hart self.new.hart }
-        ensures err { OnErr result (self.new ≡ self.old) }
+        ensures own { KeepsOwn self.old.own self.new.own }
+        ensures err { OnErr result (self.new.hart ≡ self.old.hart) }
         ensures refuses { OnErr result (MayRefuseCall Call.PopReg [] self.old.hart) }
     {
         let addr = self.reg(A0);
@@ -58,24 +61,27 @@ impl<A: Allocator + Copy> Hart<A> {
     }
 
     /// Takes the word at a0 for the next size of tags, and puts the size in effect into its place.
-    pub(super) fn set_tagsize(&mut self) -> State
-        ensures hart { call_effect Call.SetTagsize [] self.old.hart
-            ≡ record { hart = self.new.hart; state = result } }
+    pub(super) fn set_tagsize(&mut self) -> Result<State, AllocError>
+        ensures ok { IfOk result (λ state. call_effect Call.SetTagsize [] self.old.hart
+            ≡ record { hart = self.new.hart; state = state }) }
         ensures ready { self.new.ready ≡ room_after self.old.ready self.old.hart self.new.hart }
+        ensures own { KeepsOwn self.old.own self.new.own }
+        ensures err { OnErr result (self.new.hart ≡ self.old.hart) }
+        ensures refuses { OnErr result (MayRefuseCall Call.SetTagsize [] self.old.hart) }
     {
         let addr = self.reg(A0);
         let Some(size) = self.memory.load32(addr) else {
-            return State::Faulted(Fault::RangeOutside);
+            return Ok(State::Faulted(Fault::RangeOutside));
         };
         if size > MAX_TAG_SIZE {
-            return State::Faulted(Fault::BadSize);
+            return Ok(State::Faulted(Fault::BadSize));
         }
-        let in_effect = self.communication.tag_size;
-        if self.memory.store32(addr, in_effect).is_err() {
-            return State::Faulted(Fault::RangeOutside);
+        match self.memory.store32(addr, self.communication.tag_size) {
+            Ok(()) => {}
+            Err(error) => return not_written(error),
         }
         self.communication.next_tag_size = size;
-        self.advance()
+        Ok(self.advance())
     }
 }
 
@@ -89,7 +95,8 @@ impl<A: Allocator + Copy> Hart<A> {
         ensures ok { IfOk result (λ state. call_effect Call.Put [] self.old.hart
             ≡ record { hart = self.new.hart; state = state }) }
         ensures ready { self.new.ready ≡ room_after self.old.ready self.old.hart self.new.hart }
-        ensures err { OnErr result (self.new ≡ self.old) }
+        ensures own { KeepsOwn self.old.own self.new.own }
+        ensures err { OnErr result (self.new.hart ≡ self.old.hart) }
         ensures refuses { OnErr result (MayRefuseCall Call.Put [] self.old.hart) }
     {
         let (target, src, dst) = (self.reg(A0), self.reg(A1), self.reg(A2));
@@ -126,7 +133,8 @@ impl<A: Allocator + Copy> Hart<A> {
         ensures ok { IfOk result (λ state. call_effect Call.Get [] self.old.hart
             ≡ record { hart = self.new.hart; state = state }) }
         ensures ready { self.new.ready ≡ room_after self.old.ready self.old.hart self.new.hart }
-        ensures err { OnErr result (self.new ≡ self.old) }
+        ensures own { KeepsOwn self.old.own self.new.own }
+        ensures err { OnErr result (self.new.hart ≡ self.old.hart) }
         ensures refuses { OnErr result (MayRefuseCall Call.Get [] self.old.hart) }
     {
         let (target, src, offset) = (self.reg(A0), self.reg(A1), self.reg(A2));
@@ -161,7 +169,8 @@ impl<A: Allocator + Copy> Hart<A> {
         ensures ok { IfOk result (λ state. call_effect Call.Send [] self.old.hart
             ≡ record { hart = self.new.hart; state = state }) }
         ensures ready { self.new.ready ≡ room_after self.old.ready self.old.hart self.new.hart }
-        ensures err { OnErr result (self.new ≡ self.old) }
+        ensures own { KeepsOwn self.old.own self.new.own }
+        ensures err { OnErr result (self.new.hart ≡ self.old.hart) }
         ensures refuses { OnErr result (MayRefuseCall Call.Send [] self.old.hart) }
     {
         let (target, tag) = (self.reg(A0), self.reg(A1));

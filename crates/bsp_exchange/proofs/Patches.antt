@@ -1,12 +1,15 @@
 -- Patches whose bytes stand one after another.
-use Rattle.std.proofs.Common.{◌≡◌, ℕ, ◌+◌, ◌-◌, ◌≤◌, List, [], ◌∷◌, ◌++◌, length, take, drop, refl, sym, ap, ◌∙◌, arith}
-use Rattle.std.specs.Prelude.{sum_by, IsTrue}
+use Rattle.std.proofs.Common.{◌≡◌, ℕ, ◌+◌, ◌-◌, ◌<◌, ◌≤◌, zero, suc, Bool, List, [], ◌∷◌, ◌++◌, length, take, drop, get_or, refl, sym, ap, ◌∙◌, inl, inr, arith}
+use Rattle.std.specs.Prelude.{sum_by, All, IsTrue}
+use Rattle.std.proofs.lemmas.Bool.{cases_eq}
 use Rattle.std.proofs.lemmas.Bool.Decides.{nat_tests}
-use Rattle.std.proofs.lemmas.List.{places, take_all, take-append-le, drop-append-le, length-drop, nil_from_length}
+use Rattle.std.proofs.lemmas.List.{places, take_all, take-append-le, drop-append-le, length-drop, length-take-le, get_or_default, nil_from_length}
 use Rattle.std.proofs.lemmas.List.Sums.{sum_by-cons}
 use Rattle.node_memory.specs.Bytes.{fits, bytes_at, with_bytes}
 use Rattle.bsp_exchange.specs.declared.landings.Range.{Range}
-use Rattle.bsp_exchange.specs.Parts.{Patch, patches_of, laid, LieIn}
+use Rattle.node_memory.specs.Pages.{Owns, KeepsOwn}
+use Rattle.node_memory.proofs.Owned.{Owns-kept}
+use Rattle.bsp_exchange.specs.Parts.{Patch, patches_of, laid, LieIn, OwnsEach}
 
 abbrev pub bytes_in : List Range → ℕ
 bytes_in ranges = sum_by (λ (r : Range). r.len) ranges
@@ -40,6 +43,54 @@ patches_push_range ranges bytes memory addr from len covered within =
 
 pub length-patched : (m : List ℕ) (addr : ℕ) (bytes : List ℕ) → IsTrue (fits (length m) addr (length bytes)) → length (with_bytes m addr bytes) ≡ length m
 length-patched m addr bytes within = grind (arith, places, nat_tests)
+
+-- each range lies in a memory in which the patches lie
+pub range_within : (size : ℕ) (ranges : List Range) (bytes : List ℕ) (k : ℕ) (d : Range) → bytes_in ranges ≡ length bytes → LieIn size (patches_of ranges bytes) → k < length ranges → IsTrue (fits size (get_or ranges k d).addr (get_or ranges k d).len)
+range_within size [] bytes k d covered lie within = absurd (omega arith)
+range_within size (r ∷ ranges) bytes zero d covered lie within =
+    let first = first_range r ranges bytes covered in
+    rw (length-take-le r.len bytes first.0) at lie.0
+range_within size (r ∷ ranges) bytes (suc k) d covered lie within =
+    range_within size ranges (drop r.len bytes) k d (first_range r ranges bytes covered).1 lie.1 (omega arith)
+
+-- the same of ranges and patches that are read elsewhere
+pub range_fits : (size size' : ℕ) (ranges items : List Range) (bytes : List ℕ) (patches : List Patch) (k : ℕ) (d : Range) → items ≡ ranges → bytes_in ranges ≡ length bytes → patches_of ranges bytes ≡ patches → size' ≡ size → LieIn size patches → k < length items → IsTrue (fits size' (get_or items k d).addr (get_or items k d).len)
+range_fits size size' ranges items bytes patches k d is covered view same lie within =
+    rw same (range_within size items bytes k d (rw is covered) (rw is (rw view lie)) within)
+
+-- what lies in a memory is not longer than it
+pub len_within : (size addr len : ℕ) → IsTrue (fits size addr len) → len ≤ size
+len_within size addr len within = grind (arith, nat_tests)
+
+-- the pages of the first ranges are own
+abbrev pub AreOwnedBelow : List Bool → List Range → ℕ → Type 0
+AreOwnedBelow own ranges i = (k : ℕ) (d : Range) → k < i → k < length ranges → Owns own (get_or ranges k d).addr (get_or ranges k d).len
+
+pub owned_more : (old new : List Bool) (ranges : List Range) (i : ℕ) (d : Range) → KeepsOwn old new → Owns new (get_or ranges i d).addr (get_or ranges i d).len → AreOwnedBelow old ranges i → AreOwnedBelow new ranges (i + 1)
+owned_more old new ranges i d keeps owns below k e less within =
+    elim (cases_eq k i) [
+      | inl same ↦
+          let here : get_or ranges k e ≡ get_or ranges i d = get_or_default ranges k e d within ∙ ap (λ j. get_or ranges j d) same in
+          rw here owns
+      | inr other ↦ Owns-kept old new (get_or ranges k e).addr (get_or ranges k e).len keeps (below k e (omega (arith, other)) within)
+    ]
+
+-- where the pages of each range are own, those of each patch are
+pub owns_each : (own : List Bool) (ranges : List Range) (bytes : List ℕ) → bytes_in ranges ≡ length bytes → All (λ (r : Range). Owns own r.addr r.len) ranges → OwnsEach own (patches_of ranges bytes)
+owns_each own [] bytes covered owns = tt
+owns_each own (r ∷ ranges) bytes covered owns =
+    let first = first_range r ranges bytes covered in
+    (rw (length-take-le r.len bytes first.0) (owns 0 r (omega arith)), owns_each own ranges (drop r.len bytes) first.1 (λ k d within. owns (suc k) d (omega arith)))
+
+-- the same of ranges and patches that are read elsewhere
+pub owns_all : (own : List Bool) (ranges items : List Range) (bytes : List ℕ) (patches : List Patch) (i : ℕ) → items ≡ ranges → bytes_in ranges ≡ length bytes → patches_of ranges bytes ≡ patches → length items ≤ i → AreOwnedBelow own items i → OwnsEach own patches
+owns_all own ranges items bytes patches i is covered view past below =
+    rw (← view) (rw (← is) (owns_each own items bytes (rw is covered) (λ k d within. below k d (omega arith) within)))
+
+-- pages of patches that were own stay so
+pub owns_each_kept : (old new : List Bool) (patches : List Patch) → KeepsOwn old new → OwnsEach old patches → OwnsEach new patches
+owns_each_kept old new [] keeps owns = tt
+owns_each_kept old new (p ∷ patches) keeps owns = (Owns-kept old new p.addr (length p.bytes) keeps owns.0, owns_each_kept old new patches keeps owns.1)
 
 -- a memory keeps its size under patches
 pub length-laid : (m : List ℕ) (patches : List Patch) → LieIn (length m) patches → length (laid m patches) ≡ length m

@@ -5,29 +5,35 @@ use Rattle.std.specs.List.{range_with_len}
 use Rattle.std.proofs.lemmas.Bool.{cases_eq}
 use Rattle.std.proofs.lemmas.List.{places, append-nil, take_all, drop_all, length-map, length-set, length-take-le, get_or-append_right, get_or-drop, get_or-set_same, get_or-set_other}
 use Rattle.std.proofs.lemmas.List.FromFn.{get_or-map-range_with_len}
-use Rattle.std.proofs.lemmas.Option.{same_Some, slice_get_read, get_or_from_slice_get}
+use Rattle.std.proofs.lemmas.Option.{same_Some, slice_get_read, slice_get_within, get_or_from_slice_get}
 use Rattle.std.proofs.lemmas.List.Edits.{map_over_more}
 use Rattle.node_core.specs.declared.state.State.TheVariants.{Synced}
 use Rattle.node_core.specs.Hart.{IsHart}
 use Rattle.node_core.specs.Node.{NodeState, PreparedNode}
-use Rattle.bsp_exchange.specs.Exchange.{AreAtSync, exchanged_node, exchanged, states, unprepared}
+use Rattle.bsp_exchange.specs.Exchange.{AreAtSync, AreUnready, exchanged_node, exchanged, states}
 use Rattle.bsp_exchange.specs.Faults.{exchange_fault}
-use Rattle.bsp_exchange.specs.Parts.{Received, CanLand, landed_as, received_at}
+use Rattle.bsp_exchange.specs.Parts.{Received, FitsIn, ArePrepared, IsPrepared, CanLand, landed_as, received_at}
 use Rattle.bsp_exchange.proofs.Gathered.{all_at, state_here, length-states}
 use Rattle.bsp_exchange.proofs.Landed.{whole}
 
 -- a node after its turn in the exchange among `nodes`
 abbrev pub turned_in : List NodeState → PreparedNode → PreparedNode
-turned_in nodes p = record { node = exchanged_node nodes p.node; ready = false }
+turned_in nodes p = record p { node = exchanged_node nodes p.node; ready = false }
 
 -- all nodes after theirs
-pub all_turned : (nodes : List NodeState) (ps : List PreparedNode) → map (turned_in nodes) ps ≡ unprepared (map (exchanged_node nodes) (states ps))
+all_turned : (nodes : List NodeState) (ps : List PreparedNode) → states (map (turned_in nodes) ps) ≡ map (exchanged_node nodes) (states ps)
 all_turned nodes [] = refl
-all_turned nodes (p ∷ ps) = ap (λ rest. turned_in nodes p ∷ rest) (all_turned nodes ps)
+all_turned nodes (p ∷ ps) = ap (λ rest. exchanged_node nodes p.node ∷ rest) (all_turned nodes ps)
 
 -- what the exchange leaves of all nodes
-pub exchanged_all : (ps : List PreparedNode) → map (turned_in (states ps)) ps ≡ unprepared (exchanged (states ps))
+pub exchanged_all : (ps : List PreparedNode) → states (map (turned_in (states ps)) ps) ≡ exchanged (states ps)
 exchanged_all ps = all_turned (states ps) ps
+
+-- for no node's next turn is room made
+pub unready_all : (nodes : List NodeState) (ps : List PreparedNode) → AreUnready (map (turned_in nodes) ps)
+unready_all nodes [] k d within = absurd (omega arith)
+unready_all nodes (p ∷ ps) zero d within = refl
+unready_all nodes (p ∷ ps) (suc k) d within = unready_all nodes ps k d (omega arith)
 
 -- the next node is not turned yet
 pub not_turned : (f : PreparedNode → PreparedNode) (xs ys : List PreparedNode) (i : ℕ) (x : PreparedNode) → i < length xs → ys ≡ map f (take i xs) ++ drop i xs → x ≡ get_or ys i x → x ≡ get_or xs i x
@@ -78,19 +84,27 @@ states_kept (x ∷ ps) zero p q is same =
     ap (λ n. n ∷ states ps) (same ∙ ap (λ (y : PreparedNode). y.node) (sym head))
 states_kept (x ∷ ps) (suc i) p q is same = ap (λ ns. x.node ∷ ns) (states_kept ps i p q is same)
 
--- the first of the nodes are ready
-abbrev pub AreReadyBelow : List PreparedNode → ℕ → Type 0
-AreReadyBelow ps i = (k : ℕ) (d : PreparedNode) → k < i → k < length ps → IsTrue (get_or ps k d).ready
+-- the first of the nodes are prepared for their parts
+abbrev pub ArePreparedBelow : List Received → List PreparedNode → ℕ → Type 0
+ArePreparedBelow parts ps i = (k : ℕ) (part : Received) (d : PreparedNode) → k < i → k < length ps → slice_get parts k ≡ Some part → IsPrepared part (get_or ps k d)
 
-pub ready_none : (ps : List PreparedNode) → AreReadyBelow ps 0
-ready_none ps k d less within = absurd (omega arith)
+pub prepared_none : (parts : List Received) (ps : List PreparedNode) → ArePreparedBelow parts ps 0
+prepared_none parts ps k part d less within received = absurd (omega arith)
 
-pub ready_more : (ps : List PreparedNode) (i : ℕ) (q : PreparedNode) → i < length ps → IsTrue q.ready → AreReadyBelow ps i → AreReadyBelow (set ps i q) (i + 1)
-ready_more ps i q there ready below k d less within =
+pub prepared_more : (parts : List Received) (ps : List PreparedNode) (i : ℕ) (part : Received) (q : PreparedNode) → i < length ps → slice_get parts i ≡ Some part → IsPrepared part q → ArePreparedBelow parts ps i → ArePreparedBelow parts (set ps i q) (i + 1)
+prepared_more parts ps i part q there planned prepared below k x d less within received =
     elim (cases_eq k i) [
-      | inl same ↦ rw (same) (rw (get_or-set_same ps i q d there) ready)
-      | inr other ↦ rw (get_or-set_other ps i k q d other) (below k d (omega (arith, other)) (rw (← length-set ps i q) within))
+      | inl same ↦
+          let here : x ≡ part = same_Some x part (sym received ∙ ap (slice_get parts) same ∙ planned) in
+          rw (same) (rw (get_or-set_same ps i q d there) (rw here prepared))
+      | inr other ↦ rw (get_or-set_other ps i k q d other) (below k x d (omega (arith, other)) (rw (← length-set ps i q) within) received)
     ]
+
+-- all of them are
+pub prepared_all : (parts : List Received) (ps : List PreparedNode) (i : ℕ) → length ps ≤ i → ArePreparedBelow parts ps i → ArePrepared parts ps
+prepared_all parts ps i past below k part p received here =
+    let there : k < length ps = slice_get_within ps k p here in
+    rw (← get_or_from_slice_get ps k p p here) (below k part p (omega arith) there received)
 
 -- all nodes are turned
 pub all_done : (nodes : List NodeState) (xs ys : List PreparedNode) (i : ℕ) → length xs ≤ i → ys ≡ map (turned_in nodes) (take i xs) ++ drop i xs → ys ≡ map (turned_in nodes) xs
@@ -126,15 +140,32 @@ part_planned : (f : ℕ → Received) (n i : ℕ) (parts planned : List Received
 part_planned f n i parts planned part within is same received =
     part_here f n i parts planned part within is same (sym (get_or_from_slice_get parts i part part received))
 
+-- the first element from a place on
+head_of_drop : {X : Type 0} (i : ℕ) (xs : List X) → slice_get (drop i xs) 0 ≡ slice_get xs i
+head_of_drop zero xs = refl
+head_of_drop (suc i) [] = refl
+head_of_drop (suc i) (x ∷ xs) = head_of_drop i xs
+
+-- the next part is as it was planned
+planned_here : (parts planned : List Received) (i : ℕ) (part : Received) → drop i parts ≡ drop i planned → slice_get parts i ≡ Some part → slice_get planned i ≡ Some part
+planned_here parts planned i part same received =
+    sym (head_of_drop i planned) ∙ ap (λ (ps : List Received). slice_get ps 0) (sym same) ∙ head_of_drop i parts ∙ received
+
 -- the next node can take what it receives
-pub can_land_here : (xs ys : List PreparedNode) (parts planned : List Received) (i : ℕ) (p : PreparedNode) (part : Received) → AreAtSync (states xs) → exchange_fault (states xs) ≡ None → All (λ (n : NodeState). IsHart n.hart) (states xs) → All (λ (q : PreparedNode). IsTrue q.ready) xs → planned ≡ map (received_at (states xs)) (range_with_len 0 (length xs)) → i < length xs → ys ≡ map (turned_in (states xs)) (take i xs) ++ drop i xs → drop i parts ≡ drop i planned → slice_get ys i ≡ Some p → slice_get parts i ≡ Some part → CanLand part p
-can_land_here xs ys parts planned i p part row faultless sound ready plan there is same here received =
+pub can_land_here : (xs ys : List PreparedNode) (parts planned : List Received) (i : ℕ) (p : PreparedNode) (part : Received) → AreAtSync (states xs) → exchange_fault (states xs) ≡ None → All (λ (n : NodeState). IsHart n.hart) (states xs) → ArePrepared planned xs → planned ≡ map (received_at (states xs)) (range_with_len 0 (length xs)) → i < length xs → ys ≡ map (turned_in (states xs)) (take i xs) ++ drop i xs → drop i parts ≡ drop i planned → slice_get ys i ≡ Some p → slice_get parts i ≡ Some part → CanLand part p
+can_land_here xs ys parts planned i p part row faultless sound prepared plan there is same here received =
     let lands = whole (states xs) row faultless sound i p.node (state_first xs ys i p there is here) in
     record {
       waiting = all_at (λ (n : NodeState). n.state ≡ Synced) (states xs) i p.node row.waiting (state_first xs ys i p there is here);
-      ready = all_at (λ (q : PreparedNode). IsTrue q.ready) xs i p ready (first_here xs ys i p there is here);
-      fits = rw (part_planned (received_at (states xs)) (length xs) i parts planned part there plan same received) lands.fits;
+      queue = rw (part_planned (received_at (states xs)) (length xs) i parts planned part there plan same received) lands.fits.queue;
+      prepared = prepared i part p (planned_here parts planned i part same received) (first_here xs ys i p there is here);
     }
+
+-- what a node receives lies in its memory
+pub fits_here : (xs : List PreparedNode) (parts : List Received) (i : ℕ) (p : PreparedNode) (part : Received) → AreAtSync (states xs) → exchange_fault (states xs) ≡ None → All (λ (n : NodeState). IsHart n.hart) (states xs) → parts ≡ map (received_at (states xs)) (range_with_len 0 (length xs)) → slice_get (states xs) i ≡ Some p.node → slice_get parts i ≡ Some part → FitsIn (length p.node.hart.memory) part
+fits_here xs parts i p part row faultless sound plan here received =
+    let there : i < length xs = rw (length-states xs) at (slice_get_within (states xs) i p.node here) in
+    rw (part_planned (received_at (states xs)) (length xs) i parts parts part there plan refl received) (whole (states xs) row faultless sound i p.node here).fits
 
 -- the next node is turned as the exchange has it
 pub next_turned : (xs ys zs : List PreparedNode) (parts planned : List Received) (i : ℕ) → AreAtSync (states xs) → exchange_fault (states xs) ≡ None → All (λ (n : NodeState). IsHart n.hart) (states xs) → planned ≡ map (received_at (states xs)) (range_with_len 0 (length xs)) → i < length xs → i < length parts → ys ≡ map (turned_in (states xs)) (take i xs) ++ drop i xs → drop i parts ≡ drop i planned → ((p : PreparedNode) (part : Received) → slice_get ys i ≡ Some p → slice_get parts i ≡ Some part → zs ≡ set ys i (landed_as part p)) → zs ≡ map (turned_in (states xs)) (take (i + 1) xs) ++ drop (i + 1) xs
@@ -146,7 +177,7 @@ next_turned xs ys zs parts planned i row faultless sound plan there enough is sa
     let planned_is = part_planned (received_at (states xs)) (length xs) i parts planned part there plan same received in
     after p part here received
     ∙ ap (λ (r : Received). set ys i (landed_as r p)) planned_is
-    ∙ ap (λ (n : NodeState). set ys i (record { node = n; ready = false })) lands.as_defined
+    ∙ ap (λ (n : NodeState). set ys i (record p { node = n; ready = false })) lands.as_defined
     ∙ map_over_more (turned_in (states xs)) xs ys i p there is (sym (get_or_from_slice_get ys i p p here))
 
 -- what the nodes receive does not rest on the room that is made for their turns

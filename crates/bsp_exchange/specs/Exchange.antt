@@ -26,10 +26,10 @@ exchanged_node nodes n = next_superstep (queue_after nodes n.hart.rank) (with_la
 abbrev pub exchanged : List NodeState → List NodeState
 exchanged nodes = map (exchanged_node nodes) nodes
 
--- the nodes, whether or not room is made for their turns
+-- the nodes, whatever room is made for their turns, and whichever pages are their own
 abbrev pub states : List PreparedNode → List NodeState
 states prepared = map (λ (p : PreparedNode). p.node) prepared
 
--- nodes for whose next turns no room is made
-abbrev pub unprepared : List NodeState → List PreparedNode
-unprepared nodes = map (λ n. record { node = n; ready = false }) nodes
+-- for the next turn of none of the nodes is room made
+abbrev pub AreUnready : List PreparedNode → Type 0
+AreUnready prepared = All (λ (p : PreparedNode). p.ready ≡ false) prepared

@@ -1,8 +1,9 @@
 -- What the nodes receive in an exchange, gathered node by node before anything lands. The exchange's definitions do not rest on
 -- this: it is what the code keeps of them.
-use Rattle.std.specs.Prelude.{◌≡◌, ℕ, false, ◌+◌, ◌==◌, zero, suc, List, [], ◌∷◌, ◌++◌, length, map, take, drop, filter, filter_map, sum_by, IsTrue}
+use Rattle.std.specs.Prelude.{◌≡◌, ℕ, false, ◌+◌, ◌==◌, zero, suc, Bool, List, [], ◌∷◌, ◌++◌, length, map, take, drop, filter, filter_map, sum_by, slice_get, Some, IsTrue}
 use Rattle.std.specs.List.{fold}
 use Rattle.node_memory.specs.Bytes.{fits, bytes_at, with_bytes}
+use Rattle.node_memory.specs.Pages.{Owns}
 use Rattle.bsp_requests.specs.declared.request.Get.{Get}
 use Rattle.bsp_requests.specs.Message.{Message}
 use Rattle.bsp_requests.specs.Inbox.{IsQueue}
@@ -43,6 +44,11 @@ laid memory (p ∷ patches) = laid (with_bytes memory p.addr p.bytes) patches
 abbrev pub LieIn : ℕ → List Patch → Type 0
 LieIn size [] = Unit {0}
 LieIn size (p ∷ patches) = IsTrue (fits size p.addr (length p.bytes)) × LieIn size patches
+
+-- the pages of each of them are the memory's own
+abbrev pub OwnsEach : List Bool → List Patch → Type 0
+OwnsEach own [] = Unit {0}
+OwnsEach own (p ∷ patches) = Owns own p.addr (length p.bytes) × OwnsEach own patches
 
 abbrev pub patch_of : Landing → Patch
 patch_of l = record { addr = l.addr; bytes = l.bytes }
@@ -116,12 +122,23 @@ pub record FitsIn (size : ℕ) (part : Received) : Type 0 where
   pub puts : LieIn size part.puts
   pub queue : IsQueue part.messages
 
--- a node, ready for its turn, with all that it received
+-- a node is ready for its turn, and the pages into which it receives bytes are its own
+pub record IsPrepared (part : Received) (p : PreparedNode) : Type 0 where
+  pub ready : IsTrue p.ready
+  pub gets : OwnsEach p.own part.gets
+  pub puts : OwnsEach p.own part.puts
+
+-- each node is prepared for its part
+abbrev pub ArePrepared : List Received → List PreparedNode → Type 0
+ArePrepared parts nodes =
+    (rank : ℕ) (part : Received) (p : PreparedNode) → slice_get parts rank ≡ Some part → slice_get nodes rank ≡ Some p → IsPrepared part p
+
+-- a node, prepared, with all that it received
 abbrev pub landed_as : Received → PreparedNode → PreparedNode
-landed_as part p = record { node = after_landing part p.node; ready = false }
+landed_as part p = record p { node = after_landing part p.node; ready = false }
 
 -- a node can take what it received
 pub record CanLand (part : Received) (p : PreparedNode) : Type 0 where
   pub waiting : p.node.state ≡ Synced
-  pub ready : IsTrue p.ready
-  pub fits : FitsIn (length p.node.hart.memory) part
+  pub queue : IsQueue part.messages
+  pub prepared : IsPrepared part p

@@ -5,9 +5,9 @@ ghost use Rattle.std.specs.List.{range_with_len};
 ghost use Rattle.node_core.specs.Hart.{IsHart};
 ghost use Rattle.node_core.specs.Node.{NodeState, PreparedNode};
 ghost use Rattle.bsp_exchange.specs.declared.fault.ExchangeFault.{ExchangeFault};
-ghost use Rattle.bsp_exchange.specs.Exchange.{AreAtSync, exchanged, states, unprepared};
+ghost use Rattle.bsp_exchange.specs.Exchange.{AreAtSync, AreUnready, exchanged, states};
 ghost use Rattle.bsp_exchange.specs.Faults.{exchange_fault};
-ghost use Rattle.bsp_exchange.specs.Parts.{Received, CanLand, landed_as, received_at};
+ghost use Rattle.bsp_exchange.specs.Parts.{Received, ArePrepared, CanLand, landed_as, received_at};
 ghost use Rattle.bsp_exchange.specs.Traffic.{h_of};
 
 use crate::checks::fault;
@@ -41,7 +41,8 @@ pub fn exchange<A: Allocator + Copy>(
     nodes: &mut [Node<A>],
 ) -> Result<Traffic, ExchangeError>
     requires { AreAtSync (states nodes.old) }
-    ensures ok { OnOk result (nodes.new ≡ unprepared (exchanged (states nodes.old))) }
+    ensures ok { OnOk result (states nodes.new ≡ exchanged (states nodes.old)) }
+    ensures unready { OnOk result (AreUnready nodes.new) }
     ensures traffic { IfOk result (λ t. t.h ≡ h_of (states nodes.old)) }
     ensures bounded { IfOk result (λ t. t.h ≤ 2 ^ 32) }
     ensures fault { (fault : ExchangeFault)
@@ -52,19 +53,26 @@ pub fn exchange<A: Allocator + Copy>(
         return Err(ExchangeError::Fault(fault));
     }
     let mut parts = plan(alloc, nodes)?;
-    prepare_turns(nodes)?;
+    prepare_all(nodes, &parts)?;
     let h = h_of(nodes);
     land_all(nodes, &mut parts);
     Ok(Traffic { h })
 }
 
-/// Makes the room that the turns of all nodes need. The nodes themselves stay as they are.
-fn prepare_turns<A: Allocator + Copy>(nodes: &mut [Node<A>]) -> Result<(), AllocError>
+/// Makes the room that the landings and the turns of all nodes want. The nodes themselves stay as they are.
+fn prepare_all<A: Allocator + Copy>(
+    nodes: &mut [Node<A>],
+    parts: &[Part<A>],
+) -> Result<(), AllocError>
+    requires row { AreAtSync (states nodes.old) }
+    requires faultless { exchange_fault (states nodes.old) ≡ None }
+    requires sound { All (λ (n : NodeState). IsHart n.hart) (states nodes.old) }
+    requires planned { parts.now ≡ map (received_at (states nodes.old)) (range_with_len 0 (length nodes.old)) }
     ensures same { states nodes.new ≡ states nodes.old }
-    ensures ready { OnOk result (All (λ (p : PreparedNode). IsTrue p.ready) nodes.new) }
+    ensures prepared { OnOk result (ArePrepared parts.now nodes.new) }
 {
     for rank in 0..nodes.len() {
-        nodes[rank].prepare_turn()?;
+        parts[rank].prepare(&mut nodes[rank])?;
     }
     Ok(())
 }
@@ -74,9 +82,10 @@ fn land_all<A: Allocator + Copy>(nodes: &mut [Node<A>], parts: &mut [Part<A>])
     requires row { AreAtSync (states nodes.old) }
     requires faultless { exchange_fault (states nodes.old) ≡ None }
     requires sound { All (λ (n : NodeState). IsHart n.hart) (states nodes.old) }
-    requires ready { All (λ (p : PreparedNode). IsTrue p.ready) nodes.old }
+    requires prepared { ArePrepared parts.old nodes.old }
     requires planned { parts.old ≡ map (received_at (states nodes.old)) (range_with_len 0 (length nodes.old)) }
-    ensures { nodes.new ≡ unprepared (exchanged (states nodes.old)) }
+    ensures exchanged { states nodes.new ≡ exchanged (states nodes.old) }
+    ensures unready { AreUnready nodes.new }
 {
     for rank in 0..nodes.len() {
         land_at(nodes, parts, rank);

@@ -3,7 +3,8 @@
 ghost use Rattle.std.specs.Prelude.{◌≡◌, ◌∷◌, ◌++◌, [], length, IsTrue, OnOk, OnErr};
 ghost use Rattle.node_memory.specs.Bytes.{fits, bytes_at};
 ghost use Rattle.node_core.specs.declared.state.State.TheVariants.{Synced};
-ghost use Rattle.bsp_exchange.specs.Parts.{LieIn, with_patches};
+ghost use Rattle.node_memory.specs.Pages.{KeepsOwn};
+ghost use Rattle.bsp_exchange.specs.Parts.{LieIn, OwnsEach, with_patches};
 
 use node_core::Node;
 use node_memory::Memory;
@@ -74,9 +75,9 @@ impl<A: Allocator + Copy> Landings<A> {
         from: u32,
         len: u32,
     ) -> Result<(), AllocError>
-        requires { IsTrue (fits (length memory.now) from len) }
+        requires { IsTrue (fits (length memory.now.bytes) from len) }
         ensures ok { OnOk result (self.new
-            ≡ self.old ++ record { addr = addr; bytes = bytes_at memory.now from len } ∷ []) }
+            ≡ self.old ++ record { addr = addr; bytes = bytes_at memory.now.bytes from len } ∷ []) }
         ensures err { OnErr result (self.new ≡ self.old) }
     {
         self.ranges.reserve(1)?;
@@ -88,10 +89,26 @@ impl<A: Allocator + Copy> Landings<A> {
         Ok(())
     }
 
-    /// Lands them in the memory of a node that waits. They lie in it.
+    /// Makes the pages in which they come to lie the node's own. They lie in its memory.
+    pub(crate) fn prepare(&self, node: &mut Node<A>) -> Result<(), AllocError>
+        requires within { LieIn (length node.old.node.hart.memory) self.now }
+        ensures node { node.new.node ≡ node.old.node }
+        ensures ready { node.new.ready ≡ node.old.ready }
+        ensures own { KeepsOwn node.old.own node.new.own }
+        ensures ok { OnOk result (OwnsEach node.new.own self.now) }
+    {
+        // Its contract says that a memory has at most 2^24 bytes.
+        let _size = node.memory().size();
+        for range in &self.ranges {
+            node.prepare_land(range.addr, range.len as u32)?;
+        }
+        Ok(())
+    }
+
+    /// Lands them in the memory of a node that waits, in pages of its own.
     pub(crate) fn land(&self, node: &mut Node<A>)
         requires synced { node.old.node.state ≡ Synced }
-        requires within { LieIn (length node.old.node.hart.memory) self.now }
+        requires own { OwnsEach node.old.own self.now }
         ensures { node.new ≡ record node.old { node = with_patches self.now node.old.node } }
     {
         let mut rest = self.bytes.as_slice();

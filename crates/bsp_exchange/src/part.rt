@@ -2,8 +2,7 @@
 
 ghost use Rattle.std.specs.Prelude.{◌≡◌, false, length, IsTrue, OnOk, OnErr};
 ghost use Rattle.node_memory.specs.Bytes.{fits, bytes_at};
-ghost use Rattle.node_core.specs.declared.state.State.TheVariants.{Synced};
-ghost use Rattle.bsp_exchange.specs.Parts.{nothing, FitsIn, after_landing};
+ghost use Rattle.bsp_exchange.specs.Parts.{nothing, FitsIn, IsPrepared, CanLand, landed_as};
 
 use crate::landings::Landings;
 use bsp_requests::{Inbox, Message};
@@ -55,9 +54,9 @@ impl<A: Allocator + Copy> Part<A> {
         from: u32,
         len: u32,
     ) -> Result<(), AllocError>
-        requires { IsTrue (fits (length memory.now) from len) }
+        requires { IsTrue (fits (length memory.now.bytes) from len) }
         ensures ok { OnOk result (self.new ≡ record self.old {
-          gets = self.old.gets ++ record { addr = addr; bytes = bytes_at memory.now from len } ∷ [];
+          gets = self.old.gets ++ record { addr = addr; bytes = bytes_at memory.now.bytes from len } ∷ [];
         }) }
     {
         self.gets.push_copy_of(addr, memory, from, len)
@@ -92,14 +91,26 @@ impl<A: Allocator + Copy> Part<A> {
         Ok(())
     }
 
-    /// Lands all of it in its node, which waits and has room for its turn, and begins the node's next superstep. The messages
-    /// go over to the node.
-    #[tactic(auto, using(crate::proofs::Patches::lie_in_laid))]
+    /// Makes all the room that its landing wants: for the node's turn, and for copies of the pages into which it receives bytes.
+    /// The node itself stays as it is.
+    ///
+    /// # Errors
+    /// Where memory is refused.
+    pub(crate) fn prepare(&self, node: &mut Node<A>) -> Result<(), AllocError>
+        requires within { FitsIn (length node.old.node.hart.memory) self.now }
+        ensures node { node.new.node ≡ node.old.node }
+        ensures ok { OnOk result (IsPrepared self.now node.new) }
+    {
+        self.gets.prepare(node)?;
+        self.puts.prepare(node)?;
+        node.prepare_turn()
+    }
+
+    /// Lands all of it in its node, which waits and is prepared for it, and begins the node's next superstep. The messages go
+    /// over to the node.
     pub(crate) fn land(&mut self, node: &mut Node<A>)
-        requires synced { node.old.node.state ≡ Synced }
-        requires ready { IsTrue node.old.ready }
-        requires within { FitsIn (length node.old.node.hart.memory) self.old }
-        ensures { node.new ≡ record { node = after_landing self.old node.old.node; ready = false } }
+        requires { CanLand self.old node.old }
+        ensures { node.new ≡ landed_as self.old node.old }
     {
         self.gets.land(node);
         self.puts.land(node);

@@ -2,7 +2,7 @@ use Rattle.std.proofs.Common.{◌≡◌, ◌+◌, suc, length, drop, arith, refl
 use Rattle.std.proofs.lemmas.List.FromFn.{length-map-range_with_len}
 use Rattle.bsp_exchange.specs.Exchange.{states}
 use Rattle.bsp_exchange.specs.Parts.{received_at}
-use Rattle.bsp_exchange.proofs.Turns.{exchanged_all, all_done, drop_same, can_land_here, next_turned}
+use Rattle.bsp_exchange.proofs.Turns.{exchanged_all, unready_all, all_done, drop_same, can_land_here, next_turned}
 use Rattle.bsp_exchange.proofs.barrier.land_all.Goals as goal
 
 pub loop-rank-init : goal.loop-rank-init
@@ -14,7 +14,7 @@ loop-rank-init g c = record {
 
 pub land_at-requires-clause-lands : goal.land_at-requires-clause-lands
 land_at-requires-clause-lands g c p part here received =
-    can_land_here c.args.nodes.now c.loop-rank.nodes c.loop-rank.parts c.args.parts.now c.loop-rank.rank p part c.requires.row c.requires.faultless c.requires.sound c.requires.ready c.requires.planned c.loop-rank-test.true c.loop-rank.invariant.nodes c.loop-rank.invariant.parts here received
+    can_land_here c.args.nodes.now c.loop-rank.nodes c.loop-rank.parts c.args.parts.now c.loop-rank.rank p part c.requires.row c.requires.faultless c.requires.sound c.requires.prepared c.requires.planned c.loop-rank-test.true c.loop-rank.invariant.nodes c.loop-rank.invariant.parts here received
 
 pub loop-rank-preserved : goal.loop-rank-preserved
 loop-rank-preserved g c =
@@ -28,4 +28,7 @@ loop-rank-preserved g c =
     }
 
 pub returns : goal.returns
-returns g c = all_done (states c.args.nodes.now) c.args.nodes.now c.loop-rank.nodes c.loop-rank.rank c.loop-rank-test.false c.loop-rank.invariant.nodes ∙ exchanged_all c.args.nodes.now
+returns g c =
+    let nodes = c.args.nodes.now in
+    let done = all_done (states nodes) nodes c.loop-rank.nodes c.loop-rank.rank c.loop-rank-test.false c.loop-rank.invariant.nodes in
+    record { exchanged = ap states done ∙ exchanged_all nodes; unready = rw done (unready_all (states nodes) nodes) }

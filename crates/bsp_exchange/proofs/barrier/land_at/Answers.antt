@@ -6,20 +6,10 @@ use Rattle.bsp_exchange.specs.Parts.{Received, landed_as}
 use Rattle.bsp_exchange.proofs.Turns.{rest_kept}
 use Rattle.bsp_exchange.proofs.barrier.land_at.Goals as goal
 
-pub land-requires-clause-synced : goal.land-requires-clause-synced
-land-requires-clause-synced g c =
+pub land-requires : goal.land-requires
+land-requires g c =
     let can = c.requires.lands c.index-nodes-rank.result c.index-parts-rank.result (slice_get_read c.args.nodes.now _ c.args.rank _ refl c.requires.node c.index-nodes-rank.is) (slice_get_read c.args.parts.now _ c.args.rank _ refl c.requires.part c.index-parts-rank.is) in
-    ap (λ (p : PreparedNode). p.node.state) (sym c.index-nodes-rank.is) ∙ can.waiting
-
-pub land-requires-clause-ready : goal.land-requires-clause-ready
-land-requires-clause-ready g c =
-    let can = c.requires.lands c.index-nodes-rank.result c.index-parts-rank.result (slice_get_read c.args.nodes.now _ c.args.rank _ refl c.requires.node c.index-nodes-rank.is) (slice_get_read c.args.parts.now _ c.args.rank _ refl c.requires.part c.index-parts-rank.is) in
-    ap (λ (p : PreparedNode). p.ready) (sym c.index-nodes-rank.is) ∙ can.ready
-
-pub land-requires-clause-within : goal.land-requires-clause-within
-land-requires-clause-within g c =
-    let can = c.requires.lands c.index-nodes-rank.result c.index-parts-rank.result (slice_get_read c.args.nodes.now _ c.args.rank _ refl c.requires.node c.index-nodes-rank.is) (slice_get_read c.args.parts.now _ c.args.rank _ refl c.requires.part c.index-parts-rank.is) in
-    rw (sym c.index-nodes-rank.is) (rw (sym c.index-parts-rank.is) can.fits)
+    rw (sym c.index-nodes-rank.is) (rw (sym c.index-parts-rank.is) can)
 
 pub returns-clause-nodes : goal.returns-clause-nodes
 returns-clause-nodes g c p part here received =

@@ -13,8 +13,8 @@ add_get-requires g c =
 pub returns : goal.returns
 returns g c =
     let m = memory_at c.args.nodes.now c.args.get.now.target c.index-nodes-get.result c.requires.target c.index-nodes-get.is in
-    let patch = fetched_is (states c.args.nodes.now) c.args.get.now c.memory-memory.result.now c.start_of-start.result (m ∙ sym c.memory-memory.ensures.value) c.start_of-start.ensures.value in
-    rw (sym patch) (put_back (with_get (record { addr = c.args.get.now.dst; bytes = bytes_at c.memory-memory.result.now c.start_of-start.result c.args.get.now.len })) c.args.caller c.args.parts.now c.index-parts-caller.result c.add_get.new.self c.add_get.result (rw c.requires.parts c.requires.caller) c.index-parts-caller.is (rw c.index-parts-caller.is c.add_get.ensures.ok))
+    let patch = fetched_is (states c.args.nodes.now) c.args.get.now c.memory-memory.result.now.bytes c.start_of-start.result (m ∙ sym c.memory-memory.ensures.value) c.start_of-start.ensures.value in
+    rw (sym patch) (put_back (with_get (record { addr = c.args.get.now.dst; bytes = bytes_at c.memory-memory.result.now.bytes c.start_of-start.result c.args.get.now.len })) c.args.caller c.args.parts.now c.index-parts-caller.result c.add_get.new.self c.add_get.result (rw c.requires.parts c.requires.caller) c.index-parts-caller.is (rw c.index-parts-caller.is c.add_get.ensures.ok))
 
 pub start_of-start-requires-clause-target : goal.start_of-start-requires-clause-target
 start_of-start-requires-clause-target g c = c.requires.target

@@ -1,6 +1,6 @@
 use Rattle.std.proofs.Common.{◌≡◌, length, drop}
 use Rattle.node_core.specs.declared.state.State.TheVariants.{Synced}
-use Rattle.bsp_exchange.specs.Parts.{patches_of, LieIn, with_patches}
+use Rattle.bsp_exchange.specs.Parts.{patches_of, OwnsEach, with_patches}
 use Rattle.bsp_exchange.proofs.Patches.{bytes_in}
 use Rattle.bsp_exchange.proofs.landings.Landings.land.Given as goal
 
@@ -9,6 +9,6 @@ abbrev pub invariant-loop-range : goal.invariant-loop-range
 invariant-loop-range g l = record {
   covered : bytes_in (drop l.range-index l.range-items) ≡ length l.rest;
   synced : l.node.node.state ≡ Synced;
-  within : LieIn (length l.node.node.hart.memory) (patches_of (drop l.range-index l.range-items) l.rest);
+  own : OwnsEach l.node.own (patches_of (drop l.range-index l.range-items) l.rest);
   same : record l.node { node = with_patches (patches_of (drop l.range-index l.range-items) l.rest) l.node.node } ≡ record l.initial.node { node = with_patches (patches_of l.range-items l.initial.rest) l.initial.node.node };
 }

@@ -7,7 +7,7 @@ use Rattle.bsp_exchange.proofs.part.Part.add_get.Goals as goal
 pub returns : goal.returns
 returns g c =
     let part = c.self.inside in
-    let patch : Patch = record { addr = c.args.addr; bytes = bytes_at c.args.memory.now c.args.from c.args.len } in
+    let patch : Patch = record { addr = c.args.addr; bytes = bytes_at c.args.memory.now.bytes c.args.from c.args.len } in
     record {
       ok =
           on_ok_weaker c.push_copy_of.result

@@ -98,6 +98,7 @@ IsNode-exchanged all n sound waits =
       within = sound.within;
       has_ticks_left = λ running. state_at-running Running n.ticks n.limit running sound.within;
       has_stepped = λ _. stepped;
+      is_fresh = λ none. absurd (omega (arith, none, stepped));
     }
 
 IsCommunication-exchanged : (queue : List Message) (nprocs size : ℕ) (c : Communication) → IsCommunication nprocs size c → length queue < 2 ^ 32 → All IsShort queue → IsCommunication nprocs size (next_communication queue c)

@@ -23,6 +23,7 @@ module _ (image : Image) (s : Settings) where
       within = omega arith;
       has_ticks_left = λ _. range.ticks;
       has_stepped = λ stopped. absurd cc;
+      is_fresh = λ _. refl;
     };
     hart = record {
       ranked = within;

@@ -1,13 +1,17 @@
 -- Settings without a fault, and the nodes that they ask for.
-use Rattle.std.proofs.Common.{◌≡◌, ℕ, ◌≤◌, false, List, [], ◌∷◌, map, replicate, None, refl, ap, ap₂, ◌∙◌, arith}
+use Rattle.std.proofs.Common.{◌≡◌, ℕ, ◌+◌, ◌<◌, ◌≤◌, false, List, [], ◌∷◌, ◌++◌, length, map, replicate, get_or, None, refl, sym, ap, ap₂, ◌∙◌, arith}
 use Rattle.std.specs.List.{range_with_len}
+use Rattle.std.proofs.lemmas.List.{length-map, map-append}
+use Rattle.std.proofs.lemmas.List.FromFn.{length-map-range_with_len, get_or-map-range_with_len, map-range_with_len_more}
+use Rattle.std.proofs.lemmas.Option.{get_or_from_slice_get}
 use Rattle.node_memory.specs.Image.{Image, is_segment_outside}
 use Rattle.node_core.specs.Node.{NodeState, PreparedNode, start_node}
-use Rattle.bsp_exchange.specs.Exchange.{states, unprepared}
+use Rattle.bsp_exchange.specs.Exchange.{states}
 use Rattle.cost_ledger.specs.declared.CostRow.{CostRow}
 use Rattle.machine_core.specs.declared.settings.Settings.{Settings}
 use Rattle.machine_core.specs.Machine.{MachineState, fresh, settings_fault, machine_fault, start_nodes}
 use Rattle.machine_core.specs.Sound.{AreInRange}
+use Rattle.machine_core.proofs.States.{state_at_place}
 
 pub settings_fault-nodes : (s : Settings) → settings_fault s ≡ None → 1 ≤ s.nodes
 settings_fault-nodes s good = grind arith
@@ -24,21 +28,32 @@ AreInRange-from s good = record {
   limit = grind arith;
 }
 
--- the node of a rank, for whose turn no room is made
-abbrev pub new_node : Image → Settings → ℕ → PreparedNode
-new_node image s rank = record { node = start_node image rank s.nodes s.memory s.limit; ready = false }
+-- the node of a rank
+abbrev pub new_node : Image → Settings → ℕ → NodeState
+new_node image s rank = start_node image rank s.nodes s.memory s.limit
 
-new_nodes-of : (image : Image) (s : Settings) (ranks : List ℕ) → map (new_node image s) ranks ≡ unprepared (map (λ rank. start_node image rank s.nodes s.memory s.limit) ranks)
-new_nodes-of image s [] = refl
-new_nodes-of image s (rank ∷ ranks) = ap (λ (ps : List PreparedNode). new_node image s rank ∷ ps) (new_nodes-of image s ranks)
+-- the nodes of the first ranks
+abbrev pub AreFirst : Image → Settings → List PreparedNode → ℕ → Type 0
+AreFirst image s ps k = states ps ≡ map (new_node image s) (range_with_len 0 k)
 
--- the nodes of the ranks below the settings' number are all of them
-pub new_nodes-all : (image : Image) (s : Settings) (k : ℕ) → k ≡ s.nodes → map (new_node image s) (range_with_len 0 k) ≡ unprepared (start_nodes image s)
-new_nodes-all image s k all = ap (λ n. map (new_node image s) (range_with_len 0 n)) all ∙ new_nodes-of image s (range_with_len 0 s.nodes)
+pub length-first : (image : Image) (s : Settings) (ps : List PreparedNode) (k : ℕ) → AreFirst image s ps k → length ps ≡ k
+length-first image s ps k are =
+    sym (length-map ps (λ (p : PreparedNode). p.node)) ∙ ap length are ∙ length-map-range_with_len (new_node image s) 0 k
 
-pub states-unprepared : (nodes : List NodeState) → states (unprepared nodes) ≡ nodes
-states-unprepared [] = refl
-states-unprepared (n ∷ nodes) = ap (λ (ns : List NodeState). n ∷ ns) (states-unprepared nodes)
+-- of these, the node of rank 0
+pub first_of : (image : Image) (s : Settings) (ps : List PreparedNode) (k : ℕ) (p : PreparedNode) → 0 < k → AreFirst image s ps k → 0 < length ps → p ≡ get_or ps 0 p → p.node ≡ new_node image s 0
+first_of image s ps k p some are within is =
+    sym (get_or_from_slice_get (states ps) 0 p.node p.node (state_at_place ps 0 p within is))
+    ∙ ap (λ (ns : List NodeState). get_or ns 0 p.node) are
+    ∙ get_or-map-range_with_len (new_node image s) 0 k 0 0 p.node some refl
+
+-- one more
+pub first_more : (image : Image) (s : Settings) (ps qs : List PreparedNode) (k : ℕ) (p : PreparedNode) → AreFirst image s ps k → qs ≡ ps ++ p ∷ [] → p.node ≡ new_node image s k → AreFirst image s qs (k + 1)
+first_more image s ps qs k p are more is =
+    ap states more
+    ∙ map-append (λ (q : PreparedNode). q.node) ps (p ∷ [])
+    ∙ ap₂ (λ (ns : List NodeState) (n : NodeState). ns ++ n ∷ []) are is
+    ∙ sym (map-range_with_len_more (new_node image s) 0 k k (omega arith))
 
 pub machine_fault-none : (image : Image) (s : Settings) → settings_fault s ≡ None → is_segment_outside image s.memory ≡ false → machine_fault image s ≡ None
 machine_fault-none image s good fits = rw (good, fits) refl
@@ -47,9 +62,8 @@ abbrev parts : Settings → List ℕ → List NodeState → List ℕ → List �
 parts s input nodes started output ledger = record { settings = s; input = input; nodes = nodes; started = started; output = output; ledger = ledger; exchanges = 0; outcome = None }
 
 -- a machine made of these parts is a fresh one
-pub fresh-parts : (image : Image) (s : Settings) (input input' : List ℕ) (ps : List PreparedNode) (started output : List ℕ) (ledger : List CostRow) → ps ≡ unprepared (start_nodes image s) → started ≡ replicate s.nodes 0 → input' ≡ input → output ≡ [] → ledger ≡ [] → record { settings = s; input = input'; nodes = states ps; started = started; output = output; ledger = ledger; exchanges = 0; outcome = None } ≡ fresh image input s
+pub fresh-parts : (image : Image) (s : Settings) (input input' : List ℕ) (ps : List PreparedNode) (started output : List ℕ) (ledger : List CostRow) → states ps ≡ start_nodes image s → started ≡ replicate s.nodes 0 → input' ≡ input → output ≡ [] → ledger ≡ [] → record { settings = s; input = input'; nodes = states ps; started = started; output = output; ledger = ledger; exchanges = 0; outcome = None } ≡ fresh image input s
 fresh-parts image s input input' ps started output ledger ps_is started_is input_is output_is ledger_is =
-    let nodes_is = ap states ps_is ∙ states-unprepared (start_nodes image s) in
-    ap₂ (λ (ns : List NodeState) (ts : List ℕ). parts s input' ns ts output ledger) nodes_is started_is
+    ap₂ (λ (ns : List NodeState) (ts : List ℕ). parts s input' ns ts output ledger) ps_is started_is
     ∙ ap₂ (λ (is os : List ℕ). parts s is (start_nodes image s) (replicate s.nodes 0) os ledger) input_is output_is
     ∙ ap (λ (rs : List CostRow). parts s input (start_nodes image s) (replicate s.nodes 0) [] rs) ledger_is

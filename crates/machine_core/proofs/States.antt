@@ -75,10 +75,10 @@ module _ (input : List ℕ) (ps : List PreparedNode) (rank : ℕ) (p q : Prepare
       ∙ ap (λ (n : NodeState). slice_set (states ps) rank n) (made ∙ ap (λ (x : PreparedNode). local_step input x.node) (sym is))
       ∙ sym (stepped-found input rank (states ps) p.node (state_at_place ps rank p within is))
 
-  pub states-same : q ≡ get_or ps rank p → states (slice_set ps rank q) ≡ states ps
+  pub states-same : q.node ≡ (get_or ps rank p).node → states (slice_set ps rank q) ≡ states ps
   states-same same =
       states-slice_set ps rank q
-      ∙ ap (λ (x : PreparedNode). slice_set (states ps) rank x.node) (same ∙ sym is)
+      ∙ ap (λ (n : NodeState). slice_set (states ps) rank n) (same ∙ ap (λ (x : PreparedNode). x.node) (sym is))
       ∙ slice_set-same (states ps) rank p.node (state_at_place ps rank p within is)
 
   -- the node that was put in its place is the one that is found there

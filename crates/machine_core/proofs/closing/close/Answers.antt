@@ -4,7 +4,6 @@ use Rattle.bsp_exchange.specs.Faults.{exchange_fault}
 use Rattle.machine_core.specs.declared.outcome.Outcome.TheVariants.{Refused}
 use Rattle.machine_core.proofs.Closings.{outcome-exchange}
 use Rattle.machine_core.proofs.Options.{none_from}
-use Rattle.machine_core.proofs.Starts.{states-unprepared}
 use Rattle.machine_core.proofs.closing.close.Goals as goal
 
 pub returns-in-Ok-clause-ok : goal.returns-in-Ok-clause-ok
@@ -12,7 +11,7 @@ returns-in-Ok-clause-ok g c =
     let nodes = states c.args.nodes.now in
     let fine : exchange_fault nodes ≡ None = none_from (exchange_fault nodes) (λ fault is. let refused = (c.in-Ok.ensures.fault fault).1 is in cc) in (
       outcome-exchange c.args.nodes.now (c.in_default.ensures.stopped refl) (c.in_default.ensures.ended refl) ∙ ap (option_map Refused) fine,
-      ap states c.in-Ok.ensures.ok ∙ states-unprepared (exchanged nodes),
+      c.in-Ok.ensures.ok,
       c.in-Ok.ensures.traffic,
     )
 

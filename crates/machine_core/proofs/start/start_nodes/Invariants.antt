@@ -1,11 +1,11 @@
-use Rattle.std.proofs.Common.{◌≡◌, ◌<◌, map, false}
-use Rattle.std.specs.List.{range_with_len}
+use Rattle.std.proofs.Common.{◌≡◌, ◌≤◌, false}
 use Rattle.node_memory.specs.Image.{is_segment_outside}
-use Rattle.machine_core.proofs.Starts.{new_node}
+use Rattle.machine_core.proofs.Starts.{AreFirst}
 use Rattle.machine_core.proofs.start.start_nodes.Given as goal
 
+-- the nodes of the ranks below this one are there
 abbrev pub invariant-loop-rank : goal.invariant-loop-rank
 invariant-loop-rank g l = record {
-  made : l.nodes.items ≡ map (new_node l.image l.settings) (range_with_len 0 l.rank);
-  fits : 0 < l.rank → is_segment_outside l.image l.settings.memory ≡ false;
+  some : 1 ≤ l.rank;
+  made : AreFirst l.image l.settings l.nodes.items l.rank;
 }

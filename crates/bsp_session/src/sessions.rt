@@ -42,7 +42,7 @@ pub const INPUT_BYTES: usize = 1 << 24;
 ///
 /// [`SessionError::NoWorker`] is answered where a thread could not be started, and else [`SessionError::NoMemory`] where a request
 /// for memory was refused. Nothing is written then.
-pub fn session<T: Threads + Wait + Sync, A: Allocator + Copy + Send, I: Read, R: Read, W: Write>(
+pub fn session<T: Threads + Wait + Sync, A: Allocator + Copy + Send + Sync, I: Read, R: Read, W: Write>(
     rt: &T,
     alloc: A,
     image: &mut Counted<I>,
@@ -99,7 +99,7 @@ fn check_job(job: &Job) -> Result<(), SessionError>
 }
 
 /// Runs the program that the bytes of a file give, and then writes its report.
-fn run_and_report<T: Threads + Wait + Sync, A: Allocator + Copy + Send, W: Write>(
+fn run_and_report<T: Threads + Wait + Sync, A: Allocator + Copy + Send + Sync, W: Write>(
     rt: &T,
     alloc: A,
     file: &[u8],
@@ -126,7 +126,7 @@ fn run_and_report<T: Threads + Wait + Sync, A: Allocator + Copy + Send, W: Write
 
 /// Runs the program that the bytes of a file give: its outcome, the machine at its end, and the lines that follow the
 /// machine's output in the report.
-fn run_file<T: Threads + Wait + Sync, A: Allocator + Copy + Send>(
+fn run_file<T: Threads + Wait + Sync, A: Allocator + Copy + Send + Sync>(
     rt: &T,
     alloc: A,
     file: &[u8],
@@ -165,7 +165,7 @@ pub(crate) fn machine_of<A: Allocator + Copy>(
 }
 
 /// Runs a machine to its outcome, in as many threads as the job has workers.
-fn run_to_outcome<T: Threads + Wait + Sync, A: Allocator + Copy + Send>(
+fn run_to_outcome<T: Threads + Wait + Sync, A: Allocator + Copy + Send + Sync>(
     rt: &T,
     machine: &mut Machine<A>,
     job: &Job,

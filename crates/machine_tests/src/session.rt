@@ -92,7 +92,7 @@ fn reported(job: Job) -> Job {
 }
 
 // A session over a writer of its own, whose bytes `holder` holds: its answer, and what it wrote.
-fn run<T: Threads + Wait + Sync, A: Allocator + Copy + Send, I: Read + Drop, R: Read + Drop>(
+fn run<T: Threads + Wait + Sync, A: Allocator + Copy + Send + Sync, I: Read + Drop, R: Read + Drop>(
     rt: &T,
     alloc: A,
     holder: Global,

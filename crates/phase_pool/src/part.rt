@@ -44,7 +44,7 @@ impl<'a, A: Allocator> Promise<Worked<A>> for WorkOn<'a, A> {
 /// A half whose thread cannot be started is worked on here, and nodes for which no room is to be had stay together. So every
 /// node is worked on, whatever is refused.
 #[cycle(parts)]
-pub(crate) fn work_on<R: Threads + Wait + Sync, A: Allocator + Copy + Send, G: Gate<A> + Sync>(
+pub(crate) fn work_on<R: Threads + Wait + Sync, A: Allocator + Copy + Send + Sync, G: Gate<A> + Sync>(
     rt: &R,
     gate: &G,
     input: &[u8],
@@ -71,7 +71,7 @@ pub(crate) fn work_on<R: Threads + Wait + Sync, A: Allocator + Copy + Send, G: G
 
 /// Takes both halves of nodes through their local parts, the second in a thread of its own.
 #[cycle(parts)]
-fn work_in_halves<R: Threads + Wait + Sync, A: Allocator + Copy + Send, G: Gate<A> + Sync>(
+fn work_in_halves<R: Threads + Wait + Sync, A: Allocator + Copy + Send + Sync, G: Gate<A> + Sync>(
     rt: &R,
     gate: &G,
     input: &[u8],
@@ -88,7 +88,7 @@ fn work_in_halves<R: Threads + Wait + Sync, A: Allocator + Copy + Send, G: Gate<
         thread::scope_env(),
         rt,
         |scope| -> Worked<A>
-            requires { IsSync R.row × IsSync G.row × IsSend A.row × Frees A.Allocator A.dealloc_token
+            requires { IsSync R.row × IsSync G.row × IsSend A.row × IsSync A.row × Frees A.Allocator A.dealloc_token
                 × AreHalves parts (vec_len nodes) (vec_len others) (vec_capacity nodes) }
             ensures { IsWorked input.entry.now
                 (states (nodes.items ++ others.items)) (states result.nodes.items) result.answer
@@ -99,7 +99,7 @@ fn work_in_halves<R: Threads + Wait + Sync, A: Allocator + Copy + Send, G: Gate<
                 input,
             };
             let there = move || -> Worked<A>
-                requires { IsSync R.row × IsSync G.row × IsSend A.row × Frees A.Allocator A.dealloc_token
+                requires { IsSync R.row × IsSync G.row × IsSend A.row × IsSync A.row × Frees A.Allocator A.dealloc_token
                     × (1 < parts) × (parts / 2 ≤ vec_len others) }
                 ensures { IsWorked input.entry.now
                     (states others.items) (states result.nodes.items) result.answer }

@@ -28,7 +28,7 @@ use std::thread::Threads;
 /// The first that applies of [`PoolError::BadWorkers`] and [`PoolError::BadSlice`], at which nothing has changed. Then
 /// [`PoolError::NoWorker`] where a thread could not be started, else [`PoolError::NoMemory`] where memory was refused, for a half of
 /// the row or in a step. At both the nodes keep the steps that they made, and a call made again leaves what this one would have left.
-pub fn run_phase<R: Threads + Wait + Sync, A: Allocator + Copy + Send, G: Gate<A> + Sync>(
+pub fn run_phase<R: Threads + Wait + Sync, A: Allocator + Copy + Send + Sync, G: Gate<A> + Sync>(
     rt: &R,
     machine: &mut Machine<A>,
     workers: u32,
@@ -62,7 +62,7 @@ pub fn run_phase<R: Threads + Wait + Sync, A: Allocator + Copy + Send, G: Gate<A
 /// # Errors
 /// As [`run_phase`], and [`PoolError::NoMemory`] where memory was refused in a turn. At `NoWorker` and `NoMemory` no turn is made
 /// any more; the steps and turns before stand, and a call made again leaves what this one would have left.
-pub fn run<R: Threads + Wait + Sync, A: Allocator + Copy + Send, G: Gate<A> + Sync>(
+pub fn run<R: Threads + Wait + Sync, A: Allocator + Copy + Send + Sync, G: Gate<A> + Sync>(
     rt: &R,
     machine: &mut Machine<A>,
     workers: u32,
@@ -95,7 +95,7 @@ pub fn run<R: Threads + Wait + Sync, A: Allocator + Copy + Send, G: Gate<A> + Sy
 
 /// Makes the local parts of a machine's nodes. The machine is taken out of its place for as long as its row is lent, and is back
 /// in it, with its row, at any answer.
-fn make_local_parts<R: Threads + Wait + Sync, A: Allocator + Copy + Send, G: Gate<A> + Sync>(
+fn make_local_parts<R: Threads + Wait + Sync, A: Allocator + Copy + Send + Sync, G: Gate<A> + Sync>(
     rt: &R,
     machine: &mut Machine<A>,
     workers: u32,
@@ -107,14 +107,14 @@ fn make_local_parts<R: Threads + Wait + Sync, A: Allocator + Copy + Send, G: Gat
         machine,
         workers,
         |machine: Machine<A>, workers: u32| -> (Machine<A>, Result<(), Refusal>)
-            requires { IsSync R.row × IsSync G.row × IsSend A.row × Frees A.Allocator A.dealloc_token }
+            requires { IsSync R.row × IsSync G.row × IsSend A.row × IsSync A.row × Frees A.Allocator A.dealloc_token }
             ensures { IsPhaseMade workers machine result.0 result.1 }
         { work_on_machine(rt, gate, workers, machine) },
     )
 }
 
 /// A machine whose row was lent to threads, and what they were refused.
-fn work_on_machine<R: Threads + Wait + Sync, A: Allocator + Copy + Send, G: Gate<A> + Sync>(
+fn work_on_machine<R: Threads + Wait + Sync, A: Allocator + Copy + Send + Sync, G: Gate<A> + Sync>(
     rt: &R,
     gate: &G,
     workers: u32,

@@ -13,7 +13,7 @@ work_in_halves-scope-put_together-requires g t c =
     let there = rw (c.in-Ok.ensures.ok, c.of.ensures) at c.join.ensures in
     let here = IsWorked-length _ c.captures.nodes.items c.work_on-here.result.nodes.items _ c.work_on-here.ensures.work in
     let others = IsWorked-length _ c.captures.others.items c.join.result.nodes.items _ there in
-    omega (arith, here, others, c.requires.4.fits, c.work_on-here.ensures.room, c.captures.nodes.ok.0, c.captures.others.ok.0, c.work_on-here.result.nodes.ok.0, c.join.result.nodes.ok.0)
+    omega (arith, here, others, c.requires.5.fits, c.work_on-here.ensures.room, c.captures.nodes.ok.0, c.captures.others.ok.0, c.work_on-here.result.nodes.ok.0, c.join.result.nodes.ok.0)
 
 pub work_in_halves-scope-put_together-whole-requires :
     goal.work_in_halves-scope-put_together-whole-requires
@@ -21,7 +21,7 @@ work_in_halves-scope-put_together-whole-requires g t c =
     let there = rw c.in-Err.ensures.err at c.there.ensures in
     let here = IsWorked-length _ c.captures.nodes.items c.work_on-here-in-Err.result.nodes.items _ c.work_on-here-in-Err.ensures.work in
     let others = IsWorked-length _ c.captures.others.items c.there.result.nodes.items _ there in
-    omega (arith, here, others, c.requires.4.fits, c.work_on-here-in-Err.ensures.room, c.captures.nodes.ok.0, c.captures.others.ok.0, c.work_on-here-in-Err.result.nodes.ok.0, c.there.result.nodes.ok.0)
+    omega (arith, here, others, c.requires.5.fits, c.work_on-here-in-Err.ensures.room, c.captures.nodes.ok.0, c.captures.others.ok.0, c.work_on-here-in-Err.result.nodes.ok.0, c.there.result.nodes.ok.0)
 
 pub work_in_halves-scope-returns-in-Ok : goal.work_in_halves-scope-returns-in-Ok
 work_in_halves-scope-returns-in-Ok g t c =
@@ -53,4 +53,4 @@ work_on-returns-in-Ok-clause-work g t c =
     c.in-Ok.ensures.items c.in-Ok.ensures.tail c.work_in_halves.ensures.work
 
 pub work_in_halves-scoped-requires : goal.work_in_halves-scoped-requires
-work_in_halves-scoped-requires g t c = record { at = λ a. (search rules, ((λ x m. m), ((λ x m. m), ((λ x m. m), ((search rules, search rules, search rules, search rules, c.requires), (search rules, search rules, search rules, search rules)))))) }
+work_in_halves-scoped-requires g t c = record { at = λ a. (search rules, ((λ x m. m), ((λ x m. m), ((λ x m. m), ((search rules, search rules, search rules, search rules, search rules, c.requires), (search rules, search rules, search rules, search rules, search rules)))))) }

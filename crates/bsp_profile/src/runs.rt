@@ -19,7 +19,7 @@ use std::thread::Threads;
 /// # Errors
 /// As [`phase_pool::run`]; [`PoolError::NoMemory`] is also answered where the profile was refused memory. The profile has then
 /// the lines of the supersteps that are over, and the call made again with it appends those that are left.
-pub fn run<R: Threads + Wait + Sync, A: Allocator + Copy + Send, G: Gate<A> + Sync>(
+pub fn run<R: Threads + Wait + Sync, A: Allocator + Copy + Send + Sync, G: Gate<A> + Sync>(
     rt: &R,
     machine: &mut Machine<A>,
     workers: u32,

@@ -33,7 +33,7 @@ use std::thread::Threads;
 /// bytes of it, and not all, were written; the report was written whole then. The profile is made whole before anything is written.
 pub fn profile_session<
     T: Threads + Wait + Sync,
-    A: Allocator + Copy + Send,
+    A: Allocator + Copy + Send + Sync,
     I: Read,
     R: Read,
     W: Write,
@@ -72,7 +72,7 @@ pub fn profile_session<
 }
 
 /// Runs the program that the bytes of a file give, and then writes its report and its profile.
-fn profile_and_report<T: Threads + Wait + Sync, A: Allocator + Copy + Send, W: Write, P: Write>(
+fn profile_and_report<T: Threads + Wait + Sync, A: Allocator + Copy + Send + Sync, W: Write, P: Write>(
     rt: &T,
     alloc: A,
     file: &[u8],
@@ -103,7 +103,7 @@ fn profile_and_report<T: Threads + Wait + Sync, A: Allocator + Copy + Send, W: W
 
 /// Runs the program that the bytes of a file give: its outcome, the machine at its end, the lines that follow the machine's
 /// output in the report, and the profile.
-fn profile_file<T: Threads + Wait + Sync, A: Allocator + Copy + Send>(
+fn profile_file<T: Threads + Wait + Sync, A: Allocator + Copy + Send + Sync>(
     rt: &T,
     alloc: A,
     file: &[u8],
@@ -127,7 +127,7 @@ fn profile_file<T: Threads + Wait + Sync, A: Allocator + Copy + Send>(
 }
 
 /// Runs a machine to its outcome, in as many threads as the job has workers, and takes its profile.
-fn profile_to_outcome<T: Threads + Wait + Sync, A: Allocator + Copy + Send>(
+fn profile_to_outcome<T: Threads + Wait + Sync, A: Allocator + Copy + Send + Sync>(
     rt: &T,
     machine: &mut Machine<A>,
     job: &Job,

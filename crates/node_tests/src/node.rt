@@ -8,6 +8,8 @@ use std::alloc::{AllocError, Allocator};
 use std::process::Abort;
 use std::test::Fail;
 
+mod pages;
+
 // The limit of a node's ticks.
 const LIMIT: u64 = 1_000_000;
 
@@ -25,10 +27,14 @@ const PRINTS_ITS_RANK: [u32; 10] = [
     0x0000_0073, // ecall
 ];
 
-// An image that has that program at address 0.
-fn image<A: Allocator + Copy>(rt: &impl Abort, alloc: A) -> Result<Image<A>, AllocError> {
+// An image that has these words at address 0.
+fn image<A: Allocator + Copy>(
+    rt: &impl Abort,
+    alloc: A,
+    words: &[u32],
+) -> Result<Image<A>, AllocError> {
     let mut bytes = Vec::new(alloc);
-    for word in &PRINTS_ITS_RANK {
+    for word in words {
         bytes.extend_from_slice(&word.to_le_bytes())?;
     }
     assert!(rt; bytes.len() <= 0x1000);
@@ -62,7 +68,7 @@ fn expect_start<A: Allocator + Copy>(rt: &impl Abort, node: &Node<A>) {
 
 #[test]
 fn a_node_starts_with_its_image_and_runs(rt: HostRuntime) -> Result<(), Fail> {
-    let image = image(&rt, rt.alloc())?;
+    let image = image(&rt, rt.alloc(), &PRINTS_ITS_RANK)?;
     let mut node = Node::new(rt.alloc(), &image, 2, 3, 0x1000, LIMIT)?;
     expect_stop(&rt, &node, State::Running, 0, 0);
     expect_start(&rt, &node);
@@ -75,7 +81,7 @@ fn a_node_starts_with_its_image_and_runs(rt: HostRuntime) -> Result<(), Fail> {
 #[test]
 fn a_node_that_is_refused_memory_is_not_made(rt: HostRuntime) -> Result<(), Fail> {
     let heap = RefusingAllocator::new(rt.alloc());
-    let image = image(&rt, &heap)?;
+    let image = image(&rt, &heap, &PRINTS_ITS_RANK)?;
     heap.refuse_from_nth(1);
     let refused = Node::new(&heap, &image, 0, 1, 0x1000, LIMIT);
     assert!(rt; refused.err() == Some(MemoryError::NoMemory));

@@ -42,7 +42,8 @@ pub struct Start {
     pub data: &'static [(u32, &'static [u8])],
 }
 
-/// Puts, gets, sends with tags and registers in a superstep, with a queue from the one before.
+/// Puts, gets, sends with tags and registers in a superstep, with a queue from the one before. What lands comes into pages that are
+/// shared until then, and a get over the edge of two of them.
 const ASKS_FOR_ALL: &[Call] = &[
     SetTagsize(0x1000),
     PushReg(0x2000, 8),
@@ -53,7 +54,7 @@ const ASKS_FOR_ALL: &[Call] = &[
     PushReg(0x3000, 4),
     Put(0, 0x1100, 0x2000, 0, 4),
     Put(1, 0x1100, 0x2000, 1, 4),
-    Get(0, 0x2000, 4, 0x1200, 4),
+    Get(0, 0x2000, 4, 0x2FFE, 4),
     Get(1, 0x2000, 4, 0x1204, 4),
     Send(0, 0x1100, 0x1100, 3),
     Send(1, 0x1100, 0x1100, 3),

@@ -34,8 +34,9 @@ pub struct Traffic {
 ///
 /// # Errors
 /// The first fault that applies (own order): nodes that do not agree on the next tag size, nodes that did not make the same pushes
-/// and pops, a put or a get that does not keep to its area. Then `NoMemory`, where memory was refused. Whatever is answered, no node
-/// has changed then, and the exchange can be made again.
+/// and pops, a put or a get that does not keep to its area. Then `NoMemory`, where memory was refused: for what is gathered, for turns,
+/// or for copies of the pages into which bytes come. Whatever is answered, no node has changed then, though pages may have become its
+/// own, and the exchange can be made again.
 pub fn exchange<A: Allocator + Copy>(
     alloc: A,
     nodes: &mut [Node<A>],

@@ -18,11 +18,12 @@
 //!   ticks and the place in the input stay.
 //! - `h` is the most bytes that one node sent or received, with tags, and with what it moved to itself (own rules).
 //! - Whatever is answered but Ok, every node is as it was, also where memory is refused: all memory is taken before the first byte
-//!   lands. An exchange that was refused memory can be made again.
+//!   lands, that for copies of the shared pages into which bytes come too. Pages that were copied by then stay the nodes' own, which no
+//!   byte shows. An exchange that was refused memory can be made again.
 //! - [`laws`]: the greatest key counts, and no order of landing but that of the keys matters.
 //!
 //! Time grows as the requests and the bytes that they move. A byte that a get or a put moves is copied once beside the copy that
-//! lands.
+//! lands; and a page into which it comes is copied once, where it is shared until then.
 #![tactic(auto)]
 
 mod barrier;

@@ -59,7 +59,8 @@ impl<A: Allocator> Model for Machine<A> {
 }
 
 impl<A: Allocator + Copy> Machine<A> {
-    /// A machine at the start of its first superstep, with the image in each node's memory. The input is copied.
+    /// A machine at the start of its first superstep, with the image in each node's memory. The nodes share it, page by page, until they
+    /// write there; the input is copied.
     ///
     /// # Errors
     /// The first that applies of [`MachineError`]'s, in their order.
@@ -101,7 +102,8 @@ impl<A: Allocator + Copy> Machine<A> {
     ///
     /// # Errors
     /// Where memory is refused, which can be at an enabled event alone, and at a step only where the node's own step can be
-    /// refused. Nothing has changed then, and the event can be made again.
+    /// refused: at a store, and at a call that stores, registers, asks or writes. Nothing has changed then, and the event can be made
+    /// again.
     pub fn apply(&mut self, event: Event) -> Result<bool, AllocError>
         ensures ok { OnOk result (self.new ≡ event_of self.old event) }
         ensures enabled { IfOk result (λ made. made ≡ is_enabled self.old event) }

@@ -216,7 +216,7 @@ fn a_refused_request_is_no_memory(rt: HostRuntime) -> Result<(), Fail> {
         }
         met = request;
     }
-    // The image, the input, the image's segment, the list of nodes, and each node's memory and output.
+    // The image, the input, the image's segment, the list of nodes, and each node's table of pages, page and output.
     assert!(rt; met >= 10 && met < 99);
     Ok(())
 }

@@ -1,10 +1,10 @@
 //! A node of the machine: a hart of RV32IM with a memory of its own, which makes environment calls by ECALL.
 //!
-//! The model of a [`Node`] is one record, a `NodeState`, and whether room is made for the turn of its registrations. The
-//! record has the hart (rank, number of nodes, registers, pc, memory, place in the input, and what the node communicates:
+//! The model of a [`Node`] is one record, a `NodeState`, with two notes beside it: whether room is made for the turn of its
+//! registrations, and which pages of its memory are its own and not shared with other nodes. The record has the hart (rank, number of nodes, registers, pc, memory, place in the input, and what the node communicates:
 //! registrations, requests with the output of this superstep, queue of messages, sizes of tags), the state, the ticks and
 //! their limit. [`Node::step`] is `local_step` of that record, and [`Node::run`] is `local_steps`, so many steps one after
-//! another. The input is the same text at each step, and no step looks at another node or at the room.
+//! another. The input is the same text at each step, and no step looks at another node or at the notes.
 //!
 //! What callers may rely on:
 //!
@@ -17,11 +17,15 @@
 //! - A node that has made its last tick and still runs is [`Exhausted`](State::Exhausted); one that stops by that very
 //!   step keeps the state in which it stopped.
 //! - `step` and `run` answer `Ok` for a node that does not run, and change nothing.
-//! - Memory is refused at the calls marked (m) alone, after all their checks. The step that needed it has then changed
-//!   nothing, ticks included, and can be made again; a run keeps the steps that it made before.
+//! - Memory is refused at stores and at the calls marked (m) alone, after all their checks. The step that needed it has then
+//!   changed nothing of the record, ticks included, and can be made again; a run keeps the steps that it made before.
+//! - A store takes memory where a page of its range is shared, for a copy of it. A page that is the memory's own stays so, and
+//!   a store over the edge of two pages owns both before it changes a byte.
+//! - [`Node::share`] gives the node of another rank, whose memory shares the pages of this one.
 //! - Room for the turn of the registrations, once made, stands until a step pushes or pops.
-//! - At the end of a superstep [`Node::prepare_turn`] makes that room, which may be refused; [`Node::land`] writes what an
-//!   exchange brings, and [`Node::finish_turn`] begins the next superstep. Each changes just what it names.
+//! - At the end of a superstep [`Node::prepare_turn`] makes that room, and [`Node::prepare_land`] makes the pages of a range
+//!   the node's own; both may be refused. Then [`Node::land`] writes what an exchange brings, and [`Node::finish_turn`] begins
+//!   the next superstep, which cannot be. Each changes just what it names.
 //! - [`laws`] has what holds of every node: steps leave it sound, keep its rank, the number of nodes, the size of its
 //!   memory and its limit, and add up; and as many steps as it has ticks left end its local part of the superstep.
 //!
@@ -40,14 +44,14 @@
 //! | 6 | `pop_reg(addr)` (m) | registered for the next superstep | ends the last registration of addr there |
 //! | 7, 9 | `put(pid, src, dst, offset, n)`, `hpput` (m) | rank, range of src, dst registered, room | copies the n bytes at src into a put |
 //! | 8, 10 | `get(pid, src, offset, dst, n)`, `hpget` (m) | rank, range of dst, src registered, room | makes a get |
-//! | 11 | `set_tagsize(addr)` | range of 4, size | the word at addr is the next tag size; the size in effect takes its place |
+//! | 11 | `set_tagsize(addr)` (m) | range of 4, size | the word at addr is the next tag size; the size in effect takes its place |
 //! | 12 | `send(pid, tag, payload, n)` (m) | rank, range of the tag, range of the payload, room | copies both into a message |
-//! | 13 | `qsize(packets, bytes)` | range of 4, range of 4 | stores the number of messages, then the sum of their payloads' lengths |
-//! | 14 | `get_tag(status, tag)` | range of 4; with a message, range of its tag | stores the first payload's length, then the tag; 2^32 - 1 where there is none |
-//! | 15 | `move(addr, n)` | with a message, range of k | copies the payload's first k bytes and removes the message |
+//! | 13 | `qsize(packets, bytes)` (m) | range of 4, range of 4 | stores the number of messages, then the sum of their payloads' lengths |
+//! | 14 | `get_tag(status, tag)` (m) | range of 4; with a message, range of its tag | stores the first payload's length, then the tag; 2^32 - 1 where there is none |
+//! | 15 | `move(addr, n)` (m) | with a message, range of k | copies the payload's first k bytes and removes the message |
 //! | 16 | `abort(addr, n)` (m) | range, room | the n bytes at addr go to the end of the output; the node is `Aborted` |
 //! | 17 | `write(addr, n)` (m) | range, room | the n bytes at addr go to the end of the output |
-//! | 18 | `read(addr, n)` | range of k | the next k bytes of the input go to addr; a0 is k |
+//! | 18 | `read(addr, n)` (m) | range of k | the next k bytes of the input go to addr; a0 is k |
 //!
 //! - range: the bytes lie in the memory, else `RangeOutside`. A range of no bytes may begin at its end.
 //! - rank: there is a node of that rank, else `BadRank`.

@@ -12,7 +12,7 @@
 //!   local part and all else as it was, and [`run`] leaves the machine at its end.
 //! - Every thread that was started is joined before a call answers.
 //! - A refusal stops no node that did not need what was refused: afterwards each node has stopped, or its next step may be refused
-//!   memory. The half of a thread that cannot be started is run by the thread that wanted it, and nodes for whose half no
+//!   memory, as a store into a page that is shared may. The half of a thread that cannot be started is run by the thread that wanted it, and nodes for whose half no
 //!   room is to be had stay with theirs. No turn is made after a refusal. Then the machine is one that events lead to, and the
 //!   call made again leaves what it would have left: see [`laws`].
 //! - After the outcome both calls answer `Ok` and change nothing, as long as the numbers are within their ranges.

@@ -58,7 +58,8 @@ fn a_refused_event_can_be_made_again(rt: HostRuntime) -> Result<(), Fail> {
             refusals = refusals.saturating_add(1);
         }
     }
-    assert!(rt; refusals == 2);
+    // The store and the output of each node.
+    assert!(rt; refusals == 4);
     assert!(rt; turn_again(&heap, &mut machine)?);
     assert!(rt; has_ended(&machine, Outcome::Ended, 10, b"01"));
     Ok(())

@@ -69,13 +69,14 @@ fn are_at<A: Allocator>(machine: &Machine<A>, state: State, ticks: u64) -> bool 
     true
 }
 
+// Each node comes to its store, which wants a copy of a page.
 #[test]
 fn nodes_that_need_no_memory_are_run_without_it(rt: HostRuntime) -> Result<(), Fail> {
     let heap = Heap::new(rt.alloc());
     let mut machine = machine(&rt, &heap, &PRINTS_AND_SYNCS, 3)?;
     heap.refuse_from_nth(1);
     let first = run_phase(&rt, &mut machine, 3, 1, &OpenGate);
-    let is_unmoved = machine.superstep() == 0 && are_at(&machine, State::Running, 7);
+    let is_unmoved = machine.superstep() == 0 && are_at(&machine, State::Running, 3);
     heap.refuse_nth(1);
     let second = run_phase(&rt, &mut machine, 3, 1, &OpenGate);
     assert!(rt; [first, second] == [Err(PoolError::NoMemory); 2]);

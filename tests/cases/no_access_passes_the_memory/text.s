@@ -1,4 +1,4 @@
-# Ranks 0 to 7 each reach past the memory by one access, so that they stop there and write nothing. The accesses of rank 8
+# Ranks 0 to 15 each reach past the memory by one access, so that they stop there and write nothing. The accesses of rank 16
 # end with the memory.
         li   a7, 3              # pid(): a0 is the rank
         ecall
@@ -11,13 +11,29 @@ access: lbu  t1, 0(s0)
         j    made
         lhu  t1, -1(s0)
         j    made
+        lhu  t1, 0(s0)
+        j    made
         lw   t1, -3(s0)
+        j    made
+        lw   t1, -2(s0)
+        j    made
+        lw   t1, -1(s0)
+        j    made
+        lw   t1, 0(s0)
         j    made
         sb   x0, 0(s0)
         j    made
         sh   x0, -1(s0)
         j    made
+        sh   x0, 0(s0)
+        j    made
         sw   x0, -3(s0)
+        j    made
+        sw   x0, -2(s0)
+        j    made
+        sw   x0, -1(s0)
+        j    made
+        sw   x0, 0(s0)
         j    made
         lw   t1, -1(x0)         # the last address of all
         j    made
@@ -35,4 +51,4 @@ made:   la   a0, text
         ecall
         li   a7, 1              # end()
         ecall
-text:   .ascii "8"
+text:   .ascii "w"

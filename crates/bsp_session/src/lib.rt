@@ -13,7 +13,7 @@
 //!   and the image fitted every node's memory. The whole report of the machine at its end was written, and nothing else.
 //! - An error is that of the first stage that failed: settings, image, input, machine, run, report. Bad settings are
 //!   answered exactly where a setting is out of its range, and then nothing was read. Where the image could not be read,
-//!   nothing of the input was. What is too long was read past its limit, and what could not be read within it.
+//!   nothing of the input was. At `TooLong` more than the limit was read, at `ReadFault` no more than that.
 //! - The report is whole before its first byte is written: every error but a fault of the writer leaves the writer as it
 //!   was, and after such a fault some first bytes of the report are written, and not all of them.
 //! - A fault of a reader or of the writer is answered only where more of its calls had failed than before.
@@ -26,11 +26,12 @@
 //!   whole before anything is written; it is written after the report. Only a fault of its own writer leaves a part of it.
 //! - Workers have no part in what is written: the report is that of the definitions, which know none.
 //!
-//! A session waits for its own threads alone. It ends if these and the calls of its readers and its writer do: a node makes at most as many steps as its limit of
-//! ticks, there is at most one superstep more than that, and an interrupted call is tried again for a bounded number of times.
-//! It takes the memory of the image once for all nodes, of a table of pages for each, and of each page that a node writes; and beside
-//! it that of the image's file, of the input twice, of the output, of a row of costs for each superstep, and where a report is asked for of a line for each of these; and for each further worker
-//! that of a thread's stack and of a list of its nodes.
+//! A session waits for its own threads alone. It ends if these and the calls of its readers and its writer do: a node makes at
+//! most as many steps as its limit of ticks, there is at most one superstep more than that, and an interrupted call is tried
+//! again for a bounded number of times. It takes the memory of the image once for all nodes, of a table of pages for each, and
+//! of each page that a node writes; and beside it that of the image's file, of the input twice, of the output, of a row of
+//! costs for each superstep, and where a report is asked for of a line for each of these; and for each further worker that of
+//! a thread's stack and of a list of its nodes.
 #![tactic(auto)]
 
 mod errors;

@@ -1,21 +1,18 @@
 -- What the rows of a superstep have to do with its costs.
-use Rattle.std.proofs.Common.{◌≡◌, ℕ, zero, suc, ◌+◌, ◌-◌, ◌<◌, ◌≤◌, ◌==◌, ◌&&◌, max, Bool, true, false, cond, eqb, List, [], ◌∷◌, ◌++◌, length, map, sym, ap, ap₂, subst, ◌∙◌, refl, arith, add-one, inl, inr}
+use Rattle.std.proofs.Common.{◌≡◌, ℕ, zero, suc, ◌+◌, ◌<◌, ◌≤◌, ◌==◌, ◌&&◌, max, Bool, true, false, List, [], ◌∷◌, length, map, sym, ap, ap₂, subst, ◌∙◌, refl, arith, add-one, inl, inr}
 use Rattle.std.specs.Prelude.{All, filter, sum_by, zip, if◌then◌else◌}
-use Rattle.std.specs.List.{fold, range_with_len}
+use Rattle.std.specs.List.{fold}
 use Rattle.std.proofs.lemmas.Bool.{cases_eq, cases_lt, eq-eqb, ne_eqb}
 use Rattle.std.proofs.lemmas.List.Elements.{All-head, All-tail}
 use Rattle.std.proofs.lemmas.List.Sums.{sum_by-cons}
 use Rattle.std.proofs.lemmas.Slice.Zip.{firsts-zip}
-use Rattle.bsp_requests.specs.Request.{Asked}
 use Rattle.node_core.specs.Node.{NodeState}
-use Rattle.bsp_exchange.specs.Parts.{target_of}
-use Rattle.bsp_exchange.specs.Traffic.{Transfer, transfer, transfers, bytes_sent, bytes_received, h_of}
+use Rattle.bsp_exchange.specs.Traffic.{Transfer, transfers, bytes_sent, bytes_received, h_of}
 use Rattle.machine_core.specs.Machine.{MachineState}
 use Rattle.machine_core.specs.Sound.{IsSoundMachine}
-use Rattle.machine_core.specs.Turn.{makes_exchange, work, cost_row}
+use Rattle.machine_core.specs.Turn.{makes_exchange, cost_row}
 use Rattle.bsp_profile.specs.declared.row.Row.{Row}
 use Rattle.bsp_profile.specs.Moves.{goes, moves, moved, moved_in, moved_out, others, row_of, rows}
-use Rattle.bsp_profile.specs.Tally.{IsNodeAmong}
 use Rattle.bsp_profile.proofs.Machines.{among}
 use Rattle.bsp_profile.proofs.Others.{others_no, others_yes}
 use Rattle.bsp_profile.proofs.Rows.{length-started}
@@ -197,8 +194,8 @@ none_greatest (x ∷ xs) = none_greatest xs
 nothing : (m : MachineState) (at : NodeState × ℕ) → makes_exchange m.nodes ≡ false → larger (row_of m at) ≡ 0
 nothing m at makes =
     ap (λ b. max
-        (moved_out (length m.nodes) (if b then transfers m.nodes else []) at.0.hart.rank + moved (if b then transfers m.nodes else []) at.0.hart.rank at.0.hart.rank)
-        (moved_in (length m.nodes) (if b then transfers m.nodes else []) at.0.hart.rank + moved (if b then transfers m.nodes else []) at.0.hart.rank at.0.hart.rank)) makes
+    (moved_out (length m.nodes) (if b then transfers m.nodes else []) at.0.hart.rank + moved (if b then transfers m.nodes else []) at.0.hart.rank at.0.hart.rank)
+    (moved_in (length m.nodes) (if b then transfers m.nodes else []) at.0.hart.rank + moved (if b then transfers m.nodes else []) at.0.hart.rank at.0.hart.rank)) makes
     ∙ ap (λ k. max (k + 0) (k + 0)) (none_sum (others (length m.nodes) at.0.hart.rank))
 
 pub traffic-h : (m : MachineState) → IsSoundMachine m → fold max 0 (map larger (rows m)) ≡ (cost_row m).h

@@ -1,5 +1,5 @@
 -- The report is written, and then the profile.
-use Rattle.std.proofs.Common.{◌≡◌, ◌∙◌, ap, sym, refl, subst, inl, inr, string_bytes}
+use Rattle.std.proofs.Common.{◌∙◌, ap, sym, refl, subst, inl, inr, string_bytes}
 use Rattle.std.specs.Io.KnownBytes.{Appends}
 use Rattle.std.proofs.lemmas.Result.{err_from_is_err_and}
 use Rattle.counted_io.specs.Transfers.{AppendsPrefix}

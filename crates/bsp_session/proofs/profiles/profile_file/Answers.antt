@@ -1,8 +1,8 @@
-use Rattle.std.proofs.Common.{◌≡◌, ◌++◌, ◌∙◌, ℕ, List, ap, ap₂, length, Err}
+use Rattle.std.proofs.Common.{◌++◌, ◌∙◌, ℕ, List, ap, ap₂, length, Err}
 use Rattle.std.proofs.lemmas.Result.{err_from_is_err_and}
 use Rattle.phase_pool.specs.declared.error.PoolError.{PoolError}
-use Rattle.bsp_profile.specs.Lines.{lines_of, profile_of}
-use Rattle.machine_core.specs.Machine.{MachineState, fresh}
+use Rattle.bsp_profile.specs.Lines.{lines_of}
+use Rattle.machine_core.specs.Machine.{MachineState}
 use Rattle.machine_core.specs.Turn.{end_of}
 use Rattle.bsp_session.proofs.Jobs.{IsErrorOfRun-of_pool, length-fresh, numbers_are_in_range}
 use Rattle.bsp_session.proofs.profiles.profile_file.Goals as goal

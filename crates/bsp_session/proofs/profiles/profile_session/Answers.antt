@@ -5,6 +5,7 @@ use Rattle.bsp_session.specs.Profiles.{IsErrorOfProfiled, Profiles}
 use Rattle.bsp_session.specs.Session.{ReadsBoth, Session, session_of}
 use Rattle.bsp_session.specs.Streams.{Stream, stream}
 use Rattle.bsp_session.proofs.ProfiledErrors.{unprofiled}
+use Rattle.bsp_session.proofs.SessionErrors.{IsErrorOf-files}
 use Rattle.bsp_session.proofs.profiles.profile_session.Goals as goal
 
 pub returns-in_err-file-clause-err : goal.returns-in_err-file-clause-err
@@ -14,14 +15,15 @@ returns-in_err-file-clause-err g c =
     let n = stream g.R.Read.remaining c.args.input.now c.read_both.new.input in
     let out = stream g.W.Write.contents c.args.out.now c.args.out.now in
     let profile = stream g.P.Write.contents c.args.profile.now c.args.profile.now in
-    rw (p.1, p.2) (unprofiled (session_of i n out c.args.job.now) profile c.in_err-file.field-0.0 (c.in_err-file.ensures.err out (record { bytes = refl; failures = refl })) (record { bytes = refl; failures = refl }))
+    let s : Session = session_of i n out c.args.job.now in
+    rw (p.1, p.2) (unprofiled s profile c.in_err-file.field-0.0 (IsErrorOf-files s _ c.in_err-file.ensures.err (record { bytes = refl; failures = refl })) (record { bytes = refl; failures = refl }))
 
 pub profile_and_report-requires-clause-settings : goal.profile_and_report-requires-clause-settings
-profile_and_report-requires-clause-settings g c = λ lifetimes bounds. (c.in_ok-file.ensures.ok (stream g.W.Write.contents c.args.out.now c.args.out.now)).settings
+profile_and_report-requires-clause-settings g c = λ lifetimes bounds. c.in_ok-file.ensures.ok.settings
 
 pub profile_and_report-requires-clause-limit : goal.profile_and_report-requires-clause-limit
 profile_and_report-requires-clause-limit g c = λ lifetimes bounds.
-    rw c.as_slice.ensures.value (c.in_ok-file.ensures.ok (stream g.W.Write.contents c.args.out.now c.args.out.now)).image_read.limited
+    rw c.as_slice.ensures.value c.in_ok-file.ensures.ok.image_read.limited
 
 pub returns-clause-ok : goal.returns-clause-ok
 returns-clause-ok g c =
@@ -30,7 +32,7 @@ returns-clause-ok g c =
     let s : Session = session_of i n (stream g.W.Write.contents c.args.out.now c.profile_and_report.new.out) c.args.job.now in
     let profile : Stream = stream g.P.Write.contents c.args.profile.now c.profile_and_report.new.profile in
     let both : ReadsBoth s c.as_slice.result.now c.as_slice-2.result.now =
-    rw (c.as_slice.ensures.value, c.as_slice-2.ensures.value) (c.in_ok-file.ensures.ok s.out) in
+    rw (c.as_slice.ensures.value, c.as_slice-2.ensures.value) c.in_ok-file.ensures.ok in
     IfOk-weaker c.profile_and_report.result (λ outcome. (i n : Stream) → ReadsBoth (session_of i n s.out s.job) c.as_slice.result.now c.as_slice-2.result.now → Profiles (session_of i n s.out s.job) profile outcome) (Profiles s profile)
     (λ outcome told. told i n both) c.profile_and_report.ensures.ok
 
@@ -41,6 +43,6 @@ returns-clause-err g c =
     let s : Session = session_of i n (stream g.W.Write.contents c.args.out.now c.profile_and_report.new.out) c.args.job.now in
     let profile : Stream = stream g.P.Write.contents c.args.profile.now c.profile_and_report.new.profile in
     let both : ReadsBoth s c.as_slice.result.now c.as_slice-2.result.now =
-    rw (c.as_slice.ensures.value, c.as_slice-2.ensures.value) (c.in_ok-file.ensures.ok s.out) in
+    rw (c.as_slice.ensures.value, c.as_slice-2.ensures.value) c.in_ok-file.ensures.ok in
     IfErr-weaker c.profile_and_report.result (λ e. (i n : Stream) → ReadsBoth (session_of i n s.out s.job) c.as_slice.result.now c.as_slice-2.result.now → IsErrorOfProfiled (session_of i n s.out s.job) profile e) (IsErrorOfProfiled s profile)
     (λ e told. told i n both) c.profile_and_report.ensures.err

@@ -1,4 +1,4 @@
-use Rattle.std.proofs.Common.{◌≡◌, ◌∙◌, ap, sym, refl, subst, string_bytes, List, ℕ, ◌++◌}
+use Rattle.std.proofs.Common.{◌∙◌, ap, sym, refl, subst, string_bytes}
 use Rattle.std.specs.Io.KnownBytes.{Appends}
 use Rattle.std.proofs.lemmas.Result.{err_from_is_err_and}
 use Rattle.counted_io.specs.Transfers.{AppendsPrefix}

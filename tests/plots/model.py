@@ -31,6 +31,11 @@ MEMORY = 1 << 20
 Bytes = Dict[Tuple[int, int], int]
 
 
+def is_fault(call: Call, node: Node) -> bool:
+    """Whether a call ended in the fault of its node."""
+    return node.state.startswith("fault ") and (call.node.pc, call.node.ticks + 1) == (node.pc, node.ticks)
+
+
 class Run:
     """A program with its settings, in the debugger."""
 
@@ -59,8 +64,10 @@ class Run:
         nodes = self.at_end(superstep.number)
         moved: Bytes = {}
         messages, requests = [0] * self.nodes, [0] * self.nodes
-        if superstep.end == "turned":
-            self.count(superstep.number, moved, messages, requests)
+        self.count(superstep.number, nodes, moved, messages, requests)
+        if superstep.end != "turned":
+            # What was asked for does not come about.
+            moved, messages = {}, [0] * self.nodes
         rows: List[List[object]] = []
         for rank, node in enumerate(nodes):
             sent = sum(count for (one, to), count in moved.items() if one == rank != to)
@@ -72,12 +79,14 @@ class Run:
         rows += [[superstep.number, one, to, "", count, "", "", "", "", ""] for (one, to), count in sorted(moved.items()) if count]
         return rows
 
-    def count(self, superstep: int, moved: Bytes, messages: List[int], requests: List[int]) -> None:
+    def count(self, superstep: int, nodes: List[Node], moved: Bytes, messages: List[int], requests: List[int]) -> None:
         """Counts what the ranks asked for in a superstep, and takes the tag size for the next one."""
         next_size = self.tag_size
         for rank in range(self.nodes):
             numbers = (*REQUESTS, TAGSIZE)
             for call in self.trace.calls_in(rank, numbers, superstep):
+                if is_fault(call, nodes[rank]):
+                    continue
                 if call.number == TAGSIZE:
                     next_size = self.word(rank, numbers, superstep, call)
                     continue

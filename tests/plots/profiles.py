@@ -13,6 +13,7 @@ from runner.program import Refused
 
 # Each stored profile, with the arguments of its run.
 RUNS = {
+    "bad_rank": ["-n", "2", "tests/plots/bad_rank.s"],
     "broadcast": ["-n", "4", "examples/broadcast.s"],
     "broadcast2": ["-n", "4", "examples/broadcast2.s"],
     "faults": ["-n", "3", "--limit", "1000", "tests/cases/text_ranks_meet_a_fault_and_the_limit/text.s"],
@@ -27,9 +28,9 @@ RUNS = {
     "total_exchange": ["-n", "40", "examples/total_exchange.s"],
 }
 # What the states of ranks do not tell as the report does.
-OUTCOMES = {"refused": "the exchange was refused"}
+OUTCOMES = {"bad_rank": "rank 0 stopped: faulted", "refused": "the exchange was refused"}
 # Those that the debugger counts quickly.
-QUICK = ["broadcast2", "faults", "give_up", "inner", "messages", "one_put", "prefix_sum_get", "refused", "samplesort"]
+QUICK = ["bad_rank", "broadcast2", "faults", "give_up", "inner", "messages", "one_put", "prefix_sum_get", "refused", "samplesort"]
 DAMAGED = {
     "no superstep": (lambda lines: lines[:1], "it has no superstep"),
     "another header": (lambda lines: ["superstep,rank,to", *lines[1:]], "line 1: a profile begins with the line"),

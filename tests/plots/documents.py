@@ -43,6 +43,9 @@ def run(check: Check) -> None:
     for path in REPO.iterdir():
         if not path.name.startswith(".") and path.name not in ("pictures",):
             (folder / path.name).symlink_to(path)
+    if os.environ.get("BSPEMU"):
+        (folder / "bspemu").unlink()
+        (folder / "bspemu").symlink_to(os.environ["BSPEMU"])
     for command, lines in commands():
         done = typed(command, folder)
         text = "\n".join(lines) + "\n" if lines else ""

@@ -1,0 +1,3 @@
+# A node that makes two steps and ends.
+        li   a7, 1              # end()
+        ecall

@@ -1,6 +1,6 @@
 //! Nodes whose memories share pages, and each copy of a page refused in turn.
 
-use super::{LIMIT, expect_stop, image};
+use super::{LIMIT, image};
 use bsp_requests::{Inbox, Message};
 use list_vec::ListVec;
 use node_core::{Node, State};
@@ -82,22 +82,29 @@ fn has_at_edge(node: &Node<&Heap>, bytes: &[u8; 4]) -> Result<bool, ReadError> {
     Ok(node.memory().read_range(0xFFE, 4)?.as_slice() == bytes.as_slice())
 }
 
+// Whether a node runs, after so many ticks, with this pc and these bytes over the first edge.
+fn is_at(node: &Node<&Heap>, ticks: u64, pc: u32, bytes: &[u8; 4]) -> Result<bool, ReadError> {
+    let runs = node.state() == State::Running && node.ticks() == ticks && node.pc() == pc;
+    Ok(runs && has_at_edge(node, bytes)?)
+}
+
+// Takes a node to its store and makes that after one of its requests was refused. Whether the node was as before in between.
+fn is_stored_at_last(heap: &Heap, nth: u64, node: &mut Node<&Heap>) -> Result<bool, Fail> {
+    node.run(INPUT, BEFORE_STORE)?;
+    heap.refuse_nth(nth);
+    let is_refused = node.step(INPUT).is_err() && is_at(node, BEFORE_STORE, 16, &[0; 4])?;
+    node.step(INPUT)?;
+    Ok(is_refused && is_at(node, BEFORE_STORE + 1, 20, &[0x11, 0x22, 0x33, 0x44])?)
+}
+
 #[test]
 fn a_store_over_an_edge_is_made_in_one_memory_alone(rt: HostRuntime) -> Result<(), Fail> {
     let heap = Heap::new(rt.alloc());
-    for refused in 1..=2 {
+    for nth in 1..=2 {
         let mut node = first(&rt, &heap)?;
         let other = second(&rt, &heap, &node)?;
-        node.run(INPUT, BEFORE_STORE)?;
-        heap.refuse_nth(refused);
-        assert!(rt; node.step(INPUT).is_err());
-        expect_stop(&rt, &node, State::Running, BEFORE_STORE, 16);
-        assert!(rt; has_at_edge(&node, &[0; 4])?);
-        node.step(INPUT)?;
-        expect_stop(&rt, &node, State::Running, BEFORE_STORE + 1, 20);
-        assert!(rt;
-            has_at_edge(&node, &[0x11, 0x22, 0x33, 0x44])? && has_at_edge(&other, &[0; 4])?
-        );
+        let is_stored = is_stored_at_last(&heap, nth, &mut node)?;
+        assert!(rt; is_stored && is_at(&other, 0, 0, &[0; 4])?);
     }
     Ok(())
 }
@@ -165,23 +172,35 @@ fn turn<'a>(rt: &impl Abort, heap: &'a Heap, node: &mut Node<&'a Heap>) -> Resul
     Ok(())
 }
 
+// Makes the next steps of two nodes, so many, those of the first with its requests for memory refused. How many were.
+fn steps_at_last(
+    rt: &impl Abort,
+    heap: &Heap,
+    steps: u64,
+    node: &mut Node<&Heap>,
+    twin: &mut Node<&Heap>,
+) -> Result<u32, Fail> {
+    let mut refusals = 0u32;
+    for _ in 0..steps {
+        refusals = refusals.saturating_add(step_at_last(rt, heap, node, twin)?);
+        twin.step(INPUT)?;
+    }
+    assert!(rt; are_same(node, twin)?);
+    Ok(refusals)
+}
+
 // Each of the eight pages is copied once.
 #[test]
 fn a_step_that_is_refused_a_page_can_be_made_again(rt: HostRuntime) -> Result<(), Fail> {
     let (heap, ample) = (Heap::new(rt.alloc()), Heap::new(rt.alloc()));
     let mut node = first(&rt, &heap)?;
     let mut twin = first(&rt, &ample)?;
-    let mut refusals = 0u32;
-    for step in 1..=STORES_OVER_EDGES.len() as u64 {
-        refusals = refusals.saturating_add(step_at_last(&rt, &heap, &mut node, &twin)?);
-        twin.step(INPUT)?;
-        assert!(rt; are_same(&node, &twin)?);
-        if step == TO_SYNC {
-            turn(&rt, &heap, &mut node)?;
-            turn(&rt, &ample, &mut twin)?;
-        }
-    }
-    assert!(rt; refusals == 8 && node.state() == State::Ended);
+    let before = steps_at_last(&rt, &heap, TO_SYNC, &mut node, &mut twin)?;
+    turn(&rt, &heap, &mut node)?;
+    turn(&rt, &ample, &mut twin)?;
+    let steps = STORES_OVER_EDGES.len() as u64 - TO_SYNC;
+    let behind = steps_at_last(&rt, &heap, steps, &mut node, &mut twin)?;
+    assert!(rt; before == 2 && behind == 6 && node.state() == State::Ended);
     Ok(())
 }
 
@@ -200,38 +219,49 @@ fn prepare_at_last(rt: &impl Abort, heap: &Heap, node: &mut Node<&Heap>) -> u32 
     refusals
 }
 
+// Whether four bytes land over the first edge of a node that waits, once their pages are its own, without a request for memory.
+fn lands_at_edge(rt: &impl Abort, heap: &Heap, node: &mut Node<&Heap>) -> Result<bool, Fail> {
+    heap.refuse_from_nth(1);
+    node.run(INPUT, TO_SYNC)?;
+    assert!(rt; node.state() == State::Synced && node.memory().owns(0xFFE, 4));
+    node.land(0xFFE, b"abcd");
+    let is_granted = heap.requests() == 0;
+    heap.refuse_nth(0);
+    Ok(is_granted && has_at_edge(node, b"abcd")?)
+}
+
 #[test]
 fn a_landing_is_prepared_page_by_page(rt: HostRuntime) -> Result<(), Fail> {
     let heap = Heap::new(rt.alloc());
     let mut node = first(&rt, &heap)?;
     let other = second(&rt, &heap, &node)?;
-    assert!(rt; prepare_at_last(&rt, &heap, &mut node) == 2);
-    heap.refuse_from_nth(1);
-    node.run(INPUT, TO_SYNC)?;
-    assert!(rt; node.state() == State::Synced && node.memory().owns(0xFFE, 4));
-    node.land(0xFFE, b"abcd");
-    assert!(rt; heap.requests() == 0);
-    heap.refuse_nth(0);
-    assert!(rt; has_at_edge(&node, b"abcd")? && has_at_edge(&other, &[0; 4])?);
+    let refusals = prepare_at_last(&rt, &heap, &mut node);
+    let lands = lands_at_edge(&rt, &heap, &mut node)?;
+    assert!(rt; refusals == 2 && lands && has_at_edge(&other, &[0; 4])?);
     Ok(())
 }
 
-// A share asks for a table, and for a copy of each page that is the node's own.
-#[test]
-fn a_share_may_be_refused(rt: HostRuntime) -> Result<(), Fail> {
-    let heap = Heap::new(rt.alloc());
-    let mut node = first(&rt, &heap)?;
-    assert!(rt; prepare_at_last(&rt, &heap, &mut node) == 2);
+// How many of its requests a share is refused, one after another: one for a table, and one for a copy of each page of the node's own.
+fn refusals_of_share<'a>(rt: &impl Abort, heap: &'a Heap, node: &Node<&'a Heap>) -> u32 {
     let mut refusals = 0u32;
     for nth in 1..10 {
         heap.refuse_nth(nth);
-        if second(&rt, &heap, &node).is_err() {
+        if second(rt, heap, node).is_err() {
             refusals = refusals.saturating_add(1);
         }
     }
     heap.refuse_nth(0);
+    refusals
+}
+
+#[test]
+fn a_share_may_be_refused(rt: HostRuntime) -> Result<(), Fail> {
+    let heap = Heap::new(rt.alloc());
+    let mut node = first(&rt, &heap)?;
+    let owned = prepare_at_last(&rt, &heap, &mut node);
+    assert!(rt; owned == 2 && refusals_of_share(&rt, &heap, &node) == 3);
     let other = second(&rt, &heap, &node)?;
-    assert!(rt; refusals == 3 && other.rank() == 1 && !other.memory().owns(0xFFE, 4));
-    assert!(rt; node.memory().owns(0xFFE, 4) && have_same_hart(&node, &other));
+    let owns = node.memory().owns(0xFFE, 4) && !other.memory().owns(0xFFE, 4);
+    assert!(rt; owns && other.rank() == 1 && have_same_hart(&node, &other));
     Ok(())
 }

@@ -72,7 +72,12 @@ pub fn profile_session<
 }
 
 /// Runs the program that the bytes of a file give, and then writes its report and its profile.
-fn profile_and_report<T: Threads + Wait + Sync, A: Allocator + Copy + Send + Sync, W: Write, P: Write>(
+fn profile_and_report<
+    T: Threads + Wait + Sync,
+    A: Allocator + Copy + Send + Sync,
+    W: Write,
+    P: Write,
+>(
     rt: &T,
     alloc: A,
     file: &[u8],

@@ -42,7 +42,13 @@ pub const INPUT_BYTES: usize = 1 << 24;
 ///
 /// [`SessionError::NoWorker`] is answered where a thread could not be started, and else [`SessionError::NoMemory`] where a request
 /// for memory was refused. Nothing is written then.
-pub fn session<T: Threads + Wait + Sync, A: Allocator + Copy + Send + Sync, I: Read, R: Read, W: Write>(
+pub fn session<
+    T: Threads + Wait + Sync,
+    A: Allocator + Copy + Send + Sync,
+    I: Read,
+    R: Read,
+    W: Write,
+>(
     rt: &T,
     alloc: A,
     image: &mut Counted<I>,

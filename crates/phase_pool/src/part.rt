@@ -44,13 +44,11 @@ impl<'a, A: Allocator> Promise<Worked<A>> for WorkOn<'a, A> {
 /// A half whose thread cannot be started is worked on here, and nodes for which no room is to be had stay together. So every
 /// node is worked on, whatever is refused.
 #[cycle(parts)]
-pub(crate) fn work_on<R: Threads + Wait + Sync, A: Allocator + Copy + Send + Sync, G: Gate<A> + Sync>(
-    rt: &R,
-    gate: &G,
-    input: &[u8],
-    parts: usize,
-    mut nodes: Vec<Node<A>, A>,
-) -> Worked<A>
+pub(crate) fn work_on<
+    R: Threads + Wait + Sync,
+    A: Allocator + Copy + Send + Sync,
+    G: Gate<A> + Sync,
+>(rt: &R, gate: &G, input: &[u8], parts: usize, mut nodes: Vec<Node<A>, A>) -> Worked<A>
     requires { parts ≤ vec_len nodes }
     ensures work { IsWorked input.now (states nodes.items) (states result.nodes.items) result.answer }
     ensures no_worker { IsErrOf result.answer Refusal.NoWorker → 1 < parts }

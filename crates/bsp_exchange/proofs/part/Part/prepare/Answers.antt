@@ -10,6 +10,6 @@ returns-clause-ok g c =
     let second = c.in_ok-prepare-2.ensures in
     on_ok_weaker c.prepare_turn.result
     (λ turned.
-      let gets = owns_each_kept c.prepare.new.node.own c.prepare-2.new.node.own c.self.inside.gets second.own first in
-      subst (λ (part : Received). IsPrepared part c.prepare_turn.new.self) c.self.view_is (rw turned (record { ready = refl; gets = gets; puts = second.ok })))
+    let gets = owns_each_kept c.prepare.new.node.own c.prepare-2.new.node.own c.self.inside.gets second.own first in
+    subst (λ (part : Received). IsPrepared part c.prepare_turn.new.self) c.self.view_is (rw turned (record { ready = refl; gets = gets; puts = second.ok })))
     c.prepare_turn.ensures.ok

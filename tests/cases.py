@@ -10,6 +10,11 @@ A case is a folder with some of these files:
   written   what the file `{temp}/written` must hold afterwards
   stdin     standard input, empty where it is missing
   stdin.repeat    a line with a number, and a text that follows so many times after what `stdin` has
+  images    runs on images that are made of the file `image`, in the place of one run: each line says how many bytes of it are left, then
+            what stands in it at which places, as `PLACE=HEX`, and behind ` -> ` the name with which `{temp}/image` is refused, or
+            `loads`. All that load answer with `status` and `stdout`
+  room      a file that says that standard output takes no more than some bytes, at first none and at last all but one of those that
+            `stdout` has: each time just these are written, the status is 6, and standard error is `bspemu: write failed`
   dialogue  what is said in turns, in the place of `stdin` and `stdout`: each line that begins with `> ` is sent without these
             two once the lines before it have come, and standard input stays open until the program ends
   typed     a file that says that standard input is a terminal in a dialogue, and else it is a pipe
@@ -153,7 +158,64 @@ def prepare(case, temp):
         make(written, written.with_name(name))
 
 
+def run_with_room(program, case, words, output, room):
+    """Runs the program where the file that is its standard output may grow to so many bytes, and no further."""
+
+    def limit():
+        resource.setrlimit(resource.RLIMIT_FSIZE, (room, room))
+
+    command = [str(program), *words]
+    # Past the limit a signal would come, if it were not ignored as it is here.
+    places = {"stdout": output, "stderr": subprocess.PIPE, "timeout": SECONDS, "restore_signals": False}
+    return subprocess.run(command, input=standard_input(case), check=False, preexec_fn=limit, **places)
+
+
+def faults_of_room(program, case, repo):
+    """What is wrong with runs of which each may write a byte more than the one before."""
+    found = []
+    whole = read(case / "stdout")
+    with tempfile.TemporaryDirectory() as temp:
+        words = arguments(case / "args", {"case": case, "repo": repo, "temp": temp})
+        path = pathlib.Path(temp) / "stdout"
+        for room in range(len(whole)):
+            with path.open("wb") as output:
+                done = run_with_room(program, case, words, output, room)
+            if (done.returncode, done.stderr, path.read_bytes()) != (6, b"bspemu: write failed\n", whole[:room]):
+                found.append(f"with room for {room} the status is {done.returncode}, after {path.read_bytes()[:80]!r}")
+    return found
+
+
+def made_image(image, words):
+    """The image that a line of `images` makes."""
+    made = bytearray(image[: int(words[0])])
+    for place, text in (word.split("=") for word in words[1:]):
+        content = bytes.fromhex(text)
+        made[int(place) : int(place) + len(content)] = content
+    return bytes(made)
+
+
+def faults_of_images(program, case, repo):
+    """What is wrong with the runs on the images of a case."""
+    found = []
+    for line in read(case / "images").decode().splitlines():
+        words, due = line.split(" -> ")
+        loads = due == "loads"
+        with tempfile.TemporaryDirectory() as temp:
+            (pathlib.Path(temp) / "image").write_bytes(made_image(read(case / "image"), words.split()))
+            done = run(program, case, arguments(case / "args", {"case": case, "repo": repo, "temp": temp}))
+        wanted = (int(read(case / "status", b"0").decode()), read(case / "stdout"), b"")
+        if not loads:
+            wanted = (1, b"", f"bspemu: image refused: {due}\n".encode())
+        if (done.returncode, done.stdout, done.stderr) != wanted:
+            found.append(f"`{line}` is answered with status {done.returncode}, {done.stdout[:80]!r} and {done.stderr[:80]!r}")
+    return found
+
+
 def run_case(program, case, repo):
+    if (case / "images").exists():
+        return faults_of_images(program, case, repo)
+    if (case / "room").exists():
+        return faults_of_room(program, case, repo)
     stdout, stderr, status = b"", b"", 0
     with tempfile.TemporaryDirectory() as temp:
         places = {"case": case, "repo": repo, "temp": temp}

@@ -1,0 +1,88 @@
+"""Words of instructions, real ones and spoiled ones, and their statements as a listing spells them."""
+
+from __future__ import annotations
+
+import random
+import struct
+from typing import List
+
+REGISTERS = ["add", "sub", "sll", "slt", "sltu", "xor", "srl", "sra", "or", "and", "mul", "mulh", "mulhsu", "mulhu", "div", "divu",
+             "rem", "remu"]
+IMMEDIATES = ["addi", "slti", "sltiu", "xori", "ori", "andi"]
+SHIFTS = ["slli", "srli", "srai"]
+LOADS = ["lb", "lh", "lw", "lbu", "lhu"]
+STORES = ["sb", "sh", "sw"]
+BRANCHES = ["beq", "bne", "blt", "bge", "bltu", "bgeu"]
+PLAIN = ["fence", "fence.i", "ecall", "ebreak"]
+CALLS = range(1, 19)
+
+# Opcode, and the bits of funct3 and funct7 that are instructions under it.
+FORMS = [
+    (0x37, range(8), range(128)), (0x17, range(8), range(128)), (0x6F, range(8), range(128)), (0x67, [0], range(128)),
+    (0x63, [0, 1, 4, 5, 6, 7], range(128)), (0x03, [0, 1, 2, 4, 5], range(128)), (0x23, [0, 1, 2], range(128)),
+    (0x13, [0, 2, 3, 4, 6, 7], range(128)), (0x13, [1], [0]), (0x13, [5], [0, 32]), (0x33, [0, 5], [0, 1, 32]),
+    (0x33, [1, 2, 3, 4, 6, 7], [0, 1]), (0x0F, [0, 1], range(128)),
+]
+
+# Prints the number of each rank.
+RANKS = [0x00300893, 0x73, 0x03050513, 0x10A02023, 0x10000513, 0x00100593, 0x01100893, 0x73, 0x00100893, 0x73]
+
+
+def word_of_form(chance: random.Random) -> int:
+    """A word that is an instruction."""
+    opcode, functs, heads = chance.choice(FORMS)
+    # Of the upper bits those of small numbers come most often, so that places in memory are near.
+    head = chance.choice(heads) if len(heads) < 128 else chance.choice([0, 0, 0, 1, 127, chance.randrange(128)])
+    word = opcode | chance.choice(functs) << 12 | head << 25
+    return word | chance.randrange(32) << 7 | chance.choice([0, 0, 2, chance.randrange(32)]) << 15 | chance.randrange(32) << 20
+
+
+def call(chance: random.Random) -> List[int]:
+    """Words that make an environment call with small operands."""
+    words = [0x13 | register << 7 | chance.choice([0, 1, 4, 0x7FF, 0xFFF, chance.randrange(1 << 12)]) << 20
+             for register in range(10, 15) if chance.randrange(3)]
+    return words + [0x893 | chance.choice([*CALLS, 0, 19]) << 20, 0x73]
+
+
+def words(chance: random.Random, count: int) -> List[int]:
+    """Words for an image: instructions, calls, the numbers of ranks, and anything."""
+    made: List[int] = list(RANKS) if chance.randrange(4) == 0 else []
+    rate = chance.choice([0, 1, 5, 50])
+    while len(made) < count:
+        made += call(chance) if chance.randrange(4) == 0 else [word_of_form(chance)]
+        if chance.randrange(100) < rate:
+            made[-1] ^= 1 << chance.randrange(32)
+        if chance.randrange(100) < rate:
+            made.append(chance.choice([0, 0xFFFF_FFFF, chance.randrange(1 << 32)]))
+    return made
+
+
+def code(chance: random.Random, count: int) -> bytes:
+    """The bytes of such words, of which the last may be cut."""
+    made = words(chance, count)
+    content = struct.pack(f"<{len(made)}I", *made)
+    return content[: len(content) - chance.choice([0, 0, 0, 1, 2, 3])]
+
+
+def number(chance: random.Random, least: int, most: int) -> int:
+    """A number of a range, often at its edges."""
+    return chance.choice([least, most, min(max(0, least), most), chance.randint(least, most), chance.randint(least, most)])
+
+
+def statement(chance: random.Random, at: int) -> str:
+    """A statement at an address, spelled as a listing does."""
+    first, second, third = (f"x{chance.randrange(32)}" for _ in range(3))
+    family = chance.choice([REGISTERS, IMMEDIATES, SHIFTS, LOADS, STORES, BRANCHES, ["jal"], ["jalr"], ["lui", "auipc"], PLAIN])
+    name = chance.choice(family)
+    if family is PLAIN:
+        return name
+    if name in ("lui", "auipc"):
+        return f"{name} {first},0x{number(chance, 0, 0xFFFFF):x}"
+    if family is BRANCHES:
+        return f"{name} {first},{second},0x{(at + 2 * number(chance, -2048, 2047)) & 0xFFFF_FFFF:08x}"
+    if name == "jal":
+        return f"jal {first},0x{(at + 2 * number(chance, -(1 << 19), (1 << 19) - 1)) & 0xFFFF_FFFF:08x}"
+    if name == "jalr" or family in (LOADS, STORES):
+        return f"{name} {first},{number(chance, -2048, 2047)}({second})"
+    last = {id(REGISTERS): third, id(SHIFTS): number(chance, 0, 31)}.get(id(family), number(chance, -2048, 2047))
+    return f"{name} {first},{second},{last}"

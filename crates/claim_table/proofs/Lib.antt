@@ -1,0 +1,5 @@
+pub mod Allowed
+pub mod ClaimLists
+pub mod Ends
+pub mod Keeping
+pub mod Keeps

@@ -3,6 +3,7 @@
 ghost use Rattle.std.specs.Prelude.{false, ◌≡◌, None, Some, find, option_copied, IfOk, IfSome, IsNone, OnErr};
 ghost use Rattle.node_core.specs.Node.{PreparedNode};
 ghost use Rattle.bsp_exchange.specs.Exchange.{AreAtSync, states};
+ghost use Rattle.bsp_exchange.specs.Parts.{EachKeepsOwn};
 ghost use Rattle.machine_core.specs.Closing.{Closes};
 ghost use Rattle.machine_core.specs.Turn.{was_stopped as was_stopped_of, has_ended as has_ended_of, is_waiting as is_waiting_of, lowest, makes_exchange as makes_exchange_of, outcome_of};
 
@@ -33,6 +34,7 @@ pub(crate) fn close<A: Allocator + Copy>(
         → lowest has_ended_of (states nodes.old) ≡ None → AreAtSync (states nodes.old) }
     ensures ok { IfOk result (Closes (states nodes.old) (states nodes.new)) }
     ensures err { OnErr result (states nodes.new ≡ states nodes.old) }
+    ensures own { EachKeepsOwn nodes.old nodes.new }
 {
     if let Some(outcome) = outcome_before_exchange(nodes) {
         return Ok(Closing::Over(outcome));

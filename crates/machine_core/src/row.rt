@@ -4,6 +4,7 @@ ghost use Rattle.std.specs.Prelude.{◌≡◌, ℕ, ◌<◌, ◌++◌, length, m
 ghost use Rattle.std.specs.Option.{option_map_or};
 ghost use Rattle.node_core.specs.Node.{NodeState, MayRefuseStep};
 ghost use Rattle.bsp_exchange.specs.Exchange.{states};
+ghost use Rattle.bsp_exchange.specs.Parts.{EachKeepsOwn};
 ghost use Rattle.machine_core.specs.Events.{runs, some_runs as some_runs_of, stepped, stepped_often};
 ghost use Rattle.machine_core.specs.Turn.{written, most_ticks};
 
@@ -30,6 +31,7 @@ pub(crate) fn step_at<A: Allocator + Copy>(
     ensures made { IfOk result (λ made.
         made ≡ option_map_or runs (slice_get (states nodes.old) rank) false) }
     ensures err { OnErr result (states nodes.new ≡ states nodes.old) }
+    ensures own { EachKeepsOwn nodes.old nodes.new }
     ensures refuses { OnErr result
         (IsSomeAnd (slice_get (states nodes.old) rank) (λ n. MayRefuseStep input.now n)) }
 {
@@ -58,6 +60,7 @@ pub(crate) fn run_at<A: Allocator + Copy>(
         (states nodes.new ≡ stepped_often input.now rank most (states nodes.old)) }
     ensures err { OnErr result
         ((k : ℕ) × (k < most) × (states nodes.new ≡ stepped_often input.now rank k (states nodes.old))) }
+    ensures own { EachKeepsOwn nodes.old nodes.new }
     ensures refuses { OnErr result
         (IsSomeAnd (slice_get (states nodes.new) rank) (λ n. MayRefuseStep input.now n)) }
 {

@@ -11,7 +11,7 @@ use std::test::Fail;
 
 mod cases;
 
-use cases::{ASKING, Start, UNLIKE};
+use cases::{ASKING, LARGE, Start, UNLIKE};
 
 type Heap = RefusingAllocator<Global>;
 
@@ -30,6 +30,9 @@ const INPUT: &[u8] = b"\0\0\0\0";
 // What the second exchange of `ASKING` moves: each node sends two puts of 4 bytes, two gets of 4 and two messages of 7 with
 // their tags, and receives as much.
 const ASKED: Traffic = Traffic { h: 30 };
+
+// That of `LARGE`: each node sends two puts of 0x1004 bytes, and receives as much.
+const PUT: Traffic = Traffic { h: 0x2008 };
 
 // Makes the calls, one after another. The words are those of GNU as.
 const MAKES_ITS_CALLS: [u32; 10] = [
@@ -212,35 +215,54 @@ fn a_node_without_ticks_left_is_exhausted(rt: HostRuntime) -> Result<(), Fail> {
     Ok(())
 }
 
-// Refuses one request for memory of the exchange, and makes the exchange again, which ends as that of `done` did.
+// Refuses one request for memory of the second exchange, and makes the exchange again, which moves as much as was asked and ends as
+// that of `done` did.
 fn expect_refusal<'a>(
     rt: &impl Abort,
     heap: &'a Heap,
+    starts: &[Start],
+    asked: Traffic,
     request: u64,
     done: &[Node<&'a Heap>],
 ) -> Result<(), Fail> {
-    let mut nodes = waiting(rt, heap, &ASKING, 1)?;
-    let before = waiting(rt, heap, &ASKING, 1)?;
+    let mut nodes = waiting(rt, heap, starts, 1)?;
+    let before = waiting(rt, heap, starts, 1)?;
     heap.refuse_nth(request);
     let refused = superstep(rt, heap, &mut nodes)?;
     let is_refused = heap.refusals() == 1 && refused == Err(ExchangeError::NoMemory);
     let is_unchanged = are_same(&nodes, &before)?;
     let again = superstep(rt, heap, &mut nodes)?;
-    let is_made = again == Ok(ASKED) && are_same(&nodes, done)?;
+    let is_made = again == Ok(asked) && are_same(&nodes, done)?;
     assert!(rt; is_refused && is_unchanged && is_made, "request {request}");
+    Ok(())
+}
+
+// Refuses each request for memory of the second exchange in turn. There are at least so many.
+fn expect_refusals(
+    rt: &impl Abort,
+    heap: &Heap,
+    starts: &[Start],
+    asked: Traffic,
+    least: u64,
+) -> Result<(), Fail> {
+    let mut done = waiting(rt, heap, starts, 1)?;
+    heap.refuse_nth(0);
+    let made = superstep(rt, heap, &mut done)?;
+    let requests = heap.requests();
+    assert!(rt; made == Ok(asked) && requests >= least);
+    for request in 1..=requests {
+        expect_refusal(rt, heap, starts, asked, request, &done)?;
+    }
     Ok(())
 }
 
 #[test]
 fn a_refused_exchange_can_be_made_again(rt: HostRuntime) -> Result<(), Fail> {
-    let heap = Heap::new(rt.alloc());
-    let mut done = waiting(&rt, &heap, &ASKING, 1)?;
-    heap.refuse_nth(0);
-    let asked = superstep(&rt, &heap, &mut done)?;
-    let requests = heap.requests();
-    assert!(rt; asked == Ok(ASKED) && requests > 10);
-    for request in 1..=requests {
-        expect_refusal(&rt, &heap, request, &done)?;
-    }
-    Ok(())
+    expect_refusals(&rt, &Heap::new(rt.alloc()), &ASKING, ASKED, 11)
+}
+
+// Each node has a copy of three pages made.
+#[test]
+fn a_refused_exchange_of_puts_over_pages_can_be_made_again(rt: HostRuntime) -> Result<(), Fail> {
+    expect_refusals(&rt, &Heap::new(rt.alloc()), &LARGE, PUT, 6)
 }

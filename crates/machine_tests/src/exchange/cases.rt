@@ -82,6 +82,27 @@ pub static ASKING: [Start; 2] = [
     },
 ];
 
+/// Puts over the edges of pages that are shared until then, from both nodes into both.
+const PUTS_OVER_PAGES: &[Call] = &[
+    PushReg(0x1000, 0x3000),
+    Sync,
+    Put(0, 0x1000, 0x1000, 0xFFE, 0x1004),
+    Put(1, 0x1000, 0x1000, 0xFFE, 0x1004),
+    Sync,
+    End,
+];
+
+pub static LARGE: [Start; 2] = [
+    Start {
+        calls: PUTS_OVER_PAGES,
+        data: &[(0x1000, b"abcd"), (0x2000, b"efgh")],
+    },
+    Start {
+        calls: PUTS_OVER_PAGES,
+        data: &[(0x1000, b"ABCD"), (0x2000, b"EFGH")],
+    },
+];
+
 /// The second node makes one call more than the first. A call takes 9 steps.
 pub static UNLIKE: [Start; 2] = [
     Start {

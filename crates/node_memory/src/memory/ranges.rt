@@ -23,6 +23,26 @@ impl<A: Allocator> Memory<A> {
         ensures ok { OnOk result (bytes.new.items ≡ bytes.old.items ++ bytes_at self.now.bytes addr len) }
         ensures err { OnErr result (bytes.new.items ≡ bytes.old.items) }
     {
+        let at = addr as usize;
+        if len != 0 && at % PAGE + len as usize <= PAGE {
+            bytes.extend_from_slice(self.window(at, len as usize))?;
+            return Ok(());
+        }
+        self.append_pages(addr, len, bytes)
+    }
+
+    /// What `append_range` does with more than one page: it goes page by page.
+    #[inline(never)]
+    fn append_pages<B: Allocator>(
+        &self,
+        addr: u32,
+        len: u32,
+        bytes: &mut Vec<u8, B>,
+    ) -> Result<(), AllocError>
+        requires { IsTrue (fits (length self.now.bytes) addr len) }
+        ensures ok { OnOk result (bytes.new.items ≡ bytes.old.items ++ bytes_at self.now.bytes addr len) }
+        ensures err { OnErr result (bytes.new.items ≡ bytes.old.items) }
+    {
         let len = len as usize;
         bytes.reserve(len)?;
         let mut done = 0;

@@ -1,7 +1,8 @@
 use Rattle.std.proofs.Common.{◌≡◌, Some, None, refl, ap, ◌∙◌, option_map}
-use Rattle.bsp_exchange.specs.Exchange.{exchanged, states}
+use Rattle.bsp_exchange.specs.Exchange.{states}
 use Rattle.bsp_exchange.specs.Faults.{exchange_fault}
 use Rattle.machine_core.specs.declared.outcome.Outcome.TheVariants.{Refused}
+use Rattle.bsp_exchange.proofs.KeepsOwn.{EachKeepsOwn-same}
 use Rattle.machine_core.proofs.Closings.{outcome-exchange}
 use Rattle.machine_core.proofs.Options.{none_from}
 use Rattle.machine_core.proofs.closing.close.Goals as goal
@@ -28,7 +29,7 @@ pub exchange-requires : goal.exchange-requires
 exchange-requires g c = c.requires (c.in_default.ensures.stopped refl) (c.in_default.ensures.ended refl)
 
 pub returns-in-Some : goal.returns-in-Some
-returns-in-Some g c = record { ok = (c.in-Some.ensures.some, refl); err = tt }
+returns-in-Some g c = record { ok = (c.in-Some.ensures.some, refl); err = tt; own = EachKeepsOwn-same c.args.nodes.now }
 
 pub returns-in-Err-NoMemory : goal.returns-in-Err-NoMemory
-returns-in-Err-NoMemory g c = record { ok = tt; err = c.in-Err-NoMemory.ensures.err }
+returns-in-Err-NoMemory g c = record { ok = tt; err = c.in-Err-NoMemory.ensures.err; own = c.in-Err-NoMemory.ensures.own }

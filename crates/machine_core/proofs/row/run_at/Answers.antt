@@ -1,5 +1,5 @@
 use Rattle.std.proofs.lemmas.Result.{on_ok_weaker, on_err_weaker}
-use Rattle.machine_core.proofs.States.{states-often, found-new}
+use Rattle.machine_core.proofs.States.{kept-own, states-often, found-new}
 use Rattle.machine_core.proofs.row.run_at.Goals as goal
 
 pub returns-clause-ok : goal.returns-clause-ok
@@ -22,3 +22,6 @@ returns-clause-refuses g c =
 
 pub bounds-nodes-rank : goal.bounds-nodes-rank
 bounds-nodes-rank g c = c.requires
+
+pub returns-clause-own : goal.returns-clause-own
+returns-clause-own g c = kept-own c.args.input.now c.args.nodes.now c.args.rank c.index-nodes-rank.result c.run.new.self c.requires c.index-nodes-rank.is c.run.ensures.own

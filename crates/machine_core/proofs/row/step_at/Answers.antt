@@ -1,8 +1,9 @@
 use Rattle.std.proofs.Common.{true, false, sym, ap, ◌∙◌, arith}
 use Rattle.std.proofs.lemmas.Result.{err_from_is_err_and}
 use Rattle.node_core.specs.Node.{is_running}
+use Rattle.bsp_exchange.proofs.KeepsOwn.{EachKeepsOwn-same}
 use Rattle.machine_core.proofs.Rows.{stepped-disabled}
-use Rattle.machine_core.proofs.States.{found-old, states-step, states-same, runs-past, runs-found}
+use Rattle.machine_core.proofs.States.{found-old, kept-own, states-step, states-same, runs-past, runs-found}
 use Rattle.machine_core.proofs.row.step_at.Goals as goal
 
 pub returns-then-rank-nodes-clause-ok : goal.returns-then-rank-nodes-clause-ok
@@ -44,3 +45,15 @@ bounds-nodes-rank g c = c.if-rank-nodes.false
 
 pub bounds-nodes-rank-2 : goal.bounds-nodes-rank-2
 bounds-nodes-rank-2 g c = c.if-rank-nodes.false
+
+pub returns-then-rank-nodes-clause-own : goal.returns-then-rank-nodes-clause-own
+returns-then-rank-nodes-clause-own g c = EachKeepsOwn-same c.args.nodes.now
+
+pub returns-then-not-is_running-clause-own : goal.returns-then-not-is_running-clause-own
+returns-then-not-is_running-clause-own g c = EachKeepsOwn-same c.args.nodes.now
+
+pub returns-in_err-step-clause-own : goal.returns-in_err-step-clause-own
+returns-in_err-step-clause-own g c = kept-own c.args.input.now c.args.nodes.now c.args.rank c.index-nodes-rank-2.result c.step.new.self (omega arith) c.index-nodes-rank-2.is c.in_err-step.ensures.own
+
+pub returns-clause-own : goal.returns-clause-own
+returns-clause-own g c = kept-own c.args.input.now c.args.nodes.now c.args.rank c.index-nodes-rank-2.result c.step.new.self (omega arith) c.index-nodes-rank-2.is c.in_ok-step.ensures.own

@@ -1,5 +1,4 @@
-use Rattle.std.proofs.Common.{◌≡◌, ◌≤◌, false}
-use Rattle.node_memory.specs.Image.{is_segment_outside}
+use Rattle.std.proofs.Common.{◌≤◌}
 use Rattle.machine_core.proofs.Starts.{AreFirst}
 use Rattle.machine_core.proofs.start.start_nodes.Given as goal
 

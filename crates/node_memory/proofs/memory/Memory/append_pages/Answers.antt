@@ -3,7 +3,7 @@ use Rattle.node_memory.specs.Bytes.{bytes_at}
 use Rattle.std.proofs.lemmas.List.{append_assoc}
 use Rattle.node_memory.proofs.Writes.{two_reads, length-bytes_at}
 use Rattle.std.proofs.lemmas.Bool.Decides.{nat_tests}
-use Rattle.node_memory.proofs.memory.Memory.append_range.Goals as goal
+use Rattle.node_memory.proofs.memory.Memory.append_pages.Goals as goal
 
 pub loop-done-preserved : goal.loop-done-preserved
 loop-done-preserved g c =

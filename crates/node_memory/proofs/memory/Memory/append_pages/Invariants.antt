@@ -1,6 +1,6 @@
 use Rattle.std.proofs.Common.{◌≡◌, ◌+◌, ◌-◌, ◌≤◌, ◌++◌, vec_len, vec_capacity}
 use Rattle.node_memory.specs.Bytes.{bytes_at}
-use Rattle.node_memory.proofs.memory.Memory.append_range.Given as goal
+use Rattle.node_memory.proofs.memory.Memory.append_pages.Given as goal
 
 abbrev pub invariant-loop-done : goal.invariant-loop-done
 invariant-loop-done g l =

@@ -1,6 +1,7 @@
 pub mod Finds
 pub mod Gathered
 pub mod Gathering
+pub mod KeepsOwn
 pub mod Kept
 pub mod KeyOrder
 pub mod Landed

@@ -1,6 +1,6 @@
 -- Nodes that are turned one after another.
 use Rattle.std.proofs.Common.{◌≡◌, ℕ, ◌+◌, ◌<◌, ◌≤◌, ◌-◌, zero, suc, inl, inr, false, List, [], ◌∷◌, ◌++◌, length, map, take, drop, get_or, set, refl, sym, ap, ap₂, ◌∙◌, arith, Some, None}
-use Rattle.std.specs.Prelude.{All, IsTrue, slice_get}
+use Rattle.std.specs.Prelude.{All, slice_get}
 use Rattle.std.specs.List.{range_with_len}
 use Rattle.std.proofs.lemmas.Bool.{cases_eq}
 use Rattle.std.proofs.lemmas.List.{places, append-nil, take_all, drop_all, length-map, length-set, length-take-le, get_or-append_right, get_or-drop, get_or-set_same, get_or-set_other}

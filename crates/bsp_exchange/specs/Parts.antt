@@ -1,9 +1,9 @@
 -- What the nodes receive in an exchange, gathered node by node before anything lands. The exchange's definitions do not rest on
 -- this: it is what the code keeps of them.
 use Rattle.std.specs.Prelude.{◌≡◌, ℕ, false, ◌+◌, ◌==◌, zero, suc, Bool, List, [], ◌∷◌, ◌++◌, length, map, take, drop, filter, filter_map, sum_by, slice_get, Some, IsTrue}
-use Rattle.std.specs.List.{fold}
+use Rattle.std.specs.List.{fold, AllZip}
 use Rattle.node_memory.specs.Bytes.{fits, bytes_at, with_bytes}
-use Rattle.node_memory.specs.Pages.{Owns}
+use Rattle.node_memory.specs.Pages.{Owns, KeepsOwn}
 use Rattle.bsp_requests.specs.declared.request.Get.{Get}
 use Rattle.bsp_requests.specs.Message.{Message}
 use Rattle.bsp_requests.specs.Inbox.{IsQueue}
@@ -49,6 +49,10 @@ LieIn size (p ∷ patches) = IsTrue (fits size p.addr (length p.bytes)) × LieIn
 abbrev pub OwnsEach : List Bool → List Patch → Type 0
 OwnsEach own [] = Unit {0}
 OwnsEach own (p ∷ patches) = Owns own p.addr (length p.bytes) × OwnsEach own patches
+
+-- the same nodes by their number, and what was a node's own is its own still
+abbrev pub EachKeepsOwn : List PreparedNode → List PreparedNode → Type 0
+EachKeepsOwn old new = AllZip (λ (p q : PreparedNode). KeepsOwn p.own q.own) old new
 
 abbrev pub patch_of : Landing → Patch
 patch_of l = record { addr = l.addr; bytes = l.bytes }

@@ -7,7 +7,7 @@ ghost use Rattle.node_core.specs.Node.{NodeState, PreparedNode};
 ghost use Rattle.bsp_exchange.specs.declared.fault.ExchangeFault.{ExchangeFault};
 ghost use Rattle.bsp_exchange.specs.Exchange.{AreAtSync, AreUnready, exchanged, states};
 ghost use Rattle.bsp_exchange.specs.Faults.{exchange_fault};
-ghost use Rattle.bsp_exchange.specs.Parts.{Received, ArePrepared, CanLand, landed_as, received_at};
+ghost use Rattle.bsp_exchange.specs.Parts.{Received, ArePrepared, CanLand, EachKeepsOwn, landed_as, received_at};
 ghost use Rattle.bsp_exchange.specs.Traffic.{h_of};
 
 use crate::checks::fault;
@@ -36,7 +36,7 @@ pub struct Traffic {
 /// The first fault that applies (own order): nodes that do not agree on the next tag size, nodes that did not make the same pushes
 /// and pops, a put or a get that does not keep to its area. Then `NoMemory`, where memory was refused: for what is gathered, for turns,
 /// or for copies of the pages into which bytes come. Whatever is answered, no node has changed then, though pages may have become its
-/// own, and the exchange can be made again.
+/// own, and the exchange can be made again. What was a node's own stays so in any case.
 pub fn exchange<A: Allocator + Copy>(
     alloc: A,
     nodes: &mut [Node<A>],
@@ -49,6 +49,7 @@ pub fn exchange<A: Allocator + Copy>(
     ensures fault { (fault : ExchangeFault)
         → IsErrOf result (ExchangeError.Fault fault) ↔ (exchange_fault (states nodes.old) ≡ Some fault) }
     ensures err { OnErr result (states nodes.new ≡ states nodes.old) }
+    ensures own { EachKeepsOwn nodes.old nodes.new }
 {
     if let Some(fault) = fault(nodes) {
         return Err(ExchangeError::Fault(fault));
@@ -70,6 +71,7 @@ fn prepare_all<A: Allocator + Copy>(
     requires sound { All (λ (n : NodeState). IsHart n.hart) (states nodes.old) }
     requires planned { parts.now ≡ map (received_at (states nodes.old)) (range_with_len 0 (length nodes.old)) }
     ensures same { states nodes.new ≡ states nodes.old }
+    ensures own { EachKeepsOwn nodes.old nodes.new }
     ensures prepared { OnOk result (ArePrepared parts.now nodes.new) }
 {
     for rank in 0..nodes.len() {
@@ -87,6 +89,7 @@ fn land_all<A: Allocator + Copy>(nodes: &mut [Node<A>], parts: &mut [Part<A>])
     requires planned { parts.old ≡ map (received_at (states nodes.old)) (range_with_len 0 (length nodes.old)) }
     ensures exchanged { states nodes.new ≡ exchanged (states nodes.old) }
     ensures unready { AreUnready nodes.new }
+    ensures own { EachKeepsOwn nodes.old nodes.new }
 {
     for rank in 0..nodes.len() {
         land_at(nodes, parts, rank);

@@ -2,6 +2,7 @@
 
 ghost use Rattle.std.specs.Prelude.{◌≡◌, false, length, IsTrue, OnOk, OnErr};
 ghost use Rattle.node_memory.specs.Bytes.{fits, bytes_at};
+ghost use Rattle.node_memory.specs.Pages.{KeepsOwn};
 ghost use Rattle.bsp_exchange.specs.Parts.{nothing, FitsIn, IsPrepared, CanLand, landed_as};
 
 use crate::landings::Landings;
@@ -99,6 +100,7 @@ impl<A: Allocator + Copy> Part<A> {
     pub(crate) fn prepare(&self, node: &mut Node<A>) -> Result<(), AllocError>
         requires within { FitsIn (length node.old.node.hart.memory) self.now }
         ensures node { node.new.node ≡ node.old.node }
+        ensures own { KeepsOwn node.old.own node.new.own }
         ensures ok { OnOk result (IsPrepared self.now node.new) }
     {
         self.gets.prepare(node)?;

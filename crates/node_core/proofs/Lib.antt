@@ -6,6 +6,7 @@ pub mod Effects
 pub mod Harts
 pub mod Messages
 pub mod OneStep
+pub mod OwnStores
 pub mod Ranks
 pub mod Room
 pub mod Signed

@@ -1,5 +1,5 @@
 -- The environment calls: what an ECALL does. Tables say of each call its number (`numbered_calls`), its checks in their
--- order (`checks`), what it does where they all pass (`performed`), and whether it asks for memory (`takes_memory`). The
+-- order (`checks`), what it does where they all pass (`performed`), and whether it may ask for memory (`takes_memory`). The
 -- number stands in a7 (x17), and operands from a0 (x10) on.
 -- Calls are after BSPlib's functions of their names (Hill and others 1998). Own rules: `write` and `read`; numbers, checks
 -- and limits; that `hpput` and `hpget` are `put` and `get`, and copy their bytes at the call; that `abort` stops its own node
@@ -7,6 +7,7 @@
 -- over the earlier.
 use Rattle.std.specs.Prelude.{◌≡◌, ℕ, ◌+◌, ◌-◌, ◌^◌, ◌==◌, Bool, true, false, not, List, [], ◌∷◌, length, min, nat_lt, nat_le, take, drop, find, IsTrue, slice_get, Option, Some, None, is_some, unwrap_or, option_map, if◌then◌else◌}
 use Rattle.std.specs.Int.{w32, to_le_bytes}
+use Rattle.std.specs.Option.{option_map_or}
 use Rattle.node_memory.specs.Bytes.{fits, bytes_at, with_bytes, word_at}
 use Rattle.bsp_slots.specs.declared.area.Area.{Area}
 use Rattle.bsp_slots.specs.Area.{last_position}
@@ -287,30 +288,30 @@ ecall_effect None input h = faults UnknownCall h
 ecall_effect (Some call) input h = call_effect call input h
 
 -- a call that may ask for memory: to note a push, a pop or a request, for bytes that it copies, even if there are none, or for copies
--- of the pages into which it stores
-abbrev pub takes_memory : Call → Bool
-takes_memory End = false
-takes_memory Nprocs = false
-takes_memory Pid = false
-takes_memory Sync = false
-takes_memory PushReg = true
-takes_memory PopReg = true
-takes_memory Put = true
-takes_memory Get = true
-takes_memory Hpput = true
-takes_memory Hpget = true
-takes_memory SetTagsize = true
-takes_memory Send = true
-takes_memory Qsize = true
-takes_memory GetTag = true
-takes_memory Move = true
-takes_memory Abort = true
-takes_memory Write = true
-takes_memory Read = true
+-- of the pages into which it stores some
+abbrev pub takes_memory : Call → List ℕ → Hart → Bool
+takes_memory End input h = false
+takes_memory Nprocs input h = false
+takes_memory Pid input h = false
+takes_memory Sync input h = false
+takes_memory PushReg input h = true
+takes_memory PopReg input h = true
+takes_memory Put input h = true
+takes_memory Get input h = true
+takes_memory Hpput input h = true
+takes_memory Hpget input h = true
+takes_memory SetTagsize input h = true
+takes_memory Send input h = true
+takes_memory Qsize input h = true
+takes_memory GetTag input h = true
+takes_memory Move input h = option_map_or (λ m. nat_lt 0 (moved (a1 h) m)) (first_message h) false
+takes_memory Abort input h = true
+takes_memory Write input h = true
+takes_memory Read input h = nat_lt 0 (taken input (a1 h) h)
 
 -- a call that may be refused memory: it may ask for some, and has no fault
 pub record MayRefuseCall (call : Call) (input : List ℕ) (h : Hart) : Type 0 where
-  pub may_ask : takes_memory call ≡ true
+  pub may_ask : takes_memory call input h ≡ true
   pub no_fault : HaveNoFault (checks call input h)
 
 -- likewise an ECALL

@@ -1,17 +1,11 @@
 -- Which pages of a memory are its own: the others it shares with other memories, and whoever writes to one of these first takes a
 -- copy of it (own rules). Bytes do not tell: of two memories of the same bytes one may own what the other shares.
-use Rattle.std.specs.Prelude.{◌≡◌, ℕ, ◌+◌, ◌*◌, ◌/◌, ◌<◌, ◌≤◌, Bool, true, false, List, length, replicate, slice_get, Some, IsTrue}
-use Rattle.node_memory.specs.Bytes.{is_memory_size}
+use Rattle.std.specs.Prelude.{◌≡◌, ℕ, ◌+◌, ◌*◌, ◌/◌, ◌<◌, ◌≤◌, Bool, true, false, List, length, replicate, slice_get, Some}
 
 -- the bytes of a memory, and for each page of 4,096 of them whether it is the memory's own
 pub record PagedMemory : Type 0 where
   pub bytes : List ℕ
   pub own : List Bool
-
--- a memory has a size that memories may have, and so many pages
-pub record IsMemory (m : PagedMemory) : Type 0 where
-  pub sized : IsTrue (is_memory_size (length m.bytes))
-  pub paged : length m.own * 4096 ≡ length m.bytes
 
 -- no page of a memory of `size` bytes is its own
 abbrev pub none_own : ℕ → List Bool

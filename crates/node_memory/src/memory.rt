@@ -126,7 +126,7 @@ impl<A: Allocator> Memory<A> {
         addr as usize + len as usize <= self.pages.len() * PAGE
     }
 
-    /// Whether each page that has one of the `len` bytes from `addr` on is the memory's own.
+    /// Whether the `len` bytes from `addr` on lie in the memory, and each page that has one of them is its own.
     pub fn owns(&self, addr: u32, len: u32) -> bool
         ensures { IsTrue result ↔ Owns self.now.own addr len }
     {

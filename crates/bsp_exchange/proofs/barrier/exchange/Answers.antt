@@ -1,4 +1,4 @@
-use Rattle.std.proofs.Common.{List, ap, sym, subst, refl, ◌∙◌}
+use Rattle.std.proofs.Common.{ap, sym, subst, refl, ◌∙◌}
 use Rattle.std.specs.Prelude.{All, slice_get}
 use Rattle.std.proofs.lemmas.Result.{err_from_is_err_and}
 use Rattle.node_core.specs.Hart.{IsHart}
@@ -6,6 +6,7 @@ use Rattle.node_core.specs.Node.{NodeState}
 use Rattle.bsp_exchange.specs.Exchange.{AreAtSync, exchanged, states}
 use Rattle.bsp_exchange.specs.Faults.{exchange_fault}
 use Rattle.bsp_exchange.specs.Traffic.{h_of}
+use Rattle.bsp_exchange.proofs.KeepsOwn.{EachKeepsOwn-same, EachKeepsOwn-then}
 use Rattle.bsp_exchange.proofs.Refusals.{NamesFault-some, NamesFault-made, NamesFault-refused}
 use Rattle.bsp_exchange.proofs.Turns.{received_same}
 use Rattle.bsp_exchange.proofs.barrier.exchange.Goals as goal
@@ -59,6 +60,7 @@ returns-in-Some g c = record {
   bounded = tt;
   fault = NamesFault-some _ c.in-Some.fault (sym c.fault.ensures ∙ c.in-Some.is);
   err = refl;
+  own = EachKeepsOwn-same c.args.nodes.now;
 }
 
 pub returns-in_err-parts : goal.returns-in_err-parts
@@ -66,14 +68,14 @@ returns-in_err-parts g c =
     let r = c.from_residual in
     let refused = err_from_is_err_and r.result r.ensures.1 in
     let fault = NamesFault-refused r.result (exchange_fault (states c.args.nodes.now)) r.ensures.1 (sym c.fault.ensures ∙ c.in_default.is) in
-    record { ok = rw refused.1 tt; unready = rw refused.1 tt; traffic = rw refused.1 tt; bounded = rw refused.1 tt; fault = fault; err = rw refused.1 refl }
+    record { ok = rw refused.1 tt; unready = rw refused.1 tt; traffic = rw refused.1 tt; bounded = rw refused.1 tt; fault = fault; err = rw refused.1 refl; own = EachKeepsOwn-same c.args.nodes.now }
 
 pub returns-in_err-prepare_all : goal.returns-in_err-prepare_all
 returns-in_err-prepare_all g c =
     let r = c.from_residual-in_err-prepare_all in
     let refused = err_from_is_err_and r.result r.ensures.1 in
     let fault = NamesFault-refused r.result (exchange_fault (states c.args.nodes.now)) r.ensures.1 (sym c.fault.ensures ∙ c.in_default.is) in
-    record { ok = rw refused.1 tt; unready = rw refused.1 tt; traffic = rw refused.1 tt; bounded = rw refused.1 tt; fault = fault; err = rw refused.1 c.in_err-prepare_all.ensures.same }
+    record { ok = rw refused.1 tt; unready = rw refused.1 tt; traffic = rw refused.1 tt; bounded = rw refused.1 tt; fault = fault; err = rw refused.1 c.in_err-prepare_all.ensures.same; own = c.in_err-prepare_all.ensures.own }
 
 pub returns : goal.returns
 returns g c = record {
@@ -83,4 +85,5 @@ returns g c = record {
   bounded = c.h_of-h.ensures.bounded;
   fault = NamesFault-made _ (exchange_fault (states c.args.nodes.now)) (sym c.fault.ensures ∙ c.in_default.is);
   err = tt;
+  own = EachKeepsOwn-then c.args.nodes.now c.prepare_all.new.nodes c.land_all.new.nodes c.in_ok-prepare_all.ensures.own c.land_all.ensures.own;
 }

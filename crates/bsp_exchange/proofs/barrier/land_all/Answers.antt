@@ -2,6 +2,7 @@ use Rattle.std.proofs.Common.{◌≡◌, ◌+◌, suc, length, drop, arith, refl
 use Rattle.std.proofs.lemmas.List.FromFn.{length-map-range_with_len}
 use Rattle.bsp_exchange.specs.Exchange.{states}
 use Rattle.bsp_exchange.specs.Parts.{received_at}
+use Rattle.bsp_exchange.proofs.KeepsOwn.{EachKeepsOwn-turned}
 use Rattle.bsp_exchange.proofs.Turns.{exchanged_all, unready_all, all_done, drop_same, can_land_here, next_turned}
 use Rattle.bsp_exchange.proofs.barrier.land_all.Goals as goal
 
@@ -31,4 +32,4 @@ pub returns : goal.returns
 returns g c =
     let nodes = c.args.nodes.now in
     let done = all_done (states nodes) nodes c.loop-rank.nodes c.loop-rank.rank c.loop-rank-test.false c.loop-rank.invariant.nodes in
-    record { exchanged = ap states done ∙ exchanged_all nodes; unready = rw done (unready_all (states nodes) nodes) }
+    record { exchanged = ap states done ∙ exchanged_all nodes; unready = rw done (unready_all (states nodes) nodes); own = rw done (EachKeepsOwn-turned (states nodes) nodes) }

@@ -1,7 +1,6 @@
 use Rattle.std.proofs.Common.{◌≡◌, ◌+◌, suc, drop, set, get_or, arith, refl, ap, sym, ◌∙◌}
 use Rattle.std.proofs.lemmas.List.{length-set}
 use Rattle.std.proofs.lemmas.Option.{slice_get_read, get_or_from_slice_get}
-use Rattle.node_core.specs.Node.{PreparedNode}
 use Rattle.bsp_exchange.specs.Parts.{Received, landed_as}
 use Rattle.bsp_exchange.proofs.Turns.{rest_kept}
 use Rattle.bsp_exchange.proofs.barrier.land_at.Goals as goal

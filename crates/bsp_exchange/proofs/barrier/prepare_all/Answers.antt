@@ -6,11 +6,12 @@ use Rattle.std.specs.Prelude.{slice_get, option_map}
 use Rattle.node_core.specs.Node.{PreparedNode}
 use Rattle.bsp_exchange.specs.Exchange.{states}
 use Rattle.bsp_exchange.specs.Parts.{received_at}
+use Rattle.bsp_exchange.proofs.KeepsOwn.{EachKeepsOwn-same, EachKeepsOwn-set}
 use Rattle.bsp_exchange.proofs.Turns.{states_kept, prepared_none, prepared_more, prepared_all, fits_here}
 use Rattle.bsp_exchange.proofs.barrier.prepare_all.Goals as goal
 
 pub loop-rank-init : goal.loop-rank-init
-loop-rank-init g c = record { same = refl; prepared = prepared_none c.args.parts.now c.args.nodes.now }
+loop-rank-init g c = record { same = refl; own = EachKeepsOwn-same c.args.nodes.now; prepared = prepared_none c.args.parts.now c.args.nodes.now }
 
 pub loop-rank-preserved : goal.loop-rank-preserved
 loop-rank-preserved g c =
@@ -23,6 +24,7 @@ loop-rank-preserved g c =
     let ok = c.in_ok-prepare.ensures.ok in
     record {
       same = states_kept nodes i c.index-nodes-rank.result c.prepare.new.node is (c.in_ok-prepare.ensures.node ∙ ap (λ (p : PreparedNode). p.node) (sym c.index-nodes-rank.is)) ∙ c.loop-rank.invariant.same;
+      own = EachKeepsOwn-set c.args.nodes.now nodes i c.index-nodes-rank.result c.prepare.new.node c.loop-rank.invariant.own is (rw c.index-nodes-rank.is c.in_ok-prepare.ensures.own);
       prepared = prepared_more c.args.parts.now nodes i c.index-parts-rank.result c.prepare.new.node there planned ok c.loop-rank.invariant.prepared;
     }
 
@@ -43,6 +45,9 @@ bounds-nodes-rank g c = rw c.loop-rank.auto.nodes c.loop-rank-test.true
 pub bounds-parts-rank : goal.bounds-parts-rank
 bounds-parts-rank g c = rw (ap length c.requires.planned ∙ length-map-range_with_len (received_at (states c.args.nodes.now)) 0 (length c.args.nodes.now)) c.loop-rank-test.true
 
+pub returns-clause-own : goal.returns-clause-own
+returns-clause-own g c = c.loop-rank.invariant.own
+
 pub returns-clause-same : goal.returns-clause-same
 returns-clause-same g c = c.loop-rank.invariant.same
 
@@ -57,6 +62,7 @@ returns-in_err-prepare g c =
     let is = slice_get_read nodes (length nodes) i c.index-nodes-rank.result refl there c.index-nodes-rank.is in
     record {
       same = states_kept nodes i c.index-nodes-rank.result c.prepare.new.node is (c.in_err-prepare.ensures.node ∙ ap (λ (p : PreparedNode). p.node) (sym c.index-nodes-rank.is)) ∙ c.loop-rank.invariant.same;
+      own = EachKeepsOwn-set c.args.nodes.now nodes i c.index-nodes-rank.result c.prepare.new.node c.loop-rank.invariant.own is (rw c.index-nodes-rank.is c.in_err-prepare.ensures.own);
       prepared = IfOk-from_err c.from_residual.result _ c.from_residual.ensures.0;
     }
 

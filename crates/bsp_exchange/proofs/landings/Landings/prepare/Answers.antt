@@ -1,4 +1,4 @@
-use Rattle.std.proofs.Common.{◌≡◌, ◌≤◌, ◌^◌, ℕ, ◌<◌, length, get_or, refl, sym, ap, ◌∙◌, arith}
+use Rattle.std.proofs.Common.{◌≤◌, ◌^◌, length, get_or, refl, sym, ap, ◌∙◌, arith}
 use Rattle.std.specs.Prelude.{IsTrue}
 use Rattle.node_memory.specs.Bytes.{fits}
 use Rattle.node_core.specs.Node.{NodeState}
@@ -29,8 +29,8 @@ loop-range-preserved g c =
     record {
       node = made.node ∙ before.node;
       ready = made.ready ∙ before.ready;
-      own = KeepsOwn-then c.args.node.now.own c.loop-range.node.own c.prepare_land.new.self.own before.own made.own;
-      owned = owned_more c.loop-range.node.own c.prepare_land.new.self.own c.deref-range-items.result.now c.loop-range.range-index _ made.own made.ok before.owned;
+      own = KeepsOwn-then c.args.node.now.own c.loop-range.node.own c.prepare_land.new.self.own before.own made.more.keeps;
+      owned = owned_more c.loop-range.node.own c.prepare_land.new.self.own c.deref-range-items.result.now c.loop-range.range-index _ made.more.keeps made.ok before.owned;
     }
 
 pub returns-clause-ok : goal.returns-clause-ok

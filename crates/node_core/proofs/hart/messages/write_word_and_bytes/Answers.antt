@@ -1,4 +1,4 @@
-use Rattle.std.proofs.Common.{◌≡◌, ℕ, length, sym}
+use Rattle.std.proofs.Common.{length}
 use Rattle.node_memory.specs.Pages.{Owns}
 use Rattle.node_memory.proofs.Owned.{Owns-kept}
 use Rattle.node_core.proofs.Answered.{not_err}

@@ -35,7 +35,8 @@ LINES = {
         1: f"settings refused: {one_of(settings)}|too long|line [1-9][0-9]*: {one_of(FAULTS_OF_TEXTS)}"
         f"|image refused: {one_of(FAULTS_OF_FILES + ('SegmentOutside',))}",
         5: "no memory|no worker" if subcommand == "run" else "no memory",
-        6: "cannot open [^\n]*|read failed|write failed",
+        # A path is told as it is, with whatever characters it has.
+        6: "cannot open .*|read failed|write failed",
     }.items()
 }
 

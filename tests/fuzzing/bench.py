@@ -10,7 +10,7 @@ import shlex
 import shutil
 import signal
 import subprocess
-from typing import Dict, List, Optional, Set, Tuple, Union
+from typing import Dict, List, Optional, Tuple, Union
 
 from fuzzing import answers
 from fuzzing.answers import Answer
@@ -110,7 +110,6 @@ class Trial:
         self.random = random.Random(f"{seed} {number}")
         self.commands: List[str] = []
         self.faults: List[str] = []
-        self.statuses: Set[int] = set()
 
     def file(self, name: str, content: bytes) -> str:
         """Makes a file, and gives its name."""
@@ -134,7 +133,6 @@ class Trial:
         """Starts the program. What is wrong with its answer by itself is noted."""
         answer = self.bench.start(list(words), stdin, space)
         self.commands.append(answer.command)
-        self.statuses.add(answer.status)
         self.expect(answers.fault_of(answer))
         self.expect_that(answer.status != 5 or space > 0, "memory or a thread is refused, of which there is enough")
         return answer
@@ -147,10 +145,6 @@ class Trial:
     def expect_that(self, is_right: bool, fault: str) -> None:
         """Notes a fault where something is not right."""
         self.expect("" if is_right else fault)
-
-    def told_of(self, status: int) -> bool:
-        """Whether a start of this run ended with this status."""
-        return status in self.statuses
 
     def one_in(self, count: int) -> bool:
         """True once in so many times."""

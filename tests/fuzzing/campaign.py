@@ -24,10 +24,11 @@ def fast_folder() -> Optional[str]:
 
 
 class Campaign:
-    """Runs of one seed. What breaks a rule is told by a line, and its files are kept in a folder."""
+    """Runs of one seed, of all kinds or of one. What breaks a rule is told by a line, and its files are kept in a folder."""
 
-    def __init__(self, program: pathlib.Path, seed: int, keep: pathlib.Path, tell: Callable[[str], None]) -> None:
+    def __init__(self, program: pathlib.Path, seed: int, keep: pathlib.Path, tell: Callable[[str], None], only: str = "") -> None:
         self.program, self.seed, self.keep, self.tell = program, seed, keep, tell
+        self.kinds = [kind for kind in KINDS if only in ("", kind[0])]
         self.made: Dict[str, int] = {}
         self.statuses: Dict[int, int] = {}
         self.failed = 0
@@ -43,7 +44,7 @@ class Campaign:
 
     def make_one(self, bench: Bench, number: int) -> None:
         """Makes the run of this number. What it leaves is taken away before the next one."""
-        name, kind = KINDS[number % len(KINDS)]
+        name, kind = self.kinds[number % len(self.kinds)]
         trial = Trial(bench, self.seed, number)
         kind(trial)
         self.made[name] = self.made.get(name, 0) + 1

@@ -51,8 +51,14 @@ def elf(trial: Trial) -> None:
         answer = trial.run("run", image, *machine.words(), *ways.way(trial))
         trial.expect_that(answer.told == f"bspemu: image refused: {refusal}", f"the refusal has to be {refusal}")
     else:
-        ways.run_in_ways(trial, image, machine)
-        trial.expect_that(not trial.told_of(1), "nothing is wrong with the image")
+        go_on(trial, image, machine, found)
+
+
+def go_on(trial: Trial, image: str, machine: Machine, loaded: ways.Image) -> None:
+    """Runs an image that fits, and now and then debugs it."""
+    run = ways.run_in_ways(trial, image, machine, loaded)
+    if run and trial.one_in(3):
+        ways.debug_to_end(trial, image, machine, run, b"")
 
 
 def raw(trial: Trial) -> None:
@@ -66,7 +72,7 @@ def raw(trial: Trial) -> None:
         text = trial.file("text", listings.text_of(listed.stdout))
         again = trial.run("list", text, "--format", "asm")
         trial.expect_that(again.same_as(listed), "a listing that is assembled has other bytes")
-    ways.run_in_ways(trial, image, small_machine(trial, "raw"))
+    go_on(trial, image, small_machine(trial, "raw"), (0, [Segment(0, content, len(content))]))
 
 
 def text(trial: Trial) -> None:
@@ -93,13 +99,15 @@ def text(trial: Trial) -> None:
         trial.expect(fault)
         if make is texts.text_of_listing:
             trial.expect_that(b"\n".join(statements) + b"\n" == content, "the listing is not the text")
-    run_both(trial)
+        run_both(trial, found)
 
 
-def run_both(trial: Trial) -> None:
+def run_both(trial: Trial, loaded: ways.Image) -> None:
     """Runs a text and its saved image, which have the same run."""
     machine = small_machine(trial, "asm")
-    ways.run_in_ways(trial, "text", machine, 0)
+    if images.is_outside(loaded[1], machine.memory):
+        return
+    ways.run_in_ways(trial, "text", machine, loaded, 0)
     words = machine.words()
     asm = trial.run("run", "text", *words, "--report")
     words[words.index("asm")] = "elf"

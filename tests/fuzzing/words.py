@@ -4,7 +4,7 @@ from __future__ import annotations
 
 import dataclasses
 import random
-from typing import Dict, List, Optional, Tuple
+from typing import Dict, List, Optional
 
 from fuzzing import images, instructions
 from fuzzing.bench import Trial, Word

@@ -17,7 +17,8 @@ use Rattle.bsp_exchange.specs.declared.fault.ExchangeFault.TheVariants.{TagMisma
 use Rattle.bsp_exchange.specs.Faults.{leaves_area, first_outside, exchange_fault, disagreeing, have_same_tag_size, have_same_shape}
 use Rattle.bsp_exchange.specs.Issued.{Issued, issued_as, issued_by, issued}
 use Rattle.bsp_exchange.specs.Exchange.{states}
-use Rattle.bsp_exchange.specs.Parts.{Received, changed_at, target_of, with_asked, with_issued}
+use Rattle.bsp_exchange.specs.Arrivals.{Received, with_asked, with_issued}
+use Rattle.bsp_exchange.specs.Parts.{changed_at, target_of}
 use Rattle.bsp_exchange.proofs.Finds.{drop_from, issued_from, next_request, next_node}
 
 changed_at-set : {X : Type 0} (f : X → X) (i : ℕ) (xs : List X) (x : X) → slice_get xs i ≡ Some x → set xs i (f x) ≡ changed_at f i xs

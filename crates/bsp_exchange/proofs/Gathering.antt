@@ -8,7 +8,8 @@ use Rattle.bsp_requests.specs.Request.{Asked, asks_put, asks_get, asks_send}
 use Rattle.node_core.specs.Node.{NodeState}
 use Rattle.bsp_exchange.specs.Issued.{Issued, issued}
 use Rattle.bsp_exchange.specs.Landings.{Landing, area_start, landing_of_get, landing_of_put, get_landing, put_landing}
-use Rattle.bsp_exchange.specs.Parts.{Patch, Received, nothing, patch_of, changed_at, with_get, with_put, with_message, fetched, with_asked, with_issued, received_at}
+use Rattle.bsp_exchange.specs.Arrivals.{Received, nothing, with_get, with_put, with_message, fetched, with_asked, with_issued, received_at}
+use Rattle.bsp_exchange.specs.Parts.{Patch, patch_of, changed_at}
 use Rattle.bsp_exchange.specs.Queues.{message_to}
 
 -- two functions that agree from some number on make one list of the numbers from there on

@@ -1,13 +1,12 @@
 -- What is each node's own stays so.
-use Rattle.std.proofs.Common.{◌≡◌, ℕ, zero, suc, true, List, [], ◌∷◌, map, set, Some, Ok, Err, OnOk, OnErr}
+use Rattle.std.proofs.Common.{◌≡◌, ℕ, zero, suc, true, List, [], ◌∷◌, set, Some, Ok, Err, OnOk, OnErr}
 use Rattle.std.specs.Prelude.{slice_get}
 use Rattle.std.specs.declared.result.Result.{Result}
 use Rattle.std.proofs.lemmas.Option.{same_Some}
 use Rattle.node_memory.specs.Pages.{KeepsOwn}
 use Rattle.node_memory.proofs.Owned.{KeepsOwn-same, KeepsOwn-then}
-use Rattle.node_core.specs.Node.{NodeState, PreparedNode}
+use Rattle.node_core.specs.Node.{PreparedNode}
 use Rattle.bsp_exchange.specs.Parts.{EachKeepsOwn}
-use Rattle.bsp_exchange.proofs.Turns.{turned_in}
 
 pub EachKeepsOwn-same : (ps : List PreparedNode) → EachKeepsOwn ps ps
 EachKeepsOwn-same [] = tt
@@ -30,11 +29,6 @@ EachKeepsOwn-set (x ∷ xs) (y ∷ ys) zero p q each here keeps =
     let head : y ≡ p = same_Some y p here in
     (KeepsOwn-then x.own y.own q.own each.0 (rw head keeps), each.1)
 EachKeepsOwn-set (x ∷ xs) (y ∷ ys) (suc i) p q each here keeps = (each.0, EachKeepsOwn-set xs ys i p q each.1 here keeps)
-
--- nodes that are turned
-pub EachKeepsOwn-turned : (nodes : List NodeState) (ps : List PreparedNode) → EachKeepsOwn ps (map (turned_in nodes) ps)
-EachKeepsOwn-turned nodes [] = tt
-EachKeepsOwn-turned nodes (p ∷ ps) = (KeepsOwn-same p.own, EachKeepsOwn-turned nodes ps)
 
 -- a node for whose turn room is made, or refused
 pub KeepsOwn-readied : {T E : Type 0} (r : Result T E) (old new : PreparedNode) → OnOk r (new ≡ record old { ready = true }) → OnErr r (new ≡ old) → KeepsOwn old.own new.own

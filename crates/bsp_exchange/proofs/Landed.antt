@@ -26,7 +26,8 @@ use Rattle.bsp_exchange.specs.Exchange.{AreAtSync, exchanged_node}
 use Rattle.bsp_exchange.specs.Faults.{is_outside, leaves_area, fault_of, first_outside, exchange_fault}
 use Rattle.bsp_exchange.specs.Issued.{Issued, issued_as, issued_by, issued}
 use Rattle.bsp_exchange.specs.Landings.{Landing, area_start, memory_of, landing_of_get, landing_of_put, landings_at, covers, landing_byte, landed_byte, memory_after}
-use Rattle.bsp_exchange.specs.Parts.{Patch, patch_of, laid, LieIn, received_at, after_landing, FitsIn}
+use Rattle.bsp_exchange.specs.Arrivals.{LieIn, received_at, after_landing, FitsIn}
+use Rattle.bsp_exchange.specs.Parts.{Patch, patch_of, laid}
 use Rattle.bsp_exchange.specs.Queues.{message_to, queue_after}
 use Rattle.bsp_exchange.proofs.Patches.{length-patched, length-range}
 
@@ -74,7 +75,7 @@ LieIn-append size [] b first second = second
 LieIn-append size (p ∷ a) b first second = (first.0, LieIn-append size a b first.1 second)
 
 -- what a rank's node receives of gets and then of puts are the landings at it, in their order
-parts_are : (nodes : List NodeState) (rank : ℕ) → (received_at nodes rank).gets ++ (received_at nodes rank).puts ≡ map patch_of (landings_at nodes rank)
+pub parts_are : (nodes : List NodeState) (rank : ℕ) → (received_at nodes rank).gets ++ (received_at nodes rank).puts ≡ map patch_of (landings_at nodes rank)
 parts_are nodes rank =
     let gets : List Landing = filter_map (λ i. landing_of_get nodes i.rank i.issue i.request) (issued nodes) in
     let puts : List Landing = filter_map (λ i. landing_of_put nodes i.rank i.issue i.request) (issued nodes) in
@@ -151,7 +152,7 @@ all_inside nodes faultless =
     none_found (λ (i : Issued). leaves_area nodes i.request) (issued nodes) (none_mapped fault_of _ outside)
 
 -- a node stands at the place of its rank
-rank_is : (nodes : List NodeState) → AreAtSync nodes → (i : ℕ) (n : NodeState) → slice_get nodes i ≡ Some n → n.hart.rank ≡ i
+pub rank_is : (nodes : List NodeState) → AreAtSync nodes → (i : ℕ) (n : NodeState) → slice_get nodes i ≡ Some n → n.hart.rank ≡ i
 rank_is nodes row i n is =
     let rank_of : NodeState → ℕ = λ (x : NodeState). x.hart.rank in
     let below : i < length nodes = slice_get_within nodes i n is in

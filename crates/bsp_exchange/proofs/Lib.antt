@@ -5,12 +5,15 @@ pub mod KeepsOwn
 pub mod Kept
 pub mod KeyOrder
 pub mod Landed
+pub mod LandedRow
 pub mod Latest
 pub mod Loads
 pub mod Lookups
+pub mod PartOrder
 pub mod Patches
+pub mod Planned
+pub mod Preparing
 pub mod Refusals
 pub mod Tallies
 pub mod Transfers
-pub mod Turns
 pub mod Waiting

@@ -9,7 +9,8 @@ use Rattle.node_memory.specs.Bytes.{fits, bytes_at, with_bytes}
 use Rattle.bsp_exchange.specs.declared.landings.Range.{Range}
 use Rattle.node_memory.specs.Pages.{Owns, KeepsOwn}
 use Rattle.node_memory.proofs.Owned.{Owns-kept}
-use Rattle.bsp_exchange.specs.Parts.{Patch, patches_of, laid, LieIn, OwnsEach}
+use Rattle.bsp_exchange.specs.Arrivals.{patches_of, LieIn}
+use Rattle.bsp_exchange.specs.Parts.{Patch, laid, OwnsEach}
 
 abbrev pub bytes_in : List Range → ℕ
 bytes_in ranges = sum_by (λ (r : Range). r.len) ranges

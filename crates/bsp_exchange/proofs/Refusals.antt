@@ -1,5 +1,5 @@
 -- Which fault is the first, and what the answer of an exchange says of it.
-use Rattle.std.proofs.Common.{◌≡◌, ℕ, List, Result, Ok, Err, Option, Some, None, ap, ap₂, sym}
+use Rattle.std.proofs.Common.{◌≡◌, ℕ, List, Result, Ok, Err, Option, Some, None, ap, ap₂, refl, sym, ◌∙◌}
 use Rattle.std.specs.Prelude.{◌↔◌, IsErrOf, IsErrAnd, option_map}
 use Rattle.std.specs.Option.{option_or}
 use Rattle.node_core.specs.Node.{NodeState}
@@ -37,3 +37,17 @@ NamesFault-made x fault none f = (λ is. absurd cc, λ is. absurd cc)
 pub NamesFault-refused : {T : Type 0} (r : Result T ExchangeError) (fault : Option ExchangeFault) → IsErrAnd r (λ e. e ≡ NoMemory) → fault ≡ None → NamesFault r fault
 NamesFault-refused (Ok x) fault is none f = absurd is
 NamesFault-refused (Err e) fault is none f = (λ same. absurd cc, λ some. absurd cc)
+
+abbrev error_or : {T : Type 0} → ExchangeError → Result T ExchangeError → ExchangeError
+error_or d (Ok x) = d
+error_or d (Err e) = e
+
+same_error : {T : Type 0} (a b : ExchangeError) (r s : Result T ExchangeError) → r ≡ Err a → s ≡ Err b → r ≡ s → a ≡ b
+same_error a b r s first second same = sym (ap (error_or a) first) ∙ ap (error_or a) same ∙ ap (error_or a) second
+
+-- an error names the same fault as an answer of whatever call
+pub NamesFault-handed : {T U : Type 0} (e : ExchangeError) (fault : Option ExchangeFault) → NamesFault {T = T} (Err e) fault → NamesFault {T = U} (Err e) fault
+NamesFault-handed {T} {U} e fault names f = (
+  λ is. (names f).0 (ap (λ (x : ExchangeError). Err x) (same_error e (Fault f) _ _ refl refl is)),
+  λ some. ap (λ (x : ExchangeError). Err x) (same_error e (Fault f) _ _ refl refl ((names f).1 some)),
+)

@@ -15,7 +15,7 @@ use Rattle.bsp_exchange.specs.Areas.{area_at}
 use Rattle.bsp_exchange.specs.Exchange.{states}
 use Rattle.bsp_exchange.specs.Faults.{is_outside}
 use Rattle.bsp_exchange.specs.Landings.{area_start, memory_of}
-use Rattle.bsp_exchange.specs.Parts.{fetched}
+use Rattle.bsp_exchange.specs.Arrivals.{fetched}
 use Rattle.bsp_exchange.proofs.Finds.{area_of}
 
 -- the memory of a rank's node is that of the node at its place

@@ -1,4 +1,5 @@
 pub mod Areas
+pub mod Arrivals
 pub mod Exchange
 pub mod Faults
 pub mod Issued

@@ -1,21 +1,19 @@
--- What the nodes receive in an exchange, gathered node by node before anything lands. The exchange's definitions do not rest on
--- this: it is what the code keeps of them.
-use Rattle.std.specs.Prelude.{◌≡◌, ℕ, false, ◌+◌, ◌==◌, zero, suc, Bool, List, [], ◌∷◌, ◌++◌, length, map, take, drop, filter, filter_map, sum_by, slice_get, Some, IsTrue}
-use Rattle.std.specs.List.{fold, AllZip}
-use Rattle.node_memory.specs.Bytes.{fits, bytes_at, with_bytes}
+-- The exchange, node by node: a part for each rank, with all that lands in its node. What is in it is gathered before anything
+-- lands, so that it rests on no other node any more. BSPlib (Hill and others, 1998: `bsp_sync`) says what stands after the exchange;
+-- by whom and when its parts land is left open there, and has no part in the definitions of it either.
+use Rattle.std.specs.Prelude.{◌≡◌, ℕ, false, true, suc, zero, Bool, List, [], ◌∷◌, length, map, All, None, IsTrue}
+use Rattle.std.specs.List.{fold, range_with_len, AllZip}
+use Rattle.node_memory.specs.Bytes.{with_bytes}
 use Rattle.node_memory.specs.Pages.{Owns, KeepsOwn}
-use Rattle.bsp_requests.specs.declared.request.Get.{Get}
 use Rattle.bsp_requests.specs.Message.{Message}
-use Rattle.bsp_requests.specs.Inbox.{IsQueue}
 use Rattle.bsp_requests.specs.Request.{Asked, asks_put, asks_get, asks_send}
 use Rattle.node_core.specs.declared.state.State.TheVariants.{Synced}
-use Rattle.node_core.specs.Hart.{with_memory}
+use Rattle.node_core.specs.Hart.{IsHart, with_memory}
 use Rattle.node_core.specs.Node.{NodeState, PreparedNode}
 use Rattle.node_core.specs.Turn.{next_superstep}
-use Rattle.bsp_exchange.specs.declared.landings.Range.{Range}
-use Rattle.bsp_exchange.specs.declared.landings.Landings.TheInside.{Inside}
-use Rattle.bsp_exchange.specs.Issued.{Issued, issued}
-use Rattle.bsp_exchange.specs.Landings.{Landing, area_start, memory_of, landing_of_get, landing_of_put}
+use Rattle.bsp_exchange.specs.Exchange.{AreAtSync}
+use Rattle.bsp_exchange.specs.Faults.{exchange_fault}
+use Rattle.bsp_exchange.specs.Landings.{Landing, landings_at}
 use Rattle.bsp_exchange.specs.Queues.{queue_after}
 
 -- bytes for one memory, from an address on
@@ -23,27 +21,16 @@ pub record Patch : Type 0 where
   pub addr : ℕ
   pub bytes : List ℕ
 
--- the patches whose bytes stand one after another
-abbrev pub patches_of : List Range → List ℕ → List Patch
-patches_of [] bytes = []
-patches_of (r ∷ ranges) bytes = record { addr = r.addr; bytes = take r.len bytes } ∷ patches_of ranges (drop r.len bytes)
-
-abbrev pub patches_view : {A : Type 0} → Inside A → List Patch
-patches_view l = patches_of l.ranges.items l.bytes.items
-
--- the bytes are those of the ranges
-abbrev pub AreCovered : {A : Type 0} → Inside A → Type 0
-AreCovered l = sum_by (λ (r : Range). r.len) l.ranges.items ≡ length l.bytes.items
+abbrev pub patch_of : Landing → Patch
+patch_of l = record { addr = l.addr; bytes = l.bytes }
 
 -- a memory with patches laid over it, one after another
 abbrev pub laid : List ℕ → List Patch → List ℕ
 laid memory [] = memory
 laid memory (p ∷ patches) = laid (with_bytes memory p.addr p.bytes) patches
 
--- each of them lies in a memory of so many bytes
-abbrev pub LieIn : ℕ → List Patch → Type 0
-LieIn size [] = Unit {0}
-LieIn size (p ∷ patches) = IsTrue (fits size p.addr (length p.bytes)) × LieIn size patches
+abbrev pub with_patches : List Patch → NodeState → NodeState
+with_patches patches n = record n { hart = with_memory (laid n.hart.memory patches) n.hart }
 
 -- the pages of each of them are the memory's own
 abbrev pub OwnsEach : List Bool → List Patch → Type 0
@@ -54,35 +41,35 @@ OwnsEach own (p ∷ patches) = Owns own p.addr (length p.bytes) × OwnsEach own 
 abbrev pub EachKeepsOwn : List PreparedNode → List PreparedNode → Type 0
 EachKeepsOwn old new = AllZip (λ (p q : PreparedNode). KeepsOwn p.own q.own) old new
 
-abbrev pub patch_of : Landing → Patch
-patch_of l = record { addr = l.addr; bytes = l.bytes }
+-- what the node of a rank receives: bytes, in the order in which they are laid over its memory, and its queue for the next
+-- superstep. It lands once, and is spent then
+pub record PartState : Type 0 where
+  pub rank : ℕ
+  pub spent : Bool
+  pub patches : List Patch
+  pub queue : List Message
 
-abbrev pub with_patches : List Patch → NodeState → NodeState
-with_patches patches n = record n { hart = with_memory (laid n.hart.memory patches) n.hart }
+-- the part of a rank's node in the exchange among `nodes`: its landings, in the order of their keys, and the messages sent to it
+abbrev pub part_of : List NodeState → ℕ → PartState
+part_of nodes rank = record { rank = rank; spent = false; patches = map patch_of (landings_at nodes rank); queue = queue_after nodes rank }
 
--- what one node receives: what its gets fetch, what is put into its areas, and the messages that are sent to it
-pub record Received : Type 0 where
-  pub gets : List Patch
-  pub puts : List Patch
-  pub messages : List Message
+-- those of all ranks
+abbrev pub parts_of : List NodeState → List PartState
+parts_of nodes = map (part_of nodes) (range_with_len 0 (length nodes))
 
-abbrev pub nothing : Received
-nothing = record { gets = []; puts = []; messages = [] }
+-- a part that has landed. The node has its messages then
+abbrev pub spent_part : PartState → PartState
+spent_part part = record part { spent = true; queue = [] }
 
-abbrev pub with_get : Patch → Received → Received
-with_get p part = record part { gets = part.gets ++ p ∷ [] }
+-- a node in its next superstep, with what it received
+abbrev pub with_part : PartState → NodeState → NodeState
+with_part part n = next_superstep part.queue (with_patches part.patches n)
 
-abbrev pub with_put : Patch → Received → Received
-with_put p part = record part { puts = part.puts ++ p ∷ [] }
-
-abbrev pub with_message : Message → Received → Received
-with_message m part = record part { messages = part.messages ++ m ∷ [] }
-
--- the rank that a request names
-abbrev pub target_of : Asked → ℕ
-target_of (asks_put p) = p.target
-target_of (asks_get g) = g.target
-target_of (asks_send m) = m.target
+-- the nodes of a row, the part at the place of each landed in it. Those past the parts stay as they are
+abbrev pub landed : List PartState → List NodeState → List NodeState
+landed [] nodes = nodes
+landed (part ∷ parts) [] = []
+landed (part ∷ parts) (n ∷ nodes) = with_part part n ∷ landed parts nodes
 
 -- the element at a place changed, if there is one
 abbrev pub changed_at : {X : Type 0} → (X → X) → ℕ → List X → List X
@@ -90,59 +77,35 @@ changed_at f place [] = []
 changed_at f zero (x ∷ xs) = f x ∷ xs
 changed_at f (suc place) (x ∷ xs) = x ∷ changed_at f place xs
 
--- what a get brings to its caller
-abbrev pub fetched : List NodeState → Get → Patch
-fetched nodes g = record {
-  addr = g.dst;
-  bytes = bytes_at (memory_of nodes g.target) (area_start nodes g.target g.slot + g.offset) g.len;
-}
+-- the rank that a request names
+abbrev pub target_of : Asked → ℕ
+target_of (asks_put p) = p.target
+target_of (asks_get g) = g.target
+target_of (asks_send m) = m.target
 
--- what the nodes receive when a caller's request is added
-abbrev pub with_asked : List NodeState → ℕ → List Received → Asked → List Received
-with_asked nodes caller parts (asks_put p) =
-    changed_at (with_put (record { addr = area_start nodes p.target p.slot + p.offset; bytes = p.bytes })) p.target parts
-with_asked nodes caller parts (asks_get g) = changed_at (with_get (fetched nodes g)) caller parts
-with_asked nodes caller parts (asks_send m) =
-    changed_at (with_message (record { sender = caller; tag = m.tag; payload = m.payload })) m.target parts
+-- a row in which one part has landed, in the node of its rank
+abbrev pub landed_in : List NodeState → PartState → List NodeState
+landed_in nodes part = changed_at (with_part part) part.rank nodes
 
-abbrev pub with_issued : List NodeState → List Received → List Issued → List Received
-with_issued nodes parts requests = fold (λ at i. with_asked nodes i.rank at i.request) parts requests
+-- a row in which parts have landed one after another
+abbrev pub landed_in_turn : List NodeState → List PartState → List NodeState
+landed_in_turn nodes parts = fold landed_in nodes parts
 
--- what a rank's node receives in the exchange
-abbrev pub received_at : List NodeState → ℕ → Received
-received_at nodes rank = record {
-  gets = map patch_of (filter (λ l. l.rank == rank) (filter_map (λ i. landing_of_get nodes i.rank i.issue i.request) (issued nodes)));
-  puts = map patch_of (filter (λ l. l.rank == rank) (filter_map (λ i. landing_of_put nodes i.rank i.issue i.request) (issued nodes)));
-  messages = queue_after nodes rank;
-}
+-- nodes among which the exchange is made: they are at their sync, there is no fault, and each of them is sound
+pub record CanExchange (nodes : List NodeState) : Type 0 where
+  pub row : AreAtSync nodes
+  pub faultless : exchange_fault nodes ≡ None
+  pub sound : All (λ (n : NodeState). IsHart n.hart) nodes
 
--- a node's state after what it received
-abbrev pub after_landing : Received → NodeState → NodeState
-after_landing part n = next_superstep part.messages (with_patches part.puts (with_patches part.gets n))
-
--- all of it has its place in a memory of so many bytes
-pub record FitsIn (size : ℕ) (part : Received) : Type 0 where
-  pub gets : LieIn size part.gets
-  pub puts : LieIn size part.puts
-  pub queue : IsQueue part.messages
-
--- a node is ready for its turn, and the pages into which it receives bytes are its own
-pub record IsPrepared (part : Received) (p : PreparedNode) : Type 0 where
-  pub ready : IsTrue p.ready
-  pub gets : OwnsEach p.own part.gets
-  pub puts : OwnsEach p.own part.puts
-
--- each node is prepared for its part
-abbrev pub ArePrepared : List Received → List PreparedNode → Type 0
-ArePrepared parts nodes =
-    (rank : ℕ) (part : Received) (p : PreparedNode) → slice_get parts rank ≡ Some part → slice_get nodes rank ≡ Some p → IsPrepared part p
-
--- a node, prepared, with all that it received
-abbrev pub landed_as : Received → PreparedNode → PreparedNode
-landed_as part p = record p { node = after_landing part p.node; ready = false }
-
--- a node can take what it received
-pub record CanLand (part : Received) (p : PreparedNode) : Type 0 where
+-- a part can land in a node: it has not landed yet, and the node has its rank, waits, is ready for its turn, and owns the pages
+-- into which it receives bytes
+pub record CanLand (part : PartState) (p : PreparedNode) : Type 0 where
+  pub unspent : part.spent ≡ false
+  pub rank : p.node.hart.rank ≡ part.rank
   pub waiting : p.node.state ≡ Synced
-  pub queue : IsQueue part.messages
-  pub prepared : IsPrepared part p
+  pub ready : IsTrue p.ready
+  pub own : OwnsEach p.own part.patches
+
+-- a prepared node after its part has landed
+abbrev pub landed_as : PartState → PreparedNode → PreparedNode
+landed_as part p = record p { node = with_part part p.node; ready = false }

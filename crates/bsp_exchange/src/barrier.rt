@@ -1,36 +1,28 @@
-//! The exchange, whole: nothing lands before all that can be refused is done.
+//! The exchange, whole: its plan, and then the landing of each part.
 
-ghost use Rattle.std.specs.Prelude.{◌≡◌, ◌<◌, ◌≤◌, ◌+◌, ◌^◌, ◌↔◌, All, IsTrue, None, Some, OnOk, OnErr, IfOk, IsErrOf, length, map, drop, slice_get, slice_set};
-ghost use Rattle.std.specs.List.{range_with_len};
-ghost use Rattle.node_core.specs.Hart.{IsHart};
-ghost use Rattle.node_core.specs.Node.{NodeState, PreparedNode};
+ghost use Rattle.std.specs.Prelude.{◌≡◌, ◌<◌, ◌≤◌, ◌^◌, ◌↔◌, Some, OnOk, OnErr, IfOk, IsErrOf, length, map, slice_get, slice_set};
+ghost use Rattle.std.specs.List.{AllZip};
+ghost use Rattle.node_core.specs.Node.{PreparedNode};
 ghost use Rattle.bsp_exchange.specs.declared.fault.ExchangeFault.{ExchangeFault};
 ghost use Rattle.bsp_exchange.specs.Exchange.{AreAtSync, AreUnready, exchanged, states};
 ghost use Rattle.bsp_exchange.specs.Faults.{exchange_fault};
-ghost use Rattle.bsp_exchange.specs.Parts.{Received, ArePrepared, CanLand, EachKeepsOwn, landed_as, received_at};
+ghost use Rattle.bsp_exchange.specs.Parts.{CanLand, EachKeepsOwn, PartState, landed, landed_as, spent_part};
 ghost use Rattle.bsp_exchange.specs.Traffic.{h_of};
 
-use crate::checks::fault;
 use crate::fault::{ExchangeError, ExchangeFault};
-use crate::part::Part;
-use crate::plan::plan;
-use crate::traffic::h_of;
+use crate::part::{Part, Plan};
+use crate::planning::plan;
+use crate::traffic::Traffic;
 use node_core::Node;
-use std::alloc::{AllocError, Allocator};
-
-/// What an exchange moved.
-#[derive(Clone, Copy, Debug, PartialEq, Eq)]
-pub struct Traffic {
-    /// The most bytes that one node sent or received: the h of the h-relation (BSP). At most 2^32.
-    pub h: u64,
-}
+use std::alloc::Allocator;
 
 /// Makes the exchange at the end of a superstep among `nodes` (BSPlib's `bsp_sync`), each of which stands at the place of its rank
 /// and waits; they have equally many areas in effect.
 ///
 /// Gets read the memories as they are, and then gets and puts land; each node finds the messages that were sent to it, in the
 /// order of their senders' ranks and of issue; areas, tag sizes and requests turn; and each node runs on, or is exhausted where it
-/// has no tick left. Time grows as the requests and the bytes that they move.
+/// has no tick left. It is [`plan`], and then the landing of each part in its node. Time grows as the requests and the bytes that
+/// they move.
 ///
 /// # Errors
 /// The first fault that applies (own order): nodes that do not agree on the next tag size, nodes that did not make the same pushes
@@ -51,61 +43,35 @@ pub fn exchange<A: Allocator + Copy>(
     ensures err { OnErr result (states nodes.new ≡ states nodes.old) }
     ensures own { EachKeepsOwn nodes.old nodes.new }
 {
-    if let Some(fault) = fault(nodes) {
-        return Err(ExchangeError::Fault(fault));
-    }
-    let mut parts = plan(alloc, nodes)?;
-    prepare_all(nodes, &parts)?;
-    let h = h_of(nodes);
+    let Plan { traffic, mut parts } = plan(alloc, nodes)?;
     land_all(nodes, &mut parts);
-    Ok(Traffic { h })
+    Ok(traffic)
 }
 
-/// Makes the room that the landings and the turns of all nodes want. The nodes themselves stay as they are.
-fn prepare_all<A: Allocator + Copy>(
-    nodes: &mut [Node<A>],
-    parts: &[Part<A>],
-) -> Result<(), AllocError>
-    requires row { AreAtSync (states nodes.old) }
-    requires faultless { exchange_fault (states nodes.old) ≡ None }
-    requires sound { All (λ (n : NodeState). IsHart n.hart) (states nodes.old) }
-    requires planned { parts.now ≡ map (received_at (states nodes.old)) (range_with_len 0 (length nodes.old)) }
-    ensures same { states nodes.new ≡ states nodes.old }
-    ensures own { EachKeepsOwn nodes.old nodes.new }
-    ensures prepared { OnOk result (ArePrepared parts.now nodes.new) }
-{
-    for rank in 0..nodes.len() {
-        parts[rank].prepare(&mut nodes[rank])?;
-    }
-    Ok(())
-}
-
-/// Lands what each node receives, and begins its next superstep.
-fn land_all<A: Allocator + Copy>(nodes: &mut [Node<A>], parts: &mut [Part<A>])
-    requires row { AreAtSync (states nodes.old) }
-    requires faultless { exchange_fault (states nodes.old) ≡ None }
-    requires sound { All (λ (n : NodeState). IsHart n.hart) (states nodes.old) }
-    requires prepared { ArePrepared parts.old nodes.old }
-    requires planned { parts.old ≡ map (received_at (states nodes.old)) (range_with_len 0 (length nodes.old)) }
-    ensures exchanged { states nodes.new ≡ exchanged (states nodes.old) }
+/// Lands each part in the node at its place, and begins the node's next superstep there: [`Part::land`] for each of them, in this
+/// thread. They may be a whole plan and its row, or the parts of some nodes and just these nodes, in the same order.
+pub fn land_all<A: Allocator + Copy>(nodes: &mut [Node<A>], parts: &mut [Part<A>])
+    requires { AllZip CanLand parts.old nodes.old }
+    ensures nodes { states nodes.new ≡ landed parts.old (states nodes.old) }
     ensures unready { AreUnready nodes.new }
     ensures own { EachKeepsOwn nodes.old nodes.new }
+    ensures spent { parts.new ≡ map spent_part parts.old }
 {
-    for rank in 0..nodes.len() {
-        land_at(nodes, parts, rank);
+    for place in 0..nodes.len() {
+        land_at(nodes, parts, place);
     }
 }
 
-/// Lands what the node at a place receives, and begins its next superstep.
-fn land_at<A: Allocator + Copy>(nodes: &mut [Node<A>], parts: &mut [Part<A>], rank: usize)
-    requires node { rank < length nodes.old }
-    requires part { rank < length parts.old }
-    requires lands { (p : PreparedNode) (part : Received) → slice_get nodes.old rank ≡ Some p
-        → slice_get parts.old rank ≡ Some part → CanLand part p }
-    ensures nodes { (p : PreparedNode) (part : Received) → slice_get nodes.old rank ≡ Some p
-        → slice_get parts.old rank ≡ Some part → nodes.new ≡ slice_set nodes.old rank (landed_as part p) }
-    ensures parts { drop (rank + 1) parts.new ≡ drop (rank + 1) parts.old }
-    ensures counts { (length nodes.new ≡ length nodes.old) × (length parts.new ≡ length parts.old) }
+/// Lands the part at a place in the node at that place.
+fn land_at<A: Allocator + Copy>(nodes: &mut [Node<A>], parts: &mut [Part<A>], place: usize)
+    requires node { place < length nodes.old }
+    requires part { place < length parts.old }
+    requires lands { (p : PreparedNode) (part : PartState) → slice_get nodes.old place ≡ Some p
+        → slice_get parts.old place ≡ Some part → CanLand part p }
+    ensures nodes { (p : PreparedNode) (part : PartState) → slice_get nodes.old place ≡ Some p
+        → slice_get parts.old place ≡ Some part → nodes.new ≡ slice_set nodes.old place (landed_as part p) }
+    ensures parts { (part : PartState) → slice_get parts.old place ≡ Some part
+        → parts.new ≡ slice_set parts.old place (spent_part part) }
 {
-    parts[rank].land(&mut nodes[rank]);
+    parts[place].land(&mut nodes[place]);
 }

@@ -4,7 +4,8 @@ ghost use Rattle.std.specs.Prelude.{◌≡◌, ◌∷◌, ◌++◌, [], length, 
 ghost use Rattle.node_memory.specs.Bytes.{fits, bytes_at};
 ghost use Rattle.node_core.specs.declared.state.State.TheVariants.{Synced};
 ghost use Rattle.node_memory.specs.Pages.{KeepsOwn};
-ghost use Rattle.bsp_exchange.specs.Parts.{LieIn, OwnsEach, with_patches};
+ghost use Rattle.bsp_exchange.specs.Arrivals.{LieIn};
+ghost use Rattle.bsp_exchange.specs.Parts.{OwnsEach, with_patches};
 
 use node_core::Node;
 use node_memory::Memory;
@@ -31,7 +32,8 @@ pub(crate) struct Landings<A: Allocator> {
 
 impl<A: Allocator> Model for Landings<A> {
     ghost use Rattle.std.specs.Prelude.{List};
-    ghost use Rattle.bsp_exchange.specs.Parts.{Patch, patches_view, AreCovered};
+    ghost use Rattle.bsp_exchange.specs.Arrivals.{patches_view, AreCovered};
+    ghost use Rattle.bsp_exchange.specs.Parts.{Patch};
 
     ghost Value = { List Patch };
 

@@ -1,11 +1,12 @@
 //! Laws of the exchange, over its definitions alone. Each is the contract of a function that does nothing.
 
-ghost use Rattle.std.specs.Prelude.{◌≡◌, ℕ, false, List, length, All, Contains, IsTrue};
+ghost use Rattle.std.specs.Prelude.{◌≡◌, ◌≢◌, ℕ, false, List, length, slice_get, All, Contains, IsPermutation, IsTrue};
 ghost use Rattle.std.specs.List.{AllZip};
 ghost use Rattle.node_memory.specs.Bytes.{byte_at};
 ghost use Rattle.node_core.specs.Node.{NodeState};
 ghost use Rattle.bsp_exchange.specs.Exchange.{AreAtSync, exchanged};
 ghost use Rattle.bsp_exchange.specs.Landings.{Landing, IsAtMost, KeysDoNotFall, HaveOwnKeys, AreSameLandings, landings_at, covers, landing_byte, landed_byte, memory_after};
+ghost use Rattle.bsp_exchange.specs.Parts.{CanExchange, PartState, landed, landed_in_turn, parts_of};
 ghost use Rattle.bsp_exchange.specs.SameNode.{IsSameNode};
 
 /// The landings in a memory come in the order of their keys, and each has a key of its own.
@@ -43,6 +44,17 @@ pub fn only_the_order_of_keys_matters()
         → AreSameLandings others (landings_at nodes rank)
         → KeysDoNotFall others
         → memory_after others memory ≡ memory_after (landings_at nodes rank) memory }
+{}
+
+/// When each part of an exchange has landed in its node, the row is that after the exchange: if they land each at its place, and also
+/// if they land one after another in whatever order. A node changes when its own part lands, and by no other.
+#[tactic(auto, using(crate::proofs::PartOrder::landed_whole, crate::proofs::PartOrder::landed_in_any_order, crate::proofs::PartOrder::stays_apart))]
+pub fn parts_land_in_any_order()
+    ensures places { (nodes : List NodeState) → CanExchange nodes → landed (parts_of nodes) nodes ≡ exchanged nodes }
+    ensures turns { (nodes : List NodeState) (parts : List PartState) → CanExchange nodes
+        → IsPermutation (parts_of nodes) parts → landed_in_turn nodes parts ≡ exchanged nodes }
+    ensures apart { (nodes : List NodeState) (parts : List PartState) (rank : ℕ) → All (λ part. part.rank ≢ rank) parts
+        → slice_get (landed_in_turn nodes parts) rank ≡ slice_get nodes rank }
 {}
 
 /// An exchange leaves as many nodes, in the same order, and changes of each only its memory's bytes, what it communicates and its

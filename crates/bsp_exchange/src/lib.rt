@@ -26,16 +26,21 @@
 //! lands; and a page into which it comes is copied once, where it is shared until then.
 #![tactic(auto)]
 
+mod arrivals;
 mod barrier;
 mod checks;
 mod fault;
+mod gather;
 mod landings;
 pub mod laws;
 mod part;
-mod plan;
+mod planning;
 mod sync;
 mod traffic;
 
-pub use barrier::{Traffic, exchange};
+pub use barrier::{exchange, land_all};
 pub use fault::{ExchangeError, ExchangeFault};
+pub use part::{Part, Plan};
+pub use planning::plan;
 pub use sync::{are_at_sync, first_fault};
+pub use traffic::Traffic;

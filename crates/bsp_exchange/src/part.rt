@@ -1,122 +1,91 @@
-//! What one node receives in an exchange.
+//! The part of an exchange that one node receives.
 
-ghost use Rattle.std.specs.Prelude.{◌≡◌, false, length, IsTrue, OnOk, OnErr};
-ghost use Rattle.node_memory.specs.Bytes.{fits, bytes_at};
-ghost use Rattle.node_memory.specs.Pages.{KeepsOwn};
-ghost use Rattle.bsp_exchange.specs.Parts.{nothing, FitsIn, IsPrepared, CanLand, landed_as};
+ghost use Rattle.std.specs.Prelude.{◌≡◌};
+ghost use Rattle.bsp_requests.specs.Inbox.{IsQueue};
+ghost use Rattle.bsp_exchange.specs.Arrivals.{Received, part_from};
+ghost use Rattle.bsp_exchange.specs.Parts.{CanLand, landed_as, spent_part};
 
-use crate::landings::Landings;
-use bsp_requests::{Inbox, Message};
-use list_vec::ListVec;
+use crate::arrivals::Arrivals;
+use crate::traffic::Traffic;
 use node_core::Node;
-use node_memory::Memory;
-use std::alloc::{AllocError, Allocator};
+use std::alloc::Allocator;
 use std::marker::Model;
-use std::mem;
 
-/// What one node receives in an exchange, gathered before anything lands: the bytes that its gets fetch, those that are put into its
-/// areas, and the messages that are sent to it.
+/// What one node receives in an exchange: the bytes that come into its memory, in the order of their landing, and its queue for the
+/// next superstep.
+///
+/// It borrows nothing, neither from its node nor from another, so that it may be handed to any thread together with its node, and
+/// land there whenever that thread comes to it. It lands once, and is spent then.
 #[derive(Drop)]
-pub(crate) struct Part<A: Allocator> {
-    alloc: A,
-    gets: Landings<A>,
-    puts: Landings<A>,
-    messages: Vec<Message<A>, A>,
+pub struct Part<A: Allocator> {
+    rank: u32,
+    spent: bool,
+    arrivals: Arrivals<A>,
+}
+
+/// An exchange that is planned: what it moves, and the parts of all nodes, each at the place of its rank.
+#[derive(Drop)]
+pub struct Plan<A: Allocator> {
+    pub traffic: Traffic,
+    pub parts: Vec<Part<A>, A>,
 }
 
 impl<A: Allocator> Model for Part<A> {
-    ghost use Rattle.bsp_exchange.specs.Parts.{Received};
+    ghost use Rattle.std.specs.Prelude.{◌++◌};
+    ghost use Rattle.bsp_requests.specs.Inbox.{IsQueue};
+    ghost use Rattle.bsp_exchange.specs.Parts.{PartState};
 
-    ghost Value = { Received };
+    ghost Value = { PartState };
 
-    ghost view = { λ p. record { gets = p.gets; puts = p.puts; messages = p.messages.items } };
+    ghost view = { λ p. record {
+      rank = p.rank;
+      spent = p.spent;
+      patches = p.arrivals.gets ++ p.arrivals.puts;
+      queue = p.arrivals.messages;
+    } };
+
+    ghost invariant = { λ p. IsQueue p.arrivals.messages };
 }
 
 impl<A: Allocator + Copy> Part<A> {
-    ghost use Rattle.std.specs.Prelude.{◌++◌, ◌∷◌, []};
-
-    /// Nothing. No memory is taken.
-    pub(crate) fn new(alloc: A) -> Part<A>
-        ensures { result ≡ nothing }
+    /// The part of the node of a rank, at which this arrives.
+    pub(crate) fn new(rank: u32, arrivals: Arrivals<A>) -> Part<A>
+        requires { IsQueue arrivals.messages }
+        ensures { result ≡ part_from (rank, arrivals) }
     {
         Part {
-            alloc,
-            gets: Landings::new(alloc),
-            puts: Landings::new(alloc),
-            messages: Vec::new(alloc),
+            rank,
+            spent: false,
+            arrivals,
         }
     }
 
-    /// Adds what a get fetches: the `len` bytes from `from` on of a memory, which land from `addr` on.
-    pub(crate) fn add_get(
-        &mut self,
-        addr: u32,
-        memory: &Memory<A>,
-        from: u32,
-        len: u32,
-    ) -> Result<(), AllocError>
-        requires { IsTrue (fits (length memory.now.bytes) from len) }
-        ensures ok { OnOk result (self.new ≡ record self.old {
-          gets = self.old.gets ++ record { addr = addr; bytes = bytes_at memory.now.bytes from len } ∷ [];
-        }) }
-    {
-        self.gets.push_copy_of(addr, memory, from, len)
-    }
-
-    /// Adds bytes that are put, from `addr` on.
-    pub(crate) fn add_put(&mut self, addr: u32, bytes: &[u8]) -> Result<(), AllocError>
-        ensures ok { OnOk result (self.new ≡ record self.old {
-          puts = self.old.puts ++ record { addr = addr; bytes = bytes.now } ∷ [];
-        }) }
-    {
-        self.puts.push(addr, bytes)
-    }
-
-    /// Adds a message.
-    pub(crate) fn add_message(
-        &mut self,
-        sender: u16,
-        tag: &[u8],
-        payload: &[u8],
-    ) -> Result<(), AllocError>
-        ensures ok { OnOk result (self.new ≡ record self.old {
-          messages = self.old.messages ++ record { sender = sender; tag = tag.now; payload = payload.now } ∷ [];
-        }) }
-    {
-        let message = Message {
-            sender,
-            tag: ListVec::from_vec(Vec::from_slice(self.alloc, tag)?),
-            payload: ListVec::from_vec(Vec::from_slice(self.alloc, payload)?),
-        };
-        self.messages.push(message)?;
-        Ok(())
-    }
-
-    /// Makes all the room that its landing wants: for the node's turn, and for copies of the pages into which it receives bytes.
-    /// The node itself stays as it is.
+    /// Lands all of it in its node, and begins the node's next superstep there (BSPlib's `bsp_sync`). The node waits, and was made
+    /// ready for this by [`plan`](crate::plan); the part has not landed before. Its messages go over to the node, and it is spent.
     ///
-    /// # Errors
-    /// Where memory is refused.
-    pub(crate) fn prepare(&self, node: &mut Node<A>) -> Result<(), AllocError>
-        requires within { FitsIn (length node.old.node.hart.memory) self.now }
-        ensures node { node.new.node ≡ node.old.node }
-        ensures own { KeepsOwn node.old.own node.new.own }
-        ensures ok { OnOk result (IsPrepared self.now node.new) }
+    /// No memory is taken, and nothing can be refused. It takes time in the number of the bytes that land.
+    pub fn land(&mut self, node: &mut Node<A>)
+        requires { CanLand self.old node.old }
+        ensures node { node.new ≡ landed_as self.old node.old }
+        ensures spent { self.new ≡ spent_part self.old }
     {
-        self.gets.prepare(node)?;
-        self.puts.prepare(node)?;
-        node.prepare_turn()
+        self.arrivals.land(node);
+        self.spent = true;
+    }
+}
+
+impl<A: Allocator> Part<A> {
+    /// The rank of the node in which it lands.
+    pub fn rank(&self) -> u32
+        ensures { result ≡ self.now.rank }
+    {
+        self.rank
     }
 
-    /// Lands all of it in its node, which waits and is prepared for it, and begins the node's next superstep. The messages go
-    /// over to the node.
-    pub(crate) fn land(&mut self, node: &mut Node<A>)
-        requires { CanLand self.old node.old }
-        ensures { node.new ≡ landed_as self.old node.old }
+    /// Whether it has landed.
+    pub fn spent(&self) -> bool
+        ensures { result ≡ self.now.spent }
     {
-        self.gets.land(node);
-        self.puts.land(node);
-        let messages = mem::replace(&mut self.messages, Vec::new(self.alloc));
-        node.finish_turn(Inbox::of(messages));
+        self.spent
     }
 }

@@ -14,6 +14,13 @@ use bsp_requests::{Request, Requests};
 use node_core::Node;
 use std::alloc::Allocator;
 
+/// What an exchange moved.
+#[derive(Clone, Copy, Debug, PartialEq, Eq)]
+pub struct Traffic {
+    /// The most bytes that one node sent or received: the h of the h-relation (BSP). At most 2^32.
+    pub h: u64,
+}
+
 /// The most nodes of a machine.
 const MAX_NODES: usize = 256;
 

@@ -37,7 +37,7 @@ pub struct Job {
     pub settings: Settings,
     /// How many threads run the nodes at most, the caller's among them: 1 to 64. It has no part in what is written.
     pub workers: u32,
-    /// How many steps a node makes before it may go to another thread: 1 to 1,048,576. It has no effect yet.
+    /// How many steps a node makes at most before another may have its thread: 1 to 1,048,576. It has no part in what is written.
     pub slice: u64,
     /// Whether the costs of the supersteps, their total and the outcome follow the output.
     pub report: bool,

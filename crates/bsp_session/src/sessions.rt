@@ -17,7 +17,7 @@ use crate::job::Job;
 use crate::report::{report_lines, write_report};
 use counted_io::{Counted, read_at_most};
 use machine_core::{Machine, Outcome};
-use phase_pool::{OpenGate, PoolError, check_numbers, run};
+use phase_pool::{PoolError, check_numbers, run_sparing};
 use std::alloc::Allocator;
 use std::io::{Read, Write};
 use std::sync::Wait;
@@ -170,7 +170,7 @@ pub(crate) fn machine_of<A: Allocator + Copy>(
     Ok(Machine::new(alloc, &image, input, job.settings)?)
 }
 
-/// Runs a machine to its outcome, in as many threads as the job has workers.
+/// Runs a machine to its outcome, in no more threads than the job has workers, and only where the work pays for them.
 fn run_to_outcome<T: Threads + Wait + Sync, A: Allocator + Copy + Send + Sync>(
     rt: &T,
     machine: &mut Machine<A>,
@@ -183,7 +183,7 @@ fn run_to_outcome<T: Threads + Wait + Sync, A: Allocator + Copy + Send + Sync>(
     ensures no_worker { IsErrOf result PoolError.NoWorker
         → (1 < job.now.workers) × (1 < length machine.old.nodes) }
 {
-    run(rt, machine, job.workers, job.slice, &OpenGate)?;
+    run_sparing(rt, machine, job.workers, job.slice)?;
     match machine.outcome() {
         Some(outcome) => Ok(outcome),
         None => unreachable!(),

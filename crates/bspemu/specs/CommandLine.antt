@@ -58,6 +58,9 @@ l_rule = checked_rule (codes "l") in_32_bits (codes "0")
 abbrev pub workers_rule : Rule
 workers_rule = checked_rule (codes "workers") in_32_bits (codes "1")
 
+abbrev pub slice_rule : Rule
+slice_rule = checked_rule (codes "slice") (Unsigned 0 18446744073709551615) (codes "65536")
+
 -- `NAME IMAGE` with what a machine is made of, and the prices of its costs
 abbrev pub machine_app : Text → NameList → App
 machine_app name formats =
@@ -68,7 +71,8 @@ machine_app name formats =
 -- `run IMAGE` with its options
 abbrev pub run_app : NameList → App
 run_app formats =
-    with_rule (with_rule (with_rule (machine_app (codes "run") formats) (flag_rule (codes "report"))) workers_rule) (option_rule (codes "profile"))
+    with_rule (with_rule (with_rule (with_rule (machine_app (codes "run") formats) (flag_rule (codes "report"))) workers_rule) slice_rule)
+    (option_rule (codes "profile"))
 
 -- `debug IMAGE` with its options
 abbrev pub debug_app : NameList → App

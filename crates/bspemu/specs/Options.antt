@@ -44,13 +44,12 @@ pub record GivesSettings (rows : List Row) (s : Settings) : Type 0 where
   pub memory : GivesNumber 32 (one_of (codes "memory") rows) s.memory
   pub limit : GivesNumber 64 (one_of (codes "limit") rows) s.limit
 
--- and these options, whatever the workers and the report
+-- and these options, whatever the workers, the slice and the report
 pub record GivesMachineOptions (rows : List Row) (o : MachineOptions) : Type 0 where
   pub image : first_of (codes "image") rows ≡ Some o.image.now
   pub input : first_of (codes "input") rows ≡ option_map (λ path. path.now) o.input
   pub format : first_of (codes "format") rows ≡ Some (name_of_format o.job.format)
   pub settings : GivesSettings rows o.job.settings
-  pub slice : o.job.slice ≡ 2 ^ 16
   pub g : GivesNumber 32 (one_of (codes "g") rows) o.job.g
   pub l : GivesNumber 32 (one_of (codes "l") rows) o.job.l
 
@@ -58,6 +57,7 @@ pub record GivesMachineOptions (rows : List Row) (o : MachineOptions) : Type 0 w
 pub record GivesRunOptions (rows : List Row) (o : RunOptions) : Type 0 where
   pub machine : GivesMachineOptions rows o.machine
   pub workers : GivesNumber 32 (one_of (codes "workers") rows) o.machine.job.workers
+  pub slice : GivesNumber 64 (one_of (codes "slice") rows) o.machine.job.slice
   pub report : GivesFlag (one_of (codes "report") rows) o.machine.job.report
   pub profile : first_of (codes "profile") rows ≡ option_map (λ path. path.now) o.profile
 
@@ -65,6 +65,7 @@ pub record GivesRunOptions (rows : List Row) (o : RunOptions) : Type 0 where
 pub record GivesDebugOptions (rows : List Row) (o : DebugOptions) : Type 0 where
   pub machine : GivesMachineOptions rows o.machine
   pub workers : o.machine.job.workers ≡ 1
+  pub slice : o.machine.job.slice ≡ 2 ^ 16
   pub report : o.machine.job.report ≡ false
   pub interactive : GivesFlag (one_of (codes "interactive") rows) o.interactive
 

@@ -2,7 +2,7 @@
 
 ghost use Rattle.std.specs.Prelude.{IfOk, codes};
 ghost use Rattle.bspemu.specs.CommandLine.{HasApp, HasAppOfFormats, HasRule, asm_app, bspemu_app, checked_rule, debug_app, file_rule, flag_rule, format_rule};
-ghost use Rattle.bspemu.specs.CommandLine.{g_rule, l_rule, limit_rule, list_app, machine_app, memory_rule, nodes_rule, option_rule, run_app, workers_rule};
+ghost use Rattle.bspemu.specs.CommandLine.{g_rule, l_rule, limit_rule, list_app, machine_app, memory_rule, nodes_rule, option_rule, run_app, slice_rule, workers_rule};
 
 use clap::builder::ValueParser;
 use clap::{Arg, ArgAction, Command, value_parser};
@@ -97,6 +97,7 @@ fn run_command<'a>(alloc: Global, formats: &'a [&'a str]) -> Result<Command<'a>,
         .after_help(STATUSES)
         .arg(report(alloc))?
         .arg(workers(alloc))?
+        .arg(slice(alloc))?
         .arg(profile(alloc))
 }
 
@@ -322,5 +323,18 @@ fn workers<'a>(alloc: Global) -> Arg<'a>
         value_parser!(u32),
         "1",
         "Most threads that run the nodes, 1 to 64; what is written does not depend on it",
+    )
+}
+
+fn slice<'a>(alloc: Global) -> Arg<'a>
+    ensures { HasRule result slice_rule }
+{
+    checked_option(
+        alloc,
+        "slice",
+        "STEPS",
+        value_parser!(u64),
+        "65536",
+        "Most steps of a node before another may have its thread, 1 to 1048576; what is written does not depend on it",
     )
 }

@@ -12,7 +12,7 @@ use clap::{ArgMatches, Error};
 use std::alloc::{AllocError, Global};
 use std::convert::AsStr;
 
-/// How many steps a node makes before it may go to another thread.
+/// How many steps a node makes before it may go to another thread, where there is no other.
 const SLICE: u64 = 1 << 16;
 
 /// What `bspemu run` and `bspemu debug` have in common.
@@ -121,9 +121,10 @@ fn options_of_run<'a>(run: &ArgMatches<'a>) -> Option<RunOptions<'a>>
     ensures none { IfNone result (IsNeverMet (GivesRunOptions (rows_of (found_of run.now)))) }
 {
     let workers = run.get_one("workers")?;
+    let slice = run.get_one("slice")?;
     let report = run.get_one("report")?;
     Some(RunOptions {
-        machine: options_of_machine(run, workers, report)?,
+        machine: options_of_machine(run, workers, slice, report)?,
         profile: run.get_str("profile"),
     })
 }
@@ -135,7 +136,7 @@ fn options_of_debug<'a>(debug: &ArgMatches<'a>) -> Option<DebugOptions<'a>>
 {
     let interactive = debug.get_one("interactive")?;
     Some(DebugOptions {
-        machine: options_of_machine(debug, 1, false)?,
+        machine: options_of_machine(debug, 1, SLICE, false)?,
         interactive,
     })
 }
@@ -144,10 +145,11 @@ fn options_of_debug<'a>(debug: &ArgMatches<'a>) -> Option<DebugOptions<'a>>
 fn options_of_machine<'a>(
     found: &ArgMatches<'a>,
     workers: u32,
+    slice: u64,
     report: bool,
 ) -> Option<MachineOptions<'a>>
     ensures some { IfSome result (GivesMachineOptions (rows_of (found_of found.now))) }
-    ensures rest { IfSome result (λ o. (o.job.workers ≡ workers) × (o.job.report ≡ report)) }
+    ensures rest { IfSome result (λ o. (o.job.workers ≡ workers) × (o.job.slice ≡ slice) × (o.job.report ≡ report)) }
     ensures none { IfNone result (IsNeverMet (GivesMachineOptions (rows_of (found_of found.now)))) }
 {
     Some(MachineOptions {
@@ -157,7 +159,7 @@ fn options_of_machine<'a>(
             format: format_named(found.get_str("format")?)?,
             settings: settings_of_machine(found)?,
             workers,
-            slice: SLICE,
+            slice,
             report,
             g: found.get_one("g")?,
             l: found.get_one("l")?,

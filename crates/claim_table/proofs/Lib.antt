@@ -3,3 +3,4 @@ pub mod ClaimLists
 pub mod Ends
 pub mod Keeping
 pub mod Keeps
+pub mod Serving

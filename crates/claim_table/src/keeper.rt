@@ -5,13 +5,14 @@ ghost use Rattle.core.specs.Mem.Slots.{slots_items, slots_len, IsFull};
 ghost use mathlib.Core.Option.{some};
 ghost use lib.ListN.{get_elem?};
 ghost use Rattle.claim_table.specs.Claims.{HasStepped};
-ghost use Rattle.claim_table.specs.ClaimSteps.{keeper_view, view_away};
+ghost use Rattle.claim_table.specs.ClaimSteps.{keeper_view};
 ghost use Rattle.claim_table.specs.Start.{start_of};
 
-use crate::place::{ClaimSeat, EMPTY, HOME_AND_RUNS, HOME_AND_STOPPED, OUT, Place, SharedClaims};
+use crate::place::Place;
 use crate::rule::{ClaimRule, PhaseStart};
 use crate::steps::{Reserve, Return, Seal};
 use crate::view::View;
+use crate::worker::{ClaimSeat, EMPTY, HOME_AND_RUNS, HOME_AND_STOPPED, OUT, SharedClaims};
 use atomic_table::{Closed, Table};
 use node_core::Node;
 use std::alloc::{AllocError, Allocator};
@@ -84,7 +85,6 @@ impl<'p, A: Allocator + Copy> ClaimTable<'p, A> {
     pub fn place(&self, keeper: &mut Keeper<A>) -> Place<'_, 'p, A>
         requires seated { keeper.old.seat.table_id ≡ self.now.table.shared.table_id }
         ensures same { (keeper.new.seat.table_id ≡ keeper.old.seat.table_id) × (keeper.new.seat.me ≡ keeper.old.seat.me) }
-        ensures place { result.seat.me ≡ (view_away, []) }
     {
         Place::first(&self.table.shared, &mut keeper.seat, self.input, self.ranks)
     }

@@ -3,7 +3,7 @@
 use crate::programs::{self, PRINTS_ITS_RANK};
 use machine_core::{Machine, MachineError};
 use node_core::Node;
-use phase_pool::{OpenGate, run};
+use phase_pool::{OpenGate, run, run_sparing};
 use std::alloc::Allocator;
 use std::process::Abort;
 use std::test::Fail;
@@ -75,7 +75,7 @@ fn show_the_same<A: Allocator, B: Allocator>(machine: &Machine<A>, other: &Machi
 }
 
 #[test]
-fn any_number_of_workers_leaves_what_one_thread_leaves(rt: HostRuntime) -> Result<(), Fail> {
+fn workers_and_slices_leave_what_one_thread_leaves(rt: HostRuntime) -> Result<(), Fail> {
     let alloc = rt.alloc();
     for words in [
         PRINTS_ITS_RANK.as_slice(),
@@ -85,9 +85,14 @@ fn any_number_of_workers_leaves_what_one_thread_leaves(rt: HostRuntime) -> Resul
         let mut plain = machine(&rt, alloc, words, 3)?;
         plain.run_plain()?;
         for workers in [1, 2, 3, 64] {
-            let mut pooled = machine(&rt, alloc, words, 3)?;
-            assert!(rt; run(&rt, &mut pooled, workers, 1, &OpenGate) == Ok(()));
-            assert!(rt; show_the_same(&pooled, &plain));
+            for slice in [1, 3, 7, 1_000, 65_536, 1 << 20] {
+                let mut pooled = machine(&rt, alloc, words, 3)?;
+                assert!(rt; run(&rt, &mut pooled, workers, slice, &OpenGate) == Ok(()));
+                assert!(rt; show_the_same(&pooled, &plain), "{workers} {slice}");
+            }
+            let mut sparing = machine(&rt, alloc, words, 3)?;
+            assert!(rt; run_sparing(&rt, &mut sparing, workers, 1) == Ok(()));
+            assert!(rt; show_the_same(&sparing, &plain), "{workers}");
         }
     }
     Ok(())

@@ -2,7 +2,7 @@
 use Rattle.std.proofs.Common.{◌≡◌, ◌≤◌, ℕ, false, List, [], ◌∷◌, ◌++◌, length, map, Result, Err, refl, sym, ap, ap₂, subst, ◌∙◌, arith}
 use Rattle.std.specs.Prelude.{OnOk, IsSome, ⊤}
 use Rattle.std.proofs.lemmas.Bool.{false≢true}
-use Rattle.std.proofs.lemmas.List.Elements.{All-nil, All-cons, length_all_zip}
+use Rattle.std.proofs.lemmas.List.Elements.{All-nil, All-cons, All-head, All-tail, length_all_zip}
 use Rattle.std.proofs.lemmas.Result.{on_ok_weaker}
 use Rattle.node_core.specs.Node.{NodeState, is_running, phase}
 use Rattle.machine_core.specs.declared.event.Event.{Event}
@@ -14,6 +14,7 @@ use Rattle.machine_core.specs.Turn.{with_phases}
 use Rattle.machine_core.proofs.Lent.{row_is_events}
 use Rattle.machine_core.proofs.Onward.{onward_after}
 use Rattle.machine_core.proofs.Phases.{map-phase-stopped}
+use Rattle.machine_core.proofs.Resume.{phases-after}
 use Rattle.machine_core.proofs.Steps.{after-nil, after-cons, after-others}
 use Rattle.phase_pool.specs.declared.error.Refusal.{Refusal}
 use Rattle.phase_pool.specs.declared.error.Refusal.TheVariants.{NoWorker, NoMemory}
@@ -21,7 +22,15 @@ use Rattle.phase_pool.specs.declared.error.PoolError.{PoolError}
 use Rattle.phase_pool.specs.declared.error.PoolError.TheVariants as error
 use Rattle.phase_pool.specs.Numbers.{error_of}
 use Rattle.phase_pool.specs.Phases.{LeadsTo, LeadsWithoutTurn}
-use Rattle.phase_pool.specs.Work.{HasCome, HaveCome, IsWorked}
+use Rattle.phase_pool.specs.Work.{HasCome, HaveCome, HasStopped, HaveStopped, IsWorked}
+
+-- nodes that have stopped are none that runs
+none_runs : (nodes : List NodeState) → HaveStopped nodes → some_runs nodes ≡ false
+none_runs [] stopped = refl
+none_runs (n ∷ rest) stopped =
+    let here : is_running n.state ≡ false = All-head HasStopped n rest stopped in
+    let there : some_runs rest ≡ false = none_runs rest (All-tail HasStopped n rest stopped) in
+    grind arith
 
 -- a machine whose row was worked on, `lender` being the machine meanwhile
 module _ (m lender new : MachineState) (input : List ℕ) (old row : List NodeState) (answer : Result ⊤ Refusal) (lent : lender ≡ m) (same : old ≡ m.nodes) (read : input ≡ lender.input) (back : new ≡ record lender { nodes = row }) (worked : IsWorked input old row answer) where
@@ -31,17 +40,22 @@ module _ (m lender new : MachineState) (input : List ℕ) (old row : List NodeSt
   backs : new ≡ record m { nodes = row }
   backs = back ∙ ap (λ (x : MachineState). record x { nodes = row }) lent
 
-  pub worked_phases : OnOk answer (new ≡ with_phases m)
-  worked_phases =
-      on_ok_weaker answer
-      (λ done. backs ∙ ap (λ (ns : List NodeState). record m { nodes = ns }) (done ∙ ap₂ (λ (i : List ℕ) (ns : List NodeState). map (phase i) ns) inputs same))
-      worked.ok
-
   pub worked_events : LeadsWithoutTurn m new
   worked_events =
       let each : HaveStepped m.input m.nodes row = subst (λ (i : List ℕ). HaveStepped i m.nodes row) inputs (subst (λ (ns : List NodeState). HaveStepped input ns row) same worked.stepped) in
       let events = row_is_events m row each in
       (events.0, events.1, backs ∙ sym events.2)
+
+  -- nodes that have stopped on their way are at the end of their local parts
+  pub worked_phases : IsSoundMachine m → OnOk answer (new ≡ with_phases m)
+  worked_phases sound =
+      on_ok_weaker answer
+      (λ stopped.
+          let reached = worked_events in
+          let none : some_runs new.nodes ≡ false = ap (λ (x : MachineState). some_runs x.nodes) backs ∙ none_runs row stopped in
+          let there : with_phases new ≡ new = ap (λ (ns : List NodeState). record new { nodes = ns }) (map-phase-stopped new.input new.nodes none) in
+          sym there ∙ ap with_phases reached.2 ∙ phases-after m reached.0 sound reached.1)
+      worked.ok
 
   pub worked_come : HaveCome new.input new.nodes
   worked_come =

@@ -1,17 +1,18 @@
--- Work on parts of a row, put together.
+-- Work on the nodes of a row, one after another and again.
 use Rattle.std.proofs.Common.{◌≡◌, ℕ, ◌+◌, ◌<◌, ◌≤◌, ◌-◌, List, [], ◌∷◌, ◌++◌, length, get_or, take, drop, set, add-zero, Result, Ok, Err, refl, sym, ap, ap₂, ◌∙◌, arith}
 use Rattle.std.specs.Prelude.{IsOk, OnOk, OnErr, ⊤}
+use Rattle.std.specs.List.{AllZip}
 use Rattle.std.proofs.lemmas.List.{length-map, map-append, map_push, drop-drop, get_or-drop, take_all, take_more_set, take-append-drop}
 use Rattle.std.proofs.lemmas.Bool.{false≢true}
 use Rattle.std.proofs.lemmas.List.Elements.{All-nil, All-cons, All-append, length_all_zip}
-use Rattle.node_core.specs.Node.{NodeState, PreparedNode, IsNode, MayRefuseStep, is_running, local_steps, phase}
+use Rattle.node_core.specs.Node.{NodeState, PreparedNode, IsNode, MayRefuseStep, is_running, local_steps}
 use Rattle.node_core.proofs.Sound.{local_steps-end}
-use Rattle.node_core.proofs.Steps.{local_steps-past}
+use Rattle.node_core.proofs.Steps.{local_steps-add, local_steps-zero}
 use Rattle.bsp_exchange.specs.Exchange.{states}
 use Rattle.machine_core.specs.Events.{HaveStepped}
 use Rattle.bsp_exchange.proofs.Tallies.{states-more}
 use Rattle.phase_pool.specs.declared.error.Refusal.{Refusal}
-use Rattle.phase_pool.specs.Work.{HasCome, IsWorked}
+use Rattle.phase_pool.specs.Work.{HasCome, HasStopped, IsWorked}
 
 HaveStepped-append : (input : List ℕ) (a a' b b' : List NodeState) → HaveStepped input a a' → HaveStepped input b b' → HaveStepped input (a ++ b) (a' ++ b')
 HaveStepped-append input [] [] b b' first second = second
@@ -35,13 +36,14 @@ on_ok_as P r s from holds = on_ok s (λ fine. of_ok r (from fine) holds)
 pub IsWorked-append : (input : List ℕ) (a a' b b' : List NodeState) (r s both : Result ⊤ Refusal) → (IsOk both → IsOk r × IsOk s) → IsWorked input a a' r → IsWorked input b b' s → IsWorked input (a ++ b) (a' ++ b') both
 IsWorked-append input a a' b b' r s both ok first second = record {
   stepped = HaveStepped-append input a a' b b' first.stepped second.stepped;
-  ok = on_ok both (λ fine. let each = ok fine in ap₂ ◌++◌ (of_ok r each.0 first.ok) (of_ok s each.1 second.ok) ∙ sym (map-append (phase input) a b));
+  ok = on_ok both (λ fine. let each = ok fine in All-append HasStopped a' b' (of_ok r each.0 first.ok) (of_ok s each.1 second.ok));
   come = All-append (HasCome input) a' b' first.come second.come;
 }
 
--- the steps that a node has left are its local part, and no more steps than that change it
-pub phase-past : (input : List ℕ) (n : NodeState) (most : ℕ) → IsNode n → n.limit ≤ most → local_steps input most n ≡ phase input n
-phase-past input n most sound long = local_steps-past input (n.limit - n.ticks) most n (omega arith) (local_steps-end input (n.limit - n.ticks) n sound (omega arith))
+-- a run that is made, or refused before its end, is some steps
+pub some_steps : {E : Type 0} (input : List ℕ) (most : ℕ) (old new : NodeState) (answer : Result ⊤ E) → OnOk answer (new ≡ local_steps input most old) → OnErr answer ((k : ℕ) × (k < most) × (new ≡ local_steps input k old)) → (k : ℕ) × (new ≡ local_steps input k old)
+some_steps input most old new (Ok x) made refused = (most, made)
+some_steps input most old new (Err e) made refused = (refused.0, refused.2)
 
 -- a node that ran for as many steps as it has ticks left has stopped, and one that was refused memory may be refused its next step
 pub HasCome-run : {E : Type 0} (input : List ℕ) (old new : NodeState) (most : ℕ) (answer : Result ⊤ E) → IsNode old → old.limit ≤ most → OnOk answer (new ≡ local_steps input most old) → OnErr answer (MayRefuseStep input new) → HasCome input new
@@ -54,7 +56,7 @@ pub drop_one_more : {X : Type 0} (xs ys : List X) (i : ℕ) → drop i xs ≡ dr
 drop_one_more xs ys i same = sym (drop-drop 1 i xs) ∙ ap (drop 1) same ∙ drop-drop 1 i ys
 
 -- one node more, at the place i of a row of which the nodes before it have been worked on
-pub IsWorked-next : (input : List ℕ) (old present : List PreparedNode) (i : ℕ) (before after : PreparedNode) (r s both : Result ⊤ Refusal) → (IsOk both → IsOk r × IsOk s) → i < length old → length present ≡ length old → drop i present ≡ drop i old → before ≡ get_or present i before → (k : ℕ) × (after.node ≡ local_steps input k before.node) → OnOk s (after.node ≡ phase input before.node) → HasCome input after.node → IsWorked input (states (take i old)) (states (take i present)) r → IsWorked input (states (take (i + 1) old)) (states (take (i + 1) (set present i after))) both
+pub IsWorked-next : (input : List ℕ) (old present : List PreparedNode) (i : ℕ) (before after : PreparedNode) (r s both : Result ⊤ Refusal) → (IsOk both → IsOk r × IsOk s) → i < length old → length present ≡ length old → drop i present ≡ drop i old → before ≡ get_or present i before → (k : ℕ) × (after.node ≡ local_steps input k before.node) → OnOk s (HasStopped after.node) → HasCome input after.node → IsWorked input (states (take i old)) (states (take i present)) r → IsWorked input (states (take (i + 1) old)) (states (take (i + 1) (set present i after))) both
 IsWorked-next input old present i before after r s both ok within long rest is stepped done come so_far =
     let same : before ≡ get_or old i before =
     is ∙ ap (λ j. get_or present j before) (sym (add-zero i)) ∙ sym (get_or-drop i present 0 before) ∙ ap (λ ps. get_or ps 0 before) rest ∙ get_or-drop i old 0 before ∙ ap (λ j. get_or old j before) (add-zero i) in
@@ -64,7 +66,7 @@ IsWorked-next input old present i before after r s both ok within long rest is s
     rw (first, second) (IsWorked-append input (states (take i old)) (states (take i present)) (before.node ∷ []) (after.node ∷ []) r s both ok so_far
     record {
       stepped = (stepped, tt);
-      ok = on_ok s (λ fine. ap (λ (n : NodeState). n ∷ []) (of_ok s fine done));
+      ok = on_ok s (λ fine. All-cons HasStopped after.node [] (of_ok s fine done) (All-nil HasStopped));
       come = All-cons (HasCome input) after.node [] come (All-nil (HasCome input));
     })
 
@@ -75,22 +77,48 @@ IsWorked-all input old present i r long past worked =
     let second : take i present ≡ present = take_all i present (omega (arith, long, past)) in
     rw (first, second) at worked
 
--- work leaves as many nodes as there were
-pub IsWorked-length : (input : List ℕ) (old new : List PreparedNode) (answer : Result ⊤ Refusal) → IsWorked input (states old) (states new) answer → length new ≡ length old
-IsWorked-length input old new answer worked =
-    let same : length (states old) ≡ length (states new) = length_all_zip (λ (o n : NodeState). (k : ℕ) × (n ≡ local_steps input k o)) (states old) (states new) worked.stepped in
-    sym (length-map new (λ (p : PreparedNode). p.node)) ∙ sym same ∙ length-map old (λ (p : PreparedNode). p.node)
+-- steps after steps
+pub HaveStepped-on : (input : List ℕ) (old mid new : List NodeState) → HaveStepped input old mid → HaveStepped input mid new → HaveStepped input old new
+HaveStepped-on input [] [] new first second = second
+HaveStepped-on input [] (n ∷ mid) new first second = absurd first
+HaveStepped-on input (o ∷ old) [] new first second = absurd first
+HaveStepped-on input (o ∷ old) (n ∷ mid) [] first second = absurd second
+HaveStepped-on input (o ∷ old) (n ∷ mid) (m ∷ new) first second = (
+  (first.0.0 + second.0.0, second.0.1 ∙ ap (λ (x : NodeState). local_steps input second.0.0 x) first.0.1 ∙ sym (local_steps-add input first.0.0 second.0.0 o)),
+  HaveStepped-on input old mid new first.1 second.1,
+)
 
--- the halves of a row, worked on and put together
-pub IsWorked-halves : (input : List ℕ) (a b a' b' whole : List PreparedNode) (r s both : Result ⊤ Refusal) → (IsOk both → IsOk r × IsOk s) → whole ≡ a' ++ b' → IsWorked input (states a) (states a') r → IsWorked input (states b) (states b') s → IsWorked input (states (a ++ b)) (states whole) both
-IsWorked-halves input a b a' b' whole r s both ok together first second =
-    let node = λ (p : PreparedNode). p.node in
-    let old : states (a ++ b) ≡ states a ++ states b = map-append node a b in
-    let new : states whole ≡ states a' ++ states b' = ap states together ∙ map-append node a' b' in
-    rw (old, new) (IsWorked-append input (states a) (states a') (states b) (states b') r s both ok first second)
+pub HaveStepped-none : (input : List ℕ) (nodes : List NodeState) → HaveStepped input nodes nodes
+HaveStepped-none input [] = tt
+HaveStepped-none input (n ∷ rest) = ((0, sym (local_steps-zero input n)), HaveStepped-none input rest)
 
--- the halves that a row was split in are the row
-pub IsWorked-split : (input : List ℕ) (row a b : List PreparedNode) (end : ℕ) (new : List NodeState) (answer : Result ⊤ Refusal) → a ≡ take end row → b ≡ drop end row → IsWorked input (states (a ++ b)) new answer → IsWorked input (states row) new answer
-IsWorked-split input row a b end new answer first second worked =
-    let whole : a ++ b ≡ row = ap₂ ◌++◌ first second ∙ take-append-drop end row in
-    rw whole at worked
+-- nodes in their rooms that have stepped have stepped
+pub HaveStepped-states : (input : List ℕ) (old new : List PreparedNode) → AllZip (λ (o n : PreparedNode). (k : ℕ) × (n.node ≡ local_steps input k o.node)) old new → HaveStepped input (states old) (states new)
+HaveStepped-states input [] [] each = tt
+HaveStepped-states input [] (n ∷ new) each = absurd each
+HaveStepped-states input (o ∷ old) [] each = absurd each
+HaveStepped-states input (o ∷ old) (n ∷ new) each = (each.0, HaveStepped-states input old new each.1)
+
+-- work on nodes that had stepped before
+pub IsWorked-on : (input : List ℕ) (old mid new : List NodeState) (answer whole : Result ⊤ Refusal) → (IsOk whole → IsOk answer) → HaveStepped input old mid → IsWorked input mid new answer → IsWorked input old new whole
+IsWorked-on input old mid new answer whole ok first worked = record {
+  stepped = HaveStepped-on input old mid new first worked.stepped;
+  ok = on_ok_as _ answer whole ok worked.ok;
+  come = worked.come;
+}
+
+-- one node more has stepped, at the place i of a row of which the nodes before it have
+pub HaveStepped-next : (input : List ℕ) (old present : List PreparedNode) (i : ℕ) (before after : PreparedNode) → i < length old → length present ≡ length old → drop i present ≡ drop i old → before ≡ get_or present i before → (k : ℕ) × (after.node ≡ local_steps input k before.node) → HaveStepped input (states (take i old)) (states (take i present)) → HaveStepped input (states (take (i + 1) old)) (states (take (i + 1) (set present i after)))
+HaveStepped-next input old present i before after within long rest is stepped so_far =
+    let same : before ≡ get_or old i before =
+    is ∙ ap (λ j. get_or present j before) (sym (add-zero i)) ∙ sym (get_or-drop i present 0 before) ∙ ap (λ ps. get_or ps 0 before) rest ∙ get_or-drop i old 0 before ∙ ap (λ j. get_or old j before) (add-zero i) in
+    let first = states-more old i before within same in
+    let second : states (take (i + 1) (set present i after)) ≡ states (take i present) ++ after.node ∷ [] =
+    ap states (take_more_set present i after (omega (arith, long, within))) ∙ map_push (λ (p : PreparedNode). p.node) (take i present) after in
+    rw (first, second) (HaveStepped-append input (states (take i old)) (states (take i present)) (before.node ∷ []) (after.node ∷ []) so_far (stepped, tt))
+
+pub HaveStepped-all : (input : List ℕ) (old present : List PreparedNode) (i : ℕ) → length present ≡ length old → length old ≤ i → HaveStepped input (states (take i old)) (states (take i present)) → HaveStepped input (states old) (states present)
+HaveStepped-all input old present i long past so_far =
+    let first : take i old ≡ old = take_all i old past in
+    let second : take i present ≡ present = take_all i present (omega (arith, long, past)) in
+    rw (first, second) at so_far

@@ -1,20 +1,20 @@
-//! Parts of a row of nodes, each of which one thread takes through its local parts of the superstep.
+//! Work on the nodes of a row, each of which is taken through its local part of the superstep.
 
-ghost use Rattle.std.specs.Prelude.{◌≡◌, ◌≢◌, ◌↔◌, ◌⊎◌, ◌+◌, ◌-◌, ◌++◌, ◌<◌, ◌≤◌, ◌/◌, ℕ, Err, IsOk, OnOk, IsErrOf, vec_len, vec_capacity};
+ghost use Rattle.std.specs.Prelude.{◌≡◌, ◌≢◌, ◌<◌, ℕ, Err, OnOk, IsErrOf, false};
 ghost use Rattle.std.specs.Thread.{IsSend, IsSync};
 ghost use denote.Param.Send.{Frees};
-ghost use Rattle.node_core.specs.Node.{local_steps, phase};
+ghost use Rattle.node_core.specs.Node.{is_running, local_steps};
+ghost use Rattle.machine_core.specs.Events.{HaveStepped};
 ghost use Rattle.bsp_exchange.specs.Exchange.{states};
-ghost use Rattle.phase_pool.specs.Work.{HasCome, IsWorked, AreHalves};
+ghost use Rattle.phase_pool.specs.Work.{HasCome, IsWorked};
 
 use crate::error::{Refusal, both};
-use crate::gate::Gate;
+use claim_table::{ClaimTable, Gate, Place, Work};
 use node_core::Node;
-use std::alloc::{AllocError, Allocator};
-use std::snapshot::Snapshot;
+use std::alloc::Allocator;
 use std::sync::Wait;
 use std::thread;
-use std::thread::{Promise, Threads};
+use std::thread::Threads;
 
 /// The most steps that a node may make, whatever its limit.
 const MOST_STEPS: u64 = 1 << 40;
@@ -26,172 +26,176 @@ pub(crate) struct Worked<A: Allocator> {
     pub(crate) answer: Result<(), Refusal>,
 }
 
-/// The promise of a thread that it works on the nodes that it is handed.
-#[derive(Drop)]
-struct WorkOn<'a, A: Allocator> {
-    nodes: Snapshot<Vec<Node<A>, A>>,
-    input: &'a [u8],
-}
-
-impl<'a, A: Allocator> Promise<Worked<A>> for WorkOn<'a, A> {
-    ghost kept_by = { λ promise worked. IsWorked promise.input.now
-        (states promise.nodes.value.items) (states worked.nodes.items) worked.answer };
-}
-
-/// Takes nodes through their local parts in as many threads as there are `parts`, this one among them. The other half of the
-/// parts goes to a thread that does the same.
+/// Takes nodes through their local parts of the superstep. This thread makes a first share of the steps of each node. Where one
+/// runs on then, so many workers share out the nodes, slice by slice. What they leave running, this thread finishes.
 ///
-/// A half whose thread cannot be started is worked on here, and nodes for which no room is to be had stay together. So every
-/// node is worked on, whatever is refused.
-#[cycle(parts)]
+/// A refusal stops no node that did not need what was refused.
 pub(crate) fn work_on<
     R: Threads + Wait + Sync,
     A: Allocator + Copy + Send + Sync,
     G: Gate<A> + Sync,
->(rt: &R, gate: &G, input: &[u8], parts: usize, mut nodes: Vec<Node<A>, A>) -> Worked<A>
-    requires { parts ≤ vec_len nodes }
+>(
+    rt: &R,
+    work: &Work<'_, G>,
+    share: u64,
+    workers: usize,
+    input: &[u8],
+    nodes: Vec<Node<A>, A>,
+) -> Worked<A>
     ensures work { IsWorked input.now (states nodes.items) (states result.nodes.items) result.answer }
-    ensures no_worker { IsErrOf result.answer Refusal.NoWorker → 1 < parts }
-    ensures room { vec_capacity nodes ≤ vec_capacity result.nodes }
+    ensures no_worker { IsErrOf result.answer Refusal.NoWorker → 1 < workers }
 {
-    if parts < 2 {
-        return work_here(gate, input, nodes);
+    let begun = begin(input, share, nodes);
+    let shared = share_out(rt, work, workers, input, begun.nodes);
+    let finished = finish(input, shared.nodes);
+    Worked {
+        nodes: finished.nodes,
+        answer: both(begun.answer, both(shared.answer, finished.answer)),
     }
-    let end = end_of_first_half(nodes.len(), parts);
-    match nodes.split_off(end) {
-        Ok(others) => work_in_halves(rt, gate, input, parts, nodes, others),
-        Err(AllocError) => Worked {
-            nodes: work_here(gate, input, nodes).nodes,
+}
+
+/// Whether a node runs.
+fn some_run<A: Allocator>(nodes: &[Node<A>]) -> bool {
+    nodes.iter().any(|node| node.state().is_running())
+}
+
+/// Lets so many workers share out the nodes by a table, slice by slice, this thread among them. Where no node runs, or there is no
+/// room for the table, the nodes stay as they are.
+fn share_out<R: Threads + Wait + Sync, A: Allocator + Copy + Send + Sync, G: Gate<A> + Sync>(
+    rt: &R,
+    work: &Work<'_, G>,
+    workers: usize,
+    input: &[u8],
+    nodes: Vec<Node<A>, A>,
+) -> Worked<A>
+    ensures stepped { HaveStepped input.now (states nodes.items) (states result.nodes.items) }
+    ensures no_worker { IsErrOf result.answer Refusal.NoWorker → 1 < workers }
+{
+    if !some_run(&nodes) {
+        return Worked {
+            nodes,
+            answer: Ok(()),
+        };
+    }
+    match ClaimTable::open(input, nodes) {
+        Ok((table, mut keeper)) => {
+            let place = table.place(&mut keeper);
+            let answer = work_in_threads(rt, work, workers, 0, place);
+            Worked {
+                nodes: table.close(rt, keeper),
+                answer,
+            }
+        }
+        Err(nodes) => Worked {
+            nodes,
             answer: Err(Refusal::NoMemory),
         },
     }
 }
 
-/// Takes both halves of nodes through their local parts, the second in a thread of its own.
-#[cycle(parts)]
+/// Works at the table in so many threads, this one among them. The other half of the workers goes to a thread that does the same.
+/// A worker's number says with which rank its passes begin.
+#[cycle(workers)]
+fn work_in_threads<
+    R: Threads + Wait + Sync,
+    A: Allocator + Copy + Send + Sync,
+    G: Gate<A> + Sync,
+>(
+    rt: &R,
+    work: &Work<'_, G>,
+    workers: usize,
+    number: usize,
+    mut place: Place<'_, '_, A>,
+) -> Result<(), Refusal>
+    ensures no_worker { IsErrOf result Refusal.NoWorker → 1 < workers }
+{
+    if workers < 2 {
+        return place.work(work, number).map_err(|_| Refusal::NoMemory);
+    }
+    let other = place.another();
+    work_in_halves(rt, work, workers, number, place, other)
+}
+
+/// Works at the table in so many threads, half of which are begun in a thread of their own. Where it cannot be started, there are
+/// fewer workers, who take its nodes too.
+#[cycle(workers)]
 fn work_in_halves<R: Threads + Wait + Sync, A: Allocator + Copy + Send + Sync, G: Gate<A> + Sync>(
     rt: &R,
-    gate: &G,
-    input: &[u8],
-    parts: usize,
-    nodes: Vec<Node<A>, A>,
-    others: Vec<Node<A>, A>,
-) -> Worked<A>
-    requires { AreHalves parts (vec_len nodes) (vec_len others) (vec_capacity nodes) }
-    ensures work { IsWorked input.now
-        (states (nodes.items ++ others.items)) (states result.nodes.items) result.answer }
-    ensures room { vec_capacity nodes ≤ vec_capacity result.nodes }
+    work: &Work<'_, G>,
+    workers: usize,
+    number: usize,
+    here: Place<'_, '_, A>,
+    there: Place<'_, '_, A>,
+) -> Result<(), Refusal>
+    requires { 1 < workers }
 {
     thread::scope(
         thread::scope_env(),
         rt,
-        |scope| -> Worked<A>
+        |scope| -> Result<(), Refusal>
             requires { IsSync R.row × IsSync G.row × IsSend A.row × IsSync A.row × Frees A.Allocator A.dealloc_token
-                × AreHalves parts (vec_len nodes) (vec_len others) (vec_capacity nodes) }
-            ensures { IsWorked input.entry.now
-                (states (nodes.items ++ others.items)) (states result.nodes.items) result.answer
-                × (vec_capacity nodes ≤ vec_capacity result.nodes) }
+                × (1 < workers) }
         {
-            let promise = WorkOn {
-                nodes: Snapshot::of(&others),
-                input,
-            };
-            let there = move || -> Worked<A>
+            let half = workers / 2;
+            let others = move || -> Result<(), Refusal>
                 requires { IsSync R.row × IsSync G.row × IsSend A.row × IsSync A.row × Frees A.Allocator A.dealloc_token
-                    × (1 < parts) × (parts / 2 ≤ vec_len others) }
-                ensures { IsWorked input.entry.now
-                    (states others.items) (states result.nodes.items) result.answer }
-            { work_on(rt, gate, input, parts / 2, others) };
-            match scope.spawn_with(promise, there) {
-                Ok(child) => {
-                    let here = work_on(rt, gate, input, parts - parts / 2, nodes);
-                    put_together(here, child.join(rt))
-                }
-                Err(refused) => {
-                    let here = work_on(rt, gate, input, parts - parts / 2, nodes);
-                    let whole = put_together(here, (refused.value)());
-                    without_thread(whole)
-                }
+                    × (1 < workers) }
+            { work_in_threads(rt, work, workers / 2, number.wrapping_add(workers - workers / 2), there) };
+            let child = scope.spawn(others);
+            let answer = work_in_threads(rt, work, workers - half, number, here);
+            match child {
+                Ok(child) => both(answer, child.join(rt)),
+                Err(_) => both(answer, Err(Refusal::NoWorker)),
             }
         },
     )
 }
 
-/// How many of so many nodes make the first half of so many parts, which is the larger one where one is. Parts differ by one
-/// node at most, and none is empty.
-fn end_of_first_half(nodes: usize, parts: usize) -> usize
-    requires some { 1 < parts }
-    requires enough { parts ≤ nodes }
-    ensures first { parts - parts / 2 ≤ result }
-    ensures second { result + parts / 2 ≤ nodes }
-{
-    let first = parts - parts / 2;
-    nodes / parts * first + (nodes % parts).min(first)
-}
-
-/// Puts the second half behind the first, in which there is room for it.
-fn put_together<A: Allocator>(first: Worked<A>, second: Worked<A>) -> Worked<A>
-    requires { vec_len first.nodes + vec_len second.nodes ≤ vec_capacity first.nodes }
-    ensures nodes { result.nodes.items ≡ first.nodes.items ++ second.nodes.items }
-    ensures answer { IsOk result.answer → IsOk first.answer × IsOk second.answer }
-    ensures no_worker { IsErrOf result.answer Refusal.NoWorker
-        ↔ (IsErrOf first.answer Refusal.NoWorker ⊎ IsErrOf second.answer Refusal.NoWorker) }
-    ensures room { vec_capacity first.nodes ≤ vec_capacity result.nodes }
-{
-    let Worked { mut nodes, answer } = first;
-    let Worked {
-        nodes: mut others,
-        answer: other_answer,
-    } = second;
-    if nodes.append(&mut others).is_err() {
-        unreachable!()
-    }
-    Worked {
-        nodes,
-        answer: both(answer, other_answer),
-    }
-}
-
-/// What comes of a half whose thread could not be started: its nodes have been worked on, and the answer is `NoWorker`.
-fn without_thread<A: Allocator>(whole: Worked<A>) -> Worked<A>
-    ensures nodes { result.nodes ≡ whole.nodes }
-    ensures answer { result.answer ≡ Err Refusal.NoWorker }
-{
-    let Worked { nodes, answer: _ } = whole;
-    Worked {
-        nodes,
-        answer: Err(Refusal::NoWorker),
-    }
-}
-
-/// Takes nodes through their local parts one after another, in this thread. One that is refused memory stops no other.
-fn work_here<A: Allocator + Copy, G: Gate<A>>(
-    gate: &G,
-    input: &[u8],
-    mut nodes: Vec<Node<A>, A>,
-) -> Worked<A>
-    ensures work { IsWorked input.now (states nodes.items) (states result.nodes.items) result.answer }
+/// Makes so many steps of each node, one node after another. One that is refused memory stops no other.
+fn begin<A: Allocator + Copy>(input: &[u8], steps: u64, mut nodes: Vec<Node<A>, A>) -> Worked<A>
+    ensures stepped { HaveStepped input.now (states nodes.items) (states result.nodes.items) }
     ensures no_worker { result.answer ≢ Err Refusal.NoWorker }
-    ensures room { vec_capacity result.nodes ≡ vec_capacity nodes }
 {
     let mut answer = Ok(());
     for place in 0..nodes.len() {
-        answer = both(answer, run_node(gate, input, &mut nodes[place]));
+        answer = both(answer, begin_node(input, steps, &mut nodes[place]));
     }
     Worked { nodes, answer }
 }
 
-/// Takes a node through its local part, between the calls of the gate. One that does not run stays as it is, and the gate is
-/// not called.
+/// Makes so many steps of a node.
 ///
 /// # Errors
 /// [`Refusal::NoMemory`] in a step. The steps before it are made.
-fn run_node<A: Allocator + Copy, G: Gate<A>>(
-    gate: &G,
+fn begin_node<A: Allocator + Copy>(
     input: &[u8],
+    steps: u64,
     node: &mut Node<A>,
 ) -> Result<(), Refusal>
-    ensures ok { OnOk result (node.new.node ≡ phase input.now node.old.node) }
+    ensures stepped { (k : ℕ) × (node.new.node ≡ local_steps input.now k node.old.node) }
+    ensures no_worker { result ≢ Err Refusal.NoWorker }
+{
+    node.run(input, steps).map_err(|_| Refusal::NoMemory)
+}
+
+/// Takes nodes to the end of their local parts one after another, in this thread. One that is refused memory stops no other.
+fn finish<A: Allocator + Copy>(input: &[u8], mut nodes: Vec<Node<A>, A>) -> Worked<A>
+    ensures work { IsWorked input.now (states nodes.items) (states result.nodes.items) result.answer }
+    ensures no_worker { result.answer ≢ Err Refusal.NoWorker }
+{
+    let mut answer = Ok(());
+    for place in 0..nodes.len() {
+        answer = both(answer, finish_node(input, &mut nodes[place]));
+    }
+    Worked { nodes, answer }
+}
+
+/// Takes a node to the end of its local part.
+///
+/// # Errors
+/// [`Refusal::NoMemory`] in a step. The steps before it are made.
+fn finish_node<A: Allocator + Copy>(input: &[u8], node: &mut Node<A>) -> Result<(), Refusal>
+    ensures ok { OnOk result (is_running node.new.node.state ≡ false) }
     ensures stepped { (k : ℕ) × (node.new.node ≡ local_steps input.now k node.old.node) }
     ensures come { HasCome input.now node.new.node }
     ensures no_worker { result ≢ Err Refusal.NoWorker }
@@ -200,9 +204,5 @@ fn run_node<A: Allocator + Copy, G: Gate<A>>(
         return Ok(());
     }
     prove!(node.ticks() < MOST_STEPS);
-    let rank = node.rank();
-    gate.enter(rank);
-    let answer = node.run(input, MOST_STEPS);
-    gate.leave(rank, node);
-    answer.map_err(|_| Refusal::NoMemory)
+    node.run(input, MOST_STEPS).map_err(|_| Refusal::NoMemory)
 }

@@ -3,31 +3,46 @@
 ghost use Rattle.std.specs.Prelude.{◌≡◌, ◌↔◌, ◌<◌, Some, None, IsSome, IsOk, OnOk, OnErr, IsErrOf, length};
 ghost use Rattle.std.specs.Thread.{IsSend, IsSync};
 ghost use denote.Param.Send.{Frees};
+ghost use Rattle.machine_core.specs.Sound.{AreInRange};
 ghost use Rattle.machine_core.specs.Turn.{with_phases, end_of};
 ghost use Rattle.phase_pool.specs.Numbers.{numbers_fault};
 ghost use Rattle.phase_pool.specs.Phases.{LeadsTo, LeadsWithoutTurn, IsPhaseMade};
 ghost use Rattle.phase_pool.specs.Work.{HaveCome};
 
 use crate::error::{PoolError, Refusal};
-use crate::gate::Gate;
 use crate::numbers::check_numbers;
 use crate::part::work_on;
-use machine_core::Machine;
+use claim_table::{Gate, OpenGate, Work};
+use machine_core::{Machine, Settings};
 use std::alloc::Allocator;
 use std::sync::Wait;
 use std::thread::Threads;
 
+/// Over how many steps of all nodes together a superstep is made by the caller's thread alone, by [`run_sparing`] (own rule): a
+/// thread costs about as much as so many steps do.
+const FIRST_STEPS: u64 = 200_000;
+
+/// Who works on the nodes of a machine, and how.
+#[derive(Drop)]
+struct Team<'g, G> {
+    workers: u32,
+    slice: u64,
+    /// How many steps of all nodes together the caller's thread makes first.
+    first_steps: u64,
+    gate: &'g G,
+}
+
 /// Takes each node of a machine through its local part of the superstep (BSP, Valiant 1990), in `workers` threads, this one among
-/// them, and no more than there are nodes. Around the steps of a node that runs the calls of `gate` are made. After the outcome
-/// nothing is left to do.
+/// them, and no more than there are nodes. A worker takes a node that runs, makes at most `slice` steps of it, and gives it back;
+/// around these steps the calls of `gate` are made. After the outcome nothing is left to do.
 ///
-/// The numbers have the ranges of [`check_numbers`](crate::check_numbers). A slice has no other effect yet. The halves of the row
-/// take their room from the machine's own allocator.
+/// The numbers have the ranges of [`check_numbers`](crate::check_numbers). The table of nodes takes its room from the machine's own
+/// allocator.
 ///
 /// # Errors
 /// The first that applies of [`PoolError::BadWorkers`] and [`PoolError::BadSlice`], at which nothing has changed. Then
-/// [`PoolError::NoWorker`] where a thread could not be started, else [`PoolError::NoMemory`] where memory was refused, for a half of
-/// the row or in a step. At both the nodes keep the steps that they made, and a call made again leaves what this one would have left.
+/// [`PoolError::NoWorker`] where a thread could not be started, else [`PoolError::NoMemory`] where memory was refused, for the
+/// table or in a step. At both the nodes keep the steps that they made, and a call made again leaves what this one would have left.
 pub fn run_phase<R: Threads + Wait + Sync, A: Allocator + Copy + Send + Sync, G: Gate<A> + Sync>(
     rt: &R,
     machine: &mut Machine<A>,
@@ -53,7 +68,13 @@ pub fn run_phase<R: Threads + Wait + Sync, A: Allocator + Copy + Send + Sync, G:
     if machine.outcome().is_some() {
         return Ok(());
     }
-    Ok(make_local_parts(rt, machine, workers, gate)?)
+    let team = Team {
+        workers,
+        slice,
+        first_steps: 0,
+        gate,
+    };
+    Ok(make_local_parts(rt, machine, &team)?)
 }
 
 /// Runs a machine to its outcome, superstep by superstep, with the numbers and the gate of [`run_phase`]. The turns are made by this
@@ -85,9 +106,76 @@ pub fn run<R: Threads + Wait + Sync, A: Allocator + Copy + Send + Sync, G: Gate<
         → HaveCome machine.new.input machine.new.nodes }
     ensures going { numbers_fault workers slice ≡ None → OnErr result (machine.new.outcome ≡ None) }
 {
-    check_numbers(workers, slice)?;
+    let team = Team {
+        workers,
+        slice,
+        first_steps: 0,
+        gate,
+    };
+    run_with(rt, machine, &team)
+}
+
+/// As [`run`], with an open gate, but starts threads only for the work that pays for them: first the caller's thread makes some
+/// steps of each node, and only where a node still runs then do the workers share out the nodes. One worker needs no table.
+///
+/// # Errors
+/// As [`run`].
+pub fn run_sparing<R: Threads + Wait + Sync, A: Allocator + Copy + Send + Sync>(
+    rt: &R,
+    machine: &mut Machine<A>,
+    workers: u32,
+    slice: u64,
+) -> Result<(), PoolError>
+    ensures ok { OnOk result (machine.new ≡ end_of machine.old) }
+    ensures ended { OnOk result (IsSome machine.new.outcome) }
+    ensures bad_workers { IsErrOf result PoolError.BadWorkers
+        ↔ (numbers_fault workers slice ≡ Some PoolError.BadWorkers) }
+    ensures bad_slice { IsErrOf result PoolError.BadSlice
+        ↔ (numbers_fault workers slice ≡ Some PoolError.BadSlice) }
+    ensures unchanged { IsSome (numbers_fault workers slice) → machine.new ≡ machine.old }
+    ensures no_worker { IsErrOf result PoolError.NoWorker
+        → (1 < workers) × (1 < length machine.old.nodes) }
+    ensures err { OnErr result (LeadsTo machine.old machine.new) }
+    ensures over { numbers_fault workers slice ≡ None → IsSome machine.old.outcome
+        → IsOk result × (machine.new ≡ machine.old) }
+    ensures stopped { numbers_fault workers slice ≡ None
+        → HaveCome machine.new.input machine.new.nodes }
+    ensures going { numbers_fault workers slice ≡ None → OnErr result (machine.new.outcome ≡ None) }
+{
+    let team = Team {
+        workers,
+        slice,
+        first_steps: if workers == 1 { u64::MAX } else { FIRST_STEPS },
+        gate: &OpenGate,
+    };
+    run_with(rt, machine, &team)
+}
+
+/// Runs a machine to its outcome with a team.
+fn run_with<R: Threads + Wait + Sync, A: Allocator + Copy + Send + Sync, G: Gate<A> + Sync>(
+    rt: &R,
+    machine: &mut Machine<A>,
+    team: &Team<'_, G>,
+) -> Result<(), PoolError>
+    ensures ok { OnOk result (machine.new ≡ end_of machine.old) }
+    ensures ended { OnOk result (IsSome machine.new.outcome) }
+    ensures bad_workers { IsErrOf result PoolError.BadWorkers
+        ↔ (numbers_fault team.now.workers team.now.slice ≡ Some PoolError.BadWorkers) }
+    ensures bad_slice { IsErrOf result PoolError.BadSlice
+        ↔ (numbers_fault team.now.workers team.now.slice ≡ Some PoolError.BadSlice) }
+    ensures unchanged { IsSome (numbers_fault team.now.workers team.now.slice) → machine.new ≡ machine.old }
+    ensures no_worker { IsErrOf result PoolError.NoWorker
+        → (1 < team.now.workers) × (1 < length machine.old.nodes) }
+    ensures err { OnErr result (LeadsTo machine.old machine.new) }
+    ensures over { numbers_fault team.now.workers team.now.slice ≡ None → IsSome machine.old.outcome
+        → IsOk result × (machine.new ≡ machine.old) }
+    ensures stopped { numbers_fault team.now.workers team.now.slice ≡ None
+        → HaveCome machine.new.input machine.new.nodes }
+    ensures going { numbers_fault team.now.workers team.now.slice ≡ None → OnErr result (machine.new.outcome ≡ None) }
+{
+    check_numbers(team.workers, team.slice)?;
     while machine.outcome().is_none() {
-        make_local_parts(rt, machine, workers, gate)?;
+        make_local_parts(rt, machine, team)?;
         machine.turn()?;
     }
     Ok(())
@@ -98,32 +186,47 @@ pub fn run<R: Threads + Wait + Sync, A: Allocator + Copy + Send + Sync, G: Gate<
 fn make_local_parts<R: Threads + Wait + Sync, A: Allocator + Copy + Send + Sync, G: Gate<A> + Sync>(
     rt: &R,
     machine: &mut Machine<A>,
-    workers: u32,
-    gate: &G,
+    team: &Team<'_, G>,
 ) -> Result<(), Refusal>
-    ensures { IsPhaseMade workers machine.old machine.new result }
+    requires { 0 < team.now.slice }
+    ensures { IsPhaseMade team.now.workers machine.old machine.new result }
 {
     core::mem::replace_with(
         machine,
-        workers,
-        |machine: Machine<A>, workers: u32| -> (Machine<A>, Result<(), Refusal>)
-            requires { IsSync R.row × IsSync G.row × IsSend A.row × IsSync A.row × Frees A.Allocator A.dealloc_token }
-            ensures { IsPhaseMade workers machine result.0 result.1 }
-        { work_on_machine(rt, gate, workers, machine) },
+        team,
+        |machine: Machine<A>, team: &Team<'_, G>| -> (Machine<A>, Result<(), Refusal>)
+            requires { IsSync R.row × IsSync G.row × IsSend A.row × IsSync A.row × Frees A.Allocator A.dealloc_token × (0 < team.now.slice) }
+            ensures { IsPhaseMade team.now.workers machine result.0 result.1 }
+        { work_on_machine(rt, team, machine) },
     )
 }
 
 /// A machine whose row was lent to threads, and what they were refused.
 fn work_on_machine<R: Threads + Wait + Sync, A: Allocator + Copy + Send + Sync, G: Gate<A> + Sync>(
     rt: &R,
-    gate: &G,
-    workers: u32,
+    team: &Team<'_, G>,
     machine: Machine<A>,
 ) -> (Machine<A>, Result<(), Refusal>)
-    ensures { IsPhaseMade workers machine result.0 result.1 }
+    requires { 0 < team.now.slice }
+    ensures { IsPhaseMade team.now.workers machine result.0 result.1 }
 {
+    let settings = machine.settings();
+    let work = Work {
+        gate: team.gate,
+        slice: team.slice,
+        allowance: allowance(settings, team.slice),
+    };
+    let share = team.first_steps / u64::from(settings.nodes);
     let (lender, row) = machine.lend();
-    let parts = row.len().min(workers as usize);
-    let worked = work_on(rt, gate, lender.input(), parts, row);
+    let workers = row.len().min(team.workers as usize);
+    let worked = work_on(rt, &work, share, workers, lender.input(), row);
     (lender.take_back(worked.nodes), worked.answer)
+}
+
+/// How many nodes a worker takes at most in a phase: all of them, each for as many slices as its steps may fill.
+fn allowance(settings: Settings, slice: u64) -> u64
+    requires ranges { AreInRange settings }
+    requires some { 0 < slice }
+{
+    u64::from(settings.nodes) * settings.limit.div_ceil(slice)
 }

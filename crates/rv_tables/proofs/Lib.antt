@@ -1,4 +1,9 @@
 pub mod BranchWord
+pub mod CompressedHints
+pub mod CompressedLookup
+pub mod CompressedReads
+pub mod CompressedSpelling
+pub mod EachCompressedRow
 pub mod EachRow
 pub mod Finds
 pub mod JumpWord

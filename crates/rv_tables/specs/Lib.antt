@@ -1,4 +1,6 @@
+pub mod Compressed
 pub mod Fields
+pub mod Halfwords
 pub mod Mnemonics
 pub mod Operands
 pub mod Registers

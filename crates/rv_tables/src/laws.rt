@@ -1,9 +1,11 @@
 //! Facts about the rows and the words that they make. There is nothing to run: a caller calls one for what it ensures.
 
-ghost use Rattle.std.specs.Prelude.{◌≡◌, ◌↔◌, ℕ, ◌^◌, ◌<◌, map, Some};
-ghost use Rattle.std.specs.List.{AllPairs};
+ghost use Rattle.std.specs.Prelude.{◌≡◌, ◌↔◌, ℕ, ◌^◌, ◌<◌, map, Some, None, IfSome, IsTrue};
+ghost use Rattle.std.specs.List.{AllPairs, list_all};
+ghost use Rattle.rv_tables.specs.Compressed.{compressed_rows, expansion_of, AreDisjoint, Expands, IsReserved, IsHint, DoesNothing};
 ghost use Rattle.rv_tables.specs.declared.instr.Instr.{Instr};
 ghost use Rattle.rv_tables.specs.Operands.{IsEncodable};
+ghost use Rattle.rv_tables.specs.Halfwords.{is_filled};
 ghost use Rattle.rv_tables.specs.Rows.{encodings, instruction_of, IsDisjoint, Spells};
 
 /// No word meets two rows.
@@ -24,4 +26,34 @@ pub fn the_instruction_of_a_word_is_the_one_that_it_spells()
 /// The operands of the instruction of a word fit their fields.
 pub fn an_instruction_of_a_word_is_encodable()
     ensures { (w : ℕ) (i : Instr) → w < 2 ^ 32 → instruction_of w ≡ Some i → IsEncodable i }
+{}
+
+/// No halfword is of two compressed rows, so none meets two.
+pub fn compressed_rows_are_disjoint()
+    ensures { AllPairs AreDisjoint compressed_rows }
+{}
+
+/// The expansion of a halfword is that of the row that it meets.
+pub fn the_expansion_of_a_halfword_is_that_of_its_row()
+    ensures { (h : ℕ) (i : Instr) → (expansion_of h ≡ Some i) ↔ Expands h i }
+{}
+
+/// A code that a row reserves expands to nothing.
+pub fn a_reserved_code_expands_to_nothing()
+    ensures { (h : ℕ) → IsReserved h → expansion_of h ≡ None }
+{}
+
+/// The operands of an expansion fit the fields of a word.
+pub fn an_expansion_is_encodable()
+    ensures { (h : ℕ) (i : Instr) → expansion_of h ≡ Some i → IsEncodable i }
+{}
+
+/// A hint expands to an instruction that changes no register, no memory, and no course of the program.
+pub fn a_hint_expands_to_an_instruction_that_does_nothing()
+    ensures { (h : ℕ) → IsHint h → IfSome (expansion_of h) DoesNothing }
+{}
+
+/// The immediate's bits of a layout are as many as the halfword's that hold them.
+pub fn layouts_fill_their_places()
+    ensures { IsTrue (list_all (λ r. list_all is_filled r.layout) compressed_rows) }
 {}

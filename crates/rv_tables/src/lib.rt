@@ -1,4 +1,4 @@
-//! The instructions of RV32I, Zifencei and M: their rows, words, names and registers.
+//! The instructions of RV32I, Zifencei and M: their rows, words, names and registers; and those of RV32C, which expand to them.
 //!
 //! A row of the listings fixes some bits of a word, and the other bits are the operands of its form. So the listings
 //! are a map from words to instructions: no two rows agree on a word, and most words are of none.
@@ -10,16 +10,21 @@
 //!   field: registers are below 32.
 //! - [`encode`] goes back: it answers a word for each instruction whose operands fit, which decodes to that instruction
 //!   and is the only one to do so, but for the two fences.
+//! - [`decode16`] answers the instruction that a halfword expands to, and none for a halfword of no compressed row or of a
+//!   reserved code. What it answers is an instruction that `encode` takes.
 //! - [`reg_number`] and [`mnemonic`] know the names of the manual, and no others.
-//! - [`laws`] has what holds of all words: each spells at most one instruction, which is the one that is decoded.
+//! - [`laws`] has what holds of all words: each spells at most one instruction, which is the one that is decoded. And of all
+//!   halfwords: each is of at most one compressed row.
 //!
 //! Source: The RISC-V Instruction Set Manual, Volume I: Unprivileged ISA, 20191213, chapters 2, 3 and 7, the listings
-//! of chapter 24 and the names of chapter 25.
+//! of chapter 24 and the names of chapter 25, and chapter 16 for RV32C, of which floating point is left out.
 #![tactic(auto)]
 
+mod compressed;
 mod decoder;
 mod encoder;
 mod fields;
+mod halfword;
 mod instr;
 pub mod laws;
 mod mnemonics;
@@ -27,6 +32,7 @@ mod registers;
 mod table;
 mod words;
 
+pub use compressed::decode16;
 pub use decoder::decode;
 pub use encoder::encode;
 pub use instr::{BranchOp, Form, IOp, Instr, LoadOp, PlainOp, ROp, Row, ShiftOp, StoreOp, UpperOp};

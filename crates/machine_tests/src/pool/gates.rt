@@ -151,9 +151,75 @@ fn nodes_may_leave_in_any_order(rt: HostRuntime) -> Result<(), Fail> {
             left: AtomicU64::new(0),
             failed: AtomicBool::new(false),
         };
-        let answer = run(&rt, &mut machine, 3, 1, &gate);
+        let answer = run(&rt, &mut machine, 3, 65_536, &gate);
         assert!(rt; answer == Ok(()) && machine.output() == b"012".as_slice());
         assert!(rt; gate.has_let_all_leave(), "{place:?}");
+    }
+    Ok(())
+}
+
+// Four nodes of which that of rank 0 is held back until the others have left.
+#[derive(Drop)]
+struct LastGate {
+    left: AtomicU64,
+    failed: AtomicBool,
+}
+
+impl<A: Allocator> Gate<A> for LastGate {
+    fn enter(&self, rank: u32) {
+        if rank == 0 && !comes_to(&self.left, 3) {
+            self.failed.store(true, Ordering::SeqCst);
+        }
+    }
+
+    fn leave(&self, _rank: u32, _node: &Node<A>) {
+        self.left.fetch_add(1, Ordering::SeqCst);
+    }
+}
+
+// A fixed half of the nodes would wait for this thread's own.
+#[test]
+fn a_worker_takes_the_nodes_that_another_has_no_time_for(rt: HostRuntime) -> Result<(), Fail> {
+    let mut machine = machine(&rt, rt.alloc(), &PRINTS_ITS_RANK, 4)?;
+    let gate = LastGate {
+        left: AtomicU64::new(0),
+        failed: AtomicBool::new(false),
+    };
+    let answer = run(&rt, &mut machine, 2, 65_536, &gate);
+    assert!(rt; answer == Ok(()) && machine.output() == b"0123".as_slice());
+    assert!(rt; !gate.failed.load(Ordering::SeqCst));
+    Ok(())
+}
+
+// The ticks that nodes have when they leave, as digits of a number for each of three ranks, in the order of their times.
+#[derive(Drop)]
+struct TickGate {
+    ticks: (AtomicU64, AtomicU64, AtomicU64),
+}
+
+impl<A: Allocator> Gate<A> for TickGate {
+    fn enter(&self, _rank: u32) {}
+
+    fn leave(&self, rank: u32, node: &Node<A>) {
+        let seen = match rank {
+            0 => &self.ticks.0,
+            1 => &self.ticks.1,
+            _ => &self.ticks.2,
+        };
+        let later = seen.load(Ordering::SeqCst).wrapping_mul(100).wrapping_add(node.ticks());
+        seen.store(later, Ordering::SeqCst);
+    }
+}
+
+#[test]
+fn a_node_is_given_back_after_each_slice(rt: HostRuntime) -> Result<(), Fail> {
+    let mut machine = machine(&rt, rt.alloc(), &PRINTS_ITS_RANK, 3)?;
+    let gate = TickGate {
+        ticks: (AtomicU64::new(0), AtomicU64::new(0), AtomicU64::new(0)),
+    };
+    assert!(rt; run(&rt, &mut machine, 1, 3, &gate) == Ok(()));
+    for seen in [&gate.ticks.0, &gate.ticks.1, &gate.ticks.2] {
+        assert!(rt; seen.load(Ordering::SeqCst) == 3_06_09_10);
     }
     Ok(())
 }

@@ -100,7 +100,7 @@ fn hoard(alloc: Global) -> Result<Vec<Vec<u8>>, AllocError> {
 }
 
 #[test]
-fn a_half_without_a_thread_is_run_here(rt: HostRuntime) -> Result<(), Fail> {
+fn the_nodes_of_a_worker_without_a_thread_are_run_here(rt: HostRuntime) -> Result<(), Fail> {
     let mut machine = machine(&rt, rt.alloc(), &PRINTS_AND_SYNCS, 2)?;
     let spare = Vec::<u8>::with_capacity(rt.alloc(), 0x1_0000)?;
     let blocks = hoard(rt.alloc())?;

@@ -1,35 +1,56 @@
-use Rattle.std.proofs.Common.{◌≡◌, ◌+◌, suc, length, drop, arith, refl, ap, sym, ◌∙◌}
-use Rattle.std.proofs.lemmas.List.FromFn.{length-map-range_with_len}
+use Rattle.std.proofs.Common.{◌≡◌, ◌≤◌, ◌++◌, List, length, map, drop, set, arith, refl, ap, sym, ◌∙◌}
+use Rattle.std.proofs.lemmas.List.{append-nil, drop_all, take_all}
+use Rattle.std.proofs.lemmas.Option.{slice_get_within}
+use Rattle.std.specs.Prelude.{slice_get}
+use Rattle.node_core.specs.Node.{PreparedNode}
 use Rattle.bsp_exchange.specs.Exchange.{states}
-use Rattle.bsp_exchange.specs.Parts.{received_at}
-use Rattle.bsp_exchange.proofs.KeepsOwn.{EachKeepsOwn-turned}
-use Rattle.bsp_exchange.proofs.Turns.{exchanged_all, unready_all, all_done, drop_same, can_land_here, next_turned}
+use Rattle.bsp_exchange.specs.Parts.{PartState, landed_as, spent_part}
+use Rattle.bsp_exchange.proofs.LandedRow.{row_landed, row_states, row_keeps, row_unready, as_many, can_land_at, next_node, next_unchanged, one_more_landed, one_more_changed, all_landed, some_at}
 use Rattle.bsp_exchange.proofs.barrier.land_all.Goals as goal
 
-pub loop-rank-init : goal.loop-rank-init
-loop-rank-init g c = record {
-  nodes = refl;
-  parts = refl;
-  size = ap length c.requires.planned ∙ length-map-range_with_len (received_at (states c.args.nodes.now)) 0 (length c.args.nodes.now);
-}
+pub loop-place-init : goal.loop-place-init
+loop-place-init g c = record { nodes = refl; parts = refl }
+
+pub land_at-requires-clause-part : goal.land_at-requires-clause-part
+land_at-requires-clause-part g c =
+    let (part, is) = some_at c.args.parts.now c.loop-place.place (omega (arith, as_many c.args.parts.now c.args.nodes.now c.requires, c.loop-place-test.true)) in
+    slice_get_within c.loop-place.parts c.loop-place.place part (ap (λ (ps : List PartState). slice_get ps c.loop-place.place) c.loop-place.invariant.parts ∙ next_unchanged spent_part c.loop-place.place c.args.parts.now ∙ is)
 
 pub land_at-requires-clause-lands : goal.land_at-requires-clause-lands
 land_at-requires-clause-lands g c p part here received =
-    can_land_here c.args.nodes.now c.loop-rank.nodes c.loop-rank.parts c.args.parts.now c.loop-rank.rank p part c.requires.row c.requires.faultless c.requires.sound c.requires.prepared c.requires.planned c.loop-rank-test.true c.loop-rank.invariant.nodes c.loop-rank.invariant.parts here received
+    let i = c.loop-place.place in
+    can_land_at c.args.parts.now c.args.nodes.now i part p c.requires
+    (sym (next_unchanged spent_part i c.args.parts.now) ∙ sym (ap (λ (ps : List PartState). slice_get ps i) c.loop-place.invariant.parts) ∙ received)
+    (sym (next_node i c.args.parts.now c.args.nodes.now) ∙ sym (ap (λ (ns : List PreparedNode). slice_get ns i) c.loop-place.invariant.nodes) ∙ here)
 
-pub loop-rank-preserved : goal.loop-rank-preserved
-loop-rank-preserved g c =
-    let xs = c.args.nodes.now in
-    let i = c.loop-rank.rank in
-    let next : i + 1 ≡ suc i = omega arith in
+pub loop-place-preserved : goal.loop-place-preserved
+loop-place-preserved g c =
+    let i = c.loop-place.place in
+    let parts = c.args.parts.now in
+    let nodes = c.args.nodes.now in
+    let (part, first) = some_at parts i (omega (arith, as_many parts nodes c.requires, c.loop-place-test.true)) in
+    let (p, second) = some_at nodes i c.loop-place-test.true in
+    let received = ap (λ (ps : List PartState). slice_get ps i) c.loop-place.invariant.parts ∙ next_unchanged spent_part i parts ∙ first in
+    let here = ap (λ (ns : List PreparedNode). slice_get ns i) c.loop-place.invariant.nodes ∙ next_node i parts nodes ∙ second in
     record {
-      nodes = next_turned xs c.loop-rank.nodes c.land_at.new.nodes c.loop-rank.parts c.args.parts.now i c.requires.row c.requires.faultless c.requires.sound c.requires.planned c.loop-rank-test.true (omega (arith, c.loop-rank-test.true, c.loop-rank.invariant.size)) c.loop-rank.invariant.nodes c.loop-rank.invariant.parts c.land_at.ensures.nodes;
-      parts = c.land_at.ensures.parts ∙ ap (λ k. drop k c.loop-rank.parts) next ∙ drop_same c.loop-rank.parts c.args.parts.now i c.loop-rank.invariant.parts ∙ ap (λ k. drop k c.args.parts.now) (sym next);
-      size = c.land_at.ensures.counts.1 ∙ c.loop-rank.invariant.size;
+      nodes = c.land_at.ensures.nodes p part here received ∙ ap (λ (ns : List PreparedNode). set ns i (landed_as part p)) c.loop-place.invariant.nodes ∙ one_more_landed i parts nodes part p first second;
+      parts = c.land_at.ensures.parts part received ∙ ap (λ (ps : List PartState). set ps i (spent_part part)) c.loop-place.invariant.parts ∙ one_more_changed spent_part i parts part first;
     }
 
 pub returns : goal.returns
 returns g c =
+    let i = c.loop-place.place in
+    let parts = c.args.parts.now in
     let nodes = c.args.nodes.now in
-    let done = all_done (states nodes) nodes c.loop-rank.nodes c.loop-rank.rank c.loop-rank-test.false c.loop-rank.invariant.nodes in
-    record { exchanged = ap states done ∙ exchanged_all nodes; unready = rw done (unready_all (states nodes) nodes); own = rw done (EachKeepsOwn-turned (states nodes) nodes) }
+    let done : c.loop-place.nodes ≡ row_landed parts nodes = c.loop-place.invariant.nodes ∙ all_landed i parts nodes c.requires c.loop-place-test.false in
+    let past : length parts ≤ i = omega (arith, as_many parts nodes c.requires, c.loop-place-test.false) in
+    record {
+      nodes = ap states done ∙ row_states parts nodes;
+      unready = rw done (row_unready parts nodes c.requires);
+      own = rw done (row_keeps parts nodes);
+      spent =
+          c.loop-place.invariant.parts
+          ∙ ap (λ (ps : List PartState). map spent_part ps ++ drop i parts) (take_all i parts past)
+          ∙ ap (λ (ps : List PartState). map spent_part parts ++ ps) (drop_all i parts past)
+          ∙ append-nil (map spent_part parts);
+    }

@@ -10,4 +10,5 @@ returns c =
     let named : HasApp c.after_help.result (machine_app (codes "run") c.args.formats) = record { is = search rules; local = search rules } in
     let report = with_arg _ _ _ _ _ c.in_ok-arg.ensures named c.report.ensures in
     let workers = with_arg _ _ _ _ _ c.in_ok-arg-2.ensures report c.workers.ensures in
-    IfOk-weaker c.arg-3.result _ _ (λ r adds. with_arg _ _ _ _ _ adds workers c.profile.ensures) c.arg-3.ensures
+    let slice = with_arg _ _ _ _ _ c.in_ok-arg-3.ensures workers c.slice.ensures in
+    IfOk-weaker c.arg-4.result _ _ (λ r adds. with_arg _ _ _ _ _ adds slice c.profile.ensures) c.arg-4.ensures

@@ -7,7 +7,8 @@ pub returns-clause-some : goal.returns-clause-some
 returns-clause-some c = record {
   machine = c.in_ok-options_of_machine.ensures.some;
   workers = c.in_ok-options_of_machine.ensures.rest.0;
-  report = c.in_ok-options_of_machine.ensures.rest.1;
+  slice = c.in_ok-options_of_machine.ensures.rest.1;
+  report = c.in_ok-options_of_machine.ensures.rest.2;
   interactive = flag_of_getter _ (found_of c.args.debug.now) (codes "interactive") c.in_ok-interactive.ensures.none c.in_ok-interactive.ensures.value;
 }
 

@@ -1,4 +1,4 @@
-use Rattle.std.proofs.Common.{◌∙◌, ap, codes, List, Some, refl, sym, ℕ}
+use Rattle.std.proofs.Common.{◌∙◌, ap, codes, List, Some, sym, ℕ}
 use Rattle.clap.specs.Words.{found_of}
 use Rattle.clap.proofs.WalkLemmas.{first_value-rows}
 use Rattle.bspemu.proofs.Getters.{no_number_of_getter, none≢some, number_of_getter, same_text}
@@ -12,7 +12,6 @@ returns-clause-some c =
       input = sym (c.get_str-2.ensures ∙ first_value-rows found (codes "input"));
       format = sym (c.in_ok-get_str-2.ensures ∙ first_value-rows found (codes "format")) ∙ ap (λ (name : List ℕ). Some name) c.in_ok-format_named.ensures.some;
       settings = c.in_ok-settings_of_machine.ensures.some;
-      slice = refl;
       g = number_of_getter 32 _ found (codes "g") c.in_ok-get_one.ensures.none c.in_ok-get_one.ensures.value;
       l = number_of_getter 32 _ found (codes "l") c.in_ok-get_one-2.ensures.none c.in_ok-get_one-2.ensures.value;
     }

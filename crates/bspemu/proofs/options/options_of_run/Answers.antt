@@ -11,7 +11,8 @@ returns-clause-some c =
     record {
       machine = c.in_ok-options_of_machine.ensures.some;
       workers = rw rest.0 (number_of_getter 32 _ found (codes "workers") c.in_ok-workers.ensures.none c.in_ok-workers.ensures.value);
-      report = rw rest.1 (flag_of_getter _ found (codes "report") c.in_ok-report.ensures.none c.in_ok-report.ensures.value);
+      slice = rw rest.1 (number_of_getter 64 _ found (codes "slice") c.in_ok-slice.ensures.none c.in_ok-slice.ensures.value);
+      report = rw rest.2 (flag_of_getter _ found (codes "report") c.in_ok-report.ensures.none c.in_ok-report.ensures.value);
       profile = sym (c.get_str.ensures ∙ first_value-rows found (codes "profile"));
     }
 
@@ -19,6 +20,11 @@ pub returns-in_err-workers-clause-none : goal.returns-in_err-workers-clause-none
 returns-in_err-workers-clause-none c =
     rw c.from_residual.ensures
     (λ o gives. no_number_of_getter 32 o.machine.job.workers (found_of c.args.run.now) (codes "workers") c.in_err-workers.ensures.value gives.workers)
+
+pub returns-in_err-slice-clause-none : goal.returns-in_err-slice-clause-none
+returns-in_err-slice-clause-none c =
+    rw c.from_residual-in_err-slice.ensures
+    (λ o gives. no_number_of_getter 64 o.machine.job.slice (found_of c.args.run.now) (codes "slice") c.in_err-slice.ensures.value gives.slice)
 
 pub returns-in_err-report-clause-none : goal.returns-in_err-report-clause-none
 returns-in_err-report-clause-none c =

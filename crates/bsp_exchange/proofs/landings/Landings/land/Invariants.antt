@@ -1,6 +1,7 @@
 use Rattle.std.proofs.Common.{◌≡◌, length, drop}
 use Rattle.node_core.specs.declared.state.State.TheVariants.{Synced}
-use Rattle.bsp_exchange.specs.Parts.{patches_of, OwnsEach, with_patches}
+use Rattle.bsp_exchange.specs.Arrivals.{patches_of}
+use Rattle.bsp_exchange.specs.Parts.{OwnsEach, with_patches}
 use Rattle.bsp_exchange.proofs.Patches.{bytes_in}
 use Rattle.bsp_exchange.proofs.landings.Landings.land.Given as goal
 

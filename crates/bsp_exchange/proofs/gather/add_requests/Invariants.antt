@@ -1,0 +1,15 @@
+use Rattle.std.proofs.Common.{◌≡◌, length, None}
+use Rattle.bsp_exchange.specs.Exchange.{states}
+use Rattle.bsp_exchange.specs.Issued.{issued_by}
+use Rattle.bsp_exchange.specs.Faults.{first_outside}
+use Rattle.bsp_exchange.specs.Arrivals.{with_issued}
+use Rattle.bsp_exchange.proofs.Finds.{issued_from}
+use Rattle.bsp_exchange.proofs.gather.add_requests.Given as goal
+
+-- the requests that are left keep to their areas, and lead to what all of them do
+abbrev pub invariant-loop-issue : goal.invariant-loop-issue
+invariant-loop-issue g l = record {
+  size : length l.parts ≡ length l.nodes;
+  inside : first_outside (states l.nodes) (issued_from l.node.node l.issue) ≡ None;
+  same : with_issued (states l.nodes) l.parts (issued_from l.node.node l.issue) ≡ with_issued (states l.nodes) l.fn.parts (issued_by l.node.node);
+}

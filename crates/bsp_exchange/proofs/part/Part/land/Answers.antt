@@ -1,0 +1,27 @@
+use Rattle.std.proofs.Common.{List, ℕ, false, sym, ap, ◌∙◌}
+use Rattle.node_core.specs.Hart.{with_memory}
+use Rattle.node_core.specs.Turn.{next_superstep}
+use Rattle.bsp_exchange.specs.Parts.{PartState, landed_as}
+use Rattle.bsp_exchange.proofs.Landed.{laid-append}
+use Rattle.bsp_exchange.proofs.Planned.{owns_first, owns_second}
+use Rattle.bsp_exchange.proofs.part.Part.land.Goals as goal
+
+pub land-requires : goal.land-requires
+land-requires g c =
+    let part = c.self.inside.arrivals in
+    let p = c.args.node.now in
+    let can = rw (sym c.self.view_is) at c.requires in
+    record {
+      waiting = can.waiting;
+      queue = c.self.invariant;
+      prepared = record { ready = can.ready; gets = owns_first p.own part.gets part.puts can.own; puts = owns_second p.own part.gets part.puts can.own };
+    }
+
+pub returns-clause-node : goal.returns-clause-node
+returns-clause-node g c =
+    let part = c.self.inside.arrivals in
+    let p = c.args.node.now in
+    let n = p.node in
+    c.land.ensures.node
+    ∙ ap (λ (m : List ℕ). record p { node = next_superstep part.messages (record n { hart = with_memory m n.hart }); ready = false }) (sym (laid-append n.hart.memory part.gets part.puts))
+    ∙ ap (λ (q : PartState). landed_as q p) c.self.view_is

@@ -1,6 +1,0 @@
-use Rattle.std.proofs.Common.{◌≡◌, replicate}
-use Rattle.bsp_exchange.specs.Parts.{nothing}
-use Rattle.bsp_exchange.proofs.plan.empty_parts.Given as goal
-
-abbrev pub invariant-loop-made : goal.invariant-loop-made
-invariant-loop-made g l = l.parts.items ≡ replicate l._made nothing

@@ -1,0 +1,123 @@
+//! What arrives at one node in an exchange.
+
+ghost use Rattle.std.specs.Prelude.{◌≡◌, false, length, IsTrue, OnOk, OnErr};
+ghost use Rattle.node_memory.specs.Bytes.{fits, bytes_at};
+ghost use Rattle.node_memory.specs.Pages.{KeepsOwn};
+ghost use Rattle.bsp_exchange.specs.Arrivals.{nothing, FitsIn, IsPrepared, CanTake, with_arrivals};
+
+use crate::landings::Landings;
+use bsp_requests::{Inbox, Message};
+use list_vec::ListVec;
+use node_core::Node;
+use node_memory::Memory;
+use std::alloc::{AllocError, Allocator};
+use std::marker::Model;
+use std::mem;
+
+/// What one node receives in an exchange, gathered before anything lands: the bytes that its gets fetch, those that are put into its
+/// areas, and the messages that are sent to it.
+#[derive(Drop)]
+pub(crate) struct Arrivals<A: Allocator> {
+    alloc: A,
+    gets: Landings<A>,
+    puts: Landings<A>,
+    messages: Vec<Message<A>, A>,
+}
+
+impl<A: Allocator> Model for Arrivals<A> {
+    ghost use Rattle.bsp_exchange.specs.Arrivals.{Received};
+
+    ghost Value = { Received };
+
+    ghost view = { λ p. record { gets = p.gets; puts = p.puts; messages = p.messages.items } };
+}
+
+impl<A: Allocator + Copy> Arrivals<A> {
+    ghost use Rattle.std.specs.Prelude.{◌++◌, ◌∷◌, []};
+
+    /// Nothing. No memory is taken.
+    pub(crate) fn new(alloc: A) -> Arrivals<A>
+        ensures { result ≡ nothing }
+    {
+        Arrivals {
+            alloc,
+            gets: Landings::new(alloc),
+            puts: Landings::new(alloc),
+            messages: Vec::new(alloc),
+        }
+    }
+
+    /// Adds what a get fetches: the `len` bytes from `from` on of a memory, which land from `addr` on.
+    pub(crate) fn add_get(
+        &mut self,
+        addr: u32,
+        memory: &Memory<A>,
+        from: u32,
+        len: u32,
+    ) -> Result<(), AllocError>
+        requires { IsTrue (fits (length memory.now.bytes) from len) }
+        ensures ok { OnOk result (self.new ≡ record self.old {
+          gets = self.old.gets ++ record { addr = addr; bytes = bytes_at memory.now.bytes from len } ∷ [];
+        }) }
+    {
+        self.gets.push_copy_of(addr, memory, from, len)
+    }
+
+    /// Adds bytes that are put, from `addr` on.
+    pub(crate) fn add_put(&mut self, addr: u32, bytes: &[u8]) -> Result<(), AllocError>
+        ensures ok { OnOk result (self.new ≡ record self.old {
+          puts = self.old.puts ++ record { addr = addr; bytes = bytes.now } ∷ [];
+        }) }
+    {
+        self.puts.push(addr, bytes)
+    }
+
+    /// Adds a message.
+    pub(crate) fn add_message(
+        &mut self,
+        sender: u16,
+        tag: &[u8],
+        payload: &[u8],
+    ) -> Result<(), AllocError>
+        ensures ok { OnOk result (self.new ≡ record self.old {
+          messages = self.old.messages ++ record { sender = sender; tag = tag.now; payload = payload.now } ∷ [];
+        }) }
+    {
+        let message = Message {
+            sender,
+            tag: ListVec::from_vec(Vec::from_slice(self.alloc, tag)?),
+            payload: ListVec::from_vec(Vec::from_slice(self.alloc, payload)?),
+        };
+        self.messages.push(message)?;
+        Ok(())
+    }
+
+    /// Makes all the room that its landing wants: for the node's turn, and for copies of the pages into which it receives bytes.
+    /// The node itself stays as it is.
+    ///
+    /// # Errors
+    /// Where memory is refused.
+    pub(crate) fn prepare(&self, node: &mut Node<A>) -> Result<(), AllocError>
+        requires within { FitsIn (length node.old.node.hart.memory) self.now }
+        ensures node { node.new.node ≡ node.old.node }
+        ensures own { KeepsOwn node.old.own node.new.own }
+        ensures ok { OnOk result (IsPrepared self.now node.new) }
+    {
+        self.gets.prepare(node)?;
+        self.puts.prepare(node)?;
+        node.prepare_turn()
+    }
+
+    /// Lands all of it in its node, which waits and is prepared for it, and begins the node's next superstep. The messages go
+    /// over to the node, and the bytes stay.
+    pub(crate) fn land(&mut self, node: &mut Node<A>)
+        requires { CanTake self.old node.old }
+        ensures node { node.new ≡ with_arrivals self.old node.old }
+        ensures rest { self.new ≡ record self.old { messages = [] } }
+    {
+        self.gets.land(node);
+        self.puts.land(node);
+        let messages = mem::replace(&mut self.messages, Vec::new(self.alloc));
+        node.finish_turn(Inbox::of(messages));
+    }
+}

@@ -1,0 +1,188 @@
+//! Gathers what each node receives, before anything lands.
+
+ghost use Rattle.std.specs.Prelude.{◌≡◌, ◌+◌, ◌<◌, ◌≤◌, false, None, All, IsTrue, length, map, replicate, OnOk, IfOk};
+ghost use Rattle.std.specs.List.{range_with_len};
+ghost use Rattle.node_memory.specs.Bytes.{fits};
+ghost use Rattle.bsp_requests.specs.Request.{asked, asks_get};
+ghost use Rattle.node_core.specs.Hart.{IsHart};
+ghost use Rattle.node_core.specs.Node.{NodeState};
+ghost use Rattle.bsp_exchange.specs.Exchange.{AreAtSync, states};
+ghost use Rattle.bsp_exchange.specs.Faults.{exchange_fault, first_outside, is_outside, leaves_area};
+ghost use Rattle.bsp_exchange.specs.Issued.{issued, issued_by};
+ghost use Rattle.bsp_exchange.specs.Landings.{area_start, memory_of};
+ghost use Rattle.bsp_exchange.specs.Arrivals.{nothing, received_at, fetched, with_get, with_put, with_message, with_asked, with_issued};
+ghost use Rattle.bsp_exchange.specs.Parts.{target_of, changed_at};
+
+use crate::arrivals::Arrivals;
+use crate::checks::area_at;
+use bsp_requests::{Get, Request};
+use node_core::Node;
+use std::alloc::{AllocError, Allocator};
+
+/// What each node receives in the exchange among `nodes`, by rank. All that the exchange needs of memory for it is taken here.
+pub(crate) fn gather<A: Allocator + Copy>(
+    alloc: A,
+    nodes: &[Node<A>],
+) -> Result<Vec<Arrivals<A>, A>, AllocError>
+    requires row { AreAtSync (states nodes.now) }
+    requires faultless { exchange_fault (states nodes.now) ≡ None }
+    ensures parts { IfOk result (λ parts.
+        parts.items ≡ map (received_at (states nodes.now)) (range_with_len 0 (length nodes.now))) }
+    ensures sound { OnOk result (All (λ (n : NodeState). IsHart n.hart) (states nodes.now)) }
+{
+    let mut parts = empty_parts(alloc, nodes.len())?;
+    add_all_requests(nodes, &mut parts)?;
+    Ok(parts)
+}
+
+/// So many parts with nothing in them.
+fn empty_parts<A: Allocator + Copy>(
+    alloc: A,
+    count: usize,
+) -> Result<Vec<Arrivals<A>, A>, AllocError>
+    ensures { IfOk result (λ parts. parts.items ≡ replicate count nothing) }
+{
+    let mut parts = Vec::with_capacity(alloc, count)?;
+    for _made in 0..count {
+        parts.push(Arrivals::new(alloc))?;
+    }
+    Ok(parts)
+}
+
+/// Adds all nodes' requests to the parts of those that they reach.
+fn add_all_requests<A: Allocator + Copy>(
+    nodes: &[Node<A>],
+    parts: &mut [Arrivals<A>],
+) -> Result<(), AllocError>
+    requires row { AreAtSync (states nodes.now) }
+    requires inside { first_outside (states nodes.now) (issued (states nodes.now)) ≡ None }
+    requires parts { length parts.old ≡ length nodes.now }
+    ensures ok { OnOk result (parts.new ≡ with_issued (states nodes.now) parts.old (issued (states nodes.now))) }
+    ensures sound { OnOk result (All (λ (n : NodeState). IsHart n.hart) (states nodes.now)) }
+{
+    for node in nodes {
+        add_requests(nodes, node, parts)?;
+    }
+    Ok(())
+}
+
+/// Adds a node's requests to the parts of those that they reach.
+fn add_requests<A: Allocator + Copy>(
+    nodes: &[Node<A>],
+    node: &Node<A>,
+    parts: &mut [Arrivals<A>],
+) -> Result<(), AllocError>
+    requires count { node.now.node.hart.nprocs ≡ length nodes.now }
+    requires parts { length parts.old ≡ length nodes.now }
+    requires inside { first_outside (states nodes.now) (issued_by node.now.node) ≡ None }
+    ensures ok { OnOk result (parts.new ≡ with_issued (states nodes.now) parts.old (issued_by node.now.node)) }
+    ensures sound { IsHart node.now.node.hart }
+{
+    let requests = node.requests();
+    for issue in 0..requests.len() {
+        if let Some(request) = requests.at(issue) {
+            add_request(nodes, node.rank(), request, parts)?;
+        }
+    }
+    Ok(())
+}
+
+/// Adds a request of the node `caller` to the part of the node that it reaches.
+fn add_request<A: Allocator + Copy>(
+    nodes: &[Node<A>],
+    caller: u32,
+    request: &Request<A>,
+    parts: &mut [Arrivals<A>],
+) -> Result<(), AllocError>
+    requires few { length nodes.now ≤ 256 }
+    requires parts { length parts.old ≡ length nodes.now }
+    requires caller { caller < length nodes.now }
+    requires target { target_of (asked request.now) < length nodes.now }
+    requires inside { leaves_area (states nodes.now) (asked request.now) ≡ false }
+    ensures { OnOk result (parts.new ≡ with_asked (states nodes.now) caller parts.old (asked request.now)) }
+{
+    match request {
+        Request::Put(put) => {
+            let bytes = put.bytes.as_slice();
+            add_put(nodes, put.target, put.slot, put.offset, bytes, parts)
+        }
+        Request::Get(get) => add_get(nodes, caller, get, parts),
+        Request::Send(message) => {
+            let (tag, payload) = (message.tag.as_slice(), message.payload.as_slice());
+            add_message(caller as u16, message.target, tag, payload, parts)
+        }
+    }
+}
+
+/// Adds a put to its target's part.
+fn add_put<A: Allocator + Copy>(
+    nodes: &[Node<A>],
+    target: u16,
+    slot: usize,
+    offset: u32,
+    bytes: &[u8],
+    parts: &mut [Arrivals<A>],
+) -> Result<(), AllocError>
+    requires parts { length parts.old ≡ length nodes.now }
+    requires target { target < length nodes.now }
+    requires inside { is_outside (states nodes.now) target slot offset (length bytes.now) ≡ false }
+    ensures { OnOk result (parts.new
+        ≡ changed_at (with_put (record { addr = area_start (states nodes.now) target slot + offset; bytes = bytes.now })) target parts.old) }
+{
+    let start = start_of(nodes, target, slot, offset, bytes.len());
+    parts[target as usize].add_put(start, bytes)
+}
+
+/// Adds what a get fetches to its caller's part.
+fn add_get<A: Allocator + Copy>(
+    nodes: &[Node<A>],
+    caller: u32,
+    get: &Get,
+    parts: &mut [Arrivals<A>],
+) -> Result<(), AllocError>
+    requires parts { length parts.old ≡ length nodes.now }
+    requires caller { caller < length nodes.now }
+    requires target { get.now.target < length nodes.now }
+    requires inside { leaves_area (states nodes.now) (asks_get get.now) ≡ false }
+    ensures { OnOk result (parts.new ≡ changed_at (with_get (fetched (states nodes.now) get.now)) caller parts.old) }
+{
+    let start = start_of(nodes, get.target, get.slot, get.offset, get.len as usize);
+    let memory = nodes[get.target as usize].memory();
+    parts[caller as usize].add_get(get.dst, memory, start, get.len)
+}
+
+/// Adds a message to its target's part.
+fn add_message<A: Allocator + Copy>(
+    sender: u16,
+    target: u16,
+    tag: &[u8],
+    payload: &[u8],
+    parts: &mut [Arrivals<A>],
+) -> Result<(), AllocError>
+    requires target { target < length parts.old }
+    ensures { OnOk result (parts.new
+        ≡ changed_at (with_message (record { sender = sender; tag = tag.now; payload = payload.now })) target parts.old) }
+{
+    parts[target as usize].add_message(sender, tag, payload)
+}
+
+/// Where a transfer of `len` bytes begins that keeps to its area, in the memory of the area's node.
+fn start_of<A: Allocator + Copy>(
+    nodes: &[Node<A>],
+    target: u16,
+    slot: usize,
+    offset: u32,
+    len: usize,
+) -> u32
+    requires target { target < length nodes.now }
+    requires inside { is_outside (states nodes.now) target slot offset len ≡ false }
+    ensures value { result ≡ area_start (states nodes.now) target slot + offset }
+    ensures within { IsTrue (fits (length (memory_of (states nodes.now) target)) result len) }
+{
+    // Its contract says that the node is sound, and so that its areas lie in its memory.
+    let _memory = nodes[target as usize].memory();
+    match area_at(nodes, target, slot) {
+        Some(area) => area.addr + offset,
+        None => 0,
+    }
+}

@@ -1,8 +1,0 @@
-use Rattle.std.proofs.Common.{refl}
-use Rattle.phase_pool.proofs.part.without_thread.Goals as goal
-
-pub returns-clause-nodes : goal.returns-clause-nodes
-returns-clause-nodes g c = refl
-
-pub returns-clause-answer : goal.returns-clause-answer
-returns-clause-answer g c = refl

@@ -25,6 +25,7 @@
 #![tactic(auto)]
 
 mod error;
+mod landing;
 pub mod laws;
 mod numbers;
 mod part;

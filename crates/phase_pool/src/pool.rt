@@ -132,12 +132,13 @@ pub fn run_phase_sparing<R: Threads + Wait + Sync, A: Allocator + Copy + Send + 
     run_phase_with(rt, machine, &Team::sparing(workers, slice))
 }
 
-/// Runs a machine to its outcome, superstep by superstep, with the numbers and the gate of [`run_phase`]. The turns are made by this
-/// thread. After the outcome nothing is left to run.
+/// Runs a machine to its outcome, superstep by superstep, with the numbers and the gate of [`run_phase`]. The parts of an exchange land
+/// in so many threads too, without calls of the gate. After the outcome nothing is left to run.
 ///
 /// # Errors
-/// As [`run_phase`], and [`PoolError::NoMemory`] where memory was refused in a turn. At `NoWorker` and `NoMemory` no turn is made
-/// any more; the steps and turns before stand, and a call made again leaves what this one would have left.
+/// As [`run_phase`], and [`PoolError::NoMemory`] where memory was refused in a turn. Where a thread or room was refused for landings,
+/// the turn is whole, and the nodes make their next local parts before that is answered. No turn is made any more; the steps and turns
+/// before stand, and a call made again leaves what this one would have left.
 pub fn run<R: Threads + Wait + Sync, A: Allocator + Copy + Send + Sync, G: Gate<A> + Sync>(
     rt: &R,
     machine: &mut Machine<A>,
@@ -165,7 +166,8 @@ pub fn run<R: Threads + Wait + Sync, A: Allocator + Copy + Send + Sync, G: Gate<
 }
 
 /// As [`run`], with an open gate, but starts threads only for the work that pays for them: first the caller's thread makes some
-/// steps of each node, and only where a node still runs then do the workers share out the nodes. One worker needs no table.
+/// steps of each node, and only where a node still runs then do the workers share out the nodes; and parts land in several threads
+/// only where there are bytes enough. One worker needs no table.
 ///
 /// # Errors
 /// As [`run`].

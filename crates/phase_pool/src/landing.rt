@@ -13,6 +13,7 @@ use node_core::Node;
 use std::alloc::Allocator;
 use std::snapshot::Snapshot;
 use std::sync::Wait;
+use std::sync::atomic::{AtomicBool, Ordering};
 use std::thread;
 use std::thread::{Promise, Threads};
 
@@ -53,8 +54,8 @@ pub(crate) fn bytes_of<A: Allocator + Copy>(parts: &[Part<A>]) -> u64 {
 /// Lands each part in the node at its place, in so many threads, this one among them. The other half goes to a thread that does the
 /// same.
 ///
-/// A half whose thread cannot be started lands here, and a share for which there is no room to be halved lands as it is. So each part
-/// lands, whatever is refused.
+/// A half whose thread cannot be started lands here as it is, and so does a share that there is no room to halve. So each part lands,
+/// whatever is refused.
 #[cycle(threads)]
 pub(crate) fn land_in_threads<R: Threads + Wait + Sync, A: Allocator + Copy + Send + Sync>(
     rt: &R,
@@ -77,7 +78,8 @@ pub(crate) fn land_in_threads<R: Threads + Wait + Sync, A: Allocator + Copy + Se
     }
 }
 
-/// Lands both halves of a share, the second in a thread of its own.
+/// Lands both halves of a share, the second in a thread of its own. Where that cannot be started, the second half lands here as it is,
+/// without memory.
 #[cycle(threads)]
 fn land_in_halves<R: Threads + Wait + Sync, A: Allocator + Copy + Send + Sync>(
     rt: &R,
@@ -90,6 +92,7 @@ fn land_in_halves<R: Threads + Wait + Sync, A: Allocator + Copy + Send + Sync>(
         (here.nodes.items ++ there.nodes.items) result.nodes.items }
     ensures room { vec_capacity here.nodes ≤ vec_capacity result.nodes }
 {
+    let has_no_thread = AtomicBool::new(false);
     thread::scope(
         thread::scope_env(),
         rt,
@@ -103,12 +106,19 @@ fn land_in_halves<R: Threads + Wait + Sync, A: Allocator + Copy + Send + Sync>(
             let promise = LandShare {
                 share: Snapshot::of(&there),
             };
+            let has_no_thread = &has_no_thread;
             let other = move || -> Landed<A>
                 requires { IsSync R.row × IsSend A.row × IsSync A.row × Frees A.Allocator A.dealloc_token
                     × (1 < threads) × (threads / 2 ≤ vec_len there.nodes)
                     × AllZip CanLand there.parts.items there.nodes.items }
                 ensures { HaveLanded there.parts.items there.nodes.items result.nodes.items }
-            { land_in_threads(rt, threads / 2, there) };
+            {
+                if has_no_thread.load(Ordering::Relaxed) {
+                    land_here(there)
+                } else {
+                    land_in_threads(rt, threads / 2, there)
+                }
+            };
             match scope.spawn_with(promise, other) {
                 Ok(child) => {
                     let first = land_in_threads(rt, threads - threads / 2, here);
@@ -116,6 +126,7 @@ fn land_in_halves<R: Threads + Wait + Sync, A: Allocator + Copy + Send + Sync>(
                 }
                 Err(not_started) => {
                     let first = land_in_threads(rt, threads - threads / 2, here);
+                    has_no_thread.store(true, Ordering::Relaxed);
                     let whole = put_together(first, (not_started.value)());
                     refused(whole, Refusal::NoWorker)
                 }

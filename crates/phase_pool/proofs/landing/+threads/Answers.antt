@@ -86,3 +86,7 @@ land_in_threads-land_in_halves-requires-after_bounds g t c κs within =
       first_lands = lands_first here.parts.items there.parts.items here.nodes.items there.nodes.items same lands;
       second_lands = lands_second here.parts.items there.parts.items here.nodes.items there.nodes.items same lands;
     }
+
+pub land_in_halves-scope-other-returns-then-load :
+    goal.land_in_halves-scope-other-returns-then-load
+land_in_halves-scope-other-returns-then-load g t c = c.land_here.ensures.landed

@@ -1,4 +1,4 @@
-use Rattle.std.proofs.Common.{◌≡◌, List, length, sym, ap, ap₂, ◌∙◌, arith}
+use Rattle.std.proofs.Common.{◌≡◌, None, List, length, sym, ap, ap₂, ◌∙◌, arith}
 use Rattle.std.proofs.lemmas.List.{length-map}
 use Rattle.node_core.specs.Node.{NodeState, PreparedNode}
 use Rattle.bsp_exchange.specs.Parts.{PartState, landed}
@@ -18,7 +18,7 @@ returns-in-Landing g c =
     record {
       ok = c.finish.ensures.turned ∙ ap (λ (x : MachineState). event x Turn) handed.rest;
       err = tt;
-      going = on_err_from c.land_in_threads-landed.result.answer c.finish.ensures.going;
+      going = on_err_from {P = c.finish.result.outcome ≡ None} c.land_in_threads-landed.result.answer c.finish.ensures.going;
       no_worker = λ refused.
           let several = c.land_in_threads-landed.ensures.no_worker refused in
           let long = as_many parts.items row.items handed.ready in

@@ -72,10 +72,9 @@ def target(word: int, address: int) -> int:
 def prologue(code: Code, start: int, address: int) -> Prologue:
     """What the function at `start` did before `address`. Behind a return, what it had done before it left its frame."""
     now, deepest = Prologue(), Prologue()
-    for at in range(start, address, 4):
-        word = code.word(at)
-        if word is None:
-            break
+    at = start
+    while at < address and (found := code.instruction(at)):
+        word, length = found
         now.step(word)
         if word & 0xFFF == 0x2EF and (name := (code.function(target(word, at)) or (0, ""))[1]).startswith("__riscv_save_"):
             now.save(name)
@@ -83,6 +82,7 @@ def prologue(code: Code, start: int, address: int) -> Prologue:
             deepest = now.copy()
         if word == RETURN or word & 0xFFF == 0x06F:
             now = deepest.copy()
+        at += length
     return now
 
 
@@ -90,18 +90,20 @@ def frames(code: Code, node: Node) -> list[Frame]:
     """The calls that led to where a node stands, innermost first."""
     addresses = [node.pc]
     pc, sp, ra, fp = node.pc, node.x[SP], node.x[RA], node.x[FP]
-    if code.function(pc) is None and code.word(pc) is None:
-        pc = ra - 4
+    called = code.call_before(ra)
+    if code.function(pc) is None and not code.stored(pc) and called is not None:
+        pc = called
         addresses.append(pc)
     while len(addresses) < MOST_FRAMES and (function := code.function(pc)):
         done = prologue(code, function[0], pc)
         top = fp if done.has_pointer else (sp + done.size) & 0xFFFFFFFF
         kept = {which: node.at((top + offset) & 0xFFFFFFFF) for which, offset in done.saved.items()}
         fp = kept[FP] if kept.get(FP) is not None else fp
-        back = kept.get(RA) if RA in done.saved else (ra if len(addresses) == 1 or pc == ra - 4 else None)
-        if not back or code.function(back - 4) is None:
+        back = kept.get(RA) if RA in done.saved else (ra if len(addresses) == 1 or pc == called else None)
+        call = code.call_before(back) if back else None
+        if call is None:
             break
-        pc, sp = back - 4, top
+        pc, sp = call, top
         addresses.append(pc)
     known = source_lines(code, addresses)
     return [Frame(at, (code.function(at) or (0, ""))[1], lines) for at, lines in zip(addresses, known)]

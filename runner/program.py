@@ -9,7 +9,9 @@ import struct
 import subprocess
 from dataclasses import dataclass, field
 
-ECALL = 0x00000073
+from .compressed import expanded
+
+ECALL = bytes([0x73, 0, 0, 0])
 PREFIXES = ("riscv64-unknown-elf-", "riscv64-linux-gnu-", "")
 
 
@@ -42,20 +44,47 @@ class Code:
     text: str = ""
     debug_info: pathlib.Path | None = None
 
-    def word(self, address: int) -> int | None:
-        """The word that the image has at an address."""
+    def stored(self, address: int) -> bytes:
+        """The bytes of the code that the image has at an address, four or two as the low bits of the first tell, or none."""
         for start, content in self.segments:
-            if start <= address and address + 4 <= start + len(content):
-                return struct.unpack_from("<I", content, address - start)[0]
-        return None
+            at = address - start
+            if 0 <= at and at + 2 <= len(content):
+                code = content[at : at + (4 if content[at] & 3 == 3 else 2)]
+                return code if len(code) in (2, 4) else b""
+        return b""
+
+    def instruction(self, address: int) -> tuple[int, int] | None:
+        """The instruction that the image has at an address, as the word that it is or expands to, 0 where it is none, and its length."""
+        code = self.stored(address)
+        if not code:
+            return None
+        number = int.from_bytes(code, "little")
+        return (number if len(code) == 4 else expanded(number) or 0), len(code)
+
+    def is_call(self, address: int) -> bool:
+        """Whether an environment call stands at an address."""
+        return self.stored(address) == ECALL
+
+    def call_before(self, back: int) -> int | None:
+        """The address of the instruction of a named function that ends where a call goes back to: it has two bytes or four, which
+        is known from the function's beginning on alone."""
+        function = self.function(back - 2)
+        at = function[0] if function else back
+        while at < back and (found := self.instruction(at)):
+            if at + found[1] == back:
+                return at
+            at += found[1]
+        return back - 2 if function else None
 
     def calls(self) -> list[int]:
         """The addresses of the environment calls."""
         places = []
         for start, content in self.segments:
-            whole = len(content) // 4 * 4
-            words = struct.unpack(f"<{whole // 4}I", content[:whole])
-            places += [start + 4 * i for i, word in enumerate(words) if word == ECALL]
+            at = content.find(ECALL)
+            while at >= 0:
+                if (start + at) % 2 == 0:
+                    places.append(start + at)
+                at = content.find(ECALL, at + 1)
         return places
 
     def function(self, address: int) -> tuple[int, str] | None:

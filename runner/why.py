@@ -7,7 +7,7 @@ import re
 from .calls import CHANGES, GETS, POP, PUSH, PUTS, REQUESTS, SEND, TAGSIZE, WRITE, Call, Tracer, spelled
 from .debugger import ALL, Debugger, Node, node_of, signed
 from .places import place, written
-from .program import ECALL, Code
+from .program import Code
 from .report import Report
 
 MOST_REQUESTS = 65_536
@@ -78,7 +78,7 @@ class Why:
         ]
         if node.state == "aborted":
             return lines
-        if self.code.word(node.pc) == ECALL:
+        if self.code.is_call(node.pc):
             lines.append(f"  call {spelled(self.code, node)}")
         return lines + [f"  why  {text}" for text in self.reasons(node, superstep)]
 
@@ -137,7 +137,7 @@ class Why:
 
     def access_outside(self, node: Node, _superstep: int) -> list[str]:
         """A load or a store outside the memory."""
-        word = self.code.word(node.pc) or 0
+        word, _ = self.code.instruction(node.pc) or (0, 0)
         is_store = word & 127 == 0x23
         immediate = (signed(word) >> 25 << 5) | (word >> 7 & 31) if is_store else signed(word) >> 20
         address = (node.x[word >> 15 & 31] + immediate) & 0xFFFFFFFF
@@ -149,14 +149,17 @@ class Why:
 
     def no_code(self, node: Node, superstep: int) -> list[str]:
         """A jump to where there is no instruction, or code that was overwritten."""
-        if self.code.function(node.pc) is None and self.code.word(node.pc) is None:
+        stored = self.code.stored(node.pc)
+        if self.code.function(node.pc) is None and not stored:
             return [f"there is no code at {written(self.code, node.pc)}: a function was called by a pointer that is bad"]
         script = [*self.debugger.begin(superstep), f"step {node.rank} {ALL}"]
-        content = self.debugger.bytes(script, node.rank, node.pc, 4)
-        found = int.from_bytes(content, "little")
-        if content and found != self.code.word(node.pc):
-            return [f"the code was overwritten: the word at {node.pc:#x} is {found:#010x}"]
-        return [f"the word at {node.pc:#x} is no instruction that a node has"]
+        content = self.debugger.bytes(script, node.rank, node.pc, 2)
+        if content and content[0] & 3 == 3:
+            content = self.debugger.bytes(script, node.rank, node.pc, 4) or content
+        unit = "word" if len(content) == 4 else "halfword"
+        if content and content != stored:
+            return [f"the code was overwritten: the {unit} at {node.pc:#x} is 0x{content[::-1].hex()}"]
+        return [f"the {unit} at {node.pc:#x} is no instruction that a node has"]
 
     # Registrations.
 

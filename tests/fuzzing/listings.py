@@ -5,8 +5,8 @@ from __future__ import annotations
 import re
 from typing import List, Optional, Tuple
 
-from fuzzing import compressed
 from fuzzing.images import Segment
+from runner import compressed
 
 WORD = re.compile(rb"[a-z]+(\.i)?( [-a-z0-9,()]+)?|\.word 0x[0-9a-f]{8}")
 HALF = re.compile(rb"[a-z]+( [-a-z0-9,()]+)? # compressed|\.half 0x[0-9a-f]{4}")

@@ -1,4 +1,4 @@
-"""A model of compressed instructions, written from the manual's listings and the rules, apart from the program."""
+"""What compressed instructions expand to, written from the manual's listings and the rules, apart from the program."""
 
 from __future__ import annotations
 

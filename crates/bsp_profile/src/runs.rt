@@ -9,22 +9,21 @@ ghost use Rattle.bsp_profile.specs.Lines.{lines_of};
 
 use crate::profile::Profile;
 use machine_core::Machine;
-use phase_pool::{Gate, PoolError, check_numbers, run_phase};
+use phase_pool::{PoolError, check_numbers, run_phase_sparing};
 use std::alloc::Allocator;
 use std::sync::Wait;
 use std::thread::Threads;
 
-/// Runs a machine to its outcome as [`phase_pool::run`] does, and takes its profile superstep by superstep.
+/// Runs a machine to its outcome as [`phase_pool::run_sparing`] does, and takes its profile superstep by superstep.
 ///
 /// # Errors
-/// As [`phase_pool::run`]; [`PoolError::NoMemory`] is also answered where the profile was refused memory. The profile has then
+/// As [`phase_pool::run_sparing`]; [`PoolError::NoMemory`] is also answered where the profile was refused memory. The profile has then
 /// the lines of the supersteps that are over, and the call made again with it appends those that are left.
-pub fn run<R: Threads + Wait + Sync, A: Allocator + Copy + Send + Sync, G: Gate<A> + Sync>(
+pub fn run<R: Threads + Wait + Sync, A: Allocator + Copy + Send + Sync>(
     rt: &R,
     machine: &mut Machine<A>,
     workers: u32,
     slice: u64,
-    gate: &G,
     profile: &mut Profile<A>,
 ) -> Result<(), PoolError>
     ensures ok { OnOk result (machine.new ≡ end_of machine.old) }
@@ -48,7 +47,7 @@ pub fn run<R: Threads + Wait + Sync, A: Allocator + Copy + Send + Sync, G: Gate<
 {
     check_numbers(workers, slice)?;
     while machine.outcome().is_none() {
-        run_phase(rt, machine, workers, slice, gate)?;
+        run_phase_sparing(rt, machine, workers, slice)?;
         profile.turn(machine)?;
     }
     Ok(())

@@ -20,7 +20,7 @@ use crate::sessions::{machine_of, read_both};
 use bsp_profile::{Profile, run};
 use counted_io::{Counted, write_whole};
 use machine_core::{Machine, Outcome};
-use phase_pool::{OpenGate, PoolError};
+use phase_pool::PoolError;
 use std::alloc::Allocator;
 use std::io::{Read, Write};
 use std::sync::Wait;
@@ -146,7 +146,7 @@ fn profile_to_outcome<T: Threads + Wait + Sync, A: Allocator + Copy + Send + Syn
     ensures no_worker { IsErrOf result PoolError.NoWorker
         → (1 < job.now.workers) × (1 < length machine.old.nodes) }
 {
-    run(rt, machine, job.workers, job.slice, &OpenGate, profile)?;
+    run(rt, machine, job.workers, job.slice, profile)?;
     match machine.outcome() {
         Some(outcome) => Ok(outcome),
         None => unreachable!(),

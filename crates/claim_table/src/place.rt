@@ -46,11 +46,7 @@ impl<'t, 'p, A: Allocator + Copy> Place<'t, 'p, A> {
     ///
     /// # Errors
     /// Where memory was refused in a step. The node is back then, as its last whole step left it, and no other is taken.
-    pub fn work<G: Gate<A>>(
-        &mut self,
-        work: &Work<'_, G>,
-        first: usize,
-    ) -> Result<(), AllocError> {
+    pub fn work<G: Gate<A>>(&mut self, work: &Work<'_, G>, first: usize) -> Result<(), AllocError> {
         self.worker.work(work, first)
     }
 }

@@ -1,6 +1,8 @@
 pub mod Closing
 pub mod Events
 pub mod Inside
+pub mod Lander
+pub mod Landing
 pub mod Machine
 pub mod Outcome
 pub mod Sound

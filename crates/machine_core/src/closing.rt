@@ -1,46 +1,77 @@
 //! How a superstep ends for its nodes, none of which runs.
 
-ghost use Rattle.std.specs.Prelude.{false, ◌≡◌, None, Some, find, option_copied, IfOk, IfSome, IsNone, OnErr};
+ghost use Rattle.std.specs.Prelude.{false, ◌≡◌, ◌++◌, None, Some, find, option_copied, IfOk, OnOk, IfSome, IsNone, IsTrue, OnErr};
 ghost use Rattle.node_core.specs.Node.{PreparedNode};
 ghost use Rattle.bsp_exchange.specs.Exchange.{AreAtSync, states};
 ghost use Rattle.bsp_exchange.specs.Parts.{EachKeepsOwn};
 ghost use Rattle.machine_core.specs.Closing.{Closes};
-ghost use Rattle.machine_core.specs.Turn.{was_stopped as was_stopped_of, has_ended as has_ended_of, is_waiting as is_waiting_of, lowest, makes_exchange as makes_exchange_of, outcome_of};
+ghost use Rattle.machine_core.specs.Turn.{was_stopped as was_stopped_of, has_ended as has_ended_of, is_waiting as is_waiting_of, lowest, makes_exchange as makes_exchange_of, outcome_of, written};
 
 use crate::outcome::Outcome;
-use bsp_exchange::{ExchangeError, exchange, first_fault};
-use cost_ledger::CostRow;
+use crate::row;
+use bsp_exchange::{ExchangeError, Plan, first_fault, plan};
+use cost_ledger::{CostRow, Ledger};
 use node_core::{Node, State};
 use std::alloc::{AllocError, Allocator};
 
-/// How a superstep ended.
-#[derive(Clone, Copy, Debug, PartialEq, Eq)]
-pub(crate) enum Closing {
+/// How a superstep ends.
+#[derive(Drop)]
+pub(crate) enum Closing<A: Allocator> {
     /// With an outcome, and no exchange.
     Over(Outcome),
-    /// With the exchange: the most bytes that one node sent or received.
-    Exchanged(u64),
+    /// With the exchange, which is planned.
+    Planned(Plan<A>),
 }
 
-/// Ends the superstep of nodes none of which runs: finds the outcome, or makes the exchange.
+/// Begins the end of a superstep of nodes none of which runs: makes room for a row of costs, appends what the nodes wrote to `output`, and
+/// finds how the superstep ends. All memory of a turn is asked for here, so that nothing can be refused after it. No node changes.
 ///
 /// # Errors
-/// Where memory is refused. The nodes are then as they were.
-pub(crate) fn close<A: Allocator + Copy>(
+/// Where memory is refused. Rows and output are then as they were.
+pub(crate) fn begin<A: Allocator + Copy>(
     alloc: A,
     nodes: &mut [Node<A>],
-) -> Result<Closing, AllocError>
+    output: &mut Vec<u8, A>,
+    ledger: &mut Ledger<A>,
+) -> Result<Closing<A>, AllocError>
     requires { lowest was_stopped_of (states nodes.old) ≡ None
         → lowest has_ended_of (states nodes.old) ≡ None → AreAtSync (states nodes.old) }
-    ensures ok { IfOk result (Closes (states nodes.old) (states nodes.new)) }
-    ensures err { OnErr result (states nodes.new ≡ states nodes.old) }
+    ensures same { states nodes.new ≡ states nodes.old }
     ensures own { EachKeepsOwn nodes.old nodes.new }
+    ensures closes { IfOk result (Closes nodes.new) }
+    ensures written { OnOk result (output.new.items ≡ output.old.items ++ written (states nodes.old)) }
+    ensures kept { OnErr result (output.new.items ≡ output.old.items) }
+    ensures rows { ledger.new.rows ≡ ledger.old.rows }
+    ensures ready { OnOk result (IsTrue ledger.new.ready) }
+{
+    ledger.prepare()?;
+    let before = output.len();
+    row::append_output(nodes, output)?;
+    match close(alloc, nodes) {
+        Ok(closing) => Ok(closing),
+        Err(refused) => {
+            output.truncate(before);
+            Err(refused)
+        }
+    }
+}
+
+/// Finds the outcome of nodes none of which runs, or plans their exchange. No node changes.
+///
+/// # Errors
+/// Where memory is refused.
+fn close<A: Allocator + Copy>(alloc: A, nodes: &mut [Node<A>]) -> Result<Closing<A>, AllocError>
+    requires { lowest was_stopped_of (states nodes.old) ≡ None
+        → lowest has_ended_of (states nodes.old) ≡ None → AreAtSync (states nodes.old) }
+    ensures same { states nodes.new ≡ states nodes.old }
+    ensures own { EachKeepsOwn nodes.old nodes.new }
+    ensures ok { IfOk result (Closes nodes.new) }
 {
     if let Some(outcome) = outcome_before_exchange(nodes) {
         return Ok(Closing::Over(outcome));
     }
-    match exchange(alloc, nodes) {
-        Ok(traffic) => Ok(Closing::Exchanged(traffic.h)),
+    match plan(alloc, nodes) {
+        Ok(plan) => Ok(Closing::Planned(plan)),
         Err(ExchangeError::Fault(fault)) => Ok(Closing::Over(Outcome::Refused(fault))),
         Err(ExchangeError::NoMemory) => Err(AllocError),
     }

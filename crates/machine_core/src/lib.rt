@@ -11,14 +11,17 @@
 //! - A machine is always sound, as `IsSoundMachine` says.
 //! - [`Machine::apply`] makes an event, or changes nothing where it is not enabled. [`Machine::run_plain`] leaves the machine at its
 //!   end, and [`Machine::run_phase_plain`] at the end of its nodes' local parts.
-//! - Only these three, [`Machine::run_node`], [`Machine::turn`] and [`Machine::new`] take memory, and after the outcome none of them
-//!   but `new` does. An event that is refused memory has changed nothing of the record. A run that is refused keeps the events that it
-//!   made, and the call made again leaves what it would have left.
+//! - Only these three, [`Machine::run_node`], [`Machine::turn`], [`Machine::begin_turn`] and [`Machine::new`] take memory, and after the
+//!   outcome none of them but `new` does. An event that is refused memory has changed nothing of the record. A run that is refused keeps
+//!   the events that it made, and the call made again leaves what it would have left.
 //! - [`Machine::new`] lays the image once: the memory of rank 0 has it, and those of the others begin as shares of that one. A node gets
 //!   a copy of a page when it first writes there. No clause says that pages are shared; the record has bytes alone.
 //! - [`Machine::lend`] hands out the nodes by value, for threads to step. The [`Lender`] that stays takes them back, each some steps of
 //!   its own further, and nothing else of the machine has changed then. Neither takes memory, and a row that was lent cannot be
 //!   lost: a `Lender` has no other end.
+//! - [`Machine::begin_turn`] is the first half of a turn. Where it makes the exchange, it hands out the row with the part that each node
+//!   receives, for threads to land. The [`Lander`] that stays takes the row back once each part has landed, and the machine is as
+//!   [`Machine::turn`] leaves it. All memory is asked for in the first half, and a `Lander` has no other end.
 //! - Whether memory was refused is all that no clause says: the tests refuse each request in turn.
 //!
 //! [`laws`] has what holds of every machine, and first that order does not matter: whatever events are made, a machine has the
@@ -37,6 +40,6 @@ mod start;
 
 pub use error::MachineError;
 pub use event::Event;
-pub use machine::{Lender, Machine};
+pub use machine::{Begun, Lander, Landing, Lender, Machine};
 pub use outcome::Outcome;
 pub use settings::Settings;

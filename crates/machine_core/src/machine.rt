@@ -5,27 +5,31 @@ ghost use Rattle.node_core.specs.Node.{PreparedNode, MayRefuseStep, is_running};
 ghost use Rattle.bsp_exchange.specs.Exchange.{states};
 ghost use Rattle.machine_core.specs.declared.event.Event.TheVariants.{Step as step_of, Turn as the_turn};
 ghost use Rattle.machine_core.specs.Machine.{fresh, machine_fault};
-ghost use Rattle.machine_core.specs.Turn.{lowest, makes_exchange as makes_exchange_of, turned, with_phases, end_of};
+ghost use Rattle.machine_core.specs.Turn.{lowest, makes_exchange as makes_exchange_of, with_phases, end_of};
 ghost use Rattle.machine_core.specs.Events.{is_enabled, event as event_of, after, MayRefuseEvent};
 ghost use Rattle.machine_core.specs.Walk.{walked, IsOnPhase};
 ghost use Rattle.machine_core.specs.Sound.{IsSoundMachine};
 
-use crate::closing::{Closing, close, last_row, makes_exchange};
+use crate::closing::makes_exchange;
 use crate::error::MachineError;
 use crate::event::Event;
 use crate::outcome::Outcome;
 use crate::row;
 use crate::settings::Settings;
 use crate::start::start_nodes;
-use cost_ledger::{CostRow, Ledger};
+use cost_ledger::Ledger;
 use node_core::Node;
 use node_memory::Image;
 use std::alloc::{AllocError, Allocator};
 use std::marker::Model;
 
+mod lander;
 mod lender;
+mod turn;
 
+pub use lander::Lander;
 pub use lender::Lender;
+pub use turn::{Begun, Landing};
 
 /// A machine of several nodes with one input.
 ///
@@ -124,51 +128,6 @@ impl<A: Allocator + Copy> Machine<A> {
         ensures refuses { OnErr result (MayRefuseEvent self.old (step_of rank)) }
     {
         row::step_at(&mut self.nodes, rank as usize, &self.input)
-    }
-
-    /// Makes the turn, as [`Machine::apply`] does: ends the superstep, with the exchange or with the outcome.
-    pub fn turn(&mut self) -> Result<bool, AllocError>
-        ensures ok { OnOk result (self.new ≡ event_of self.old the_turn) }
-        ensures enabled { IfOk result (λ made. made ≡ is_enabled self.old the_turn) }
-        ensures err { OnErr result (self.new ≡ self.old) }
-        ensures refuses { OnErr result (MayRefuseEvent self.old the_turn) }
-    {
-        if !self.can_turn() {
-            return Ok(false);
-        }
-        self.make_turn()?;
-        Ok(true)
-    }
-
-    /// Makes the turn. All memory is asked for before the exchange, so that nothing can be refused after it.
-    fn make_turn(&mut self) -> Result<(), AllocError>
-        requires { is_enabled self.old the_turn ≡ true }
-        ensures ok { OnOk result (self.new ≡ turned self.old) }
-        ensures err { OnErr result (self.new ≡ self.old) }
-    {
-        self.ledger.prepare()?;
-        let before = self.output.len();
-        row::append_output(&self.nodes, &mut self.output)?;
-        let w = row::work(&self.nodes, &self.started);
-        let closing = match close(self.alloc, &mut self.nodes) {
-            Ok(closing) => closing,
-            Err(refused) => {
-                self.output.truncate(before);
-                return Err(refused);
-            }
-        };
-        match closing {
-            Closing::Over(outcome) => {
-                self.ledger.add_prepared(last_row(w));
-                self.outcome = Some(outcome);
-            }
-            Closing::Exchanged(h) => {
-                self.ledger.add_prepared(CostRow { w, h, turned: true });
-                row::note_ticks(&self.nodes, &mut self.started);
-                self.exchanges += 1;
-            }
-        }
-        Ok(())
     }
 
     /// Whether the turn makes the exchange; else it finds the outcome. Nothing is changed.

@@ -3,7 +3,7 @@
 use crate::programs::{self, PRINTS_ITS_RANK};
 use machine_core::{Machine, MachineError};
 use node_core::Node;
-use phase_pool::{OpenGate, run, run_sparing};
+use phase_pool::{OpenGate, run, run_phase_sparing, run_sparing};
 use std::alloc::Allocator;
 use std::process::Abort;
 use std::test::Fail;
@@ -91,6 +91,7 @@ fn workers_and_slices_leave_what_one_thread_leaves(rt: HostRuntime) -> Result<()
                 assert!(rt; show_the_same(&pooled, &plain), "{workers} {slice}");
             }
             let mut sparing = machine(&rt, alloc, words, 3)?;
+            assert!(rt; run_phase_sparing(&rt, &mut sparing, workers, 1) == Ok(()));
             assert!(rt; run_sparing(&rt, &mut sparing, workers, 1) == Ok(()));
             assert!(rt; show_the_same(&sparing, &plain), "{workers}");
         }

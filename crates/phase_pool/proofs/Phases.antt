@@ -51,10 +51,10 @@ module _ (m lender new : MachineState) (input : List ℕ) (old row : List NodeSt
   worked_phases sound =
       on_ok_weaker answer
       (λ stopped.
-          let reached = worked_events in
-          let none : some_runs new.nodes ≡ false = ap (λ (x : MachineState). some_runs x.nodes) backs ∙ none_runs row stopped in
-          let there : with_phases new ≡ new = ap (λ (ns : List NodeState). record new { nodes = ns }) (map-phase-stopped new.input new.nodes none) in
-          sym there ∙ ap with_phases reached.2 ∙ phases-after m reached.0 sound reached.1)
+      let reached = worked_events in
+      let none : some_runs new.nodes ≡ false = ap (λ (x : MachineState). some_runs x.nodes) backs ∙ none_runs row stopped in
+      let there : with_phases new ≡ new = ap (λ (ns : List NodeState). record new { nodes = ns }) (map-phase-stopped new.input new.nodes none) in
+      sym there ∙ ap with_phases reached.2 ∙ phases-after m reached.0 sound reached.1)
       worked.ok
 
   pub worked_come : HaveCome new.input new.nodes

@@ -4,7 +4,8 @@
 //! parts of the superstep. [`run_phase`] does so for one superstep, and [`run`] up to the machine's outcome. The machine lends its row
 //! of nodes meanwhile, and the nodes come to a table (`claim_table`), from which each worker takes one that runs, makes a slice of its
 //! steps and gives it back. When no worker is left, this thread takes the row out of the table and finishes each node that still
-//! runs. [`run_sparing`] is [`run`] for those who want no thread where its start would cost more than the steps that it makes.
+//! runs. [`run_phase_sparing`] and [`run_sparing`] are the same for those who want no thread where its start would cost more than
+//! the steps that it makes.
 //!
 //! What callers may rely on:
 //!
@@ -32,4 +33,4 @@ mod pool;
 pub use claim_table::{Gate, OpenGate};
 pub use error::PoolError;
 pub use numbers::check_numbers;
-pub use pool::{run, run_phase, run_sparing};
+pub use pool::{run, run_phase, run_phase_sparing, run_sparing};

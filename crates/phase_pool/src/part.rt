@@ -96,11 +96,7 @@ fn share_out<R: Threads + Wait + Sync, A: Allocator + Copy + Send + Sync, G: Gat
 /// Works at the table in so many threads, this one among them. The other half of the workers goes to a thread that does the same.
 /// A worker's number says with which rank its passes begin.
 #[cycle(workers)]
-fn work_in_threads<
-    R: Threads + Wait + Sync,
-    A: Allocator + Copy + Send + Sync,
-    G: Gate<A> + Sync,
->(
+fn work_in_threads<R: Threads + Wait + Sync, A: Allocator + Copy + Send + Sync, G: Gate<A> + Sync>(
     rt: &R,
     work: &Work<'_, G>,
     workers: usize,
@@ -140,7 +136,15 @@ fn work_in_halves<R: Threads + Wait + Sync, A: Allocator + Copy + Send + Sync, G
             let others = move || -> Result<(), Refusal>
                 requires { IsSync R.row × IsSync G.row × IsSend A.row × IsSync A.row × Frees A.Allocator A.dealloc_token
                     × (1 < workers) }
-            { work_in_threads(rt, work, workers / 2, number.wrapping_add(workers - workers / 2), there) };
+            {
+                work_in_threads(
+                    rt,
+                    work,
+                    workers / 2,
+                    number.wrapping_add(workers - workers / 2),
+                    there,
+                )
+            };
             let child = scope.spawn(others);
             let answer = work_in_threads(rt, work, workers - half, number, here);
             match child {

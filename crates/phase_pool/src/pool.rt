@@ -32,6 +32,34 @@ struct Team<'g, G> {
     gate: &'g G,
 }
 
+impl<'g, G> Team<'g, G> {
+    /// All of the work is done with the gate.
+    fn gated(workers: u32, slice: u64, gate: &'g G) -> Team<'g, G>
+        ensures { (result.workers ≡ workers) × (result.slice ≡ slice) }
+    {
+        Team {
+            workers,
+            slice,
+            first_steps: 0,
+            gate,
+        }
+    }
+}
+
+impl Team<'static, OpenGate> {
+    /// The caller's thread makes the first steps of all nodes, and the only worker all of them.
+    fn sparing(workers: u32, slice: u64) -> Team<'static, OpenGate>
+        ensures { (result.workers ≡ workers) × (result.slice ≡ slice) }
+    {
+        Team {
+            workers,
+            slice,
+            first_steps: if workers == 1 { u64::MAX } else { FIRST_STEPS },
+            gate: &OpenGate,
+        }
+    }
+}
+
 /// Takes each node of a machine through its local part of the superstep (BSP, Valiant 1990), in `workers` threads, this one among
 /// them, and no more than there are nodes. A worker takes a node that runs, makes at most `slice` steps of it, and gives it back;
 /// around these steps the calls of `gate` are made. After the outcome nothing is left to do.
@@ -64,17 +92,34 @@ pub fn run_phase<R: Threads + Wait + Sync, A: Allocator + Copy + Send + Sync, G:
     ensures stopped { numbers_fault workers slice ≡ None
         → HaveCome machine.new.input machine.new.nodes }
 {
-    check_numbers(workers, slice)?;
-    if machine.outcome().is_some() {
-        return Ok(());
-    }
-    let team = Team {
-        workers,
-        slice,
-        first_steps: 0,
-        gate,
-    };
-    Ok(make_local_parts(rt, machine, &team)?)
+    run_phase_with(rt, machine, &Team::gated(workers, slice, gate))
+}
+
+/// As [`run_phase`], with an open gate, but starts threads only for the work that pays for them, as [`run_sparing`] does.
+///
+/// # Errors
+/// As [`run_phase`].
+pub fn run_phase_sparing<R: Threads + Wait + Sync, A: Allocator + Copy + Send + Sync>(
+    rt: &R,
+    machine: &mut Machine<A>,
+    workers: u32,
+    slice: u64,
+) -> Result<(), PoolError>
+    ensures ok { OnOk result (machine.new ≡ with_phases machine.old) }
+    ensures bad_workers { IsErrOf result PoolError.BadWorkers
+        ↔ (numbers_fault workers slice ≡ Some PoolError.BadWorkers) }
+    ensures bad_slice { IsErrOf result PoolError.BadSlice
+        ↔ (numbers_fault workers slice ≡ Some PoolError.BadSlice) }
+    ensures unchanged { IsSome (numbers_fault workers slice) → machine.new ≡ machine.old }
+    ensures no_worker { IsErrOf result PoolError.NoWorker
+        → (1 < workers) × (1 < length machine.old.nodes) }
+    ensures err { OnErr result (LeadsWithoutTurn machine.old machine.new) }
+    ensures over { numbers_fault workers slice ≡ None → IsSome machine.old.outcome
+        → IsOk result × (machine.new ≡ machine.old) }
+    ensures stopped { numbers_fault workers slice ≡ None
+        → HaveCome machine.new.input machine.new.nodes }
+{
+    run_phase_with(rt, machine, &Team::sparing(workers, slice))
 }
 
 /// Runs a machine to its outcome, superstep by superstep, with the numbers and the gate of [`run_phase`]. The turns are made by this
@@ -106,13 +151,7 @@ pub fn run<R: Threads + Wait + Sync, A: Allocator + Copy + Send + Sync, G: Gate<
         → HaveCome machine.new.input machine.new.nodes }
     ensures going { numbers_fault workers slice ≡ None → OnErr result (machine.new.outcome ≡ None) }
 {
-    let team = Team {
-        workers,
-        slice,
-        first_steps: 0,
-        gate,
-    };
-    run_with(rt, machine, &team)
+    run_with(rt, machine, &Team::gated(workers, slice, gate))
 }
 
 /// As [`run`], with an open gate, but starts threads only for the work that pays for them: first the caller's thread makes some
@@ -142,13 +181,34 @@ pub fn run_sparing<R: Threads + Wait + Sync, A: Allocator + Copy + Send + Sync>(
         → HaveCome machine.new.input machine.new.nodes }
     ensures going { numbers_fault workers slice ≡ None → OnErr result (machine.new.outcome ≡ None) }
 {
-    let team = Team {
-        workers,
-        slice,
-        first_steps: if workers == 1 { u64::MAX } else { FIRST_STEPS },
-        gate: &OpenGate,
-    };
-    run_with(rt, machine, &team)
+    run_with(rt, machine, &Team::sparing(workers, slice))
+}
+
+/// Takes the nodes of a machine through their local parts with a team, where it is not over.
+fn run_phase_with<R: Threads + Wait + Sync, A: Allocator + Copy + Send + Sync, G: Gate<A> + Sync>(
+    rt: &R,
+    machine: &mut Machine<A>,
+    team: &Team<'_, G>,
+) -> Result<(), PoolError>
+    ensures ok { OnOk result (machine.new ≡ with_phases machine.old) }
+    ensures bad_workers { IsErrOf result PoolError.BadWorkers
+        ↔ (numbers_fault team.now.workers team.now.slice ≡ Some PoolError.BadWorkers) }
+    ensures bad_slice { IsErrOf result PoolError.BadSlice
+        ↔ (numbers_fault team.now.workers team.now.slice ≡ Some PoolError.BadSlice) }
+    ensures unchanged { IsSome (numbers_fault team.now.workers team.now.slice) → machine.new ≡ machine.old }
+    ensures no_worker { IsErrOf result PoolError.NoWorker
+        → (1 < team.now.workers) × (1 < length machine.old.nodes) }
+    ensures err { OnErr result (LeadsWithoutTurn machine.old machine.new) }
+    ensures over { numbers_fault team.now.workers team.now.slice ≡ None → IsSome machine.old.outcome
+        → IsOk result × (machine.new ≡ machine.old) }
+    ensures stopped { numbers_fault team.now.workers team.now.slice ≡ None
+        → HaveCome machine.new.input machine.new.nodes }
+{
+    check_numbers(team.workers, team.slice)?;
+    if machine.outcome().is_some() {
+        return Ok(());
+    }
+    Ok(make_local_parts(rt, machine, team)?)
 }
 
 /// Runs a machine to its outcome with a team.

@@ -206,7 +206,10 @@ impl<A: Allocator> Gate<A> for TickGate {
             1 => &self.ticks.1,
             _ => &self.ticks.2,
         };
-        let later = seen.load(Ordering::SeqCst).wrapping_mul(100).wrapping_add(node.ticks());
+        let later = seen
+            .load(Ordering::SeqCst)
+            .wrapping_mul(100)
+            .wrapping_add(node.ticks());
         seen.store(later, Ordering::SeqCst);
     }
 }

@@ -26,39 +26,39 @@ returns-in_err-check_numbers-clause-err g c =
 pub loop-machine-init : goal.loop-machine-init
 loop-machine-init g c = record { so_far = ([], sym (after-nil c.args.machine.now)); same_end = refl; lines = refl; over = λ over. (refl, refl) }
 
-pub returns-in_err-run_phase-clause-lines_left : goal.returns-in_err-run_phase-clause-lines_left
-returns-in_err-run_phase-clause-lines_left g c =
-    ap (λ (ls : List ℕ). c.loop-machine.profile ++ ls) (lines_phase c.loop-machine.machine c.run_phase.new.machine c.outcome.ensures.sound c.in_err-run_phase.ensures.err)
+pub returns-in_err-run_phase_sparing-clause-lines_left : goal.returns-in_err-run_phase_sparing-clause-lines_left
+returns-in_err-run_phase_sparing-clause-lines_left g c =
+    ap (λ (ls : List ℕ). c.loop-machine.profile ++ ls) (lines_phase c.loop-machine.machine c.run_phase_sparing.new.machine c.outcome.ensures.sound c.in_err-run_phase_sparing.ensures.err)
     ∙ c.loop-machine.invariant.lines
 
-pub returns-in_err-run_phase-clause-no_worker : goal.returns-in_err-run_phase-clause-no_worker
-returns-in_err-run_phase-clause-no_worker g c refused =
-    let p = err_from_is_err_and c.from_residual-in_err-run_phase.result c.from_residual-in_err-run_phase.ensures.1 in
-    let own : c.in_err-run_phase.field-0.0 ≡ NoWorker = cc (p.1, p.2, refused) in
-    let wanted = c.run_phase.ensures.no_worker (c.in_err-run_phase.was ∙ ap (λ (e : PoolError). Err e) own) in
+pub returns-in_err-run_phase_sparing-clause-no_worker : goal.returns-in_err-run_phase_sparing-clause-no_worker
+returns-in_err-run_phase_sparing-clause-no_worker g c refused =
+    let p = err_from_is_err_and c.from_residual-in_err-run_phase_sparing.result c.from_residual-in_err-run_phase_sparing.ensures.1 in
+    let own : c.in_err-run_phase_sparing.field-0.0 ≡ NoWorker = cc (p.1, p.2, refused) in
+    let wanted = c.run_phase_sparing.ensures.no_worker (c.in_err-run_phase_sparing.was ∙ ap (λ (e : PoolError). Err e) own) in
     (wanted.0, omega (arith, wanted.1, LeadsTo-length c.args.machine.now c.loop-machine.machine c.loop-machine.invariant.so_far))
 
-pub returns-in_err-run_phase-clause-err : goal.returns-in_err-run_phase-clause-err
-returns-in_err-run_phase-clause-err g c =
-    let p = err_from_is_err_and c.from_residual-in_err-run_phase.result c.from_residual-in_err-run_phase.ensures.1 in
-    rw p.1 (LeadsTo-on c.args.machine.now c.loop-machine.machine c.run_phase.new.machine c.loop-machine.invariant.so_far c.in_err-run_phase.ensures.err)
+pub returns-in_err-run_phase_sparing-clause-err : goal.returns-in_err-run_phase_sparing-clause-err
+returns-in_err-run_phase_sparing-clause-err g c =
+    let p = err_from_is_err_and c.from_residual-in_err-run_phase_sparing.result c.from_residual-in_err-run_phase_sparing.ensures.1 in
+    rw p.1 (LeadsTo-on c.args.machine.now c.loop-machine.machine c.run_phase_sparing.new.machine c.loop-machine.invariant.so_far c.in_err-run_phase_sparing.ensures.err)
 
-pub returns-in_err-run_phase-clause-going : goal.returns-in_err-run_phase-clause-going
-returns-in_err-run_phase-clause-going g c within =
-    let p = err_from_is_err_and c.from_residual-in_err-run_phase.result c.from_residual-in_err-run_phase.ensures.1 in
+pub returns-in_err-run_phase_sparing-clause-going : goal.returns-in_err-run_phase_sparing-clause-going
+returns-in_err-run_phase_sparing-clause-going g c within =
+    let p = err_from_is_err_and c.from_residual-in_err-run_phase_sparing.result c.from_residual-in_err-run_phase_sparing.ensures.1 in
     let open_yet = ap is_some (sym c.outcome.ensures.value) ∙ c.is_none.ensures ∙ ap not c.loop-machine-test.true in
-    rw p.1 (LeadsWithoutTurn-outcome c.loop-machine.machine c.run_phase.new.machine c.in_err-run_phase.ensures.err ∙ none_from c.loop-machine.machine.outcome (λ x is. false≢true (sym open_yet ∙ ap is_some is)))
+    rw p.1 (LeadsWithoutTurn-outcome c.loop-machine.machine c.run_phase_sparing.new.machine c.in_err-run_phase_sparing.ensures.err ∙ none_from c.loop-machine.machine.outcome (λ x is. false≢true (sym open_yet ∙ ap is_some is)))
 
 pub turn-requires : goal.turn-requires
 turn-requires g c =
     let open_yet = ap is_some (sym c.outcome.ensures.value) ∙ c.is_none.ensures ∙ ap not c.loop-machine-test.true in
-    ap (λ (x : MachineState). is_enabled x Turn) c.in_ok-run_phase.ensures.ok ∙ turn_next c.loop-machine.machine c.outcome.ensures.sound open_yet
+    ap (λ (x : MachineState). is_enabled x Turn) c.in_ok-run_phase_sparing.ensures.ok ∙ turn_next c.loop-machine.machine c.outcome.ensures.sound open_yet
 
 pub loop-machine-smaller : goal.loop-machine-smaller
 loop-machine-smaller g c =
     let m = c.loop-machine.machine in
     let open_yet = ap is_some (sym c.outcome.ensures.value) ∙ c.is_none.ensures ∙ ap not c.loop-machine-test.true in
-    let made : c.turn.new.machine ≡ superstep m = c.in_ok-turn.ensures.machine ∙ ap turned c.in_ok-run_phase.ensures.ok ∙ sym (superstep-open m open_yet) in
+    let made : c.turn.new.machine ≡ superstep m = c.in_ok-turn.ensures.machine ∙ ap turned c.in_ok-run_phase_sparing.ensures.ok ∙ sym (superstep-open m open_yet) in
     rows_left m c.outcome.ensures.sound open_yet c.turn.new.machine made
 
 pub loop-machine-preserved : goal.loop-machine-preserved
@@ -67,7 +67,7 @@ loop-machine-preserved g c =
     let so_far = c.loop-machine.invariant in
     let sound = c.outcome.ensures.sound in
     let open_yet = ap is_some (sym c.outcome.ensures.value) ∙ c.is_none.ensures ∙ ap not c.loop-machine-test.true in
-    let turns : c.turn.new.machine ≡ turned (with_phases m) = c.in_ok-turn.ensures.machine ∙ ap turned c.in_ok-run_phase.ensures.ok in
+    let turns : c.turn.new.machine ≡ turned (with_phases m) = c.in_ok-turn.ensures.machine ∙ ap turned c.in_ok-run_phase_sparing.ensures.ok in
     let made : c.turn.new.machine ≡ superstep m = turns ∙ sym (superstep-open m open_yet) in
     let event_made : c.turn.new.machine ≡ event (with_phases m) Turn = turns ∙ sym (event-enabled (with_phases m) Turn (turn_next m sound open_yet)) in
     record {
@@ -75,8 +75,8 @@ loop-machine-preserved g c =
       same_end = ap end_of made ∙ end_of-superstep m sound ∙ so_far.same_end;
       lines =
           ap (λ (x : MachineState). c.turn.new.self ++ lines_of x) made
-          ∙ lines_appended m c.run_phase.new.machine c.loop-machine.profile c.turn.new.self c.args.profile.now (lines_of c.args.machine.now) sound open_yet
-          c.in_ok-run_phase.ensures.ok c.in_ok-turn.ensures.profile so_far.lines;
+          ∙ lines_appended m c.run_phase_sparing.new.machine c.loop-machine.profile c.turn.new.self c.args.profile.now (lines_of c.args.machine.now) sound open_yet
+          c.in_ok-run_phase_sparing.ensures.ok c.in_ok-turn.ensures.profile so_far.lines;
       over = λ over. absurd (false≢true (sym open_yet ∙ ap (λ (x : MachineState). is_some x.outcome) (so_far.over over).0 ∙ over));
     }
 
@@ -85,7 +85,7 @@ returns-in_err-turn-clause-lines_left g c =
     let m = c.loop-machine.machine in
     let sound = c.outcome.ensures.sound in
     ap (λ (bs : List ℕ). bs ++ lines_of c.turn.new.machine) c.in_err-turn.ensures.same_profile
-    ∙ ap (λ (x : MachineState). c.loop-machine.profile ++ lines_of x) (c.in_err-turn.ensures.same_machine ∙ c.in_ok-run_phase.ensures.ok)
+    ∙ ap (λ (x : MachineState). c.loop-machine.profile ++ lines_of x) (c.in_err-turn.ensures.same_machine ∙ c.in_ok-run_phase_sparing.ensures.ok)
     ∙ ap (λ (ls : List ℕ). c.loop-machine.profile ++ ls) (lines_phase m (with_phases m) sound (phases_reached m sound))
     ∙ c.loop-machine.invariant.lines
 
@@ -94,7 +94,7 @@ returns-in_err-turn-clause-err g c =
     let p = err_from_is_err_and c.from_residual-in_err-turn.result c.from_residual-in_err-turn.ensures.1 in
     let m = c.loop-machine.machine in
     let reached = LeadsTo-on c.args.machine.now m (with_phases m) c.loop-machine.invariant.so_far (phases_reached m c.outcome.ensures.sound) in
-    rw p.1 (reached.0, c.in_err-turn.ensures.same_machine ∙ c.in_ok-run_phase.ensures.ok ∙ reached.1)
+    rw p.1 (reached.0, c.in_err-turn.ensures.same_machine ∙ c.in_ok-run_phase_sparing.ensures.ok ∙ reached.1)
 
 pub returns-clause-ok : goal.returns-clause-ok
 returns-clause-ok g c =

@@ -2,7 +2,7 @@ use Rattle.std.proofs.Common.{sym, ap, ◌∙◌, rules}
 use Rattle.std.specs.Prelude.{is_some}
 use Rattle.std.proofs.lemmas.Result.{err_from_is_err_and}
 use Rattle.phase_pool.proofs.Phases.{no_events, phases_over, HaveCome-over}
-use Rattle.phase_pool.proofs.pool.run_phase.Goals as goal
+use Rattle.phase_pool.proofs.pool.run_phase_with.Goals as goal
 
 pub returns-in_err-check_numbers-clause-err : goal.returns-in_err-check_numbers-clause-err
 returns-in_err-check_numbers-clause-err g c =

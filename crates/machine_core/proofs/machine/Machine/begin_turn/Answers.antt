@@ -1,0 +1,10 @@
+use Rattle.std.proofs.Common.{sym, ◌∙◌}
+use Rattle.std.proofs.lemmas.Bool.{false≢true}
+use Rattle.machine_core.specs.declared.event.Event.TheVariants.{Turn}
+use Rattle.machine_core.proofs.Steps.{event-disabled}
+use Rattle.machine_core.proofs.machine.Machine.begin_turn.Goals as goal
+
+pub returns-then-not-can_turn : goal.returns-then-not-can_turn
+returns-then-not-can_turn g c =
+    let disabled = sym c.can_turn.ensures ∙ c.if-not-can_turn.true in
+    (record { ok = sym (event-disabled c.args.self Turn disabled); enabled = sym disabled; err = tt; refuses = tt }, λ made. absurd (false≢true made))

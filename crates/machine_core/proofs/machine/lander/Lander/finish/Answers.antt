@@ -1,0 +1,73 @@
+use Rattle.std.proofs.Common.{◌≡◌, ℕ, List, ◌+◌, ◌++◌, [], ◌∷◌, length, map, sym, ap, subst, ◌∙◌, arith}
+use mir.Syntax.{w64}
+use mir.Val.{Fits}
+use Rattle.std.proofs.lemmas.List.{length-map, with_items_is}
+use Rattle.node_core.specs.Node.{NodeState, PreparedNode}
+use Rattle.bsp_exchange.specs.Exchange.{states, exchanged, exchanged_node}
+use Rattle.bsp_exchange.proofs.PartOrder.{landed_whole}
+use Rattle.cost_ledger.specs.CostRow.{PreparedRows}
+use Rattle.cost_ledger.specs.declared.CostRow.{CostRow}
+use Rattle.machine_core.specs.declared.event.Event.TheVariants.{Turn}
+use Rattle.machine_core.specs.Events.{is_enabled}
+use Rattle.machine_core.specs.Lander.{kept}
+use Rattle.machine_core.specs.Landing.{row_landed}
+use Rattle.machine_core.specs.Machine.{MachineState}
+use Rattle.machine_core.specs.Sound.{IsSoundMachine}
+use Rattle.machine_core.specs.Turn.{turned}
+use Rattle.machine_core.proofs.Steps.{event-enabled}
+use Rattle.machine_core.proofs.Turns.{turned-exchanged, bounds, rows-lt, exchanges-fit, length-started, IsSoundMachine-turn}
+use Rattle.machine_core.proofs.machine.lander.Lander.finish.Goals as goal
+
+pub add_prepared-requires-clause-work : goal.add_prepared-requires-clause-work
+add_prepared-requires-clause-work g c =
+    let waits = c.self.invariant.0 in
+    (bounds c.self.inside.before.value c.self.inside.cost waits.sound waits.costs).work
+
+pub add_prepared-requires-clause-relation : goal.add_prepared-requires-clause-relation
+add_prepared-requires-clause-relation g c =
+    let waits = c.self.invariant.0 in
+    (bounds c.self.inside.before.value c.self.inside.cost waits.sound waits.costs).relation
+
+pub add_prepared-requires-clause-few : goal.add_prepared-requires-clause-few
+add_prepared-requires-clause-few g c =
+    let waits = c.self.invariant.0 in
+    let rows = ap (λ (x : MachineState). x.ledger) waits.recorded in
+    rw rows (rows-lt c.self.inside.before.value waits.sound)
+
+pub note_ticks-requires : goal.note_ticks-requires
+note_ticks-requires g c =
+    let b = c.self.inside.before.value in
+    let waits = c.self.invariant.0 in
+    let back : states c.args.row.items ≡ exchanged b.nodes = c.requires ∙ ap (λ (x : MachineState). row_landed x.nodes) (sym c.self.view_is) ∙ landed_whole b.nodes waits.exchanges in
+    let long : length c.args.row.items ≡ length b.nodes = sym (length-map c.args.row.items (λ (p : PreparedNode). p.node)) ∙ ap length back ∙ length-map b.nodes (exchanged_node b.nodes) in
+    ap length c.deref_mut.ensures.value
+    ∙ ap (λ (x : MachineState). length x.started) waits.recorded
+    ∙ length-started b waits.sound
+    ∙ sym long
+    ∙ sym (ap length c.deref.ensures.value)
+
+pub overflow_add-result : goal.overflow_add-result
+overflow_add-result g c =
+    let b = c.self.inside.before.value in
+    let waits = c.self.invariant.0 in
+    subst (λ (k : ℕ). Fits w64 (k + 1)) (sym (ap (λ (x : MachineState). x.exchanges) waits.recorded)) (exchanges-fit b waits.sound)
+
+pub invariant_of-result : goal.invariant_of-result
+invariant_of-result g c =
+    let b = c.self.inside.before.value in
+    let waits = c.self.invariant.0 in
+    let back : states c.args.row.items ≡ exchanged b.nodes = c.requires ∙ ap (λ (x : MachineState). row_landed x.nodes) (sym c.self.view_is) ∙ landed_whole b.nodes waits.exchanges in
+    let started = with_items_is c.self.inside.started c.note_ticks.new.started (omega arith) ∙ c.note_ticks.ensures ∙ ap (λ (ps : List PreparedNode). map (λ (n : NodeState). n.ticks) (states ps)) c.deref.ensures.value in
+    let ledger = ap (λ (x : PreparedRows). x.rows) c.add_prepared.ensures ∙ ap (λ (r : CostRow). c.self.inside.ledger.rows ++ r ∷ []) waits.costs in
+    subst IsSoundMachine (sym (turned-exchanged b (kept c.self.inside) (states c.args.row.items) _ c.add_prepared.new.self.rows waits.none waits.recorded back started ledger)) (IsSoundMachine-turn b waits.sound waits.enabled)
+
+pub returns-clause-turned : goal.returns-clause-turned
+returns-clause-turned g c =
+    let b = c.self.inside.before.value in
+    let waits = c.self.invariant.0 in
+    let back : states c.args.row.items ≡ exchanged b.nodes = c.requires ∙ ap (λ (x : MachineState). row_landed x.nodes) (sym c.self.view_is) ∙ landed_whole b.nodes waits.exchanges in
+    let started = with_items_is c.self.inside.started c.note_ticks.new.started (omega arith) ∙ c.note_ticks.ensures ∙ ap (λ (ps : List PreparedNode). map (λ (n : NodeState). n.ticks) (states ps)) c.deref.ensures.value in
+    let ledger = ap (λ (x : PreparedRows). x.rows) c.add_prepared.ensures ∙ ap (λ (r : CostRow). c.self.inside.ledger.rows ++ r ∷ []) waits.costs in
+    turned-exchanged b (kept c.self.inside) (states c.args.row.items) _ c.add_prepared.new.self.rows waits.none waits.recorded back started ledger
+    ∙ ap turned c.self.view_is
+    ∙ sym (event-enabled c.args.self Turn (ap (λ (x : MachineState). is_enabled x Turn) (sym c.self.view_is) ∙ waits.enabled))

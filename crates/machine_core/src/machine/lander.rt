@@ -1,0 +1,81 @@
+//! The turn's second half: the row comes back, and the machine's next superstep begins.
+
+ghost use Rattle.std.specs.Prelude.{◌≡◌, None};
+ghost use Rattle.bsp_exchange.specs.Exchange.{states};
+ghost use Rattle.machine_core.specs.declared.event.Event.TheVariants.{Turn as the_turn};
+ghost use Rattle.machine_core.specs.Events.{event as event_of};
+ghost use Rattle.machine_core.specs.Landing.{row_landed};
+
+use crate::machine::Machine;
+use crate::row;
+use crate::settings::Settings;
+use cost_ledger::{CostRow, Ledger};
+use node_core::Node;
+use std::alloc::Allocator;
+use std::marker::Model;
+use std::snapshot::Snapshot;
+
+/// A machine whose turn has begun and makes the exchange: all of it but the nodes, in which the parts have to land.
+///
+/// Contracts see it as the `MachineState` before the turn. It can be neither copied nor dropped: [`Lander::finish`] is the only end
+/// that it has, so that no row is lost, and no turn is left half made.
+pub struct Lander<A: Allocator> {
+    pub(super) alloc: A,
+    pub(super) settings: Settings,
+    pub(super) input: Vec<u8, A>,
+    pub(super) started: Vec<u64, A>,
+    /// That of this superstep stands in it.
+    pub(super) output: Vec<u8, A>,
+    /// With room for the superstep's row.
+    pub(super) ledger: Ledger<A>,
+    pub(super) exchanges: u64,
+    pub(super) cost: CostRow,
+    pub(super) before: Snapshot<Machine<A>>,
+}
+
+impl<A: Allocator> Model for Lander<A> {
+    ghost use Rattle.machine_core.specs.Machine.{MachineState};
+
+    ghost Value = { MachineState };
+
+    ghost use Rattle.machine_core.specs.Lander.{lander_view, IsLander};
+
+    ghost view = { lander_view };
+
+    ghost invariant = { IsLander };
+}
+
+impl<A: Allocator> Lander<A> {
+    /// The machine after its turn. The caller's condition is that each part has landed in its node; by whom, and in which order of the
+    /// nodes, does not matter. No memory is taken.
+    pub fn finish(self, row: Vec<Node<A>, A>) -> Machine<A>
+        requires { states row.items ≡ row_landed self.nodes }
+        ensures turned { result ≡ event_of self the_turn }
+        ensures going { result.outcome ≡ None }
+    {
+        let Lander {
+            alloc,
+            settings,
+            input,
+            mut started,
+            output,
+            mut ledger,
+            exchanges,
+            cost,
+            before: _,
+        } = self;
+        ledger.add_prepared(cost);
+        row::note_ticks(&row, &mut started);
+        Machine {
+            alloc,
+            settings,
+            input,
+            nodes: row,
+            started,
+            output,
+            ledger,
+            exchanges: exchanges + 1,
+            outcome: None,
+        }
+    }
+}

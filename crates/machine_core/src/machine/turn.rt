@@ -1,0 +1,138 @@
+//! The turn, at once or in two halves between which the parts of its exchange land.
+
+ghost use Rattle.std.specs.Prelude.{◌≡◌, IfOk, OnOk, OnErr, true};
+ghost use Rattle.machine_core.specs.declared.event.Event.TheVariants.{Turn as the_turn};
+ghost use Rattle.machine_core.specs.Events.{is_enabled, event as event_of, MayRefuseEvent};
+ghost use Rattle.machine_core.specs.Landing.{HasBegun, IsAnswered};
+
+use crate::closing::{Closing, begin, last_row};
+use crate::machine::Machine;
+use crate::machine::lander::Lander;
+use crate::row;
+use bsp_exchange::{Part, Plan, land_all};
+use cost_ledger::CostRow;
+use node_core::Node;
+use std::alloc::{AllocError, Allocator};
+use std::snapshot::Snapshot;
+
+/// A turn that has begun.
+pub enum Begun<A: Allocator> {
+    /// No part has to land, and the machine is whole. The answer is that of [`Machine::turn`]: the turn was made, and the machine has
+    /// its outcome; or it is not enabled, or memory was refused, and nothing has changed.
+    Whole(Machine<A>, Result<bool, AllocError>),
+    /// The turn makes the exchange, whose parts have to land.
+    Landing(Landing<A>),
+}
+
+/// The exchange of a turn: the row, the part of each node at the same place, and the machine that takes the row back.
+pub struct Landing<A: Allocator> {
+    pub lander: Lander<A>,
+    pub nodes: Vec<Node<A>, A>,
+    pub parts: Vec<Part<A>, A>,
+}
+
+impl<A: Allocator + Copy> Machine<A> {
+    /// Makes the turn, as [`Machine::apply`] does: ends the superstep, with the exchange or with the outcome.
+    pub fn turn(&mut self) -> Result<bool, AllocError>
+        ensures ok { OnOk result (self.new ≡ event_of self.old the_turn) }
+        ensures enabled { IfOk result (λ made. made ≡ is_enabled self.old the_turn) }
+        ensures err { OnErr result (self.new ≡ self.old) }
+        ensures refuses { OnErr result (MayRefuseEvent self.old the_turn) }
+    {
+        core::mem::replace_with(
+            self,
+            (),
+            |machine: Machine<A>, _nothing: ()| -> (Machine<A>, Result<bool, AllocError>)
+                ensures { IsAnswered machine result.0 result.1 }
+            { machine.turn_whole() },
+        )
+    }
+
+    /// Makes the turn, whose parts land in this thread.
+    fn turn_whole(self) -> (Machine<A>, Result<bool, AllocError>)
+        ensures { IsAnswered self result.0 result.1 }
+    {
+        match self.begin_turn() {
+            Begun::Whole(machine, answer) => (machine, answer),
+            Begun::Landing(
+                Landing {
+                    lander,
+                    mut nodes,
+                    mut parts,
+                },
+            ) => {
+                land_all(&mut nodes, &mut parts);
+                (lander.finish(nodes), Ok(true))
+            }
+        }
+    }
+
+    /// Begins the turn, and hands the landings of its exchange out: a [`Part`] for each node, which [`Part::land`] takes into it, in
+    /// whichever thread. [`Lander::finish`] makes the machine whole again. Where no exchange is made, it is whole at once.
+    ///
+    /// All memory that the turn wants is asked for here, so that nothing can be refused after it.
+    pub fn begin_turn(self) -> Begun<A>
+        ensures { HasBegun self result }
+    {
+        if !self.can_turn() {
+            return Begun::Whole(self, Ok(false));
+        }
+        self.begin_enabled()
+    }
+
+    /// Begins a turn that is enabled.
+    fn begin_enabled(mut self) -> Begun<A>
+        requires { is_enabled self the_turn ≡ true }
+        ensures { HasBegun self result }
+    {
+        let before = Snapshot::of(&self);
+        let w = row::work(&self.nodes, &self.started);
+        match begin(
+            self.alloc,
+            &mut self.nodes,
+            &mut self.output,
+            &mut self.ledger,
+        ) {
+            Err(refused) => Begun::Whole(self, Err(refused)),
+            Ok(Closing::Over(outcome)) => {
+                self.ledger.add_prepared(last_row(w));
+                self.outcome = Some(outcome);
+                Begun::Whole(self, Ok(true))
+            }
+            Ok(Closing::Planned(Plan { traffic, parts })) => {
+                let cost = CostRow {
+                    w,
+                    h: traffic.h,
+                    turned: true,
+                };
+                let Machine {
+                    alloc,
+                    settings,
+                    input,
+                    nodes,
+                    started,
+                    output,
+                    ledger,
+                    exchanges,
+                    outcome: _,
+                } = self;
+                let lander = Lander {
+                    alloc,
+                    settings,
+                    input,
+                    started,
+                    output,
+                    ledger,
+                    exchanges,
+                    cost,
+                    before,
+                };
+                Begun::Landing(Landing {
+                    lander,
+                    nodes,
+                    parts,
+                })
+            }
+        }
+    }
+}

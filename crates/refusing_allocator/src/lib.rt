@@ -29,10 +29,9 @@ ghost use Rattle.std.specs.Prelude.{◌≡◌, ◌≤◌, ◌↔◌, IsTrue};
 
 mod trial;
 
-pub use trial::{Called, Flaw, FlawKind, Trial, expect_requests, refuse_in_turn};
-
 use std::alloc::{AllocError, Allocator};
 use std::sync::atomic::{AtomicU64, Ordering};
+pub use trial::{Called, Flaw, FlawKind, Trial, expect_requests, refuse_in_turn};
 
 /// An allocator that passes each call on to `inner`, except the requests that it refuses.
 #[derive(Drop)]

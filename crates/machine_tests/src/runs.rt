@@ -13,7 +13,7 @@ use std::sync::Wait;
 use std::test::Fail;
 use std::thread::Threads;
 
-mod threads;
+pub mod threads;
 
 type Heap = RefusingAllocator<Global>;
 

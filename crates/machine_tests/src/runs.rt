@@ -114,11 +114,13 @@ fn ticks_of(machine: &Machine<&Heap>, rank: u32) -> u64 {
     machine.node(rank).map_or(0, |node| node.ticks())
 }
 
-// How many requests for memory a program makes: in its first local parts, in a run without a table, and in one of the table.
+// How many requests for memory a program makes: in its first local parts, in a run without a table, in one of the table, and in one
+// of two workers, who land each exchange by halves too.
 struct Requests {
     phase: u64,
     plain: u64,
     pool: u64,
+    pair: u64,
 }
 
 // Runs a machine in several threads, with one request for memory refused, and once more where that ends the run.
@@ -171,7 +173,12 @@ fn expect_runs<R: Threads + Wait + Sync + Print>(
     program: Program,
     expected: Requests,
 ) -> Result<(), Fail> {
-    let Requests { phase, plain, pool } = expected;
+    let Requests {
+        phase,
+        plain,
+        pool,
+        pair,
+    } = expected;
     let call = Runs {
         heap,
         program,
@@ -196,8 +203,8 @@ fn expect_runs<R: Threads + Wait + Sync + Print>(
         ("run_sparing, 2 workers", Way::Sparing { workers: 2 }, plain),
         ("run, 1 worker, slices of 1", pooled(1, 1), pool),
         ("run, 1 worker, slices of 65,536", pooled(1, 65_536), pool),
-        ("run, 2 workers, slices of 1", pooled(2, 1), pool),
-        ("run, 2 workers, slices of 65,536", pooled(2, 65_536), pool),
+        ("run, 2 workers, slices of 1", pooled(2, 1), pair),
+        ("run, 2 workers, slices of 65,536", pooled(2, 65_536), pair),
     ] {
         expect_pooled(rt, name, &call, way, requests)?;
     }
@@ -231,6 +238,7 @@ fn a_refused_run_of_a_put_can_be_made_again(rt: HostRuntime) -> Result<(), Fail>
         phase: 4,
         plain: 17,
         pool: 32,
+        pair: 36,
     };
     expect_runs(&rt, &heap, Program::Calls(calls::A_PUT), expected)
 }
@@ -242,6 +250,7 @@ fn a_refused_run_of_a_swap_can_be_made_again(rt: HostRuntime) -> Result<(), Fail
         phase: 7,
         plain: 20,
         pool: 35,
+        pair: 39,
     };
     expect_runs(&rt, &heap, Program::Calls(calls::A_SWAP), expected)
 }
@@ -253,6 +262,7 @@ fn a_refused_run_of_messages_can_be_made_again(rt: HostRuntime) -> Result<(), Fa
         phase: 7,
         plain: 19,
         pool: 29,
+        pair: 31,
     };
     expect_runs(&rt, &heap, Program::Calls(calls::MESSAGES), expected)
 }
@@ -264,6 +274,7 @@ fn a_refused_run_that_meets_a_fault_can_be_made_again(rt: HostRuntime) -> Result
         phase: 4,
         plain: 6,
         pool: 11,
+        pair: 11,
     };
     expect_runs(&rt, &heap, Program::Faults, expected)
 }

@@ -30,11 +30,7 @@ static PROGRAMS: [(&[u32], u32); 12] = [
 ];
 
 // A machine of so many nodes that run `words`, with room for their areas.
-fn machine<A: Allocator + Copy>(
-    alloc: A,
-    words: &[u32],
-    nodes: u32,
-) -> Result<Machine<A>, Fail> {
+fn machine<A: Allocator + Copy>(alloc: A, words: &[u32], nodes: u32) -> Result<Machine<A>, Fail> {
     let image = programs::image(alloc, words)?;
     let settings = Settings {
         memory: 0x4000,

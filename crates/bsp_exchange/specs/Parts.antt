@@ -1,7 +1,7 @@
 -- The exchange, node by node: a part for each rank, with all that lands in its node. What is in it is gathered before anything
 -- lands, so that it rests on no other node any more. BSPlib (Hill and others, 1998: `bsp_sync`) says what stands after the exchange;
 -- by whom and when its parts land is left open there, and has no part in the definitions of it either.
-use Rattle.std.specs.Prelude.{◌≡◌, ℕ, false, true, suc, zero, Bool, List, [], ◌∷◌, length, map, All, None, IsTrue}
+use Rattle.std.specs.Prelude.{◌≡◌, ℕ, false, true, suc, zero, Bool, List, [], ◌∷◌, length, map, All, None, IsTrue, sum_by}
 use Rattle.std.specs.List.{fold, range_with_len, AllZip}
 use Rattle.node_memory.specs.Bytes.{with_bytes}
 use Rattle.node_memory.specs.Pages.{Owns, KeepsOwn}
@@ -31,6 +31,10 @@ laid memory (p ∷ patches) = laid (with_bytes memory p.addr p.bytes) patches
 
 abbrev pub with_patches : List Patch → NodeState → NodeState
 with_patches patches n = record n { hart = with_memory (laid n.hart.memory patches) n.hart }
+
+-- how many bytes they are
+abbrev pub bytes_in : List Patch → ℕ
+bytes_in patches = sum_by (λ (p : Patch). length p.bytes) patches
 
 -- the pages of each of them are the memory's own
 abbrev pub OwnsEach : List Bool → List Patch → Type 0

@@ -1,9 +1,10 @@
 //! What arrives at one node in an exchange.
 
-ghost use Rattle.std.specs.Prelude.{◌≡◌, false, length, IsTrue, OnOk, OnErr};
+ghost use Rattle.std.specs.Prelude.{◌≡◌, ◌+◌, false, length, IsTrue, OnOk, OnErr};
 ghost use Rattle.node_memory.specs.Bytes.{fits, bytes_at};
 ghost use Rattle.node_memory.specs.Pages.{KeepsOwn};
 ghost use Rattle.bsp_exchange.specs.Arrivals.{nothing, FitsIn, IsPrepared, CanTake, with_arrivals};
+ghost use Rattle.bsp_exchange.specs.Parts.{bytes_in};
 
 use crate::landings::Landings;
 use bsp_requests::{Inbox, Message};
@@ -106,6 +107,13 @@ impl<A: Allocator + Copy> Arrivals<A> {
         self.gets.prepare(node)?;
         self.puts.prepare(node)?;
         node.prepare_turn()
+    }
+
+    /// How many bytes come into the node's memory.
+    pub(crate) fn bytes(&self) -> u64
+        ensures { result ≡ bytes_in self.now.gets + bytes_in self.now.puts }
+    {
+        self.gets.len() as u64 + self.puts.len() as u64
     }
 
     /// Lands all of it in its node, which waits and is prepared for it, and begins the node's next superstep. The messages go

@@ -1,11 +1,11 @@
 //! Bytes that wait to land in one memory.
 
-ghost use Rattle.std.specs.Prelude.{◌≡◌, ◌∷◌, ◌++◌, [], length, IsTrue, OnOk, OnErr};
+ghost use Rattle.std.specs.Prelude.{◌≡◌, ◌<◌, ◌^◌, ◌∷◌, ◌++◌, [], length, IsTrue, OnOk, OnErr};
 ghost use Rattle.node_memory.specs.Bytes.{fits, bytes_at};
 ghost use Rattle.node_core.specs.declared.state.State.TheVariants.{Synced};
 ghost use Rattle.node_memory.specs.Pages.{KeepsOwn};
 ghost use Rattle.bsp_exchange.specs.Arrivals.{LieIn};
-ghost use Rattle.bsp_exchange.specs.Parts.{OwnsEach, with_patches};
+ghost use Rattle.bsp_exchange.specs.Parts.{OwnsEach, bytes_in, with_patches};
 
 use node_core::Node;
 use node_memory::Memory;
@@ -89,6 +89,15 @@ impl<A: Allocator + Copy> Landings<A> {
             len: len as usize,
         });
         Ok(())
+    }
+
+    /// How many bytes wait.
+    #[tactic(auto, using(crate::proofs::Patches::bytes_waiting))]
+    pub(crate) fn len(&self) -> usize
+        ensures value { result ≡ bytes_in self.now }
+        ensures few { result < 2 ^ 63 }
+    {
+        self.bytes.len()
     }
 
     /// Makes the pages in which they come to lie the node's own. They lie in its memory.

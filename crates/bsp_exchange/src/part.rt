@@ -3,7 +3,7 @@
 ghost use Rattle.std.specs.Prelude.{◌≡◌};
 ghost use Rattle.bsp_requests.specs.Inbox.{IsQueue};
 ghost use Rattle.bsp_exchange.specs.Arrivals.{Received, part_from};
-ghost use Rattle.bsp_exchange.specs.Parts.{CanLand, landed_as, spent_part};
+ghost use Rattle.bsp_exchange.specs.Parts.{CanLand, bytes_in, landed_as, spent_part};
 
 use crate::arrivals::Arrivals;
 use crate::traffic::Traffic;
@@ -58,6 +58,14 @@ impl<A: Allocator + Copy> Part<A> {
             spent: false,
             arrivals,
         }
+    }
+
+    /// How many bytes it takes into its node's memory, and its landing copies. Its messages are not among them, which go over as they
+    /// are.
+    pub fn bytes(&self) -> u64
+        ensures { result ≡ bytes_in self.now.patches }
+    {
+        self.arrivals.bytes()
     }
 
     /// Lands all of it in its node, and begins the node's next superstep there (BSPlib's `bsp_sync`). The node waits, and was made

@@ -8,7 +8,9 @@ use std::alloc::Allocator;
 use std::process::Abort;
 use std::test::Fail;
 
+mod exchanges;
 mod gates;
+mod landings;
 mod refusals;
 
 // `PRINTS_ITS_RANK` with `sync()` before `end()`.
@@ -47,10 +49,20 @@ fn machine<A: Allocator + Copy>(
     programs::machine(rt, alloc, words, nodes, 100)
 }
 
-// Whether two nodes show the same: their registers, state and ticks, and a word of memory.
+// Where the programs have their words, of 4 bytes or 8.
+static ADDRESSES: [u32; 9] = [
+    0x100, 0x1000, 0x1004, 0x1300, 0x1310, 0x2000, 0x2004, 0x3000, 0x3004,
+];
+
+// Whether two nodes show the same: their registers, state and ticks, their words of memory, and how many messages wait.
 fn are_equal<A: Allocator, B: Allocator>(node: &Node<A>, other: &Node<B>) -> bool {
     for register in 0..32 {
         if node.reg(register) != other.reg(register) {
+            return false;
+        }
+    }
+    for addr in ADDRESSES {
+        if node.memory().load32(addr) != other.memory().load32(addr) {
             return false;
         }
     }
@@ -58,7 +70,7 @@ fn are_equal<A: Allocator, B: Allocator>(node: &Node<A>, other: &Node<B>) -> boo
         && node.state() == other.state()
         && node.ticks() == other.ticks()
         && node.pc() == other.pc()
-        && node.memory().load32(0x100) == other.memory().load32(0x100)
+        && node.inbox().count() == other.inbox().count()
 }
 
 // Whether two machines show the same: outcome, output, costs and nodes.

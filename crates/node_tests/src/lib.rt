@@ -11,6 +11,8 @@ mod counted;
 #[cfg(test)]
 mod elf;
 #[cfg(test)]
+mod images;
+#[cfg(test)]
 mod ledger;
 #[cfg(test)]
 mod listing;

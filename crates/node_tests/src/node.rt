@@ -2,13 +2,13 @@
 
 use list_vec::ListVec;
 use node_core::{Node, State};
-use node_memory::{Image, MemoryError, Segment};
-use refusing_allocator::RefusingAllocator;
-use std::alloc::{AllocError, Allocator};
+use node_memory::{Image, Segment};
+use std::alloc::Allocator;
 use std::process::Abort;
 use std::test::Fail;
 
 mod pages;
+mod steps;
 
 // The limit of a node's ticks.
 const LIMIT: u64 = 1_000_000;
@@ -27,17 +27,11 @@ const PRINTS_ITS_RANK: [u32; 10] = [
     0x0000_0073, // ecall
 ];
 
-// An image that has these words at address 0.
-fn image<A: Allocator + Copy>(
-    rt: &impl Abort,
-    alloc: A,
-    words: &[u32],
-) -> Result<Image<A>, AllocError> {
-    let mut bytes = Vec::new(alloc);
-    for word in words {
-        bytes.extend_from_slice(&word.to_le_bytes())?;
+// An image that has these bytes at address 0.
+fn image_of<A: Allocator + Copy>(alloc: A, bytes: Vec<u8, A>) -> Result<Image<A>, Fail> {
+    if bytes.len() > 0x1_0000 {
+        return Err(Fail::new("the image is too long"));
     }
-    assert!(rt; bytes.len() <= 0x1000);
     let mut segments = Vec::new(alloc);
     segments.push(Segment {
         addr: 0,
@@ -48,6 +42,15 @@ fn image<A: Allocator + Copy>(
         entry: 0,
         segments: ListVec::from_vec(segments),
     })
+}
+
+// An image that has these words at address 0.
+fn image<A: Allocator + Copy>(alloc: A, words: &[u32]) -> Result<Image<A>, Fail> {
+    let mut bytes = Vec::new(alloc);
+    for word in words {
+        bytes.extend_from_slice(&word.to_le_bytes())?;
+    }
+    image_of(alloc, bytes)
 }
 
 fn expect_stop<A: Allocator>(rt: &impl Abort, node: &Node<A>, state: State, ticks: u64, pc: u32) {
@@ -68,24 +71,12 @@ fn expect_start<A: Allocator + Copy>(rt: &impl Abort, node: &Node<A>) {
 
 #[test]
 fn a_node_starts_with_its_image_and_runs(rt: HostRuntime) -> Result<(), Fail> {
-    let image = image(&rt, rt.alloc(), &PRINTS_ITS_RANK)?;
+    let image = image(rt.alloc(), &PRINTS_ITS_RANK)?;
     let mut node = Node::new(rt.alloc(), &image, 2, 3, 0x1000, LIMIT)?;
     expect_stop(&rt, &node, State::Running, 0, 0);
     expect_start(&rt, &node);
     node.run(b"", LIMIT)?;
     expect_stop(&rt, &node, State::Ended, 10, 40);
     assert!(rt; node.output() == b"2".as_slice());
-    Ok(())
-}
-
-#[test]
-fn a_node_that_is_refused_memory_is_not_made(rt: HostRuntime) -> Result<(), Fail> {
-    let heap = RefusingAllocator::new(rt.alloc());
-    let image = image(&rt, &heap, &PRINTS_ITS_RANK)?;
-    heap.refuse_from_nth(1);
-    let refused = Node::new(&heap, &image, 0, 1, 0x1000, LIMIT);
-    assert!(rt; refused.err() == Some(MemoryError::NoMemory));
-    let refused = Node::new(&heap, &image, 0, 1, 4095, LIMIT);
-    assert!(rt; refused.err() == Some(MemoryError::BadSize));
     Ok(())
 }

@@ -1,2 +1,4 @@
+pub mod Halves
+pub mod Landings
 pub mod Phases
 pub mod Works

@@ -1,10 +1,10 @@
 -- Work on the nodes of a row, one after another and again.
-use Rattle.std.proofs.Common.{◌≡◌, ℕ, ◌+◌, ◌<◌, ◌≤◌, ◌-◌, List, [], ◌∷◌, ◌++◌, length, get_or, take, drop, set, add-zero, Result, Ok, Err, refl, sym, ap, ap₂, ◌∙◌, arith}
+use Rattle.std.proofs.Common.{◌≡◌, ℕ, ◌+◌, ◌<◌, ◌≤◌, List, [], ◌∷◌, ◌++◌, length, get_or, take, drop, set, add-zero, Result, Ok, Err, refl, sym, ap, ◌∙◌, arith}
 use Rattle.std.specs.Prelude.{IsOk, OnOk, OnErr, ⊤}
 use Rattle.std.specs.List.{AllZip}
-use Rattle.std.proofs.lemmas.List.{length-map, map-append, map_push, drop-drop, get_or-drop, take_all, take_more_set, take-append-drop}
+use Rattle.std.proofs.lemmas.List.{map_push, drop-drop, get_or-drop, take_all, take_more_set}
 use Rattle.std.proofs.lemmas.Bool.{false≢true}
-use Rattle.std.proofs.lemmas.List.Elements.{All-nil, All-cons, All-append, length_all_zip}
+use Rattle.std.proofs.lemmas.List.Elements.{All-nil, All-cons, All-append}
 use Rattle.node_core.specs.Node.{NodeState, PreparedNode, IsNode, MayRefuseStep, is_running, local_steps}
 use Rattle.node_core.proofs.Sound.{local_steps-end}
 use Rattle.node_core.proofs.Steps.{local_steps-add, local_steps-zero}
@@ -20,7 +20,7 @@ HaveStepped-append input [] (n ∷ a') b b' first second = absurd first
 HaveStepped-append input (o ∷ a) [] b b' first second = absurd first
 HaveStepped-append input (o ∷ a) (n ∷ a') b b' first second = (first.0, HaveStepped-append input a a' b b' first.1 second)
 
-of_ok : {E : Type 0} {P : Type 0} (r : Result ⊤ E) → IsOk r → OnOk r P → P
+pub of_ok : {E : Type 0} {P : Type 0} (r : Result ⊤ E) → IsOk r → OnOk r P → P
 of_ok (Ok x) ok holds = holds
 of_ok (Err e) ok holds = absurd cc
 

@@ -1,3 +1,4 @@
+pub mod Landings
 pub mod Numbers
 pub mod Phases
 pub mod Work

@@ -1,26 +1,32 @@
 //! The calls of the pool: one phase of a machine, and its whole run.
 
-ghost use Rattle.std.specs.Prelude.{◌≡◌, ◌↔◌, ◌<◌, Some, None, IsSome, IsOk, OnOk, OnErr, IsErrOf, length};
+ghost use Rattle.std.specs.Prelude.{◌≡◌, ◌↔◌, ◌<◌, ◌≤◌, Some, None, IsSome, IsOk, OnOk, OnErr, IsErrOf, length};
 ghost use Rattle.std.specs.Thread.{IsSend, IsSync};
 ghost use denote.Param.Send.{Frees};
 ghost use Rattle.machine_core.specs.Sound.{AreInRange};
 ghost use Rattle.machine_core.specs.Turn.{with_phases, end_of};
+ghost use Rattle.phase_pool.specs.Landings.{IsTurnMade};
 ghost use Rattle.phase_pool.specs.Numbers.{numbers_fault};
 ghost use Rattle.phase_pool.specs.Phases.{LeadsTo, LeadsWithoutTurn, IsPhaseMade};
 ghost use Rattle.phase_pool.specs.Work.{HaveCome};
 
-use crate::error::{PoolError, Refusal};
+use crate::error::{PoolError, Refusal, both};
+use crate::landing::{Share, bytes_of, land_in_threads};
 use crate::numbers::check_numbers;
 use crate::part::work_on;
+use bsp_exchange::Part;
 use claim_table::{Gate, OpenGate, Work};
-use machine_core::{Machine, Settings};
-use std::alloc::Allocator;
+use machine_core::{Begun, Landing, Machine, Settings};
+use std::alloc::{AllocError, Allocator};
 use std::sync::Wait;
 use std::thread::Threads;
 
 /// Over how many steps of all nodes together a superstep is made by the caller's thread alone, by [`run_sparing`] (own rule): a
 /// thread costs about as much as so many steps do.
 const FIRST_STEPS: u64 = 200_000;
+
+/// From how many bytes of an exchange on threads land its parts, by [`run_sparing`] (own rule).
+const LANDED_BYTES: u64 = 1 << 20;
 
 /// Who works on the nodes of a machine, and how.
 #[derive(Drop)]
@@ -29,6 +35,8 @@ struct Team<'g, G> {
     slice: u64,
     /// How many steps of all nodes together the caller's thread makes first.
     first_steps: u64,
+    /// From how many bytes of an exchange on threads land its parts.
+    landed_bytes: u64,
     gate: &'g G,
 }
 
@@ -41,6 +49,7 @@ impl<'g, G> Team<'g, G> {
             workers,
             slice,
             first_steps: 0,
+            landed_bytes: 0,
             gate,
         }
     }
@@ -55,6 +64,7 @@ impl Team<'static, OpenGate> {
             workers,
             slice,
             first_steps: if workers == 1 { u64::MAX } else { FIRST_STEPS },
+            landed_bytes: LANDED_BYTES,
             gate: &OpenGate,
         }
     }
@@ -122,12 +132,13 @@ pub fn run_phase_sparing<R: Threads + Wait + Sync, A: Allocator + Copy + Send + 
     run_phase_with(rt, machine, &Team::sparing(workers, slice))
 }
 
-/// Runs a machine to its outcome, superstep by superstep, with the numbers and the gate of [`run_phase`]. The turns are made by this
-/// thread. After the outcome nothing is left to run.
+/// Runs a machine to its outcome, superstep by superstep, with the numbers and the gate of [`run_phase`]. The parts of an exchange land
+/// in so many threads too, without calls of the gate. After the outcome nothing is left to run.
 ///
 /// # Errors
-/// As [`run_phase`], and [`PoolError::NoMemory`] where memory was refused in a turn. At `NoWorker` and `NoMemory` no turn is made
-/// any more; the steps and turns before stand, and a call made again leaves what this one would have left.
+/// As [`run_phase`], and [`PoolError::NoMemory`] where memory was refused in a turn. Where a thread or room was refused for landings,
+/// the turn is whole, and the nodes make their next local parts before that is answered. No turn is made any more; the steps and turns
+/// before stand, and a call made again leaves what this one would have left.
 pub fn run<R: Threads + Wait + Sync, A: Allocator + Copy + Send + Sync, G: Gate<A> + Sync>(
     rt: &R,
     machine: &mut Machine<A>,
@@ -155,7 +166,8 @@ pub fn run<R: Threads + Wait + Sync, A: Allocator + Copy + Send + Sync, G: Gate<
 }
 
 /// As [`run`], with an open gate, but starts threads only for the work that pays for them: first the caller's thread makes some
-/// steps of each node, and only where a node still runs then do the workers share out the nodes. One worker needs no table.
+/// steps of each node, and only where a node still runs then do the workers share out the nodes; and parts land in several threads
+/// only where there are bytes enough. One worker needs no table.
 ///
 /// # Errors
 /// As [`run`].
@@ -234,9 +246,11 @@ fn run_with<R: Threads + Wait + Sync, A: Allocator + Copy + Send + Sync, G: Gate
     ensures going { numbers_fault team.now.workers team.now.slice ≡ None → OnErr result (machine.new.outcome ≡ None) }
 {
     check_numbers(team.workers, team.slice)?;
+    let mut landings = Ok(());
     while machine.outcome().is_none() {
-        make_local_parts(rt, machine, team)?;
-        machine.turn()?;
+        let parts = make_local_parts(rt, machine, team);
+        both(landings, parts)?;
+        landings = make_turn(rt, machine, team)?;
     }
     Ok(())
 }
@@ -281,6 +295,71 @@ fn work_on_machine<R: Threads + Wait + Sync, A: Allocator + Copy + Send + Sync, 
     let workers = row.len().min(team.workers as usize);
     let worked = work_on(rt, &work, share, workers, lender.input(), row);
     (lender.take_back(worked.nodes), worked.answer)
+}
+
+/// Makes a machine's turn, and answers what its landings were refused, in spite of which it is whole. The machine is out of its place
+/// meanwhile, as for [`make_local_parts`].
+///
+/// # Errors
+/// Where memory is refused before a part lands. Nothing has changed then.
+fn make_turn<R: Threads + Wait + Sync, A: Allocator + Copy + Send + Sync, G: Sync>(
+    rt: &R,
+    machine: &mut Machine<A>,
+    team: &Team<'_, G>,
+) -> Result<Result<(), Refusal>, AllocError>
+    ensures { IsTurnMade team.now.workers machine.old machine.new result }
+{
+    core::mem::replace_with(
+        machine,
+        team,
+        |machine: Machine<A>, team: &Team<'_, G>| -> (
+            Machine<A>,
+            Result<Result<(), Refusal>, AllocError>,
+        )
+            requires { IsSync R.row × IsSync G.row × IsSend A.row × IsSync A.row × Frees A.Allocator A.dealloc_token }
+            ensures { IsTurnMade team.now.workers machine result.0 result.1 }
+        { turn_machine(rt, team, machine) },
+    )
+}
+
+/// A machine after its turn, the parts of whose exchange threads landed, and what they were refused.
+fn turn_machine<R: Threads + Wait + Sync, A: Allocator + Copy + Send + Sync, G: Sync>(
+    rt: &R,
+    team: &Team<'_, G>,
+    machine: Machine<A>,
+) -> (Machine<A>, Result<Result<(), Refusal>, AllocError>)
+    ensures { IsTurnMade team.now.workers machine result.0 result.1 }
+{
+    match machine.begin_turn() {
+        Begun::Whole(machine, answer) => match answer {
+            Ok(_) => (machine, Ok(Ok(()))),
+            Err(refused) => (machine, Err(refused)),
+        },
+        Begun::Landing(
+            Landing {
+                lander,
+                nodes,
+                parts,
+            },
+        ) => {
+            let threads = landing_threads(team, &parts);
+            let landed = land_in_threads(rt, threads, Share { nodes, parts });
+            (lander.finish(landed.nodes), Ok(landed.answer))
+        }
+    }
+}
+
+/// In how many threads these parts land: as many as there are workers and parts, or one, where the bytes do not pay for others.
+fn landing_threads<A: Allocator + Copy, G>(team: &Team<'_, G>, parts: &[Part<A>]) -> usize
+    ensures workers { result ≤ team.now.workers }
+    ensures parts { result ≤ length parts.now }
+{
+    let most = parts.len().min(team.workers as usize);
+    if bytes_of(parts) < team.landed_bytes {
+        most.min(1)
+    } else {
+        most
+    }
 }
 
 /// How many nodes a worker takes at most in a phase: all of them, each for as many slices as its steps may fill.

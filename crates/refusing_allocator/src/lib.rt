@@ -16,6 +16,9 @@
 //!   [`refuse_from_nth`](RefusingAllocator::refuse_from_nth).
 //! - Threads may share it. Each request gets a number of its own.
 //!
+//! [`refuse_in_turn`] does all of this for a call that is a [`Trial`]: it refuses each of its requests, looks at what is left, and makes
+//! the call again. [`expect_requests`] also says how many requests there are, so that a test fails where one comes or goes.
+//!
 //! What is proved is that it is an allocator, whatever allocator is inside: a block that it hands out fits the request and
 //! is one that the inner allocator takes back, from any thread if the inner allocator does. Which numbers are refused is
 //! proved of the function that decides it. That requests get the numbers 1, 2, 3, .. and that both counts are right is
@@ -23,6 +26,10 @@
 #![tactic(auto)]
 
 ghost use Rattle.std.specs.Prelude.{◌≡◌, ◌≤◌, ◌↔◌, IsTrue};
+
+mod trial;
+
+pub use trial::{Called, Flaw, FlawKind, Trial, expect_requests, refuse_in_turn};
 
 use std::alloc::{AllocError, Allocator};
 use std::sync::atomic::{AtomicU64, Ordering};

@@ -86,7 +86,7 @@ fn nodes_that_need_no_memory_are_run_without_it(rt: HostRuntime) -> Result<(), F
 
 // Blocks that leave no room for a thread's stack in the address space: as many as are to be had, first of 8 GiB and at last of
 // 128 KiB.
-fn hoard(alloc: Global) -> Result<Vec<Vec<u8>>, AllocError> {
+pub(super) fn hoard(alloc: Global) -> Result<Vec<Vec<u8>>, AllocError> {
     let mut blocks = Vec::with_capacity(alloc, 0x1_0000)?;
     for size in [8 << 30, 1 << 30, 1 << 26, 1 << 22, 1 << 20, 1 << 17] {
         for _ in 0..0x1_0000 {

@@ -4,6 +4,7 @@ use Rattle.std.specs.List.{AllZip}
 use Rattle.bsp_exchange.specs.Arrivals.{Received}
 use Rattle.bsp_exchange.specs.Exchange.{states}
 use Rattle.bsp_exchange.specs.Parts.{CanExchange, CanLand, PartState, parts_of}
+use Rattle.bsp_exchange.specs.Traffic.{h_of}
 use Rattle.bsp_exchange.proofs.KeepsOwn.{EachKeepsOwn-same}
 use Rattle.bsp_exchange.proofs.Planned.{can_land_each, few_planned, parts_planned, queues_planned, received_same}
 use Rattle.bsp_exchange.proofs.planning.plan.Goals as goal
@@ -38,3 +39,6 @@ returns-clause-prepared g c =
     let can : CanExchange (states old) = record { row = c.requires; faultless = sym c.fault.ensures ∙ c.in_default.is; sound = c.in_ok-arrivals.ensures.sound } in
     let each = can_land_each new arrivals (subst CanExchange (sym same) can) (planned ∙ received_same old new same) (λ rank part p received here. c.in_ok-prepare_all.ensures.prepared rank part p (ap (λ (rs : List Received). slice_get rs rank) c.deref.ensures.value ∙ received) here) in
     subst (λ (parts : List PartState). AllZip CanLand parts new) (ap parts_of same ∙ sym (parts_planned old arrivals planned) ∙ sym c.in_ok-parts.ensures) each
+
+pub returns-clause-traffic : goal.returns-clause-traffic
+returns-clause-traffic g c = c.h_of-h.ensures.value ∙ ap h_of c.in_ok-prepare_all.ensures.same

@@ -1,4 +1,4 @@
-use Rattle.std.proofs.Common.{◌≡◌, not, [], Err, refl, sym, ap, ◌∙◌, arith}
+use Rattle.std.proofs.Common.{◌≡◌, not, [], Err, inl, inr, refl, sym, ap, ◌∙◌, arith}
 use Rattle.std.specs.Prelude.{is_some}
 use Rattle.std.proofs.lemmas.Bool.{false≢true}
 use Rattle.std.proofs.lemmas.Result.{err_from_is_err_and}
@@ -11,6 +11,7 @@ use Rattle.machine_core.proofs.Options.{none_from}
 use Rattle.machine_core.proofs.Steps.{after-nil}
 use Rattle.machine_core.proofs.Supersteps.{superstep-made, rows_left}
 use Rattle.phase_pool.proofs.Phases.{worker_refused, LeadsTo-on, LeadsTo-turn, LeadsTo-length, LeadsWithoutTurn-outcome, HaveCome-over}
+use Rattle.phase_pool.proofs.Works.{of_ok}
 use Rattle.phase_pool.proofs.pool.run_with.Goals as goal
 
 pub returns-in_err-check_numbers-clause-err : goal.returns-in_err-check_numbers-clause-err
@@ -18,60 +19,69 @@ returns-in_err-check_numbers-clause-err g c =
     let p = err_from_is_err_and c.from_residual.result c.from_residual.ensures.1 in
     rw p.1 ([], sym (after-nil c.args.machine.now))
 
-pub loop-machine-init : goal.loop-machine-init
-loop-machine-init g c = record { so_far = ([], sym (after-nil c.args.machine.now)); same_end = refl; over = λ over. refl }
+pub loop-landings-init : goal.loop-landings-init
+loop-landings-init g c = record { so_far = ([], sym (after-nil c.args.machine.now)); same_end = refl; over = λ over. refl; no_worker = λ refused. absurd cc }
 
-pub returns-in_err-make_local_parts-clause-no_worker : goal.returns-in_err-make_local_parts-clause-no_worker
-returns-in_err-make_local_parts-clause-no_worker g c refused =
-    let p = err_from_is_err_and c.from_residual-in_err-make_local_parts.result c.from_residual-in_err-make_local_parts.ensures.1 in
-    let same = LeadsTo-length c.args.machine.now c.loop-machine.machine c.loop-machine.invariant.so_far in
-    let wanted = c.in_err-make_local_parts.ensures.no_worker (ap Err (worker_refused p.0 c.in_err-make_local_parts.field-0.0 c.from_residual-in_err-make_local_parts.result p.1 p.2 refused)) in
-    (wanted.0, omega (arith, wanted.1, same))
+pub returns-in_err-both-clause-no_worker : goal.returns-in_err-both-clause-no_worker
+returns-in_err-both-clause-no_worker g c refused =
+    let p = err_from_is_err_and c.from_residual-in_err-both.result c.from_residual-in_err-both.ensures.1 in
+    let same = LeadsTo-length c.args.machine.now c.loop-landings.machine c.loop-landings.invariant.so_far in
+    let worker = ap Err (worker_refused p.0 c.in_err-both.field-0.0 c.from_residual-in_err-both.result p.1 p.2 refused) in
+    elim (c.in_err-both.ensures.no_worker.0 worker) [
+      | inl before ↦ c.loop-landings.invariant.no_worker before
+      | inr now ↦ let wanted = c.make_local_parts-parts.ensures.no_worker now in (wanted.0, omega (arith, wanted.1, same))
+    ]
 
-pub returns-in_err-make_local_parts-clause-err : goal.returns-in_err-make_local_parts-clause-err
-returns-in_err-make_local_parts-clause-err g c =
-    let p = err_from_is_err_and c.from_residual-in_err-make_local_parts.result c.from_residual-in_err-make_local_parts.ensures.1 in
-    rw p.1 (LeadsTo-on c.args.machine.now c.loop-machine.machine c.make_local_parts.new.machine c.loop-machine.invariant.so_far c.make_local_parts.ensures.stepped)
+pub returns-in_err-both-clause-err : goal.returns-in_err-both-clause-err
+returns-in_err-both-clause-err g c =
+    let p = err_from_is_err_and c.from_residual-in_err-both.result c.from_residual-in_err-both.ensures.1 in
+    rw p.1 (LeadsTo-on c.args.machine.now c.loop-landings.machine c.make_local_parts-parts.new.machine c.loop-landings.invariant.so_far c.make_local_parts-parts.ensures.stepped)
 
-pub returns-in_err-make_local_parts-clause-going :
-    goal.returns-in_err-make_local_parts-clause-going
-returns-in_err-make_local_parts-clause-going g c within =
-    let p = err_from_is_err_and c.from_residual-in_err-make_local_parts.result c.from_residual-in_err-make_local_parts.ensures.1 in
-    let open_yet = ap is_some (sym c.outcome.ensures.value) ∙ c.is_none.ensures ∙ ap not c.loop-machine-test.true in
-    rw p.1 (LeadsWithoutTurn-outcome c.loop-machine.machine c.make_local_parts.new.machine c.make_local_parts.ensures.stepped ∙ none_from c.loop-machine.machine.outcome (λ x is. false≢true (sym open_yet ∙ ap is_some is)))
+pub returns-in_err-both-clause-going :
+    goal.returns-in_err-both-clause-going
+returns-in_err-both-clause-going g c within =
+    let p = err_from_is_err_and c.from_residual-in_err-both.result c.from_residual-in_err-both.ensures.1 in
+    let open_yet = ap is_some (sym c.outcome.ensures.value) ∙ c.is_none.ensures ∙ ap not c.loop-landings-test.true in
+    rw p.1 (LeadsWithoutTurn-outcome c.loop-landings.machine c.make_local_parts-parts.new.machine c.make_local_parts-parts.ensures.stepped ∙ none_from c.loop-landings.machine.outcome (λ x is. false≢true (sym open_yet ∙ ap is_some is)))
 
-pub loop-machine-smaller : goal.loop-machine-smaller
-loop-machine-smaller g c =
-    let m = c.loop-machine.machine in
-    let open_yet = ap is_some (sym c.outcome.ensures.value) ∙ c.is_none.ensures ∙ ap not c.loop-machine-test.true in
-    let turned : c.turn.new.self ≡ event (with_phases m) Turn = c.in_ok-turn.ensures.ok ∙ ap (λ (x : MachineState). event x Turn) c.in_ok-make_local_parts.ensures.ok in
-    rows_left m c.outcome.ensures.sound open_yet c.turn.new.self (superstep-made m c.outcome.ensures.sound open_yet c.turn.new.self turned)
+pub loop-landings-smaller : goal.loop-landings-smaller
+loop-landings-smaller g c =
+    let m = c.loop-landings.machine in
+    let phases : c.make_local_parts-parts.new.machine ≡ with_phases m = of_ok c.make_local_parts-parts.result (c.in_ok-both.ensures.ok.0 refl).1 c.make_local_parts-parts.ensures.ok in
+    let open_yet = ap is_some (sym c.outcome.ensures.value) ∙ c.is_none.ensures ∙ ap not c.loop-landings-test.true in
+    let turned : c.make_turn.new.machine ≡ event (with_phases m) Turn = c.in_ok-landings.ensures.ok ∙ ap (λ (x : MachineState). event x Turn) phases in
+    rows_left m c.outcome.ensures.sound open_yet c.make_turn.new.machine (superstep-made m c.outcome.ensures.sound open_yet c.make_turn.new.machine turned)
 
-pub loop-machine-preserved : goal.loop-machine-preserved
-loop-machine-preserved g c =
-    let m = c.loop-machine.machine in
-    let so_far = c.loop-machine.invariant in
+pub loop-landings-preserved : goal.loop-landings-preserved
+loop-landings-preserved g c =
+    let m = c.loop-landings.machine in
+    let phases : c.make_local_parts-parts.new.machine ≡ with_phases m = of_ok c.make_local_parts-parts.result (c.in_ok-both.ensures.ok.0 refl).1 c.make_local_parts-parts.ensures.ok in
+    let so_far = c.loop-landings.invariant in
     let sound = c.outcome.ensures.sound in
-    let open_yet = ap is_some (sym c.outcome.ensures.value) ∙ c.is_none.ensures ∙ ap not c.loop-machine-test.true in
-    let turned : c.turn.new.self ≡ event (with_phases m) Turn = c.in_ok-turn.ensures.ok ∙ ap (λ (x : MachineState). event x Turn) c.in_ok-make_local_parts.ensures.ok in
+    let open_yet = ap is_some (sym c.outcome.ensures.value) ∙ c.is_none.ensures ∙ ap not c.loop-landings-test.true in
+    let turned : c.make_turn.new.machine ≡ event (with_phases m) Turn = c.in_ok-landings.ensures.ok ∙ ap (λ (x : MachineState). event x Turn) phases in
+    let before = LeadsTo-on c.args.machine.now m c.make_local_parts-parts.new.machine so_far.so_far c.make_local_parts-parts.ensures.stepped in
     record {
-      so_far = LeadsTo-turn c.args.machine.now c.make_local_parts.new.machine c.turn.new.self
-          (LeadsTo-on c.args.machine.now m c.make_local_parts.new.machine so_far.so_far c.make_local_parts.ensures.stepped) c.in_ok-turn.ensures.ok;
-      same_end = ap end_of (superstep-made m sound open_yet c.turn.new.self turned) ∙ end_of-superstep m sound ∙ so_far.same_end;
+      so_far = LeadsTo-turn c.args.machine.now c.make_local_parts-parts.new.machine c.make_turn.new.machine before c.in_ok-landings.ensures.ok;
+      same_end = ap end_of (superstep-made m sound open_yet c.make_turn.new.machine turned) ∙ end_of-superstep m sound ∙ so_far.same_end;
       over = λ over. absurd (false≢true (sym open_yet ∙ ap (λ (x : MachineState). is_some x.outcome) (so_far.over over) ∙ over));
+      no_worker = λ refused.
+          let wanted = c.in_ok-landings.ensures.no_worker refused in
+          let same = LeadsTo-length c.args.machine.now c.make_local_parts-parts.new.machine before in
+          (wanted.0, omega (arith, wanted.1, same));
     }
 
-pub returns-in_err-turn-clause-err : goal.returns-in_err-turn-clause-err
-returns-in_err-turn-clause-err g c =
-    let p = err_from_is_err_and c.from_residual-in_err-turn.result c.from_residual-in_err-turn.ensures.1 in
-    let phases = LeadsTo-on c.args.machine.now c.loop-machine.machine c.make_local_parts.new.machine c.loop-machine.invariant.so_far c.make_local_parts.ensures.stepped in
-    rw p.1 (phases.0, c.in_err-turn.ensures.err ∙ phases.1)
+pub returns-in_err-landings-clause-err : goal.returns-in_err-landings-clause-err
+returns-in_err-landings-clause-err g c =
+    let p = err_from_is_err_and c.from_residual-in_err-landings.result c.from_residual-in_err-landings.ensures.1 in
+    let phases = LeadsTo-on c.args.machine.now c.loop-landings.machine c.make_local_parts-parts.new.machine c.loop-landings.invariant.so_far c.make_local_parts-parts.ensures.stepped in
+    rw p.1 (phases.0, c.in_err-landings.ensures.err ∙ phases.1)
 
 pub returns-clause-ok : goal.returns-clause-ok
 returns-clause-ok g c =
-    let over = ap is_some (sym c.outcome.ensures.value) ∙ c.is_none.ensures ∙ ap not c.loop-machine-test.false in
-    sym (end_of-there c.loop-machine.machine over) ∙ c.loop-machine.invariant.same_end
+    let over = ap is_some (sym c.outcome.ensures.value) ∙ c.is_none.ensures ∙ ap not c.loop-landings-test.false in
+    sym (end_of-there c.loop-landings.machine over) ∙ c.loop-landings.invariant.same_end
 
 pub returns-clause-stopped : goal.returns-clause-stopped
 returns-clause-stopped g c within =
-    HaveCome-over c.loop-machine.machine c.outcome.ensures.sound (ap is_some (sym c.outcome.ensures.value) ∙ c.is_none.ensures ∙ ap not c.loop-machine-test.false)
+    HaveCome-over c.loop-landings.machine c.outcome.ensures.sound (ap is_some (sym c.outcome.ensures.value) ∙ c.is_none.ensures ∙ ap not c.loop-landings-test.false)

@@ -1,0 +1,5 @@
+use Rattle.std.proofs.Common.{rules}
+use Rattle.phase_pool.proofs.pool.fn.make_turn.replace_with+FnOnce.call_once.Goals as goal
+
+pub replace_with-requires : goal.replace_with-requires
+replace_with-requires g c = search rules

@@ -104,6 +104,7 @@ class Why:
             "StoreOutside": self.access_outside,
             "LoadOutside": self.access_outside,
             "Break": self.trap,
+            "Misaligned": self.odd_entry,
             "UnknownCall": self.unknown_call,
         }
         return tellers.get(fault, self.no_code)(node, superstep)
@@ -111,6 +112,10 @@ class Why:
     def trap(self, _node: Node, _superstep: int) -> list[str]:
         """An EBREAK."""
         return ["the compiler saw that the program goes wrong here, as at a use of NULL, and put a trap"]
+
+    def odd_entry(self, node: Node, _superstep: int) -> list[str]:
+        """An entry at an odd address, which no jump comes to."""
+        return [f"the program begins at {node.pc:#x}, and instructions stand at even addresses"]
 
     def unknown_call(self, node: Node, _superstep: int) -> list[str]:
         """A call of no number."""

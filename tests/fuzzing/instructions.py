@@ -1,4 +1,4 @@
-"""Words of instructions, real ones and spoiled ones, and their statements as a listing spells them."""
+"""Words and halfwords of instructions, real ones and spoiled ones, and their statements as a listing spells them."""
 
 from __future__ import annotations
 
@@ -57,10 +57,19 @@ def words(chance: random.Random, count: int) -> List[int]:
     return made
 
 
+def half_word(chance: random.Random) -> int:
+    """A halfword that is no beginning of a word: most of these are compressed instructions."""
+    return chance.randrange(1 << 14) << 2 | chance.randrange(3)
+
+
 def code(chance: random.Random, count: int) -> bytes:
-    """The bytes of such words, of which the last may be cut."""
-    made = words(chance, count)
-    content = struct.pack(f"<{len(made)}I", *made)
+    """The bytes of such words, in half of the images with halfwords among them. The last may be cut."""
+    rate = chance.choice([0, 0, 20, 50])
+    content = b""
+    for word in words(chance, count):
+        while chance.randrange(100) < rate:
+            content += struct.pack("<H", half_word(chance))
+        content += struct.pack("<I", word)
     return content[: len(content) - chance.choice([0, 0, 0, 1, 2, 3])]
 
 

@@ -12,3 +12,8 @@ at_ok (Err e) P holds is = absurd (cc)
 pub not_err : {T E : Type 0} (answer : Result T E) (P : Type 0) → IsTrue (is_ok answer) → OnErr answer P
 not_err (Ok x) P is = tt
 not_err (Err e) P is = absurd (cc)
+
+-- what holds anyway holds at an error
+pub on_err : {T E : Type 0} (answer : Result T E) (P : Type 0) → P → OnErr answer P
+on_err (Ok x) P holds = tt
+on_err (Err e) P holds = holds

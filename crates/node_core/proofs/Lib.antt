@@ -3,6 +3,7 @@ pub mod Bytes
 pub mod Calls
 pub mod Communications
 pub mod Effects
+pub mod Fetch
 pub mod Harts
 pub mod Messages
 pub mod OneStep

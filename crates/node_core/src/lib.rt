@@ -1,4 +1,4 @@
-//! A node of the machine: a hart of RV32IM with a memory of its own, which makes environment calls by ECALL.
+//! A node of the machine: a hart of RV32IMC with a memory of its own, which makes environment calls by ECALL.
 //!
 //! The model of a [`Node`] is one record, a `NodeState`, with two notes beside it: whether room is made for the turn of its
 //! registrations, and which pages of its memory are its own and not shared with other nodes. The record has the hart (rank, number of nodes, registers, pc, memory, place in the input, and what the node communicates:
@@ -9,11 +9,11 @@
 //! What callers may rely on:
 //!
 //! - Each step of a running node is one tick, also where it ends in a fault. It executes the instruction at pc, or else
-//!   it ends in the first fault of this order: `Misaligned` where pc is no multiple of four, `FetchOutside` where the
-//!   four bytes at pc do not lie in the memory, `IllegalInstruction` where no instruction has that word, and then the
-//!   instruction's own.
-//! - A fault leaves the hart as it was, pc too: only state and ticks differ. A jump to no multiple of four is such a
-//!   fault, and does not link. Loads and stores work at any address, with the least significant byte first.
+//!   it ends in the first fault of this order: `Misaligned` where pc is odd, `FetchOutside` where the two bytes at
+//!   pc do not lie in the memory, or the four where the low bits of these two are 11, `IllegalInstruction` where no instruction
+//!   has that code, and then the instruction's own. Then pc is past the instruction's 2 or 4 bytes, or where a jump goes.
+//! - A fault leaves the hart as it was, pc too: only state and ticks differ. No jump is a fault. Loads and stores work at any
+//!   address, with the least significant byte first.
 //! - A node that has made its last tick and still runs is [`Exhausted`](State::Exhausted); one that stops by that very
 //!   step keeps the state in which it stopped.
 //! - `step` and `run` answer `Ok` for a node that does not run, and change nothing.
@@ -65,8 +65,8 @@
 //!
 //! Any other number is `UnknownCall`. Where two stores of one call overlap, the later named lands over the earlier.
 //!
-//! Sources: The RISC-V Instruction Set Manual, Volume I: Unprivileged ISA, 20191213, chapters 2, 3 and 7, for the
-//! instructions; BSPlib (Hill and others, 1998) for the calls but `write` and `read`; `abort` stops its own node alone, and
+//! Sources: The RISC-V Instruction Set Manual, Volume I: Unprivileged ISA, 20191213, chapters 2, 3, 7 and 16, for
+//! the instructions; BSPlib (Hill and others, 1998) for the calls but `write` and `read`; `abort` stops its own node alone, and
 //! `hpput` and `hpget` are `put` and `get`. Own rules for faults, ticks, output, input, limits and the numbers of the calls.
 #![tactic(auto)]
 

@@ -5,11 +5,11 @@ use std::fmt;
 /// Why a node was stopped by its own program (own rules).
 #[derive(Clone, Copy, Debug, PartialEq, Eq)]
 pub enum Fault {
-    /// The word at pc is that of no instruction.
+    /// The code at pc is that of no instruction.
     IllegalInstruction,
-    /// The four bytes at pc are not all in memory.
+    /// The two bytes at pc, or the four where their low bits are 11, are not all in memory.
     FetchOutside,
-    /// pc, or the target of a jump or a taken branch, is no multiple of four.
+    /// pc is odd.
     Misaligned,
     /// A load reaches past the memory, also one into x0.
     LoadOutside,

@@ -1,6 +1,6 @@
 -- What a table of pages shows as a memory: the pages' bytes one after another, and which pages are own. `f` gives a page's
 -- bytes, and `g` says whether it is own.
-use Rattle.std.proofs.Common.{◌≡◌, ℕ, ◌+◌, ◌*◌, ◌/◌, ◌%◌, ◌<◌, ◌≤◌, Bool, false, List, [], ◌∷◌, ◌++◌, length, get_or, set, take, map, replicate, refl, sym, ap, ◌∙◌, arith, Some, None}
+use Rattle.std.proofs.Common.{◌≡◌, ℕ, ◌+◌, ◌*◌, ◌/◌, ◌%◌, ◌<◌, ◌≤◌, ◌^◌, Bool, true, false, List, [], ◌∷◌, ◌++◌, length, get_or, set, take, map, replicate, refl, sym, ap, ◌∙◌, arith, Some, None}
 use Rattle.std.specs.Prelude.{slice_get, IsTrue, if◌then◌else◌}
 use Rattle.std.specs.List.{flat_map}
 use Rattle.std.proofs.lemmas.List.{length-map, map-set, map_push, take_more, append-nil, get_or-map, set-get_or, length_push, replicate_more, replicate-append-replicate}
@@ -86,6 +86,17 @@ word-shown {X} {f} {g} {xs} {m} h addr value x in' within is read =
     let b2 : get_or (f x) (addr % 4096 + 2) 0 ≡ get_or m.bytes (addr + 2) 0 = next-shown h addr 2 x in' (omega arith) is in
     let b3 : get_or (f x) (addr % 4096 + 3) 0 ≡ get_or m.bytes (addr + 3) 0 = next-shown h addr 3 x in' (omega arith) is in
     word_read m.bytes m.bytes addr value refl (omega arith) (read ∙ cc)
+
+-- the lower half of a word in a page is the half-word there
+pub low-shown : {X : Type 0} {f : X → List ℕ} {g : X → Bool} {xs : List X} {m : PagedMemory} → Shows f g xs m → (addr value : ℕ) (x : X) → addr / 4096 < length xs → addr % 4096 + 4 ≤ 4096 → x ≡ get_or xs (addr / 4096) x
+    → value % 2 ^ 16 ≡ get_or (f x) (addr % 4096) 0 + get_or (f x) (addr % 4096 + 1) 0 * 256
+    → value % 2 ^ 16 ≡ half_at m.bytes addr
+low-shown {X} {f} {g} {xs} {m} h addr value x in' within is read =
+    let size = size-shown h in
+    let fit : fits (length m.bytes) addr 2 ≡ true = grind (arith, nat_tests) in
+    let half = half-shown h addr (value % 2 ^ 16) x in' (omega arith) is read in
+    let here = rw fit at half in
+    grind (arith, common_steps, here)
 
 pub load-shown : {X : Type 0} {f : X → List ℕ} {g : X → Bool} {xs : List X} {m : PagedMemory} → Shows f g xs m → (addr value : ℕ) (x : X) → addr / 4096 < length xs → x ≡ get_or xs (addr / 4096) x → value ≡ get_or (f x) (addr % 4096) 0
     → Some value ≡ (if fits (length m.bytes) addr 1 then Some (byte_at m.bytes addr) else None)

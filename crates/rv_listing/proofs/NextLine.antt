@@ -1,55 +1,68 @@
 -- The first of the lines that are left.
-use Rattle.std.proofs.Common.{◌≡◌, ℕ, ◌+◌, ◌-◌, ◌*◌, ◌/◌, ◌%◌, ◌<◌, ◌≤◌, List, [], ◌∷◌, length, get_or, ◌∙◌, arith, zero-add}
-use Rattle.std.proofs.lemmas.List.{drop_more, drop_all, get_or_append_left, get_or-append_right, length-append}
-use Rattle.std.proofs.lemmas.List.FromFn.{length-map-range_with_len, get_or-map-range_with_len}
+use Rattle.std.proofs.Common.{◌≡◌, ℕ, zero, suc, ◌+◌, ◌-◌, ◌<◌, ◌≤◌, Bool, true, false, List, [], ◌∷◌, Option, Some, None, length, map, refl, ap, ap₂, sym, ◌∙◌, arith}
+use Rattle.std.proofs.lemmas.Bool.Decides.{nat_tests}
+use Rattle.std.specs.List.{range_with_len}
+use Rattle.std.specs.Option.{option_map_or}
+use Rattle.rv_tables.specs.declared.code.Code.{Code}
+use Rattle.rv_tables.specs.declared.code.Code.TheVariants.{Half, Word}
+use Rattle.rv_tables.specs.Codes.{code_at, length_of}
 use Rattle.rv_listing.specs.declared.lines.Line.{Line}
-use Rattle.rv_listing.specs.declared.lines.Line.TheVariants.{Word}
-use Rattle.rv_listing.specs.Lines.{IsPlace, lines_left}
-use Rattle.rv_listing.specs.Listing.{listing_lines, word_line, byte_line, word_lines, byte_lines}
+use Rattle.rv_listing.specs.declared.lines.Line.TheVariants.{Code as CodeLine}
+use Rattle.rv_listing.specs.Lines.{IsPlace, next_code as code_left, lines_left}
+use Rattle.rv_listing.specs.Listing.{listing_lines, lines_from, byte_line, byte_lines}
 
-length-word_lines : (addr : ℕ) (bytes : List ℕ) → length (word_lines addr bytes) ≡ length bytes / 4
-length-word_lines addr bytes = simp length-map-range_with_len
+code-some : (code : Code) → 2 ≤ length_of code
+code-some (Half half) = omega arith
+code-some (Word word) = omega arith
 
--- one line for each four bytes, and one for each that is left
-length-listing_lines : (addr : ℕ) (bytes : List ℕ) → length (listing_lines addr bytes) ≡ length bytes / 4 + length bytes % 4
-unfolding listing_lines
-length-listing_lines addr bytes = simp (length-append, length-map-range_with_len)
+none_at_end : (bytes : List ℕ) (at : ℕ) → length bytes ≤ at → code_at bytes at ≡ None
+none_at_end bytes at end = grind (arith, nat_tests)
 
-line_at_word : (addr : ℕ) (bytes : List ℕ) (i at : ℕ) (d : Line) → i < length bytes / 4 → 4 * i ≡ at → get_or (listing_lines addr bytes) i d ≡ word_line addr bytes at
-unfolding listing_lines
-line_at_word addr bytes i at d h e =
-    get_or_append_left (word_lines addr bytes) (byte_lines addr bytes) d i (omega (arith, length-word_lines addr bytes))
-    ∙ get_or-map-range_with_len (λ j. word_line addr bytes (4 * j)) 0 (length bytes / 4) i i d h (zero-add i)
-    ∙ (cc)
+code_at-within : (bytes : List ℕ) (at : ℕ) (code : Code) → code_at bytes at ≡ Some code → at + length_of code ≤ length bytes
+code_at-within bytes at (Half half) is = grind (arith, nat_tests)
+code_at-within bytes at (Word word) is = grind (arith, nat_tests)
 
-line_at_byte : (addr : ℕ) (bytes : List ℕ) (i at : ℕ) (d : Line) → 4 * (length bytes / 4) ≤ at → at < length bytes → i + 4 * (length bytes / 4) ≡ length bytes / 4 + at → get_or (listing_lines addr bytes) i d ≡ byte_line addr bytes at
-unfolding listing_lines
-line_at_byte addr bytes i at d low high e =
-    get_or-append_right (word_lines addr bytes) (byte_lines addr bytes) (length bytes / 4) i d (length-word_lines addr bytes) (omega arith)
-    ∙ get_or-map-range_with_len (byte_line addr bytes) (4 * (length bytes / 4)) (length bytes % 4) (i - length bytes / 4) at d (omega arith) (omega arith)
+each : (f g : Code → List Line) (d : List Line) (o : Option Code) → ((code : Code) → f code ≡ g code) → option_map_or f o d ≡ option_map_or g o d
+each f g d None same = refl
+each f g d (Some code) same = same code
 
--- where four bytes are left, the next line is their word's
-pub next_word : (addr : ℕ) (bytes : List ℕ) (at : ℕ) → IsPlace addr bytes at → at + 4 ≤ length bytes → lines_left addr bytes at ≡ word_line addr bytes at ∷ lines_left addr bytes (at + 4)
-next_word addr bytes at place more =
-    let first : at % 4 ≡ 0 = place.at_word (omega arith) in
-    let d : Line = Word 0 0 in
-    let step = drop_more (listing_lines addr bytes) (at / 4 + at % 4) d (omega (arith, length-listing_lines addr bytes)) in
-    let line = line_at_word addr bytes (at / 4 + at % 4) at d (omega arith) (omega arith) in
-    let next : (at + 4) / 4 + (at + 4) % 4 ≡ at / 4 + at % 4 + 1 = omega arith in
-    cc
+-- how many codes there may be does not matter, where it is as many as there are bytes
+enough : (addr : ℕ) (bytes : List ℕ) (n m at : ℕ) → length bytes ≤ n + at → length bytes ≤ m + at → lines_from n addr bytes at ≡ lines_from m addr bytes at
+enough addr bytes zero zero at few few' = refl
+enough addr bytes zero (suc m) at few few' = rw (none_at_end bytes at (omega arith)) refl
+enough addr bytes (suc n) zero at few few' = rw (none_at_end bytes at (omega arith)) refl
+enough addr bytes (suc n) (suc m) at few few' =
+    each _ _ _ (code_at bytes at) (λ code.
+    let some = code-some code in
+    ap (λ lines. CodeLine (addr + at) code ∷ lines) (enough addr bytes n m (at + length_of code) (omega arith) (omega arith)))
 
--- where fewer are left, it is that of one of them
-pub next_byte : (addr : ℕ) (bytes : List ℕ) (at : ℕ) → IsPlace addr bytes at → length bytes < at + 4 → at < length bytes → lines_left addr bytes at ≡ byte_line addr bytes at ∷ lines_left addr bytes (at + 1)
-next_byte addr bytes at place few more =
-    let place_here = place.at_word in
-    let low : 4 * (length bytes / 4) ≤ at = grind arith in
-    let d : Line = Word 0 0 in
-    let step = drop_more (listing_lines addr bytes) (at / 4 + at % 4) d (omega (arith, length-listing_lines addr bytes)) in
-    let line = line_at_byte addr bytes (at / 4 + at % 4) at d low more (omega arith) in
-    let next : (at + 1) / 4 + (at + 1) % 4 ≡ at / 4 + at % 4 + 1 = omega arith in
-    cc
+lines-from_bytes : (addr : ℕ) (bytes : List ℕ) (at : ℕ) → lines_from (length bytes - at) addr bytes at ≡ lines_from (suc (length bytes - at)) addr bytes at
+lines-from_bytes addr bytes at = enough addr bytes (length bytes - at) (suc (length bytes - at)) at (omega arith) (omega arith)
+
+-- a code has a line
+pub next_code : (addr : ℕ) (bytes : List ℕ) (at : ℕ) (is_rest : Bool) (code : Code) → code_left bytes at is_rest ≡ Some code → lines_left addr bytes at is_rest ≡ CodeLine (addr + at) code ∷ lines_left addr bytes (at + length_of code) is_rest
+next_code addr bytes at true code is = absurd (cc)
+next_code addr bytes at false code is =
+    let within = code_at-within bytes at code is in
+    let rest = enough addr bytes (length bytes - at) (length bytes - (at + length_of code)) (at + length_of code) (omega arith) (omega arith) in
+    lines-from_bytes addr bytes at ∙ rw is (ap (λ lines. CodeLine (addr + at) code ∷ lines) rest)
+
+pub code_left-within : (bytes : List ℕ) (at : ℕ) (is_rest : Bool) (code : Code) → code_left bytes at is_rest ≡ Some code → at + length_of code ≤ length bytes
+code_left-within bytes at true code is = absurd (cc)
+code_left-within bytes at false code is = code_at-within bytes at code is
+
+-- without a whole code, what is left are bytes
+rest_lines : (addr : ℕ) (bytes : List ℕ) (at : ℕ) (is_rest : Bool) → code_left bytes at is_rest ≡ None → lines_left addr bytes at is_rest ≡ byte_lines addr bytes at
+rest_lines addr bytes at true none = refl
+rest_lines addr bytes at false none = lines-from_bytes addr bytes at ∙ rw none refl
+
+pub next_byte : (addr : ℕ) (bytes : List ℕ) (at : ℕ) (is_rest : Bool) → code_left bytes at is_rest ≡ None → at < length bytes → lines_left addr bytes at is_rest ≡ byte_line addr bytes at ∷ lines_left addr bytes (at + 1) true
+next_byte addr bytes at is_rest none more =
+    let split : length bytes - at ≡ suc (length bytes - (at + 1)) = omega arith in
+    rest_lines addr bytes at is_rest none ∙ ap (λ n. map (byte_line addr bytes) (range_with_len at n)) split
 
 -- and none where no byte is left
-pub no_line : (addr : ℕ) (bytes : List ℕ) (at : ℕ) → IsPlace addr bytes at → length bytes ≤ at → lines_left addr bytes at ≡ []
-no_line addr bytes at place end =
-    drop_all (at / 4 + at % 4) (listing_lines addr bytes) (let within = place.within in omega (arith, length-listing_lines addr bytes))
+pub no_line : (addr : ℕ) (bytes : List ℕ) (at : ℕ) (is_rest : Bool) → code_left bytes at is_rest ≡ None → length bytes ≤ at → lines_left addr bytes at is_rest ≡ []
+no_line addr bytes at is_rest none end =
+    let zero_left : length bytes - at ≡ 0 = omega arith in
+    rest_lines addr bytes at is_rest none ∙ ap (λ n. map (byte_line addr bytes) (range_with_len at n)) zero_left

@@ -1,42 +1,45 @@
--- The listing of an image, as disassemblers write one: a line for each word, with its address and its statement (own
+-- The listing of an image, as disassemblers write one: a line for each instruction, with its address and its statement (own
 -- layout).
-use Rattle.std.specs.Prelude.{ℕ, ◌+◌, ◌*◌, ◌/◌, ◌%◌, List, ◌++◌, codes, length, map}
+use Rattle.std.specs.Prelude.{ℕ, zero, suc, ◌+◌, ◌-◌, List, [], ◌∷◌, ◌++◌, codes, length, map}
 use Rattle.std.specs.List.{flat_map, range_with_len}
-use Rattle.node_memory.specs.Bytes.{byte_at, word_at}
+use Rattle.std.specs.Option.{option_map_or}
+use Rattle.node_memory.specs.Bytes.{byte_at}
 use Rattle.node_memory.specs.Image.{Image, Segment}
+use Rattle.rv_tables.specs.declared.code.Code.TheVariants.{Half, Word}
+use Rattle.rv_tables.specs.Codes.{length_of, code_at}
 use Rattle.rv_listing.specs.declared.lines.Line.{Line}
-use Rattle.rv_listing.specs.declared.lines.Line.TheVariants.{Word, Byte}
-use Rattle.rv_listing.specs.Numerals.{two_digits, eight_digits}
+use Rattle.rv_listing.specs.declared.lines.Line.TheVariants.{Code, Byte}
+use Rattle.rv_listing.specs.Numerals.{two_digits, four_digits, eight_digits}
 use Rattle.rv_listing.specs.Statement.{statement_of}
 
 -- a byte as data
 abbrev pub byte_data : ℕ → List ℕ
 byte_data byte = codes ".byte 0x" ++ two_digits byte
 
--- a line of a whole word: its address, the word and its statement; of a byte: its address, the byte, and the byte as data
--- in the column of the statements
+-- a line: its address, the code or the byte there, and in one column for all of them the statement, or the byte as data
 abbrev pub text_of : Line → List ℕ
-text_of (Word addr word) = eight_digits addr ++ codes ": " ++ eight_digits word ++ codes "  " ++ statement_of word addr
+text_of (Code addr (Half half)) = eight_digits addr ++ codes ": " ++ four_digits half ++ codes "      " ++ statement_of (Half half) addr
+text_of (Code addr (Word word)) = eight_digits addr ++ codes ": " ++ eight_digits word ++ codes "  " ++ statement_of (Word word) addr
 text_of (Byte addr byte) = eight_digits addr ++ codes ": " ++ two_digits byte ++ codes "        " ++ byte_data byte
 
--- of bytes from an address on: the line of the word that begins at an offset, and that of the byte there
-abbrev pub word_line : ℕ → List ℕ → ℕ → Line
-word_line addr bytes offset = Word (addr + offset) (word_at bytes offset)
-
+-- of bytes from an address on: the line of the byte at an offset
 abbrev pub byte_line : ℕ → List ℕ → ℕ → Line
-byte_line addr bytes offset = Byte (addr + offset) (byte_at bytes offset)
+byte_line addr bytes at = Byte (addr + at) (byte_at bytes at)
 
--- the lines of the whole words, which begin at each fourth byte
-abbrev pub word_lines : ℕ → List ℕ → List Line
-word_lines addr bytes = map (λ i. word_line addr bytes (4 * i)) (range_with_len 0 (length bytes / 4))
+-- the lines of the bytes from an offset on, one for each
+abbrev pub byte_lines : ℕ → List ℕ → ℕ → List Line
+byte_lines addr bytes at = map (byte_line addr bytes) (range_with_len at (length bytes - at))
 
--- the lines of the bytes after the whole words, of which there are up to three
-abbrev pub byte_lines : ℕ → List ℕ → List Line
-byte_lines addr bytes = map (byte_line addr bytes) (range_with_len (4 * (length bytes / 4)) (length bytes % 4))
+-- the lines of the bytes from an offset on, of which at most n are of codes: that of the code there and those of the bytes
+-- behind it; or one for each byte, where what is left is no whole code
+abbrev pub lines_from : ℕ → ℕ → List ℕ → ℕ → List Line
+lines_from zero addr bytes at = byte_lines addr bytes at
+lines_from (suc n) addr bytes at =
+    option_map_or (λ code. Code (addr + at) code ∷ lines_from n addr bytes (at + length_of code)) (code_at bytes at) (byte_lines addr bytes at)
 
--- the lines of bytes from an address on
+-- the lines of bytes from an address on. There are fewer codes than bytes
 unfoldable pub listing_lines : ℕ → List ℕ → List Line
-listing_lines addr bytes = word_lines addr bytes ++ byte_lines addr bytes
+listing_lines addr bytes = lines_from (length bytes) addr bytes 0
 
 -- a line's text and the line feed that ends it
 abbrev pub ended_text : Line → List ℕ

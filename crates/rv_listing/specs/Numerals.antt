@@ -16,6 +16,10 @@ hexadecimal_in width n = replicate (width - length (hexadecimal n)) 48 ++ hexade
 abbrev pub two_digits : ℕ → List ℕ
 two_digits n = hexadecimal_in 2 n
 
+-- a halfword, in four digits
+abbrev pub four_digits : ℕ → List ℕ
+four_digits n = hexadecimal_in 4 n
+
 -- a word, in eight digits
 abbrev pub eight_digits : ℕ → List ℕ
 eight_digits n = hexadecimal_in 8 n

@@ -1,7 +1,8 @@
--- The assembly statement of a word (RISC-V Unprivileged ISA 20191213, chapter 24 "RV32/64G Instruction Set Listings" and
+-- The assembly statement of a code (RISC-V Unprivileged ISA 20191213, chapter 24 "RV32/64G Instruction Set Listings" and
 -- chapter 25 "RISC-V Assembly Programmer's Handbook"): mnemonic and operands in the order in which assemblers take them.
 -- Registers have their numbers, and jumps and branches name the address to which they go; the orders of a fence are not
--- written (own choices, as is the spelling without blanks between operands).
+-- written; a compressed instruction is written as what it expands to, with a comment (own choices, as is the spelling without
+-- blanks between operands).
 use Rattle.std.specs.Prelude.{ℕ, ◌^◌, List, [], ◌∷◌, ◌++◌, codes, ℤ, pos, ◌+ℤ◌, unsigned_abs}
 use Rattle.std.specs.Int.{int_rem_euclid}
 use Rattle.std.specs.List.{flat_map}
@@ -10,8 +11,11 @@ use Rattle.std.specs.Fmt.{decimal, signed_decimal}
 use Rattle.rv_tables.specs.declared.instr.Instr.{Instr}
 use Rattle.rv_tables.specs.declared.instr.Instr.TheVariants.{R, I, Shift, Load, Store, Branch, Upper, Jal, Jalr, Plain}
 use Rattle.rv_tables.specs.Mnemonics.{mnemonic_of}
+use Rattle.rv_tables.specs.declared.code.Code.{Code}
+use Rattle.rv_tables.specs.declared.code.Code.TheVariants.{Half, Word}
+use Rattle.rv_tables.specs.Compressed.{expansion_of}
 use Rattle.rv_tables.specs.Rows.{instruction_of}
-use Rattle.rv_listing.specs.Numerals.{hexadecimal, eight_digits}
+use Rattle.rv_listing.specs.Numerals.{hexadecimal, four_digits, eight_digits}
 
 -- the register with a number, as `x10`
 abbrev pub register : ℕ → List ℕ
@@ -51,10 +55,18 @@ operand_list (first ∷ others) = codes " " ++ first ++ flat_map (λ operand. co
 abbrev pub instruction_text : ℕ → Instr → List ℕ
 instruction_text addr i = mnemonic_of i ++ operand_list (operands_of i addr)
 
--- a word that spells no instruction, as data
-abbrev pub data_text : ℕ → List ℕ
-data_text word = codes ".word 0x" ++ eight_digits word
+-- a compressed instruction at `addr`, by the instruction to which it expands
+abbrev pub compressed_text : ℕ → Instr → List ℕ
+compressed_text addr i = instruction_text addr i ++ codes " # compressed"
 
--- the statement of a word at `addr`: its instruction, or data where it spells none
-unfoldable pub statement_of : ℕ → ℕ → List ℕ
-statement_of word addr = option_map_or (instruction_text addr) (instruction_of word) (data_text word)
+-- a halfword and a word without an instruction, as data
+abbrev pub half_data : ℕ → List ℕ
+half_data half = codes ".half 0x" ++ four_digits half
+
+abbrev pub word_data : ℕ → List ℕ
+word_data word = codes ".word 0x" ++ eight_digits word
+
+-- the statement of a code at `addr`: its instruction, or data where it has none
+unfoldable pub statement_of : Code → ℕ → List ℕ
+statement_of (Half half) addr = option_map_or (compressed_text addr) (expansion_of half) (half_data half)
+statement_of (Word word) addr = option_map_or (instruction_text addr) (instruction_of word) (word_data word)

@@ -1,19 +1,22 @@
-//! Assembly statements of words, and listings of images.
+//! Assembly statements of codes, and listings of images.
 //!
-//! A word at an address is one statement: the instruction that it spells, with the address to which it jumps where it
-//! does, or data where it spells none. A listing has a line for each word of each segment, with its address.
+//! A code at an address is one statement: the instruction that it spells, with the address to which it jumps where it
+//! does, or data where it spells none. A listing has a line for each code of each segment, with its address.
 //!
 //! What callers may rely on:
 //!
-//! - [`list`] answers the statement's text, and refuses nothing but memory. [`Statement`] displays as the same text.
+//! - [`list`] answers the text of the statement with which a word begins, and refuses nothing but memory. [`Statement`] displays
+//!   as the text of a code's.
 //! - [`Lines`] goes over the lines of a segment in order, without memory: each [`Line`] displays as its text. So whoever
 //!   writes a listing needs room for one line at a time. The listing of an image is the lines of its segments in their
 //!   order, each ended by a line feed.
-//! - [`TwoDigits`] and [`EightDigits`] display bytes and words as listings write them, for other texts that show such.
-//! - The text of a word does not rest on the words beside it, and says nothing of labels, sections or pseudo-instructions.
+//! - [`TwoDigits`], [`FourDigits`] and [`EightDigits`] display bytes, halfwords and words as listings write them, for other texts
+//!   that show such.
+//! - The text of a code does not rest on the codes beside it, and says nothing of labels, sections or pseudo-instructions. A
+//!   compressed instruction has the text of the one to which it expands, with a comment that it is compressed.
 //!
 //! Source: The RISC-V Instruction Set Manual, Volume I: Unprivileged ISA, 20191213, the listings of chapter 24 and the
-//! assembly of chapter 25. Layout and the spelling of numbers are this project's own.
+//! assembly of chapter 25; section 1.5 for how long codes are. Layout and the spelling of numbers are this project's own.
 #![tactic(auto)]
 
 mod lines;
@@ -21,5 +24,5 @@ mod numerals;
 mod statement;
 
 pub use lines::{Line, Lines};
-pub use numerals::{EightDigits, TwoDigits};
+pub use numerals::{EightDigits, FourDigits, TwoDigits};
 pub use statement::{Statement, list};

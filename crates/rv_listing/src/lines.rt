@@ -1,12 +1,15 @@
 //! The lines of a listing.
 
 ghost use Rattle.std.specs.Prelude.{◌≡◌, ◌+◌, ◌≤◌, length};
-ghost use Rattle.node_memory.specs.Bytes.{word_at};
+ghost use Rattle.node_memory.specs.Bytes.{half_at, word_at};
+ghost use Rattle.rv_tables.specs.Codes.{code_at};
 ghost use Rattle.rv_listing.specs.Listing.{listing_lines};
+ghost use Rattle.rv_listing.specs.Lines.{next_code};
 
-use crate::numerals::{EightDigits, TwoDigits};
+use crate::numerals::{EightDigits, FourDigits, TwoDigits};
 use crate::statement::Statement;
 use node_memory::Segment;
+use rv_tables::Code;
 use std::alloc::Allocator;
 use std::fmt;
 use std::marker::Model;
@@ -14,9 +17,10 @@ use std::marker::Model;
 /// A line of a listing. Its text is the line without the line feed that ends it.
 #[derive(Clone, Copy, Debug, PartialEq, Eq)]
 pub enum Line {
-    /// The four bytes at `addr` as a word, the low byte first: `00000000: 00300893  addi x17,x0,3`.
-    Word { addr: u32, word: u32 },
-    /// The byte at `addr`, which is of no whole word: `00000004: 73        .byte 0x73`.
+    /// The code at `addr`, the low byte first: `00000000: 00300893  addi x17,x0,3`, or
+    /// `00000000: 488d      addi x17,x0,3 # compressed`.
+    Code { addr: u32, code: Code },
+    /// The byte at `addr`, which is of no whole code: `00000004: 73        .byte 0x73`.
     Byte { addr: u32, byte: u8 },
 }
 
@@ -28,10 +32,17 @@ impl fmt::Display for Line {
 
     fn fmt<W: fmt::Write>(&self, f: &mut fmt::Formatter<W>) -> fmt::Result {
         match *self {
-            Line::Word { addr, word } => {
-                let (address, digits) = (EightDigits(addr), EightDigits(word));
-                let statement = Statement { word, addr };
-                write!(f, "{address}: {digits}  {statement}")
+            Line::Code { addr, code } => {
+                let address = EightDigits(addr);
+                let statement = Statement { code, addr };
+                match code {
+                    Code::Half(half) => write!(
+                        f,
+                        "{address}: {}      {statement}",
+                        FourDigits(half)
+                    ),
+                    Code::Word(word) => write!(f, "{address}: {}  {statement}", EightDigits(word)),
+                }
             }
             Line::Byte { addr, byte } => {
                 let (address, digits) = (EightDigits(addr), TwoDigits(byte));
@@ -41,8 +52,8 @@ impl fmt::Display for Line {
     }
 }
 
-/// The lines of a segment that are left, from the lowest address up: one for each whole word of its bytes, and then one
-/// for each of up to three bytes after them. The zeros that follow a segment's bytes have no lines.
+/// The lines of a segment that are left, from the lowest address up: one for each code of its bytes, and then, where what is
+/// left is no whole code, one for each of these one to three bytes. The zeros that follow a segment's bytes have no lines.
 ///
 /// Contracts see the list of the lines that are left.
 #[derive(Drop)]
@@ -51,6 +62,8 @@ pub struct Lines<'a> {
     bytes: &'a [u8],
     // how many of the bytes have had their lines
     at: usize,
+    // whether one of these was of no whole code, so that none follows
+    is_rest: bool,
 }
 
 impl<'a> Model for Lines<'a> {
@@ -60,7 +73,7 @@ impl<'a> Model for Lines<'a> {
 
     ghost Value = { List Line };
 
-    ghost view = { λ l. lines_left l.addr l.bytes.now l.at };
+    ghost view = { λ l. lines_left l.addr l.bytes.now l.at l.is_rest };
 
     ghost invariant = { λ l. IsPlace l.addr l.bytes.now l.at };
 }
@@ -74,6 +87,7 @@ impl<'a> Lines<'a> {
             addr: segment.addr,
             bytes: segment.bytes.as_slice(),
             at: 0,
+            is_rest: false,
         }
     }
 }
@@ -87,18 +101,19 @@ impl<'a> Iterator for Lines<'a> {
 
     ghost remaining = { item_count (λ left. left) };
 
-    #[tactic(auto, using(crate::proofs::NextLine::next_word, crate::proofs::NextLine::next_byte, crate::proofs::NextLine::no_line))]
+    #[tactic(auto, using(crate::proofs::NextLine::next_code, crate::proofs::NextLine::next_byte, crate::proofs::NextLine::no_line))]
     fn next(&mut self) -> Option<Line> {
         let at = self.at;
         let bytes = self.bytes;
-        if at + 4 <= bytes.len() {
-            self.at += 4;
-            Some(Line::Word {
+        if let Some(code) = next_code(bytes, at, self.is_rest) {
+            self.at += code.length() as usize;
+            Some(Line::Code {
                 addr: self.addr + at as u32,
-                word: word_at(bytes, at),
+                code,
             })
         } else if at < bytes.len() {
             self.at += 1;
+            self.is_rest = true;
             Some(Line::Byte {
                 addr: self.addr + at as u32,
                 byte: bytes[at],
@@ -107,6 +122,38 @@ impl<'a> Iterator for Lines<'a> {
             None
         }
     }
+}
+
+/// The code at an index, if there is one whole and it is not among what no whole code was left of.
+fn next_code(bytes: &[u8], at: usize, is_rest: bool) -> Option<Code>
+    requires { at ≤ length bytes.now }
+    ensures { result ≡ next_code bytes.now at is_rest }
+{
+    if is_rest { None } else { code_at(bytes, at) }
+}
+
+/// The code at an index, or none where the bytes end before it does.
+fn code_at(bytes: &[u8], at: usize) -> Option<Code>
+    requires { at ≤ length bytes.now }
+    ensures { result ≡ code_at bytes.now at }
+{
+    let left = bytes.len() - at;
+    if left < 2 {
+        return None;
+    }
+    match Code::first_in(u32::from(half_at(bytes, at))) {
+        Code::Half(half) => Some(Code::Half(half)),
+        Code::Word(_) if left < 4 => None,
+        Code::Word(_) => Some(Code::Word(word_at(bytes, at))),
+    }
+}
+
+/// The half-word at an index, its low byte first.
+fn half_at(bytes: &[u8], at: usize) -> u16
+    requires { at + 2 ≤ length bytes.now }
+    ensures { result ≡ half_at bytes.now at }
+{
+    u16::from_le_bytes([bytes[at], bytes[at + 1]])
 }
 
 /// The word at an index, its low byte first.

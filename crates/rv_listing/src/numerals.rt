@@ -19,6 +19,23 @@ impl fmt::Display for TwoDigits {
     }
 }
 
+/// A halfword. Its text has four lower-case hexadecimal digits.
+#[derive(Clone, Copy, Debug)]
+pub struct FourDigits(pub u16);
+
+impl fmt::Display for FourDigits {
+    ghost use Rattle.std.specs.Prelude.{Some};
+    ghost use Rattle.rv_listing.specs.Numerals.{four_digits};
+
+    ghost output = { λ n. Some (four_digits n.0) };
+
+    #[tactic(auto, using(crate::proofs::Hexadecimal::padded_is_hexadecimal_in))]
+    fn fmt<W: fmt::Write>(&self, f: &mut fmt::Formatter<W>) -> fmt::Result {
+        let half = self.0;
+        write!(f, "{half:04x}")
+    }
+}
+
 /// A word. Its text has eight lower-case hexadecimal digits.
 #[derive(Clone, Copy, Debug)]
 pub struct EightDigits(pub u32);

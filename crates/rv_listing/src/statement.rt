@@ -1,18 +1,19 @@
-//! The assembly statement of a word.
+//! The assembly statement of a code.
 
 ghost use Rattle.std.specs.Prelude.{◌≡◌, IfOk};
+ghost use Rattle.rv_tables.specs.Codes.{code_in};
 ghost use Rattle.rv_listing.specs.Operands.{operand_texts};
 ghost use Rattle.rv_listing.specs.Statement.{statement_of, operands_of, target_address};
 
-use crate::numerals::EightDigits;
-use rv_tables::{Instr, decode, mnemonic};
+use crate::numerals::{EightDigits, FourDigits};
+use rv_tables::{Code, Instr, decode, decode16, mnemonic};
 use std::alloc::{AllocError, Allocator};
 use std::fmt;
 
-/// A word at an address. Its text is the word's assembly statement there, in ASCII: `addi x17,x0,3`.
+/// A code at an address. Its text is its assembly statement there, in ASCII: `addi x17,x0,3`, or `addi x17,x0,3 # compressed`.
 #[derive(Clone, Copy, Debug, PartialEq, Eq)]
 pub struct Statement {
-    pub word: u32,
+    pub code: Code,
     pub addr: u32,
 }
 
@@ -20,14 +21,20 @@ impl fmt::Display for Statement {
     ghost use Rattle.std.specs.Prelude.{Some};
     ghost use Rattle.rv_listing.specs.Statement.{statement_of};
 
-    ghost output = { λ s. Some (statement_of s.word s.addr) };
+    ghost output = { λ s. Some (statement_of s.code s.addr) };
 
     #[tactic(auto, unfolding(crate::specs::Statement::statement_of))]
     fn fmt<W: fmt::Write>(&self, f: &mut fmt::Formatter<W>) -> fmt::Result {
         let addr = self.addr;
-        match decode(self.word) {
-            Some(instr) => write!(f, "{}", InstructionAt { instr, addr }),
-            None => write!(f, ".word 0x{}", EightDigits(self.word)),
+        match self.code {
+            Code::Half(half) => match decode16(half) {
+                Some(instr) => write!(f, "{} # compressed", InstructionAt { instr, addr }),
+                None => write!(f, ".half 0x{}", FourDigits(half)),
+            },
+            Code::Word(word) => match decode(word) {
+                Some(instr) => write!(f, "{}", InstructionAt { instr, addr }),
+                None => write!(f, ".word 0x{}", EightDigits(word)),
+            },
         }
     }
 }
@@ -138,11 +145,13 @@ impl fmt::Display for Operand {
     }
 }
 
-/// The text of a word's assembly statement at an address: `list(alloc, 0x0000_0663, 0)` is `beq x0,x0,0x0000000c`.
+/// The text of the assembly statement with which a word begins, at an address: `list(alloc, 0x0000_0663, 0)` is
+/// `beq x0,x0,0x0000000c`. Where the word's low bits are not 11, the statement is that of its lower half.
 ///
 /// It is an error only where memory is refused.
 pub fn list<A: Allocator>(alloc: A, word: u32, addr: u32) -> Result<Vec<u8, A>, AllocError>
-    ensures { IfOk result (λ text. text.items ≡ statement_of word addr) }
+    ensures { IfOk result (λ text. text.items ≡ statement_of (code_in word) addr) }
 {
-    Ok(format!(in alloc; "{}", Statement { word, addr })?.into_bytes())
+    let code = Code::first_in(word);
+    Ok(format!(in alloc; "{}", Statement { code, addr })?.into_bytes())
 }

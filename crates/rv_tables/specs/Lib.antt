@@ -1,3 +1,4 @@
+pub mod Codes
 pub mod Compressed
 pub mod Fields
 pub mod Halfwords

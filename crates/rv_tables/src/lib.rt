@@ -12,6 +12,8 @@
 //!   and is the only one to do so, but for the two fences.
 //! - [`decode16`] answers the instruction that a halfword expands to, and none for a halfword of no compressed row or of a
 //!   reserved code. What it answers is an instruction that `encode` takes.
+//! - A [`Code`] is what stands in memory for one instruction: a halfword or a word, as its low bits tell. It has a length in bytes
+//!   and at most one instruction, by the two above.
 //! - [`reg_number`] and [`mnemonic`] know the names of the manual, and no others.
 //! - [`laws`] has what holds of all words: each spells at most one instruction, which is the one that is decoded. And of all
 //!   halfwords: each is of at most one compressed row.
@@ -20,6 +22,7 @@
 //! of chapter 24 and the names of chapter 25, and chapter 16 for RV32C, of which floating point is left out.
 #![tactic(auto)]
 
+mod code;
 mod compressed;
 mod decoder;
 mod encoder;
@@ -32,6 +35,7 @@ mod registers;
 mod table;
 mod words;
 
+pub use code::Code;
 pub use compressed::decode16;
 pub use decoder::decode;
 pub use encoder::encode;

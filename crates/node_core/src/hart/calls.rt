@@ -26,9 +26,12 @@ pub(super) const A4: u8 = 14;
 
 pub(super) const A7: u8 = 17;
 
+/// The bytes of an ECALL.
+const ECALL_BYTES: u32 = 4;
+
 impl<A: Allocator + Copy> Hart<A> {
-    ghost use Rattle.node_core.specs.Hart.{advanced, room_after};
-    ghost use Rattle.node_core.specs.Calls.{named_call, call_effect, ecall_effect, output_checks, output_effect, checked};
+    ghost use Rattle.node_core.specs.Hart.{advanced, goes_on, room_after};
+    ghost use Rattle.node_core.specs.Calls.{named_call, call_effect, ecall_effect, answers, output_checks, output_effect, checked};
     ghost use Rattle.node_core.specs.Calls.{MayRefuseCall, MayRefuseEcall, HaveNoFault};
 
     /// The call whose number is in a7.
@@ -57,8 +60,8 @@ impl<A: Allocator + Copy> Hart<A> {
     {
         match call {
             Call::End => Ok(self.leave(State::Ended)),
-            Call::Nprocs => Ok(self.put(A0, self.nprocs)),
-            Call::Pid => Ok(self.put(A0, self.rank)),
+            Call::Nprocs => Ok(self.answer(self.nprocs)),
+            Call::Pid => Ok(self.answer(self.rank)),
             Call::Sync => Ok(self.leave(State::Synced)),
             Call::PushReg => self.push_reg(),
             Call::PopReg => self.pop_reg(),
@@ -75,7 +78,23 @@ impl<A: Allocator + Copy> Hart<A> {
         }
     }
 
-    /// Goes on at the next instruction, in the state `after`.
+    /// Goes on after the ECALL.
+    pub(super) fn advance(&mut self) -> State
+        ensures hart { goes_on (advanced self.old.hart) ≡ record { hart = self.new.hart; state = result } }
+        ensures rest { self.new ≡ record self.old { hart = self.new.hart } }
+    {
+        self.pass(ECALL_BYTES)
+    }
+
+    /// Goes on after the ECALL, with `value` in a0.
+    fn answer(&mut self, value: u32) -> State
+        ensures hart { answers value self.old.hart ≡ record { hart = self.new.hart; state = result } }
+        ensures rest { self.new ≡ record self.old { hart = self.new.hart } }
+    {
+        self.put(A0, value, ECALL_BYTES)
+    }
+
+    /// Goes on after the ECALL, in the state `after`.
     fn leave(&mut self, after: State) -> State
         ensures state { result ≡ after }
         ensures hart { self.new ≡ record self.old { hart = advanced self.old.hart } }
@@ -132,7 +151,7 @@ impl<A: Allocator + Copy> Hart<A> {
             Err(error) => return not_written(error),
         }
         self.cursor += count;
-        Ok(self.put(A0, count as u32))
+        Ok(self.answer(count as u32))
     }
 }
 

@@ -6,8 +6,9 @@
 //! text a tab before the operands was made a blank, shift amounts decimal, and targets eight digits; what follows `#`,
 //! and the orders of fences (`fence.tso` and `fence iorw,iorw`, say) were left out.
 
-/// An address, a word, and its statement there. The last five are worked by hand: two of them are of no instruction.
-pub static STATEMENTS: [(u32, u32, &str); 145] = [
+/// An address, a word, and its statement there. The last six are worked by hand: two of them are of no instruction, and the
+/// last two are halfwords below others.
+pub static STATEMENTS: [(u32, u32, &str); 146] = [
     (0x4, 0x00F0_0FB3, "add x31,x0,x15"),
     (0x10, 0x410F_8033, "sub x0,x31,x16"),
     (0x1C, 0x0088_9533, "sll x10,x17,x8"),
@@ -152,5 +153,6 @@ pub static STATEMENTS: [(u32, u32, &str); 145] = [
     (0xC, 0x10A0_2023, "sw x10,256(x0)"),
     (0x0, 0x0000_0663, "beq x0,x0,0x0000000c"),
     (0x0, 0xFFFF_FFFF, ".word 0xffffffff"),
-    (0x1000, 0x0000_0001, ".word 0x00000001"),
+    (0x1000, 0x0000_488D, "addi x17,x0,3 # compressed"),
+    (0x1000, 0xFFFF_0000, ".half 0x0000"),
 ];

@@ -1,0 +1,2 @@
+    .entry 1
+    nop

@@ -9,6 +9,7 @@ pub mod Messages
 pub mod OneStep
 pub mod OwnStores
 pub mod Ranks
+pub mod Refused
 pub mod Room
 pub mod Signed
 pub mod Sound

@@ -16,7 +16,7 @@ returns-clause-refuses g c =
     let view = ap (λ (p : PreparedHart). fetched p.hart) c.self.view_is in
     let word = c.match-load32_in_page.word in
     let code : Some (code_in word) ≡ fetched h = elim c.match-load32_in_page.branch [
-      in-Some w ↦ rw w.word-is (code_at_word c.self.inside.memory.bytes c.self.inside.pc w.in-Some.word w.in-Some.ensures.value w.in-Some.ensures.low ∙ view)
+      | in-Some w ↦ rw w.word-is (code_at_word c.self.inside.memory.bytes c.self.inside.pc w.in-Some.word w.in-Some.ensures.value w.in-Some.ensures.low ∙ view)
       | in-None+in-Some-fetch w ↦ rw w.word-is (ap (option_map code_in) (sym w.in-Some-fetch.is) ∙ w.fetch.ensures)
     ] in
     let four : code_length word ≡ 4 = sym c.code_length.ensures ∙ c.if-code_length-ne4.false in

@@ -1,7 +1,9 @@
 pub mod Answered
 pub mod Bytes
 pub mod Calls
+pub mod CodePages
 pub mod Communications
+pub mod Decoded
 pub mod Effects
 pub mod Fetch
 pub mod Harts

@@ -10,13 +10,14 @@ ghost use Rattle.node_core.specs.Calls.{call_effect, with_word, MayRefuseCall};
 
 use super::Hart;
 use super::calls::{A0, A1, not_written};
+use crate::code_memory::CodeMemory;
 use crate::state::State;
-use node_memory::{Memory, WriteError};
+use node_memory::WriteError;
 use std::alloc::{AllocError, Allocator};
 
 /// Writes a word, and then bytes over it. All pages are made the memory's own before a byte changes, so that it is both or neither.
 fn write_word_and_bytes<A: Allocator + Copy>(
-    memory: &mut Memory<A>,
+    memory: &mut CodeMemory<A>,
     word_addr: u32,
     word: u32,
     addr: u32,

@@ -1,7 +1,7 @@
 use Rattle.std.proofs.Common.{◌≡◌, ◌%◌, Some, sym, ap, ◌∙◌}
 use Rattle.std.specs.Prelude.{option_map}
 use Rattle.rv_tables.specs.Codes.{code_in, code_length}
-use Rattle.node_core.specs.Effects.{fetched, instruction_at_pc}
+use Rattle.node_core.specs.Effects.{fetched}
 use Rattle.node_core.specs.Hart.{PreparedHart}
 use Rattle.node_core.proofs.Fetch.{code_at_word, instruction_at_pc-word}
 use Rattle.node_core.proofs.Refused.{may_refuse}

@@ -5,6 +5,9 @@
 //! `exchanged` is the list after the exchange: a function of the list before it alone, so that the order in which the nodes came
 //! there does not matter.
 //!
+//! [`plan`] is all of an exchange that takes memory or can be refused. It hands out a [`Part`] for each node, which lands once, by
+//! whichever thread and in whatever order of the nodes; the exchange is made when each has landed.
+//!
 //! What callers may rely on:
 //!
 //! - An exchange is refused for the first of its faults (own order): a next tag size or a sequence of pushes and pops that is not

@@ -10,6 +10,7 @@ pub mod Latest
 pub mod Loads
 pub mod Lookups
 pub mod PartOrder
+pub mod Patched
 pub mod Patches
 pub mod Planned
 pub mod Preparing

@@ -10,13 +10,14 @@ ghost use Rattle.bsp_exchange.specs.Exchange.{AreAtSync, states};
 ghost use Rattle.bsp_exchange.specs.Faults.{exchange_fault, first_outside, is_outside, leaves_area};
 ghost use Rattle.bsp_exchange.specs.Issued.{issued, issued_by};
 ghost use Rattle.bsp_exchange.specs.Landings.{area_start, memory_of};
-ghost use Rattle.bsp_exchange.specs.Arrivals.{nothing, received_at, fetched, with_get, with_put, with_message, with_asked, with_issued};
+ghost use Rattle.bsp_exchange.specs.Arrivals.{nothing, received_at, fetched, message_of, with_get, with_put, with_message, with_asked, with_issued};
 ghost use Rattle.bsp_exchange.specs.Parts.{target_of, changed_at};
 
 use crate::arrivals::Arrivals;
 use crate::checks::area_at;
-use bsp_requests::{Get, Request};
+use bsp_requests::{Get, Outgoing, Request};
 use node_core::Node;
+use shared_bytes::SharedBytes;
 use std::alloc::{AllocError, Allocator};
 
 /// What each node receives in the exchange among `nodes`, by rank. All that the exchange needs of memory for it is taken here.
@@ -103,14 +104,10 @@ fn add_request<A: Allocator + Copy>(
 {
     match request {
         Request::Put(put) => {
-            let bytes = put.bytes.as_slice();
-            add_put(nodes, put.target, put.slot, put.offset, bytes, parts)
+            add_put(nodes, put.target, put.slot, put.offset, &put.bytes, parts)
         }
         Request::Get(get) => add_get(nodes, caller, get, parts),
-        Request::Send(message) => {
-            let (tag, payload) = (message.tag.as_slice(), message.payload.as_slice());
-            add_message(caller as u16, message.target, tag, payload, parts)
-        }
+        Request::Send(message) => add_message(caller as u16, message, parts),
     }
 }
 
@@ -120,7 +117,7 @@ fn add_put<A: Allocator + Copy>(
     target: u16,
     slot: usize,
     offset: u32,
-    bytes: &[u8],
+    bytes: &SharedBytes<A>,
     parts: &mut [Arrivals<A>],
 ) -> Result<(), AllocError>
     requires parts { length parts.old ≡ length nodes.now }
@@ -154,16 +151,13 @@ fn add_get<A: Allocator + Copy>(
 /// Adds a message to its target's part.
 fn add_message<A: Allocator + Copy>(
     sender: u16,
-    target: u16,
-    tag: &[u8],
-    payload: &[u8],
+    message: &Outgoing<A>,
     parts: &mut [Arrivals<A>],
 ) -> Result<(), AllocError>
-    requires target { target < length parts.old }
-    ensures { OnOk result (parts.new
-        ≡ changed_at (with_message (record { sender = sender; tag = tag.now; payload = payload.now })) target parts.old) }
+    requires target { message.now.target < length parts.old }
+    ensures { OnOk result (parts.new ≡ changed_at (with_message (message_of sender message.now)) message.now.target parts.old) }
 {
-    parts[target as usize].add_message(sender, tag, payload)
+    parts[message.target as usize].add_message(sender, &message.tag, &message.payload)
 }
 
 /// Where a transfer of `len` bytes begins that keeps to its area, in the memory of the area's node.

@@ -53,21 +53,6 @@ impl<A: Allocator + Copy> Landings<A> {
         }
     }
 
-    /// Adds a copy of `bytes`, which land from `addr` on, after those that wait.
-    #[tactic(auto, using(crate::proofs::Patches::patches_push))]
-    pub(crate) fn push(&mut self, addr: u32, bytes: &[u8]) -> Result<(), AllocError>
-        ensures ok { OnOk result (self.new ≡ self.old ++ record { addr = addr; bytes = bytes.now } ∷ []) }
-        ensures err { OnErr result (self.new ≡ self.old) }
-    {
-        self.ranges.reserve(1)?;
-        self.bytes.extend_from_slice(bytes)?;
-        self.ranges.push_reserved(Range {
-            addr,
-            len: bytes.len(),
-        });
-        Ok(())
-    }
-
     /// Adds a copy of the `len` bytes from `from` on of a memory, which land from `addr` on, after those that wait.
     #[tactic(auto, using(crate::proofs::Patches::patches_push_range))]
     pub(crate) fn push_copy_of(

@@ -38,6 +38,7 @@ mod landings;
 pub mod laws;
 mod part;
 mod planning;
+mod puts;
 mod sync;
 mod traffic;
 

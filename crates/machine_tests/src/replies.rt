@@ -10,6 +10,7 @@ use cost_ledger::Ledger;
 use debug_lines::reply_text;
 use list_vec::ListVec;
 use refusing_allocator::RefusingAllocator;
+use shared_bytes::SharedBytes;
 use std::alloc::{AllocError, Global};
 use std::process::Abort;
 use std::test::Fail;
@@ -58,8 +59,8 @@ fn message(
 ) -> Result<Message<Global>, AllocError> {
     Ok(Message {
         sender,
-        tag: ListVec::from_vec(Vec::from_slice(alloc, tag)?),
-        payload: ListVec::from_vec(Vec::from_slice(alloc, payload)?),
+        tag: SharedBytes::from_slice(alloc, tag)?,
+        payload: SharedBytes::from_slice(alloc, payload)?,
     })
 }
 

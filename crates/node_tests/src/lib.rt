@@ -23,6 +23,8 @@ mod node;
 #[cfg(test)]
 mod requests;
 #[cfg(test)]
+mod shared;
+#[cfg(test)]
 mod slots;
 #[cfg(test)]
 mod tables;

@@ -1,23 +1,15 @@
 //! Tests of `bsp_requests`.
 
-ghost use Rattle.std.specs.Prelude.{◌≡◌, IfOk};
-
 use bsp_requests::{AddError, Get, Outgoing, Put, Requests};
-use list_vec::ListVec;
 use refusing_allocator::RefusingAllocator;
-use std::alloc::{AllocError, Allocator, Global};
+use shared_bytes::SharedBytes;
+use std::alloc::{Allocator, Global};
 use std::test::Fail;
 
 type Heap = RefusingAllocator<Global>;
 
-fn list<A: Allocator>(alloc: A, bytes: &[u8]) -> Result<ListVec<u8, A>, AllocError>
-    ensures { IfOk result (λ l. l ≡ bytes.now) }
-{
-    Ok(ListVec::from_vec(bytes.to_vec(alloc)?))
-}
-
-fn add_put<A: Allocator>(requests: &mut Requests<A>, alloc: A) -> Result<(), AddError> {
-    let bytes = list(alloc, b"put")?;
+fn add_put<A: Allocator + Copy>(requests: &mut Requests<A>, alloc: A) -> Result<(), AddError> {
+    let bytes = SharedBytes::from_slice(alloc, b"put")?;
     requests.add_put(Put {
         target: 2,
         slot: 7,
@@ -37,8 +29,8 @@ fn add_get<A: Allocator>(requests: &mut Requests<A>, len: u32) -> Result<(), Add
 }
 
 fn add_send<A: Allocator + Copy>(requests: &mut Requests<A>, alloc: A) -> Result<(), AddError> {
-    let tag = list(alloc, b"t")?;
-    let payload = list(alloc, b"ag")?;
+    let tag = SharedBytes::from_slice(alloc, b"t")?;
+    let payload = SharedBytes::from_slice(alloc, b"ag")?;
     requests.add_send(Outgoing {
         target: 3,
         tag,

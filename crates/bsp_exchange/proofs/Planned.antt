@@ -127,10 +127,10 @@ received_same ps qs same =
     ap₂ (λ (ns : List NodeState) (n : ℕ). map (received_at ns) (range_with_len 0 n)) (sym same) long
 
 -- there are no more nodes than ranks that a node can know of
-few_nodes : (nodes : List NodeState) → CanExchange nodes → length nodes ≤ 256
+few_nodes : (nodes : List NodeState) → CanExchange nodes → length nodes ≤ 1024
 few_nodes [] can = omega arith
 few_nodes (n ∷ nodes) can = omega (arith, (can.sound 0 n (omega arith)).few, can.row.counts 0 n (omega arith))
 
-pub few_planned : (ps : List PreparedNode) (arrivals : List Received) → CanExchange (states ps) → arrivals ≡ map (received_at (states ps)) (range_with_len 0 (length ps)) → length arrivals ≤ 256
+pub few_planned : (ps : List PreparedNode) (arrivals : List Received) → CanExchange (states ps) → arrivals ≡ map (received_at (states ps)) (range_with_len 0 (length ps)) → length arrivals ≤ 1024
 few_planned ps arrivals can planned =
     omega (arith, few_nodes (states ps) can, ap length planned ∙ length-map-range_with_len (received_at (states ps)) 0 (length ps), length-states ps)

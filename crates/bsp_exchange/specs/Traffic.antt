@@ -5,6 +5,7 @@ use Rattle.std.specs.Prelude.{ℕ, ◌==◌, not, max, List, map, filter, sum_by
 use Rattle.std.specs.List.{fold}
 use Rattle.bsp_requests.specs.Request.{Asked, asks_put, asks_get, asks_send, size_of}
 use Rattle.node_core.specs.Node.{NodeState}
+use Rattle.bsp_exchange.specs.declared.traffic.Traffic.{Traffic}
 use Rattle.bsp_exchange.specs.Issued.{issued}
 
 -- so many bytes, and so many messages with them, go from one rank to another, or to itself
@@ -54,3 +55,7 @@ h_all_of nodes = h_relation (transfers nodes) nodes
 -- the most messages that a node receives from others
 abbrev pub messages_of : List NodeState → ℕ
 messages_of nodes = most (messages_received (between_ranks (transfers nodes))) nodes
+
+-- all three
+abbrev pub traffic_of : List NodeState → Traffic
+traffic_of nodes = record { h = h_of nodes; h_all = h_all_of nodes; messages = messages_of nodes }

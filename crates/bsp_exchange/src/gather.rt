@@ -95,7 +95,7 @@ fn add_request<A: Allocator + Copy>(
     request: &Request<A>,
     parts: &mut [Arrivals<A>],
 ) -> Result<(), AllocError>
-    requires few { length nodes.now ≤ 256 }
+    requires few { length nodes.now ≤ 1024 }
     requires parts { length parts.old ≡ length nodes.now }
     requires caller { caller < length nodes.now }
     requires target { target_of (asked request.now) < length nodes.now }

@@ -19,7 +19,8 @@
 //!   the tag that it was sent with.
 //! - Areas and tag sizes turn, requests and output are empty, and a node runs on, or is exhausted at its limit. Registers, pc,
 //!   ticks and the place in the input stay.
-//! - `h` is the most bytes that one node sent or received, with tags, and with what it moved to itself (own rules).
+//! - `h` is the most bytes that one node sent to others or received from others, with tags; `h_all` counts what it moved to itself
+//!   too, and `messages` is the most messages that one received from others (own rules).
 //! - Whatever is answered but Ok, every node is as it was, also where memory is refused: all memory is taken before the first byte
 //!   lands, that for copies of the shared pages into which bytes come too. Pages that were copied by then stay the nodes' own, which no
 //!   byte shows. An exchange that was refused memory can be made again.

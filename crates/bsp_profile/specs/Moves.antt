@@ -4,7 +4,7 @@ use Rattle.std.specs.Prelude.{ℕ, ◌-◌, ◌==◌, ◌&&◌, not, Bool, List,
 use Rattle.std.specs.List.{range_with_len}
 use Rattle.bsp_requests.specs.Message.{Message}
 use Rattle.node_core.specs.Node.{NodeState}
-use Rattle.bsp_exchange.specs.Queues.{queue_after}
+use Rattle.bsp_exchange.specs.Queues.{from_others, queue_after}
 use Rattle.bsp_exchange.specs.Traffic.{Transfer, transfers}
 use Rattle.machine_core.specs.Machine.{MachineState}
 use Rattle.machine_core.specs.Turn.{makes_exchange}
@@ -35,10 +35,6 @@ moved_out count ts rank = sum_by (λ to. moved ts rank to) (others count rank)
 
 abbrev pub moved_in : ℕ → List Transfer → ℕ → ℕ
 moved_in count ts rank = sum_by (λ from. moved ts from rank) (others count rank)
-
--- the messages among these that others than this rank sent
-abbrev pub from_others : ℕ → List Message → List Message
-from_others rank messages = filter (λ (m : Message). not (m.sender == rank)) messages
 
 -- the row of a node that had made so many ticks when the superstep began
 abbrev pub row_of : MachineState → NodeState × ℕ → Row

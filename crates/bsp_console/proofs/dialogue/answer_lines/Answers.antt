@@ -12,7 +12,7 @@ use Rattle.bsp_console.proofs.dialogue.answer_lines.Goals as goal
 
 pub loop-lines-init : goal.loop-lines-init
 loop-lines-init g c = record {
-  talking = rw c.new-lines.ensures (is_talking-first c.args.job.now.g c.args.job.now.l c.args.debugger.now (g.C.Read.remaining c.args.commands.now.inner) (g.W.Write.contents c.args.out.now.inner));
+  talking = rw c.new-lines.ensures (is_talking-first c.args.job.now.ledger c.args.job.now.g c.args.job.now.l c.args.debugger.now (g.C.Read.remaining c.args.commands.now.inner) (g.W.Write.contents c.args.out.now.inner));
   commands = omega arith;
   out = omega arith;
 }
@@ -86,7 +86,7 @@ loop-lines-preserved g c =
           t c.in_ok-next_line.ensures.bytes (c.next_line.ensures.line some)
           (λ e. let still = c.next_line.ensures.over e in (still.2, ap (λ r. g.C.Read.remaining r.inner) still.1)) c.next_line.ensures.ends
           c.next_line.ensures.most c.next_line.ensures.limit c.next_line.ensures.within other
-          (subst (λ asked. Answered c.args.job.now.g c.args.job.now.l asked c.loop-lines.debugger text c.answer_at_once.new.debugger) line answered) written;
+          (subst (λ asked. Answered c.args.job.now.ledger c.args.job.now.g c.args.job.now.l asked c.loop-lines.debugger text c.answer_at_once.new.debugger) line answered) written;
       commands = omega arith;
       out = omega arith;
     }

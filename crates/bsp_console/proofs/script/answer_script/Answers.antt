@@ -30,6 +30,6 @@ lines-preserved g c =
     record {
       answering = answering-step _ _ _ _ _ c.split_line.result.0.now _ c.lines.debugger c.answer_to.new.debugger _ (g.W.Write.contents c.lines.out.inner) _ text
           c.lines.invariant.answering left other
-          (subst (λ asked. Answered c.args.job.now.g c.args.job.now.l asked c.lines.debugger text c.answer_to.new.debugger) c.parse_line-line.ensures answered) written;
+          (subst (λ asked. Answered c.args.job.now.ledger c.args.job.now.g c.args.job.now.l asked c.lines.debugger text c.answer_to.new.debugger) c.parse_line-line.ensures answered) written;
       out = omega arith;
     }

@@ -33,7 +33,7 @@ loop-received-preserved g c =
     record {
       parts = next_part parts _ c.loop-received.received-iterator.rest.items rest c.in-Some.received c.new.result c.len-in-loop-received.result c.push.new.self.items c.loop-received.invariant.parts steps (c.len-in-loop-received.ensures ∙ c.loop-received.parts.ok.0) c.new.ensures pushed;
       queues = All-tail (λ (r : Received). IsQueue r.messages) c.in-Some.received rest (rw steps at c.loop-received.invariant.queues);
-      few = few_more parts c.push.new.self.items c.loop-received.received-iterator.rest.items rest c.in-Some.received c.new.result 256 steps pushed c.loop-received.invariant.few;
+      few = few_more parts c.push.new.self.items c.loop-received.received-iterator.rest.items rest c.in-Some.received c.new.result 1024 steps pushed c.loop-received.invariant.few;
     }
 
 pub returns : goal.returns

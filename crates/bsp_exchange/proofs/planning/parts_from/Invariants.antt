@@ -9,5 +9,5 @@ abbrev pub invariant-loop-received : goal.invariant-loop-received
 invariant-loop-received g l = record {
   parts : map part_from (enumerate_from 0 l.fn.arrivals.items) ≡ l.parts.items ++ map part_from (enumerate_from (length l.parts.items) l.received-iterator.rest.items);
   queues : All (λ (r : Received). IsQueue r.messages) l.received-iterator.rest.items;
-  few : length l.parts.items + length l.received-iterator.rest.items ≤ 256;
+  few : length l.parts.items + length l.received-iterator.rest.items ≤ 1024;
 }

@@ -1,6 +1,7 @@
 -- What the nodes send and receive, added up transfer by transfer.
 use Rattle.std.proofs.Common.{◌≡◌, ℕ, ◌+◌, ◌≤◌, ◌==◌, zero, suc, true, false, if◌then◌else◌, length, List, [], ◌∷◌, ◌++◌, get_or, set, take, refl, sym, ap, ◌∙◌, arith, Some}
 use Rattle.std.specs.Prelude.{All, slice_get, sum_by}
+use Rattle.std.proofs.lemmas.Bool.{eq-eqb, ne_eqb}
 use Rattle.std.proofs.lemmas.List.{length-take, take_more, map_push}
 use Rattle.std.proofs.lemmas.List.Elements.{All-nil, All-cons, All-head, All-tail, All-weaker}
 use Rattle.std.proofs.lemmas.List.Sums.{fold_push, sum_by-cons, sum_by-take-le, get_or-le-sum_by}
@@ -17,18 +18,36 @@ set-changed f i [] d = refl
 set-changed f zero (x ∷ xs) d = refl
 set-changed f (suc i) (x ∷ xs) d = ap (λ ys. x ∷ ys) (set-changed f i xs d)
 
+changed-twice : (f g h : Load → Load) → ((l : Load) → g (f l) ≡ h l) → (i : ℕ) (xs : List Load) → changed_at g i (changed_at f i xs) ≡ changed_at h i xs
+changed-twice f g h both i [] = refl
+changed-twice f g h both zero (x ∷ xs) = ap (λ (l : Load). l ∷ xs) (both x)
+changed-twice f g h both (suc i) (x ∷ xs) = ap (λ ys. x ∷ ys) (changed-twice f g h both i xs)
+
+abbrev with_bytes : ℕ → Load → Load
+with_bytes bytes l = record l { received = l.received + bytes }
+
+abbrev with_messages : ℕ → Load → Load
+with_messages messages l = record l { messages = l.messages + messages }
+
 -- the writes that add a transfer from one rank to another
-pub transfer_added : (loads : List Load) (t : Transfer) (d : Load) → (t.from == t.to) ≡ false → set (set loads t.from (with_sent t.bytes (get_or loads t.from d))) t.to (with_received t.bytes t.messages (get_or (set loads t.from (with_sent t.bytes (get_or loads t.from d))) t.to d)) ≡ with_transfer loads t
-transfer_added loads t d apart =
-    set-changed (with_received t.bytes t.messages) t.to (set loads t.from (with_sent t.bytes (get_or loads t.from d))) d
+pub transfer_added : (loads : List Load) (t : Transfer) (d : Load) → (t.from ≡ t.to → ⊥) →
+    let sent = set loads t.from (with_sent t.bytes (get_or loads t.from d)) in
+    let received = set sent t.to (with_bytes t.bytes (get_or sent t.to d)) in
+    set received t.to (with_messages t.messages (get_or received t.to d)) ≡ with_transfer loads t
+transfer_added loads t d other =
+    let sent = set loads t.from (with_sent t.bytes (get_or loads t.from d)) in
+    let received = set sent t.to (with_bytes t.bytes (get_or sent t.to d)) in
+    set-changed (with_messages t.messages) t.to received d
+    ∙ ap (changed_at (with_messages t.messages) t.to) (set-changed (with_bytes t.bytes) t.to sent d)
+    ∙ changed-twice (with_bytes t.bytes) (with_messages t.messages) (with_received t.bytes t.messages) (λ l. refl) t.to sent
     ∙ ap (changed_at (with_received t.bytes t.messages) t.to) (set-changed (with_sent t.bytes) t.from loads d)
-    ∙ sym (ap (λ b. if b then changed_at (with_kept t.bytes) t.from loads else changed_at (with_received t.bytes t.messages) t.to (changed_at (with_sent t.bytes) t.from loads)) apart)
+    ∙ sym (ap (λ b. if b then changed_at (with_kept t.bytes) t.from loads else changed_at (with_received t.bytes t.messages) t.to (changed_at (with_sent t.bytes) t.from loads)) (ne_eqb t.from t.to other))
 
 -- and the one that adds what a rank moves to itself
-pub kept_added : (loads : List Load) (t : Transfer) (d : Load) → (t.from == t.to) ≡ true → set loads t.from (with_kept t.bytes (get_or loads t.from d)) ≡ with_transfer loads t
+pub kept_added : (loads : List Load) (t : Transfer) (d : Load) → t.from ≡ t.to → set loads t.from (with_kept t.bytes (get_or loads t.from d)) ≡ with_transfer loads t
 kept_added loads t d same =
     set-changed (with_kept t.bytes) t.from loads d
-    ∙ sym (ap (λ b. if b then changed_at (with_kept t.bytes) t.from loads else changed_at (with_received t.bytes t.messages) t.to (changed_at (with_sent t.bytes) t.from loads)) same)
+    ∙ sym (ap (λ b. if b then changed_at (with_kept t.bytes) t.from loads else changed_at (with_received t.bytes t.messages) t.to (changed_at (with_sent t.bytes) t.from loads)) (eq-eqb t.from t.to same))
 
 all_changed : {X : Type 0} (P Q : X → Type 0) (f : X → X) → ((x : X) → P x → Q x) → ((x : X) → P x → Q (f x)) → (i : ℕ) (xs : List X) → All P xs → All Q (changed_at f i xs)
 all_changed P Q f keeps changes i [] all = All-nil Q

@@ -12,7 +12,7 @@ use Rattle.std.proofs.lemmas.List.Sums.{fold-append, sum_by-append, sum_by-cons}
 use Rattle.bsp_requests.specs.Request.{Asked, asks_put, asks_get, asks_send, size_of}
 use Rattle.bsp_requests.specs.Requests.{Requests}
 use Rattle.node_core.specs.Communication.{IsWellAddressed}
-use Rattle.node_core.specs.Hart.{IsHart}
+use Rattle.node_core.specs.Hart.{IsHart, max_nodes}
 use Rattle.node_core.specs.Node.{NodeState, PreparedNode}
 use Rattle.bsp_exchange.specs.declared.traffic.Load.{Load}
 use Rattle.bsp_exchange.specs.Exchange.{AreAtSync, states}
@@ -84,6 +84,14 @@ targets_named n count hart few =
     (λ r h. let named : target_of r < n.hart.nprocs = target_named n.hart.nprocs places size r h in omega (arith, named, few))
     n.hart.communication.requests.requests hart.communication.targets
 
+-- there are no more nodes than a machine may have
+few_nodes : (ps : List PreparedNode) → AreAtSync (states ps) → AreHarts (states ps) → length ps ≤ max_nodes
+few_nodes [] row harts = omega arith
+few_nodes (p ∷ ps) row harts =
+    let hart : IsHart p.node.hart = All-head (λ (m : NodeState). IsHart m.hart) p.node (states ps) harts in
+    let count : p.node.hart.nprocs ≡ length (p ∷ ps) = count_of (p ∷ ps) 0 p row (omega arith) refl in
+    omega (arith, hart.few, count)
+
 -- what nodes move weighs no more than their limits of bytes and of requests
 weight_limited : (ns : List NodeState) → AreHarts ns → weight_of (transfers ns) ≤ length ns * 2 ^ 25
 weight_limited [] harts = omega arith
@@ -101,6 +109,13 @@ loads_limited loads ns empty harts =
     let none : All (IsWithin 0) loads = All-weaker (λ l. l ≡ no_load) (IsWithin 0)
     (λ l h. record { sent = omega (arith, ap (λ (k : Load). k.sent) h); received = omega (arith, ap (λ (k : Load). k.received) h); kept = omega (arith, ap (λ (k : Load). k.kept) h); messages = omega (arith, ap (λ (k : Load). k.messages) h) }) loads empty in
     within_at_most (length ns * 2 ^ 25) (0 + weight_of (transfers ns)) (with_transfers loads (transfers ns)) (omega (arith, weight_limited ns harts)) (within_transfers 0 loads (transfers ns) none)
+
+-- and so no number of a load is more than so much
+pub loads_bounded : (first loads : List Load) (ps : List PreparedNode) → All (λ l. l ≡ no_load) first → AreAtSync (states ps) → AreHarts (states ps) → loads ≡ with_transfers first (transfers (states ps)) → All (IsWithin (2 ^ 35)) loads
+loads_bounded first loads ps empty row harts is =
+    let count : length (states ps) ≡ length ps = length-map ps (λ (p : PreparedNode). p.node) in
+    let few : length ps ≤ max_nodes = few_nodes ps row harts in
+    rw is (within_at_most (2 ^ 35) (length (states ps) * 2 ^ 25) (with_transfers first (transfers (states ps))) (omega (arith, few, count)) (loads_limited first (states ps) empty harts))
 
 changed_here : {X : Type 0} (f : X → X) (i : ℕ) (xs : List X) (d : X) → i < length xs → get_or (changed_at f i xs) i d ≡ f (get_or xs i d)
 changed_here f i [] d within = absurd (omega arith)
@@ -235,7 +250,9 @@ sum_at p part k d more loads (t ∷ ts) within =
     omega (arith, first, rest, sum_by-cons part t ts)
 
 load_same : (l : Load) (s r o m : ℕ) → l.sent ≡ s → l.received ≡ r → l.kept ≡ o → l.messages ≡ m → l ≡ record { sent = s; received = r; kept = o; messages = m }
-load_same l s r o m refl refl refl refl = refl
+load_same l s r o m is_s is_r is_o is_m =
+    ap₂ (λ a b. let k : Load = record { sent = a; received = b; kept = l.kept; messages = l.messages } in k) is_s is_r
+    ∙ ap₂ (λ a b. let k : Load = record { sent = s; received = r; kept = a; messages = b } in k) is_o is_m
 
 -- from nothing, the loads are what the transfers bring
 tallied : (loads : List Load) (ts : List Transfer) (n : ℕ) → All (λ l. l ≡ no_load) loads → n ≡ length loads → with_transfers loads ts ≡ map (load_at ts) (range_with_len 0 n)
@@ -261,16 +278,16 @@ picked_twice w p q (t ∷ ts) =
     elim (q t) as (λ b. sum_by w (filter p (cond b (t ∷ filter q ts) (filter q ts))) ≡ cond b (cond (p t) (w t) 0) 0 + sum_by w (filter p (filter q ts))) [
       | true ↦ elim (p t) as (λ b. sum_by w (cond b (t ∷ filter p (filter q ts)) (filter p (filter q ts))) ≡ cond b (w t) 0 + sum_by w (filter p (filter q ts))) [
           | true ↦ sum_by-cons w t (filter p (filter q ts))
-          | false ↦ refl
+          | false ↦ sym (zero-add (sum_by w (filter p (filter q ts))))
         ]
-      | false ↦ refl
+      | false ↦ sym (zero-add (sum_by w (filter p (filter q ts))))
     ] in
     omega (arith, rest, first, second)
 
 picked_once : (w : Transfer → ℕ) (p : Transfer → Bool) (t : Transfer) (ts : List Transfer) → sum_by w (filter p (t ∷ ts)) ≡ cond (p t) (w t) 0 + sum_by w (filter p ts)
 picked_once w p t ts = elim (p t) as (λ b. sum_by w (cond b (t ∷ filter p ts) (filter p ts)) ≡ cond b (w t) 0 + sum_by w (filter p ts)) [
   | true ↦ sum_by-cons w t (filter p ts)
-  | false ↦ refl
+  | false ↦ sym (zero-add (sum_by w (filter p ts)))
 ]
 
 -- with what is kept, they are all bytes of a rank
@@ -303,7 +320,9 @@ same_fold f g start [] each = refl
 same_fold f g start (x ∷ xs) each = ap (λ a. fold f a xs) (each start x) ∙ same_fold f g (g start x) xs each
 
 traffic_same : (t : Traffic) (h a m : ℕ) → t.h ≡ h → t.h_all ≡ a → t.messages ≡ m → t ≡ record { h = h; h_all = a; messages = m }
-traffic_same t h a m refl refl refl = refl
+traffic_same t h a m is_h is_a is_m =
+    ap₂ (λ x y. let k : Traffic = record { h = x; h_all = y; messages = t.messages } in k) is_h is_a
+    ∙ ap (λ x. let k : Traffic = record { h = h; h_all = a; messages = x } in k) is_m
 
 module _ (ts : List Transfer) (ns : List NodeState) (row : AreAtSync ns) where
   most_is : (p : Load → ℕ) (q : ℕ → ℕ) → ((k : ℕ) → p (load_at ts k) ≡ q k) → greatest_of p (map (load_at ts) (range_with_len 0 (length ns))) ≡ most q ns

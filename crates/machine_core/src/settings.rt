@@ -3,6 +3,9 @@
 use crate::error::MachineError;
 use node_memory::is_memory_size;
 
+/// The most nodes of a machine (own limit).
+const MAX_NODES: u32 = 1_024;
+
 /// How many nodes there are, and what each of them has. The ranges are own rules.
 #[derive(Clone, Copy, Debug, PartialEq, Eq)]
 pub struct Settings {

@@ -14,6 +14,7 @@ pub mod Patched
 pub mod Patches
 pub mod Planned
 pub mod Preparing
+pub mod Readings
 pub mod Refusals
 pub mod Tallies
 pub mod Transfers

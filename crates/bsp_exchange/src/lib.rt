@@ -24,7 +24,7 @@
 //! - Whatever is answered but Ok, every node is as it was, also where memory is refused: all memory is taken before the first byte
 //!   lands, that for copies of the shared pages into which bytes come too. Pages that were copied by then stay the nodes' own, which no
 //!   byte shows. An exchange that was refused memory can be made again.
-//! - [`laws`]: the greatest key counts, and no order of landing but that of the keys matters.
+//! - [`laws`]: the greatest key counts, and no order of landing but that of the keys matters; `h` is at most `h_all`.
 //!
 //! Time grows as the requests and the bytes that they move. A byte that a get or a put moves is copied once beside the copy that
 //! lands; and a page into which it comes is copied once, where it is shared until then.

@@ -4,7 +4,7 @@ use Rattle.std.specs.List.{AllZip}
 use Rattle.bsp_exchange.specs.Arrivals.{Received}
 use Rattle.bsp_exchange.specs.Exchange.{states}
 use Rattle.bsp_exchange.specs.Parts.{CanExchange, CanLand, PartState, parts_of}
-use Rattle.bsp_exchange.specs.Traffic.{h_of}
+use Rattle.bsp_exchange.specs.Traffic.{traffic_of}
 use Rattle.bsp_exchange.proofs.KeepsOwn.{EachKeepsOwn-same}
 use Rattle.bsp_exchange.proofs.Planned.{can_land_each, few_planned, parts_planned, queues_planned, received_same}
 use Rattle.bsp_exchange.proofs.planning.plan.Goals as goal
@@ -41,4 +41,4 @@ returns-clause-prepared g c =
     subst (λ (parts : List PartState). AllZip CanLand parts new) (ap parts_of same ∙ sym (parts_planned old arrivals planned) ∙ sym c.in_ok-parts.ensures) each
 
 pub returns-clause-traffic : goal.returns-clause-traffic
-returns-clause-traffic g c = c.h_of-h.ensures.value ∙ ap h_of c.in_ok-prepare_all.ensures.same
+returns-clause-traffic g c = c.in_ok-traffic.ensures ∙ ap traffic_of c.in_ok-prepare_all.ensures.same

@@ -45,6 +45,7 @@ mod sessions;
 pub use errors::{BadSetting, SessionError, status};
 pub use images::image_of;
 pub use job::{Format, Job};
+pub use cost_ledger::LedgerText;
 pub use listing::{asm_session, list_session};
 pub use machine_core::{Outcome, Settings};
 pub use profiles::profile_session;

@@ -1,5 +1,5 @@
 -- What the typed getters of the matches read.
-use Rattle.std.proofs.Common.{◌≡◌, ◌<◌, ◌^◌, ℕ, Bool, true, false, Option, Some, None, Result, ap, codes, refl, subst, sym}
+use Rattle.std.proofs.Common.{◌≡◌, ◌<◌, ◌^◌, ℕ, Bool, true, false, Option, Some, None, Result, ap, codes, refl, subst, sym, ◌∙◌}
 use Rattle.std.specs.declared.num.ParseIntError.{ParseIntError}
 use Rattle.std.specs.declared.str.ParseBoolError.{ParseBoolError}
 use Rattle.std.specs.Str.Parse.{ExplainsUnsignedError, HasUnsignedDigitsIfOk, ParsesBool, ParsesUnsigned, digits_value, without_leading_plus}
@@ -44,6 +44,12 @@ pub no_number_of_getter : (k n : ℕ) (found : Found) (id : Text)
     → ((t : Text) → one_text found id ≡ Some t → ReadsOne (Parses k) t None) → GivesNumber k (one_of id (rows_of found)) n → ⊥
 no_number_of_getter k n found id some number =
     no_number_of_text k n (one_text found id) some (subst (λ value. GivesNumber k value n) (sym (one_text-rows found id)) number)
+
+-- a value spells one number
+pub one_number : (k m n : ℕ) (value : Option Text) → GivesNumber k value m → GivesNumber k value n → m ≡ n
+one_number k m n value first second =
+    let same : first.digits ≡ second.digits = same_text (sym first.is ∙ second.is) in
+    first.number ∙ ap (λ (t : Text). digits_value 10 (without_leading_plus t)) same ∙ sym second.number
 
 flag_of_text : (b : Bool) (value : Option Text) → (value ≡ None → Some b ≡ None)
     → ((t : Text) → value ≡ Some t → ReadsOne {E = ParseBoolError} ParsesBool t (Some b)) → GivesFlag value b

@@ -27,12 +27,20 @@ const CALLS: u32 = 0x4000;
 // The whole input of each node.
 const INPUT: &[u8] = b"\0\0\0\0";
 
-// What the second exchange of `ASKING` moves: each node sends two puts of 4 bytes, two gets of 4 and two messages of 7 with
-// their tags, and receives as much.
-const ASKED: Traffic = Traffic { h: 30 };
+// What the second exchange of `ASKING` moves: each node sends a put of 4 bytes, a get of 4 and a message of 7 with its tag to the other,
+// and as much to itself, and receives as much.
+const ASKED: Traffic = Traffic {
+    h: 15,
+    h_all: 30,
+    messages: 1,
+};
 
-// That of `LARGE`: each node sends two puts of 0x1004 bytes, and receives as much.
-const PUT: Traffic = Traffic { h: 0x2008 };
+// That of `LARGE`: each node sends a put of 0x1004 bytes to the other and one to itself, and receives as much.
+const PUT: Traffic = Traffic {
+    h: 0x1004,
+    h_all: 0x2008,
+    messages: 0,
+};
 
 // Makes the calls, one after another. The words are those of GNU as.
 const MAKES_ITS_CALLS: [u32; 10] = [
@@ -108,7 +116,7 @@ fn machine<A: Allocator + Copy>(
     starts: &[Start],
     limit: u64,
 ) -> Result<Vec<Node<A>, A>, Fail> {
-    assert!(rt; starts.len() <= 256 && 0 < limit && limit <= LIMIT);
+    assert!(rt; starts.len() <= 1_024 && 0 < limit && limit <= LIMIT);
     let nprocs = starts.len() as u32;
     let mut nodes = Vec::new(alloc);
     for rank in 0..nprocs {

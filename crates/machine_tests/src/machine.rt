@@ -14,6 +14,8 @@ fn last_row(w: u64) -> CostRow {
     CostRow {
         w,
         h: 0,
+        h_all: 0,
+        messages: 0,
         turned: false,
     }
 }

@@ -6,7 +6,7 @@ ghost use Rattle.bsp_debug.specs.Reply.{answer, costs};
 
 use bsp_debug::Reply;
 use bsp_requests::Message;
-use cost_ledger::Ledger;
+use cost_ledger::{Ledger, LedgerText};
 use debug_lines::reply_text;
 use list_vec::ListVec;
 use refusing_allocator::RefusingAllocator;
@@ -28,7 +28,7 @@ fn has_text(alloc: &Heap, reply: &Reply<Global>, wanted: &str) -> Result<bool, A
     requires { (rows : List CostRowValue) → answer reply.now ≡ costs rows → ⊥ }
 {
     let ledger = Ledger::new(alloc);
-    Ok(reply_text(alloc, reply, &ledger, 2, 10)?.as_str() == wanted)
+    Ok(reply_text(alloc, reply, &ledger, LedgerText::V2, 2, 10)?.as_str() == wanted)
 }
 
 /// Sees that a reply has a text, and that each refusal of memory is answered.

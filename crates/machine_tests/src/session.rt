@@ -1,7 +1,9 @@
 //! Tests of `bsp_session`.
 
 use crate::programs::{PRINTS_ITS_RANK, bytes_of};
-use bsp_session::{Format, Job, SessionError, asm_session, list_session, session};
+use bsp_session::{
+    Format, Job, LedgerText, SessionError, asm_session, list_session, session,
+};
 use counted_io::Counted;
 use machine_core::{Outcome, Settings};
 use refusing_allocator::RefusingAllocator;
@@ -19,7 +21,13 @@ type Heap = RefusingAllocator<Global>;
 const ENDED: Result<Outcome, SessionError> = Ok(Outcome::Ended);
 
 // What PRINTS_ITS_RANK gives on three nodes, with its costs.
-const RANKS_REPORT: &str = "012superstep 0: w 10 h 0 last
+const RANKS_REPORT: &str = "012superstep 0: w 10 h 0 m 0 last
+total 10
+ended
+";
+
+// The same in the first version of the ledger.
+const RANKS_REPORT_V1: &str = "012superstep 0: w 10 h 0 last
 total 10
 ended
 ";
@@ -79,6 +87,7 @@ fn machine(nodes: u32, memory: u32, limit: u64) -> Job {
         workers: 2,
         slice: 1 << 16,
         report: false,
+        ledger: LedgerText::V2,
         g: 1,
         l: 0,
     }
@@ -162,13 +171,18 @@ fn a_writer_that_fails_keeps_what_it_took(rt: HostRuntime) -> Result<(), Fail> {
     let fault = Err(SessionError::WriteFault);
     let plain = machine(3, 4096, 10);
     let long = reported(plain);
+    let first = Job {
+        ledger: LedgerText::V1,
+        ..long
+    };
     for (job, room, answer, output) in [
         (plain, 0, fault, ""),
         (plain, 2, fault, "01"),
         (plain, 3, ENDED, "012"),
         (long, 2, fault, "01"),
         (long, 12, fault, "012superstep"),
-        (long, 45, ENDED, RANKS_REPORT),
+        (long, 49, ENDED, RANKS_REPORT),
+        (first, 45, ENDED, RANKS_REPORT_V1),
     ] {
         let (given, held) = run_with_room(&rt, rt.alloc(), &image, &job, room);
         let is_expected = given == answer && held.as_slice() == output.as_bytes();

@@ -96,6 +96,8 @@ fn turned_row(w: u64) -> CostRow {
     CostRow {
         w,
         h: 0,
+        h_all: 0,
+        messages: 0,
         turned: true,
     }
 }

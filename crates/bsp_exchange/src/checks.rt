@@ -89,6 +89,7 @@ fn first_outside<A: Allocator + Copy>(nodes: &[Node<A>]) -> Option<ExchangeFault
 }
 
 /// The fault of a node's first put or get that does not keep to its area.
+#[inline(never)]
 fn first_outside_of<A: Allocator + Copy>(nodes: &[Node<A>], node: &Node<A>) -> Option<ExchangeFault>
     ensures { result ≡ first_outside (states nodes.now) (issued_by node.now.node) }
 {

@@ -67,7 +67,8 @@ fn add_all_requests<A: Allocator + Copy>(
     Ok(())
 }
 
-/// Adds a node's requests to the parts of those that they reach.
+/// Adds a node's requests to the parts of those that they reach. It stands by itself, so that its loop has the registers.
+#[inline(never)]
 fn add_requests<A: Allocator + Copy>(
     nodes: &[Node<A>],
     node: &Node<A>,
@@ -103,9 +104,7 @@ fn add_request<A: Allocator + Copy>(
     ensures { OnOk result (parts.new ≡ with_asked (states nodes.now) caller parts.old (asked request.now)) }
 {
     match request {
-        Request::Put(put) => {
-            add_put(nodes, put.target, put.slot, put.offset, &put.bytes, parts)
-        }
+        Request::Put(put) => { add_put(nodes, put.target, put.slot, put.offset, &put.bytes, parts) }
         Request::Get(get) => add_get(nodes, caller, get, parts),
         Request::Send(message) => add_message(caller as u16, message, parts),
     }
@@ -149,6 +148,7 @@ fn add_get<A: Allocator + Copy>(
 }
 
 /// Adds a message to its target's part.
+#[inline(never)]
 fn add_message<A: Allocator + Copy>(
     sender: u16,
     message: &Outgoing<A>,

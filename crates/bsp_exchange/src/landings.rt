@@ -1,4 +1,4 @@
-//! Bytes that wait to land in one memory.
+//! Bytes that gets fetched, and that wait to land in one memory.
 
 ghost use Rattle.std.specs.Prelude.{◌≡◌, ◌<◌, ◌^◌, ◌∷◌, ◌++◌, [], length, IsTrue, OnOk, OnErr};
 ghost use Rattle.node_memory.specs.Bytes.{fits, bytes_at};
@@ -19,7 +19,7 @@ struct Range {
     len: usize,
 }
 
-/// Bytes that wait to land in one node's memory, in the order in which they land.
+/// Bytes that were fetched and wait to land in one node's memory, in the order in which they land.
 ///
 /// Contracts see them as a list of patches, each an address and its bytes. The bytes of all stand in one buffer, so that many
 /// small ones cost no memory of their own each.
@@ -86,6 +86,7 @@ impl<A: Allocator + Copy> Landings<A> {
     }
 
     /// Makes the pages in which they come to lie the node's own. They lie in its memory.
+    #[inline(never)]
     pub(crate) fn prepare(&self, node: &mut Node<A>) -> Result<(), AllocError>
         requires within { LieIn (length node.old.node.hart.memory) self.now }
         ensures node { node.new.node ≡ node.old.node }

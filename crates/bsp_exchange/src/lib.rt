@@ -26,8 +26,9 @@
 //!   byte shows. An exchange that was refused memory can be made again.
 //! - [`laws`]: the greatest key counts, and no order of landing but that of the keys matters; `h` is at most `h_all`.
 //!
-//! Time grows as the requests and the bytes that they move. A byte that a get or a put moves is copied once beside the copy that
-//! lands; and a page into which it comes is copied once, where it is shared until then.
+//! Time grows as the requests and the bytes that they move. A byte that a get moves is copied once beside the copy that lands, and a
+//! byte of a put is not, but for the few that a put holds by itself; messages go over as they are. A page into which bytes come is
+//! copied once, where it is shared until then.
 #![tactic(auto)]
 
 mod arrivals;

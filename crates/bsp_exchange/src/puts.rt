@@ -91,6 +91,7 @@ impl<A: Allocator + Copy> Puts<A> {
     }
 
     /// Makes the pages in which they come to lie the node's own. They lie in its memory.
+    #[inline(never)]
     pub(crate) fn prepare(&self, node: &mut Node<A>) -> Result<(), AllocError>
         requires within { LieIn (length node.old.node.hart.memory) self.now }
         ensures node { node.new.node ≡ node.old.node }

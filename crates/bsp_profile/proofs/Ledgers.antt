@@ -260,7 +260,7 @@ rows_greatest m sound p q whole made unmade all none = ap (fold max 0) (map_twic
         ∙ sym (ap (λ b. whole (if b then traffic_of m.nodes else no_traffic)) makes)
 
 module _ (m : MachineState) (at : NodeState × ℕ) (makes : makes_exchange m.nodes ≡ false) where
-  rank : ℕ
+  abbrev rank : ℕ
   rank = at.0.hart.rank
 
   no_sent : (row_of m at).sent ≡ 0

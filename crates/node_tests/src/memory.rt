@@ -48,8 +48,8 @@ fn a_range_that_is_read_may_be_refused(rt: HostRuntime) -> Result<(), Fail> {
     heap.refuse_nth(1);
     let outside = refusal_of_range(&memory, 4096, 1);
     assert!(rt; outside == Some(ReadError::Outside) && heap.requests() == 0);
-    assert!(rt; refusal_of_range(&memory, 0x100, 3) == Some(ReadError::NoMemory));
-    assert!(rt; has_bytes(&memory, 0x100, &[1, 2, 0])?);
+    assert!(rt; has_bytes(&memory, 0x100, &[1, 2, 0])? && heap.requests() == 0);
+    assert!(rt; refusal_of_range(&memory, 0x100, 23) == Some(ReadError::NoMemory));
     Ok(())
 }
 

@@ -32,4 +32,4 @@ returns-clause-no_lines g c =
     let script = stream g.C.Read.remaining c.args.commands.now c.answer_lines.new.commands in
     let out = stream g.W.Write.contents c.args.out.now c.answer_lines.new.out in
     IfErr-weaker c.answer_lines.result (IsErrorOfTalk c.args.job.now.ledger c.args.job.now.g c.args.job.now.l script out c.in_ok-debugger.debugger) _
-    (λ e talk file. absurd (talk-no_file _ _ script out c.in_ok-debugger.debugger e talk file)) c.answer_lines.ensures.err
+    (λ e talk file. absurd (talk-no_file _ _ _ script out c.in_ok-debugger.debugger e talk file)) c.answer_lines.ensures.err

@@ -45,4 +45,4 @@ pub returns-clause-nothing_written : goal.returns-clause-nothing_written
 returns-clause-nothing_written g c =
     let out = stream g.W.Write.contents c.args.out.now c.answer_script.new.out in
     IfErr-weaker c.answer_script.result (IsErrorOfReplies c.args.job.now.ledger c.args.job.now.g c.args.job.now.l (answered_lines c.as_slice-3.result.now) c.in_ok-debugger.debugger out) _
-    (λ e ended write memory. absurd (lines-written _ _ _ c.in_ok-debugger.debugger out e ended write memory)) c.answer_script.ensures.err
+    (λ e ended write memory. absurd (lines-written _ _ _ _ c.in_ok-debugger.debugger out e ended write memory)) c.answer_script.ensures.err

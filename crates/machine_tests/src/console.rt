@@ -5,12 +5,14 @@ use bsp_console::{debug_dialogue, debug_session};
 use bsp_session::{Format, Job, LedgerText, SessionError};
 use counted_io::Counted;
 use machine_core::Settings;
-use refusing_allocator::RefusingAllocator;
+use refusing_allocator::{Called, RefusingAllocator, Trial, expect_requests};
 use std::alloc::{Allocator, Global};
 use std::cell::Cell;
 use std::io;
 use std::io::{ErrorKind, Read, Write};
 use std::test::Fail;
+
+type Heap = RefusingAllocator<Global>;
 
 type Answer = Result<(), SessionError>;
 
@@ -139,34 +141,62 @@ fn run<A: Allocator + Copy, C: Read + Drop, W: Write>(
     (answer, out.into_inner())
 }
 
+// One of the two sessions, over the script.
+#[derive(Drop)]
+struct Answers<'a> {
+    heap: &'a Heap,
+    // Holds what is written.
+    holder: Global,
+    image: &'a [u8],
+    is_dialogue: bool,
+}
+
+impl<'a> Trial for Answers<'a> {
+    type Subject = Vec<u8>;
+
+    fn subject(&self) -> Result<Self::Subject, Fail> {
+        Ok(Vec::new(self.holder))
+    }
+
+    fn call(&self, written: &mut Self::Subject) -> Result<Called, Fail> {
+        let out = Vec::new(self.holder);
+        let script = SCRIPT.as_bytes();
+        let (answer, out) = run(self.heap, self.is_dialogue, self.image, script, out);
+        *written = out;
+        match answer {
+            Ok(()) => Ok(Called::Made),
+            Err(SessionError::NoMemory) => Ok(Called::Refused),
+            Err(error) => Err(Fail::from(error)),
+        }
+    }
+
+    fn are_same(&self, written: &Self::Subject, other: &Self::Subject) -> Result<bool, Fail> {
+        Ok(written.as_slice() == other.as_slice())
+    }
+
+    // The replies to some first lines.
+    fn may_stand(&self, refused: &Self::Subject, _before: &Self::Subject) -> Result<bool, Fail> {
+        let is_whole = refused.is_empty() || refused.last() == Some(&b'\n');
+        Ok(is_whole && REPLIES.as_bytes().starts_with(refused))
+    }
+}
+
 #[test]
-fn each_refused_request_leaves_first_replies(rt: HostRuntime) -> Result<(), Fail> {
+fn a_refused_session_leaves_first_replies(rt: HostRuntime) -> Result<(), Fail> {
     let alloc = rt.alloc();
     let image = bytes_of(alloc, &PRINTS_ITS_RANK)?;
-    let heap = RefusingAllocator::new(alloc);
-    for is_dialogue in [false, true] {
-        let mut refused = 0u32;
-        for request in 1..400 {
-            heap.refuse_nth(request);
-            let (answer, written) = run(
-                &heap,
-                is_dialogue,
-                &image,
-                SCRIPT.as_bytes(),
-                Vec::new(alloc),
-            );
-            if answer.is_err() {
-                assert!(rt; answer == Err(SessionError::NoMemory), "request {request}");
-                refused = refused.saturating_add(1);
-            } else {
-                assert!(rt; written.as_slice() == REPLIES.as_bytes());
-            }
-            assert!(rt;
-                REPLIES.as_bytes().starts_with(&written),
-                "request {request}"
-            );
-        }
-        assert!(rt; refused > 20 && refused < 399);
+    let heap = Heap::new(alloc);
+    for (name, is_dialogue, requests) in [
+        ("debug_session", false, 48),
+        ("debug_dialogue", true, 48),
+    ] {
+        let call = Answers {
+            heap: &heap,
+            holder: alloc,
+            image: &image,
+            is_dialogue,
+        };
+        expect_requests(&rt, &heap, name, &call, requests)?;
     }
     Ok(())
 }

@@ -3,6 +3,8 @@
 #![tactic(auto)]
 
 #[cfg(test)]
+mod calls;
+#[cfg(test)]
 mod console;
 #[cfg(test)]
 mod debugger;
@@ -11,10 +13,14 @@ mod exchange;
 #[cfg(test)]
 mod machine;
 #[cfg(test)]
+mod nodes;
+#[cfg(test)]
 mod pool;
 #[cfg(test)]
 mod programs;
 #[cfg(test)]
 mod replies;
+#[cfg(test)]
+mod runs;
 #[cfg(test)]
 mod session;

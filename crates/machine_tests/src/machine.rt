@@ -8,7 +8,6 @@ use std::alloc::{AllocError, Allocator};
 use std::test::Fail;
 
 mod exchanges;
-mod refusals;
 
 fn last_row(w: u64) -> CostRow {
     CostRow {
@@ -44,7 +43,7 @@ fn is_of_three<A: Allocator>(machine: &Machine<A>) -> bool {
 
 #[test]
 fn a_run_writes_the_output_rank_by_rank(rt: HostRuntime) -> Result<(), Fail> {
-    let mut machine = machine(&rt, rt.alloc(), &PRINTS_ITS_RANK, 3, 10)?;
+    let mut machine = machine(rt.alloc(), &PRINTS_ITS_RANK, 3, 10)?;
     machine.run_plain()?;
     assert!(rt; has_ended(&machine, Outcome::Ended, 10, b"012"));
     assert!(rt; is_of_three(&machine));
@@ -67,7 +66,7 @@ fn late_events<A: Allocator + Copy>(machine: &mut Machine<A>) -> Result<[bool; 3
 
 #[test]
 fn events_in_another_order_have_the_same_end(rt: HostRuntime) -> Result<(), Fail> {
-    let mut machine = machine(&rt, rt.alloc(), &PRINTS_ITS_RANK, 2, 9)?;
+    let mut machine = machine(rt.alloc(), &PRINTS_ITS_RANK, 2, 9)?;
     assert!(rt; early_events(&mut machine)? == [false; 2]);
     for _ in 0..3 {
         machine.apply(Event::Step(1))?;

@@ -1,17 +1,15 @@
 //! Tests of `phase_pool`.
 
 use crate::programs::{self, PRINTS_ITS_RANK};
-use machine_core::{Machine, MachineError};
+use machine_core::Machine;
 use node_core::Node;
 use phase_pool::{OpenGate, run, run_phase_sparing, run_sparing};
 use std::alloc::Allocator;
-use std::process::Abort;
 use std::test::Fail;
 
 mod exchanges;
 mod gates;
 mod landings;
-mod refusals;
 
 // `PRINTS_ITS_RANK` with `sync()` before `end()`.
 const PRINTS_AND_SYNCS: [u32; 12] = [
@@ -40,13 +38,8 @@ const FAULTS_AT_RANK_0: [u32; 6] = [
 ];
 
 // A machine of so many nodes that run `words`, with 100 ticks each.
-fn machine<A: Allocator + Copy>(
-    rt: &impl Abort,
-    alloc: A,
-    words: &[u32],
-    nodes: u32,
-) -> Result<Machine<A>, MachineError> {
-    programs::machine(rt, alloc, words, nodes, 100)
+fn machine<A: Allocator + Copy>(alloc: A, words: &[u32], nodes: u32) -> Result<Machine<A>, Fail> {
+    programs::machine(alloc, words, nodes, 100)
 }
 
 // Where the programs have their words, of 4 bytes or 8.
@@ -94,15 +87,15 @@ fn workers_and_slices_leave_what_one_thread_leaves(rt: HostRuntime) -> Result<()
         PRINTS_AND_SYNCS.as_slice(),
         FAULTS_AT_RANK_0.as_slice(),
     ] {
-        let mut plain = machine(&rt, alloc, words, 3)?;
+        let mut plain = machine(alloc, words, 3)?;
         plain.run_plain()?;
         for workers in [1, 2, 3, 64] {
             for slice in [1, 3, 7, 1_000, 65_536, 1 << 20] {
-                let mut pooled = machine(&rt, alloc, words, 3)?;
+                let mut pooled = machine(alloc, words, 3)?;
                 assert!(rt; run(&rt, &mut pooled, workers, slice, &OpenGate) == Ok(()));
                 assert!(rt; show_the_same(&pooled, &plain), "{workers} {slice}");
             }
-            let mut sparing = machine(&rt, alloc, words, 3)?;
+            let mut sparing = machine(alloc, words, 3)?;
             assert!(rt; run_phase_sparing(&rt, &mut sparing, workers, 1) == Ok(()));
             assert!(rt; run_sparing(&rt, &mut sparing, workers, 1) == Ok(()));
             assert!(rt; show_the_same(&sparing, &plain), "{workers}");

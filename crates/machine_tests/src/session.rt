@@ -6,7 +6,6 @@ use bsp_session::{
 };
 use counted_io::Counted;
 use machine_core::{Outcome, Settings};
-use refusing_allocator::RefusingAllocator;
 use std::alloc::{Allocator, Global};
 use std::io;
 use std::io::{ErrorKind, Read, Write};
@@ -15,8 +14,7 @@ use std::test::Fail;
 use std::thread::Threads;
 
 mod images;
-
-type Heap = RefusingAllocator<Global>;
+mod refusals;
 
 const ENDED: Result<Outcome, SessionError> = Ok(Outcome::Ended);
 
@@ -141,8 +139,13 @@ fn is_read_fault(
 fn a_reader_that_fails_is_a_read_fault(rt: HostRuntime) -> Result<(), Fail> {
     let alloc = rt.alloc();
     let image = bytes_of(alloc, &PRINTS_ITS_RANK)?;
-    let short = image.get(..39).unwrap_or(b"");
-    assert!(rt; is_read_fault(&rt, alloc, short, true));
+    for given in 0..40usize {
+        let short = image.get(..given).unwrap_or(b"");
+        assert!(rt;
+            is_read_fault(&rt, alloc, short, true),
+            "after {given} bytes"
+        );
+    }
     assert!(rt; is_read_fault(&rt, alloc, &image, false));
     Ok(())
 }
@@ -188,49 +191,5 @@ fn a_writer_that_fails_keeps_what_it_took(rt: HostRuntime) -> Result<(), Fail> {
         let is_expected = given == answer && held.as_slice() == output.as_bytes();
         assert!(rt; is_expected, "with room for {room}");
     }
-    Ok(())
-}
-
-// Whether a session's report is whole.
-fn is_whole(rt: &(impl Threads + Wait + Sync), heap: &Heap, holder: Global, image: &[u8]) -> bool {
-    let job = reported(machine(3, 4096, 10));
-    let (answer, written) = run(rt, heap, holder, image, b"x".as_slice(), &job);
-    answer == ENDED && written.as_slice() == RANKS_REPORT.as_bytes()
-}
-
-// Whether a session is refused memory, and writes nothing.
-fn is_refused(
-    rt: &(impl Threads + Wait + Sync),
-    heap: &Heap,
-    holder: Global,
-    image: &[u8],
-) -> bool {
-    let job = reported(machine(3, 4096, 10));
-    let (answer, written) = run(rt, heap, holder, image, b"x".as_slice(), &job);
-    answer == Err(SessionError::NoMemory) && written.is_empty()
-}
-
-#[test]
-fn a_refused_request_is_no_memory(rt: HostRuntime) -> Result<(), Fail> {
-    let heap = Heap::new(rt.alloc());
-    let image = bytes_of(rt.alloc(), &PRINTS_ITS_RANK)?;
-    let mut met = 0;
-    for request in 1..100 {
-        // A refused growth may be followed by a smaller one, so all requests from one on are refused.
-        heap.refuse_from_nth(request);
-        let is_refused = is_refused(&rt, &heap, rt.alloc(), &image);
-        assert!(rt; is_refused == (heap.refusals() > 0), "at request {request}");
-        heap.refuse_nth(0);
-        assert!(rt;
-            is_whole(&rt, &heap, rt.alloc(), &image),
-            "after request {request}"
-        );
-        if !is_refused {
-            break;
-        }
-        met = request;
-    }
-    // The image, the input, the image's segment, the list of nodes, and each node's table of pages, page and output.
-    assert!(rt; met >= 10 && met < 99);
     Ok(())
 }

@@ -95,7 +95,7 @@ fn run_pair(
 #[test]
 fn two_workers_run_two_nodes_at_once(rt: HostRuntime) -> Result<(), Fail> {
     for by_phase in [false, true] {
-        let mut machine = machine(&rt, rt.alloc(), &PRINTS_ITS_RANK, 2)?;
+        let mut machine = machine(rt.alloc(), &PRINTS_ITS_RANK, 2)?;
         let gate = PairGate::new();
         let is_run = run_pair(&rt, &mut machine, &gate, by_phase);
         assert!(rt; is_run && gate.has_let_both_through());
@@ -145,7 +145,7 @@ fn nodes_may_leave_in_any_order(rt: HostRuntime) -> Result<(), Fail> {
         [2, 0, 1],
         [2, 1, 0],
     ] {
-        let mut machine = machine(&rt, rt.alloc(), &PRINTS_ITS_RANK, 3)?;
+        let mut machine = machine(rt.alloc(), &PRINTS_ITS_RANK, 3)?;
         let gate = OrderGate {
             place,
             left: AtomicU64::new(0),
@@ -180,7 +180,7 @@ impl<A: Allocator> Gate<A> for LastGate {
 // A fixed half of the nodes would wait for this thread's own.
 #[test]
 fn a_worker_takes_the_nodes_that_another_has_no_time_for(rt: HostRuntime) -> Result<(), Fail> {
-    let mut machine = machine(&rt, rt.alloc(), &PRINTS_ITS_RANK, 4)?;
+    let mut machine = machine(rt.alloc(), &PRINTS_ITS_RANK, 4)?;
     let gate = LastGate {
         left: AtomicU64::new(0),
         failed: AtomicBool::new(false),
@@ -216,7 +216,7 @@ impl<A: Allocator> Gate<A> for TickGate {
 
 #[test]
 fn a_node_is_given_back_after_each_slice(rt: HostRuntime) -> Result<(), Fail> {
-    let mut machine = machine(&rt, rt.alloc(), &PRINTS_ITS_RANK, 3)?;
+    let mut machine = machine(rt.alloc(), &PRINTS_ITS_RANK, 3)?;
     let gate = TickGate {
         ticks: (AtomicU64::new(0), AtomicU64::new(0), AtomicU64::new(0)),
     };

@@ -5,13 +5,12 @@ use super::exchanges::{
     PUTS_NOTHING, PUTS_ROUND, PUTS_THAT_OVERLAP, SENDS_THREE, SETS_A_TAG_SIZE, SETS_TAG_SIZES,
     SWAPS,
 };
-use super::refusals::hoard;
 use super::show_the_same;
 use crate::programs;
-use machine_core::{Machine, MachineError, Settings};
+use crate::runs::threads::hoard;
+use machine_core::{Machine, Settings};
 use phase_pool::{OpenGate, PoolError, run, run_phase};
 use std::alloc::Allocator;
-use std::process::Abort;
 use std::test::Fail;
 
 // The programs, and of how many nodes their machines are.
@@ -31,28 +30,23 @@ static PROGRAMS: [(&[u32], u32); 12] = [
 ];
 
 // A machine of so many nodes that run `words`, with room for their areas.
-fn machine<A: Allocator + Copy>(
-    rt: &impl Abort,
-    alloc: A,
-    words: &[u32],
-    nodes: u32,
-) -> Result<Machine<A>, MachineError> {
-    let image = programs::image(rt, alloc, words)?;
+fn machine<A: Allocator + Copy>(alloc: A, words: &[u32], nodes: u32) -> Result<Machine<A>, Fail> {
+    let image = programs::image(alloc, words)?;
     let settings = Settings {
         memory: 0x4000,
         ..programs::settings(nodes, 1_000)
     };
-    Machine::new(alloc, &image, b"", settings)
+    Ok(Machine::new(alloc, &image, b"", settings)?)
 }
 
 #[test]
 fn threads_land_what_one_thread_lands(rt: HostRuntime) -> Result<(), Fail> {
     let alloc = rt.alloc();
     for (words, nodes) in &PROGRAMS {
-        let mut plain = machine(&rt, alloc, words, *nodes)?;
+        let mut plain = machine(alloc, words, *nodes)?;
         plain.run_plain()?;
         for workers in [1, 2, 3, 64] {
-            let mut pooled = machine(&rt, alloc, words, *nodes)?;
+            let mut pooled = machine(alloc, words, *nodes)?;
             assert!(rt; run(&rt, &mut pooled, workers, 1_000, &OpenGate) == Ok(()));
             assert!(rt; show_the_same(&pooled, &plain), "{workers}");
         }
@@ -61,8 +55,8 @@ fn threads_land_what_one_thread_lands(rt: HostRuntime) -> Result<(), Fail> {
 }
 
 // Two nodes that swap their areas, at the sync at which they do.
-fn swapping<A: Allocator + Copy>(rt: &impl Abort, alloc: A) -> Result<Machine<A>, Fail> {
-    let mut machine = machine(rt, alloc, &SWAPS, 2)?;
+fn swapping<A: Allocator + Copy>(alloc: A) -> Result<Machine<A>, Fail> {
+    let mut machine = machine(alloc, &SWAPS, 2)?;
     machine.run_phase_plain()?;
     machine.turn()?;
     machine.run_phase_plain()?;
@@ -72,9 +66,9 @@ fn swapping<A: Allocator + Copy>(rt: &impl Abort, alloc: A) -> Result<Machine<A>
 // The turn is whole, though the second node's part has no thread.
 #[test]
 fn the_part_of_a_node_without_a_thread_lands_here(rt: HostRuntime) -> Result<(), Fail> {
-    let mut plain = swapping(&rt, rt.alloc())?;
+    let mut plain = swapping(rt.alloc())?;
     plain.run_plain()?;
-    let mut pooled = swapping(&rt, rt.alloc())?;
+    let mut pooled = swapping(rt.alloc())?;
     let spare = Vec::<u8>::with_capacity(rt.alloc(), 0x1_0000)?;
     let blocks = hoard(rt.alloc())?;
     drop(spare);

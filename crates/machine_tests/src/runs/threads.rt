@@ -1,0 +1,185 @@
+//! Threads that cannot be started, each start in turn.
+
+use super::{Heap, Way};
+use crate::calls::{self, Calls};
+use crate::nodes::are_same_machines;
+use machine_core::Machine;
+use phase_pool::PoolError;
+use std::alloc::{AllocError, Global};
+use std::sync::Wait;
+use std::test::Fail;
+use std::thread::Threads;
+
+// The superstep in which a thread cannot be started, from 0, and the call that wants it.
+struct Start {
+    calls: Calls,
+    superstep: u32,
+    way: Way,
+}
+
+const TWO: Way = Way::Pool {
+    workers: 2,
+    slice: 65_536,
+};
+
+const THREE: Way = Way::Pool {
+    workers: 3,
+    slice: 1,
+};
+
+static STARTS: [Start; 8] = [
+    Start {
+        calls: calls::A_SWAP,
+        superstep: 0,
+        way: TWO,
+    },
+    Start {
+        calls: calls::A_SWAP,
+        superstep: 1,
+        way: TWO,
+    },
+    Start {
+        calls: calls::A_SWAP,
+        superstep: 2,
+        way: TWO,
+    },
+    Start {
+        calls: calls::MESSAGES,
+        superstep: 0,
+        way: TWO,
+    },
+    Start {
+        calls: calls::MESSAGES,
+        superstep: 1,
+        way: TWO,
+    },
+    Start {
+        calls: calls::MESSAGES,
+        superstep: 0,
+        way: THREE,
+    },
+    Start {
+        calls: calls::MESSAGES,
+        superstep: 1,
+        way: THREE,
+    },
+    Start {
+        calls: calls::A_PUT,
+        superstep: 0,
+        way: Way::Phase {
+            workers: 2,
+            slice: 1,
+        },
+    },
+];
+
+// A machine at the start of a superstep.
+fn machine<'h>(heap: &'h Heap, start: &Start) -> Result<Machine<&'h Heap>, Fail> {
+    let mut machine = calls::machine(heap, start.calls)?;
+    for _ in 0..start.superstep {
+        machine.run_phase_plain()?;
+        machine.turn()?;
+    }
+    Ok(machine)
+}
+
+// Blocks that leave no room for a thread's stack in the address space: as many as are to be had, first of 8 GiB and at last of
+// 128 KiB.
+pub fn hoard(alloc: Global) -> Result<Vec<Vec<u8>>, AllocError> {
+    let mut blocks = Vec::with_capacity(alloc, 0x1_0000)?;
+    for size in [8 << 30, 1 << 30, 1 << 26, 1 << 22, 1 << 20, 1 << 17] {
+        for _ in 0..0x1_0000 {
+            let Ok(block) = Vec::with_capacity(alloc, size) else {
+                break;
+            };
+            blocks.push(block)?;
+        }
+    }
+    Ok(blocks)
+}
+
+// Some small blocks.
+fn spare(alloc: Global) -> Result<Vec<Vec<u8>>, AllocError> {
+    let mut blocks = Vec::new(alloc);
+    for _ in 0..32 {
+        blocks.push(Vec::with_capacity(alloc, 0x8000)?)?;
+    }
+    Ok(blocks)
+}
+
+fn all_machines(alloc: Global, heap: &Heap) -> Result<Vec<Machine<&Heap>>, Fail> {
+    let mut machines = Vec::new(alloc);
+    for start in &STARTS {
+        machines.push(machine(heap, start)?)?;
+    }
+    Ok(machines)
+}
+
+// How many machines are refused a thread, where there is no room for any.
+fn count_refused<R: Threads + Wait + Sync>(rt: &R, machines: &mut [Machine<&Heap>]) -> u32 {
+    let mut refused = 0u32;
+    for (start, machine) in STARTS.iter().zip(machines.iter_mut()) {
+        if start.way.take_on(rt, machine) == Err(PoolError::NoWorker) {
+            refused = refused.saturating_add(1);
+        }
+    }
+    refused
+}
+
+fn refuse_all<R: Threads + Wait + Sync>(
+    rt: &R,
+    alloc: Global,
+    machines: &mut [Machine<&Heap>],
+) -> Result<u32, AllocError> {
+    let spare = spare(alloc)?;
+    let blocks = hoard(alloc)?;
+    drop(spare);
+    let refused = count_refused(rt, machines);
+    drop(blocks);
+    Ok(refused)
+}
+
+// Whether a machine that was refused a thread is at the end of its local parts.
+fn has_come<'h>(
+    heap: &'h Heap,
+    start: &Start,
+    refused: &Machine<&'h Heap>,
+) -> Result<bool, Fail> {
+    let mut whole = machine(heap, start)?;
+    whole.run_phase_plain()?;
+    Ok(are_same_machines(refused, &whole)?)
+}
+
+// A machine that no thread was refused.
+fn run_to_end<'h>(heap: &'h Heap, start: &Start) -> Result<Machine<&'h Heap>, Fail> {
+    let mut whole = machine(heap, start)?;
+    whole.run_phase_plain()?;
+    if !start.way.is_phase() {
+        whole.run_plain()?;
+    }
+    Ok(whole)
+}
+
+// Whether it is where the call would have taken it.
+fn has_ended<'h>(
+    heap: &'h Heap,
+    start: &Start,
+    again: &Machine<&'h Heap>,
+) -> Result<bool, Fail> {
+    let whole = run_to_end(heap, start)?;
+    Ok(are_same_machines(again, &whole)?)
+}
+
+#[test]
+fn a_run_that_is_refused_a_thread_can_be_made_again(rt: HostRuntime) -> Result<(), Fail> {
+    let heap = Heap::new(rt.alloc());
+    let mut machines = all_machines(rt.alloc(), &heap)?;
+    assert!(rt; refuse_all(&rt, rt.alloc(), &mut machines)? == 8);
+    for (start, machine) in STARTS.iter().zip(machines.iter_mut()) {
+        assert!(rt; has_come(&heap, start, machine)?);
+        assert!(rt; start.way.take_on(&rt, machine) == Ok(()));
+        assert!(rt; has_ended(&heap, start, machine)?);
+    }
+    println!(rt; "   8 starts of a thread refused: run and run_phase")?;
+    Ok(())
+}

@@ -140,11 +140,7 @@ fn refuse_all<R: Threads + Wait + Sync>(
 }
 
 // Whether a machine that was refused a thread is at the end of its local parts.
-fn has_come<'h>(
-    heap: &'h Heap,
-    start: &Start,
-    refused: &Machine<&'h Heap>,
-) -> Result<bool, Fail> {
+fn has_come<'h>(heap: &'h Heap, start: &Start, refused: &Machine<&'h Heap>) -> Result<bool, Fail> {
     let mut whole = machine(heap, start)?;
     whole.run_phase_plain()?;
     Ok(are_same_machines(refused, &whole)?)
@@ -161,11 +157,7 @@ fn run_to_end<'h>(heap: &'h Heap, start: &Start) -> Result<Machine<&'h Heap>, Fa
 }
 
 // Whether it is where the call would have taken it.
-fn has_ended<'h>(
-    heap: &'h Heap,
-    start: &Start,
-    again: &Machine<&'h Heap>,
-) -> Result<bool, Fail> {
+fn has_ended<'h>(heap: &'h Heap, start: &Start, again: &Machine<&'h Heap>) -> Result<bool, Fail> {
     let whole = run_to_end(heap, start)?;
     Ok(are_same_machines(again, &whole)?)
 }

@@ -31,18 +31,19 @@ fn has_text(alloc: &Heap, reply: &Reply<Global>, wanted: &str) -> Result<bool, A
     Ok(reply_text(alloc, reply, &ledger, LedgerText::V2, 2, 10)?.as_str() == wanted)
 }
 
-/// Sees that a reply has a text, and that each refusal of memory is answered.
+/// Sees that a reply has a text, that so many requests for memory are made for it, and that each refusal is answered.
 fn expect_text(
     rt: &impl Abort,
     heap: &Heap,
     reply: &Reply<Global>,
     wanted: &str,
+    expected: u64,
 ) -> Result<(), AllocError>
     requires { (rows : List CostRowValue) → answer reply.now ≡ costs rows → ⊥ }
 {
     assert!(rt; has_text(heap, reply, wanted)?);
     let requests = heap.requests();
-    assert!(rt; requests > 0);
+    assert!(rt; requests == expected, "{requests} requests");
     for n in 1..=requests {
         heap.refuse_nth(n);
         let is_refused = has_text(heap, reply, wanted).is_err();
@@ -76,6 +77,7 @@ fn queue(alloc: Global) -> Result<Reply<Global>, AllocError>
 #[test]
 fn a_queue_is_lines_or_refused_memory(rt: HostRuntime) -> Result<(), Fail> {
     let reply = queue(rt.alloc())?;
-    expect_text(&rt, &Heap::new(rt.alloc()), &reply, QUEUE)?;
+    expect_text(&rt, &Heap::new(rt.alloc()), &reply, QUEUE, 5)?;
+    println!(rt; "   5 refused: reply_text, a queue")?;
     Ok(())
 }

@@ -36,18 +36,18 @@ impl Program {
     }
 }
 
-// A call that takes a machine on in several threads.
-#[derive(Clone, Copy)]
+// A call that takes a machine on in several threads: `run_phase`, `run`, and those that are sparing of threads.
+#[derive(Clone, Copy, Debug)]
 enum Way {
-    Phase { workers: u32, slice: u64 },
-    Pool { workers: u32, slice: u64 },
-    PhaseSparing,
-    Sparing { workers: u32 },
+    RunPhase { workers: u32, slice: u64 },
+    Run { workers: u32, slice: u64 },
+    RunPhaseSparing { workers: u32 },
+    RunSparing { workers: u32 },
 }
 
 impl Way {
     fn is_phase(self) -> bool {
-        matches!(self, Way::Phase { .. } | Way::PhaseSparing)
+        matches!(self, Way::RunPhase { .. } | Way::RunPhaseSparing { .. })
     }
 
     fn take_on<R: Threads + Wait + Sync>(
@@ -56,10 +56,10 @@ impl Way {
         machine: &mut Machine<&Heap>,
     ) -> Result<(), PoolError> {
         match self {
-            Way::Phase { workers, slice } => run_phase(rt, machine, workers, slice, &OpenGate),
-            Way::Pool { workers, slice } => run(rt, machine, workers, slice, &OpenGate),
-            Way::PhaseSparing => run_phase_sparing(rt, machine, 2, 65_536),
-            Way::Sparing { workers } => run_sparing(rt, machine, workers, 65_536),
+            Way::RunPhase { workers, slice } => run_phase(rt, machine, workers, slice, &OpenGate),
+            Way::Run { workers, slice } => run(rt, machine, workers, slice, &OpenGate),
+            Way::RunPhaseSparing { workers } => run_phase_sparing(rt, machine, workers, 65_536),
+            Way::RunSparing { workers } => run_sparing(rt, machine, workers, 65_536),
         }
     }
 }
@@ -118,10 +118,11 @@ fn ticks_of(machine: &Machine<&Heap>, rank: u32) -> u64 {
     machine.node(rank).map_or(0, |node| node.ticks())
 }
 
-// How many requests for memory a program makes: in its first local parts, in a run without a table, in one of the table, and in one
-// of two workers, who land each exchange by halves too.
+// How many requests for memory a program makes: in its first local parts, without a table of nodes and with one; in a run without a
+// table, in one with a table in each superstep, and in one of two workers, who land each exchange by halves too.
 struct Requests {
     phase: u64,
+    shared: u64,
     plain: u64,
     pool: u64,
     pair: u64,
@@ -168,7 +169,7 @@ fn count_requests<R: Threads + Wait + Sync>(
     Ok(999)
 }
 
-// Tries each way to run a program.
+// Tries each way to make the first local parts of a program, and to run it.
 fn expect_runs<R: Threads + Wait + Sync + Print>(
     rt: &R,
     heap: &Heap,
@@ -177,60 +178,48 @@ fn expect_runs<R: Threads + Wait + Sync + Print>(
 ) -> Result<(), Fail> {
     let Requests {
         phase,
+        shared,
         plain,
         pool,
         pair,
     } = expected;
-    let call = Runs {
+    let parts = Runs {
         heap,
         program,
         is_phase: true,
     };
-    expect_requests(rt, heap, "run_phase_plain", &call, phase)?;
-    expect_pooled(
-        rt,
-        "run_phase_sparing, 2 workers",
-        &call,
-        Way::PhaseSparing,
-        phase,
-    )?;
-    let call = Runs {
+    expect_requests(rt, heap, "run_phase_plain", &parts, phase)?;
+    let whole = Runs {
         heap,
         program,
         is_phase: false,
     };
-    expect_requests(rt, heap, "run_plain", &call, plain)?;
-    for (name, way, requests) in [
-        ("run_sparing, 1 worker", Way::Sparing { workers: 1 }, plain),
-        ("run_sparing, 2 workers", Way::Sparing { workers: 2 }, plain),
-        ("run, 1 worker, slices of 1", pooled(1, 1), pool),
-        ("run, 1 worker, slices of 65,536", pooled(1, 65_536), pool),
-        ("run, 2 workers, slices of 1", pooled(2, 1), pair),
-        ("run, 2 workers, slices of 65,536", pooled(2, 65_536), pair),
-    ] {
-        expect_pooled(rt, name, &call, way, requests)?;
+    expect_requests(rt, heap, "run_plain", &whole, plain)?;
+    for workers in [1, 2] {
+        expect_pooled(rt, &parts, Way::RunPhaseSparing { workers }, phase)?;
+        expect_pooled(rt, &whole, Way::RunSparing { workers }, plain)?;
+        let run = if workers == 1 { pool } else { pair };
+        for slice in [1, 65_536] {
+            expect_pooled(rt, &parts, Way::RunPhase { workers, slice }, shared)?;
+            expect_pooled(rt, &whole, Way::Run { workers, slice }, run)?;
+        }
     }
     Ok(())
 }
 
 fn expect_pooled<R: Threads + Wait + Sync + Print>(
     rt: &R,
-    name: &str,
     call: &Runs<'_>,
     way: Way,
     expected: u64,
 ) -> Result<(), Fail> {
     let requests = count_requests(rt, call, way)?;
-    println!(rt; "{requests:4} refused: {name}")?;
+    println!(rt; "{requests:4} refused: {way:?}")?;
     if requests == expected {
         Ok(())
     } else {
-        Err(Fail::new(format_args!("{name}: {expected} are expected")))
+        Err(Fail::new(format_args!("{way:?}: {expected} are expected")))
     }
-}
-
-const fn pooled(workers: u32, slice: u64) -> Way {
-    Way::Pool { workers, slice }
 }
 
 #[test]
@@ -238,6 +227,7 @@ fn a_refused_run_of_a_put_can_be_made_again(rt: HostRuntime) -> Result<(), Fail>
     let heap = Heap::new(rt.alloc());
     let expected = Requests {
         phase: 4,
+        shared: 9,
         plain: 17,
         pool: 32,
         pair: 36,
@@ -250,6 +240,7 @@ fn a_refused_run_of_a_swap_can_be_made_again(rt: HostRuntime) -> Result<(), Fail
     let heap = Heap::new(rt.alloc());
     let expected = Requests {
         phase: 7,
+        shared: 12,
         plain: 20,
         pool: 35,
         pair: 39,
@@ -262,6 +253,7 @@ fn a_refused_run_of_messages_can_be_made_again(rt: HostRuntime) -> Result<(), Fa
     let heap = Heap::new(rt.alloc());
     let expected = Requests {
         phase: 7,
+        shared: 12,
         plain: 19,
         pool: 29,
         pair: 31,
@@ -274,6 +266,7 @@ fn a_refused_run_that_meets_a_fault_can_be_made_again(rt: HostRuntime) -> Result
     let heap = Heap::new(rt.alloc());
     let expected = Requests {
         phase: 4,
+        shared: 9,
         plain: 6,
         pool: 11,
         pair: 11,

@@ -7,9 +7,8 @@ use super::exchanges::{
 };
 use super::show_the_same;
 use crate::programs;
-use crate::runs::threads::hoard;
 use machine_core::{Machine, Settings};
-use phase_pool::{OpenGate, PoolError, run, run_phase};
+use phase_pool::{OpenGate, run};
 use std::alloc::Allocator;
 use std::test::Fail;
 
@@ -51,32 +50,5 @@ fn threads_land_what_one_thread_lands(rt: HostRuntime) -> Result<(), Fail> {
             assert!(rt; show_the_same(&pooled, &plain), "{workers}");
         }
     }
-    Ok(())
-}
-
-// Two nodes that swap their areas, at the sync at which they do.
-fn swapping<A: Allocator + Copy>(alloc: A) -> Result<Machine<A>, Fail> {
-    let mut machine = machine(alloc, &SWAPS, 2)?;
-    machine.run_phase_plain()?;
-    machine.turn()?;
-    machine.run_phase_plain()?;
-    Ok(machine)
-}
-
-// The turn is whole, though the second node's part has no thread.
-#[test]
-fn the_part_of_a_node_without_a_thread_lands_here(rt: HostRuntime) -> Result<(), Fail> {
-    let mut plain = swapping(rt.alloc())?;
-    plain.run_plain()?;
-    let mut pooled = swapping(rt.alloc())?;
-    let spare = Vec::<u8>::with_capacity(rt.alloc(), 0x1_0000)?;
-    let blocks = hoard(rt.alloc())?;
-    drop(spare);
-    let answer = run(&rt, &mut pooled, 2, 1_000, &OpenGate);
-    drop(blocks);
-    assert!(rt; answer == Err(PoolError::NoWorker));
-    assert!(rt; pooled.superstep() == 2 && pooled.outcome().is_none());
-    assert!(rt; run(&rt, &mut pooled, 2, 1_000, &OpenGate) == Ok(()));
-    assert!(rt; show_the_same(&pooled, &plain));
     Ok(())
 }

@@ -10,82 +10,64 @@ use std::sync::Wait;
 use std::test::Fail;
 use std::thread::Threads;
 
-// The superstep in which a thread cannot be started, from 0, and the call that wants it.
-struct Start {
-    calls: Calls,
-    superstep: u32,
-    way: Way,
+// For what a superstep cannot start a thread: for its local parts, or, where these are made already, for its landings.
+#[derive(Clone, Copy)]
+enum Stage {
+    Parts,
+    Landings,
 }
 
-const TWO: Way = Way::Pool {
+// The calls of the nodes, the superstep, from 0, and its stage; and the call that wants the thread.
+type Start = (Calls, u32, Stage, Way);
+
+const TWO: Way = Way::Run {
     workers: 2,
     slice: 65_536,
 };
 
-const THREE: Way = Way::Pool {
+const THREE: Way = Way::Run {
     workers: 3,
     slice: 1,
 };
 
-static STARTS: [Start; 8] = [
-    Start {
-        calls: calls::A_SWAP,
-        superstep: 0,
-        way: TWO,
-    },
-    Start {
-        calls: calls::A_SWAP,
-        superstep: 1,
-        way: TWO,
-    },
-    Start {
-        calls: calls::A_SWAP,
-        superstep: 2,
-        way: TWO,
-    },
-    Start {
-        calls: calls::MESSAGES,
-        superstep: 0,
-        way: TWO,
-    },
-    Start {
-        calls: calls::MESSAGES,
-        superstep: 1,
-        way: TWO,
-    },
-    Start {
-        calls: calls::MESSAGES,
-        superstep: 0,
-        way: THREE,
-    },
-    Start {
-        calls: calls::MESSAGES,
-        superstep: 1,
-        way: THREE,
-    },
-    Start {
-        calls: calls::A_PUT,
-        superstep: 0,
-        way: Way::Phase {
-            workers: 2,
-            slice: 1,
-        },
-    },
+const PARTS: Way = Way::RunPhase {
+    workers: 2,
+    slice: 1,
+};
+
+// Each start of a thread that these runs want, but for the second ones of three workers.
+static STARTS: [Start; 12] = [
+    (calls::A_SWAP, 0, Stage::Parts, TWO),
+    (calls::A_SWAP, 0, Stage::Landings, TWO),
+    (calls::A_SWAP, 1, Stage::Parts, TWO),
+    (calls::A_SWAP, 1, Stage::Landings, TWO),
+    (calls::A_SWAP, 2, Stage::Parts, TWO),
+    (calls::MESSAGES, 0, Stage::Parts, TWO),
+    (calls::MESSAGES, 0, Stage::Landings, TWO),
+    (calls::MESSAGES, 1, Stage::Parts, TWO),
+    (calls::MESSAGES, 0, Stage::Parts, THREE),
+    (calls::MESSAGES, 0, Stage::Landings, THREE),
+    (calls::MESSAGES, 1, Stage::Parts, THREE),
+    (calls::A_PUT, 0, Stage::Parts, PARTS),
 ];
 
-// A machine at the start of a superstep.
+// A machine at the start of a superstep, or at its landings.
 fn machine<'h>(heap: &'h Heap, start: &Start) -> Result<Machine<&'h Heap>, Fail> {
-    let mut machine = calls::machine(heap, start.calls)?;
-    for _ in 0..start.superstep {
+    let (calls, superstep, stage, _) = *start;
+    let mut machine = calls::machine(heap, calls)?;
+    for _ in 0..superstep {
         machine.run_phase_plain()?;
         machine.turn()?;
+    }
+    if matches!(stage, Stage::Landings) {
+        machine.run_phase_plain()?;
     }
     Ok(machine)
 }
 
 // Blocks that leave no room for a thread's stack in the address space: as many as are to be had, first of 8 GiB and at last of
 // 128 KiB.
-pub fn hoard(alloc: Global) -> Result<Vec<Vec<u8>>, AllocError> {
+fn hoard(alloc: Global) -> Result<Vec<Vec<u8>>, AllocError> {
     let mut blocks = Vec::with_capacity(alloc, 0x1_0000)?;
     for size in [8 << 30, 1 << 30, 1 << 26, 1 << 22, 1 << 20, 1 << 17] {
         for _ in 0..0x1_0000 {
@@ -119,7 +101,7 @@ fn all_machines(alloc: Global, heap: &Heap) -> Result<Vec<Machine<&Heap>>, Fail>
 fn count_refused<R: Threads + Wait + Sync>(rt: &R, machines: &mut [Machine<&Heap>]) -> u32 {
     let mut refused = 0u32;
     for (start, machine) in STARTS.iter().zip(machines.iter_mut()) {
-        if start.way.take_on(rt, machine) == Err(PoolError::NoWorker) {
+        if start.3.take_on(rt, machine) == Err(PoolError::NoWorker) {
             refused = refused.saturating_add(1);
         }
     }
@@ -139,18 +121,27 @@ fn refuse_all<R: Threads + Wait + Sync>(
     Ok(refused)
 }
 
-// Whether a machine that was refused a thread is at the end of its local parts.
-fn has_come<'h>(heap: &'h Heap, start: &Start, refused: &Machine<&'h Heap>) -> Result<bool, Fail> {
+// A machine at the end of the local parts that come next: a run that is refused a thread for landings makes the turn whole, and then
+// these, before it answers.
+fn run_on<'h>(heap: &'h Heap, start: &Start) -> Result<Machine<&'h Heap>, Fail> {
     let mut whole = machine(heap, start)?;
+    if matches!(start.2, Stage::Landings) {
+        whole.turn()?;
+    }
     whole.run_phase_plain()?;
+    Ok(whole)
+}
+
+// Whether a machine that was refused a thread has come so far, and no further.
+fn has_come<'h>(heap: &'h Heap, start: &Start, refused: &Machine<&'h Heap>) -> Result<bool, Fail> {
+    let whole = run_on(heap, start)?;
     Ok(are_same_machines(refused, &whole)?)
 }
 
 // A machine that no thread was refused.
 fn run_to_end<'h>(heap: &'h Heap, start: &Start) -> Result<Machine<&'h Heap>, Fail> {
-    let mut whole = machine(heap, start)?;
-    whole.run_phase_plain()?;
-    if !start.way.is_phase() {
+    let mut whole = run_on(heap, start)?;
+    if !start.3.is_phase() {
         whole.run_plain()?;
     }
     Ok(whole)
@@ -166,12 +157,12 @@ fn has_ended<'h>(heap: &'h Heap, start: &Start, again: &Machine<&'h Heap>) -> Re
 fn a_run_that_is_refused_a_thread_can_be_made_again(rt: HostRuntime) -> Result<(), Fail> {
     let heap = Heap::new(rt.alloc());
     let mut machines = all_machines(rt.alloc(), &heap)?;
-    assert!(rt; refuse_all(&rt, rt.alloc(), &mut machines)? == 8);
+    assert!(rt; refuse_all(&rt, rt.alloc(), &mut machines)? == 12);
     for (start, machine) in STARTS.iter().zip(machines.iter_mut()) {
         assert!(rt; has_come(&heap, start, machine)?);
-        assert!(rt; start.way.take_on(&rt, machine) == Ok(()));
+        assert!(rt; start.3.take_on(&rt, machine) == Ok(()));
         assert!(rt; has_ended(&heap, start, machine)?);
     }
-    println!(rt; "   8 starts of a thread refused: run and run_phase")?;
+    println!(rt; "  12 starts of a thread refused: run and run_phase")?;
     Ok(())
 }

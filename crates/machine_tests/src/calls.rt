@@ -62,6 +62,9 @@ impl Call {
 /// The calls of each rank.
 pub type Calls = &'static [&'static [Call]];
 
+/// The most nodes of a machine.
+pub const MOST_NODES: usize = 1_024;
+
 /// The bytes of a node's memory.
 pub const MEMORY: u32 = 0x5000;
 
@@ -128,7 +131,7 @@ pub fn image<A: Allocator + Copy>(alloc: A, calls: Calls) -> Result<Image<A>, Fa
 
 /// A machine whose nodes make these calls.
 pub fn machine<A: Allocator + Copy>(alloc: A, calls: Calls) -> Result<Machine<A>, Fail> {
-    if calls.len() > 256 {
+    if calls.len() > MOST_NODES {
         return Err(Fail::new("too many ranks"));
     }
     let image = image(alloc, calls)?;

@@ -2,7 +2,7 @@
 
 use crate::programs::{PRINTS_ITS_RANK, bytes_of};
 use bsp_console::{debug_dialogue, debug_session};
-use bsp_session::{Format, Job, SessionError};
+use bsp_session::{Format, Job, LedgerText, SessionError};
 use counted_io::Counted;
 use machine_core::Settings;
 use refusing_allocator::{Called, RefusingAllocator, Trial, expect_requests};
@@ -43,7 +43,7 @@ count 0 bytes 0
 ok
 refused: NoSuchBreak
 ended
-superstep 0: w 10 h 0 last
+superstep 0: w 10 h 0 m 0 last
 total 10
 012
 refused: BadCommand
@@ -59,6 +59,7 @@ const JOB: Job = Job {
     workers: 0,
     slice: 0,
     report: false,
+    ledger: LedgerText::V2,
     g: 1,
     l: 0,
 };

@@ -1,25 +1,25 @@
 //! Tests of `bsp_exchange`.
 
-use crate::calls::{self, Call, Calls, INPUT, LIMIT, MEMORY};
-use crate::nodes::{are_same, have_same_harts};
+use crate::calls::{self, Calls, INPUT, LIMIT, MEMORY, MOST_NODES};
+use crate::nodes::are_same;
 use bsp_exchange::{ExchangeError, Part, Plan, Traffic, are_at_sync, exchange, plan};
-use node_core::{Node, State};
+use node_core::Node;
 use refusing_allocator::{Called, RefusingAllocator, Trial, expect_requests};
 use std::alloc::{AllocError, Allocator, Global};
 use std::test::Fail;
 
 type Heap = RefusingAllocator<Global>;
 
-// The nodes of a machine at their start, with so many ticks each.
-fn start<A: Allocator + Copy>(alloc: A, calls: Calls, limit: u64) -> Result<Vec<Node<A>, A>, Fail> {
-    if calls.len() > 256 || limit == 0 || limit > LIMIT {
+// The nodes of a machine at their start.
+fn start<A: Allocator + Copy>(alloc: A, calls: Calls) -> Result<Vec<Node<A>, A>, Fail> {
+    if calls.len() > MOST_NODES {
         return Err(Fail::new("no such machine"));
     }
     let nprocs = calls.len() as u32;
     let image = calls::image(alloc, calls)?;
     let mut nodes = Vec::new(alloc);
     for rank in 0..nprocs {
-        nodes.push(Node::new(alloc, &image, rank, nprocs, MEMORY, limit)?)?;
+        nodes.push(Node::new(alloc, &image, rank, nprocs, MEMORY, LIMIT)?)?;
     }
     Ok(nodes)
 }
@@ -38,7 +38,7 @@ fn waiting<A: Allocator + Copy>(
     calls: Calls,
     exchanges: u32,
 ) -> Result<Vec<Node<A>, A>, Fail> {
-    let mut nodes = start(alloc, calls, LIMIT)?;
+    let mut nodes = start(alloc, calls)?;
     for _ in 0..exchanges {
         run_all(&mut nodes)?;
         make(alloc, &mut nodes)??;
@@ -57,30 +57,6 @@ fn make<A: Allocator + Copy>(
     } else {
         Err(Fail::new("a node does not wait"))
     }
-}
-
-// The second call of one node is its 24th step, and the third of the other its 34th.
-const UNLIKE: Calls = &[
-    &[Call::Read(0x1000, 3), Call::Sync, Call::End],
-    &[
-        Call::Read(0x1000, 1),
-        Call::Read(0x1001, 2),
-        Call::Sync,
-        Call::End,
-    ],
-];
-
-#[test]
-fn a_node_without_ticks_left_is_exhausted(rt: HostRuntime) -> Result<(), Fail> {
-    let alloc = rt.alloc();
-    let mut nodes = start(alloc, UNLIKE, 34)?;
-    run_all(&mut nodes)?;
-    make(alloc, &mut nodes)??;
-    let before = waiting(alloc, UNLIKE, 0)?;
-    assert!(rt; have_same_harts(&nodes, &before));
-    assert!(rt; nodes.len() == 2);
-    assert!(rt; nodes[0].state() == State::Running && nodes[1].state() == State::Exhausted);
-    Ok(())
 }
 
 // The exchange of nodes that wait, or its plan alone.
@@ -171,7 +147,7 @@ static ROWS: [Row; 7] = [
         name: "exchange and plan, a swap",
         calls: calls::A_SWAP,
         exchanges: 1,
-        requests: 6,
+        requests: 7,
     },
     Row {
         name: "exchange and plan, a message without a tag",
@@ -183,25 +159,25 @@ static ROWS: [Row; 7] = [
         name: "exchange and plan, a message with a tag",
         calls: calls::TAGS,
         exchanges: 1,
-        requests: 5,
+        requests: 4,
     },
     Row {
         name: "exchange and plan, messages of two ranks",
         calls: calls::MESSAGES,
         exchanges: 0,
-        requests: 6,
+        requests: 4,
     },
     Row {
         name: "exchange and plan, all kinds of requests",
         calls: calls::ASKING,
         exchanges: 1,
-        requests: 24,
+        requests: 15,
     },
     Row {
         name: "exchange and plan, puts over pages",
         calls: calls::LARGE,
         exchanges: 1,
-        requests: 14,
+        requests: 11,
     },
 ];
 

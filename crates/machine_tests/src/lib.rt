@@ -11,8 +11,6 @@ mod debugger;
 #[cfg(test)]
 mod exchange;
 #[cfg(test)]
-mod machine;
-#[cfg(test)]
 mod nodes;
 #[cfg(test)]
 mod pool;

@@ -15,8 +15,8 @@ fn have_same_hart<A: Allocator>(a: &Node<A>, b: &Node<A>) -> bool {
     a.pc() == b.pc() && a.ticks() == b.ticks() && a.cursor() == b.cursor()
 }
 
-/// Whether two rows of nodes have the same registers, pcs, ticks and places in the input.
-pub fn have_same_harts<A: Allocator>(nodes: &[Node<A>], others: &[Node<A>]) -> bool {
+// Whether two rows of nodes have the same registers, pcs, ticks and places in the input.
+fn have_same_harts<A: Allocator>(nodes: &[Node<A>], others: &[Node<A>]) -> bool {
     for (node, other) in nodes.iter().zip(others) {
         if !have_same_hart(node, other) {
             return false;

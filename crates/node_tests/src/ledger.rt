@@ -13,6 +13,8 @@ fn each_growth_may_be_refused(rt: HostRuntime) -> Result<(), Fail> {
         let row = CostRow {
             w,
             h: 0,
+            h_all: 0,
+            messages: 0,
             turned: true,
         };
         let before = ledger.rows().len();

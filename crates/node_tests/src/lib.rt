@@ -17,12 +17,6 @@ mod ledger;
 #[cfg(test)]
 mod listing;
 #[cfg(test)]
-mod memory;
-#[cfg(test)]
 mod node;
 #[cfg(test)]
-mod requests;
-#[cfg(test)]
-mod slots;
-#[cfg(test)]
-mod tables;
+mod shared;

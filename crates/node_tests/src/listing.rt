@@ -5,20 +5,7 @@ use rv_listing::list;
 use std::alloc::Global;
 use std::test::Fail;
 
-mod vectors;
-
-use vectors::STATEMENTS;
-
 type Heap = RefusingAllocator<Global>;
-
-#[test]
-fn words_are_listed_as_objdump_lists_them(rt: HostRuntime) -> Result<(), Fail> {
-    for (addr, word, text) in &STATEMENTS {
-        let statement = list(rt.alloc(), *word, *addr)?;
-        assert!(rt; statement.as_slice() == text.as_bytes(), "{text}");
-    }
-    Ok(())
-}
 
 // The statement of a word at an address.
 #[derive(Drop)]

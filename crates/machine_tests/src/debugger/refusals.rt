@@ -77,7 +77,7 @@ static ROWS: [Row; 14] = [
         before: &[],
         points: RANK_1_AT_8,
         command: GO,
-        requests: 4,
+        requests: 3,
     },
     Row {
         name: "command, go on from it",
@@ -85,7 +85,7 @@ static ROWS: [Row; 14] = [
         before: &[GO],
         points: RANK_1_AT_8,
         command: GO,
-        requests: 8,
+        requests: 6,
     },
     Row {
         name: "command, step to an end",
@@ -93,7 +93,7 @@ static ROWS: [Row; 14] = [
         before: &[GO],
         points: RANK_1_AT_8,
         command: STEPS,
-        requests: 3,
+        requests: 2,
     },
     Row {
         name: "command, phase",
@@ -101,7 +101,7 @@ static ROWS: [Row; 14] = [
         before: &[],
         points: &[],
         command: PHASE,
-        requests: 10,
+        requests: 7,
     },
     Row {
         name: "command, turn of an outcome",
@@ -125,7 +125,7 @@ static ROWS: [Row; 14] = [
         before: &[PHASE, TURN],
         points: &[],
         command: STEPS,
-        requests: 5,
+        requests: 2,
     },
     Row {
         name: "command, phase that sends",
@@ -133,7 +133,7 @@ static ROWS: [Row; 14] = [
         before: &[PHASE, TURN],
         points: &[],
         command: PHASE,
-        requests: 10,
+        requests: 4,
     },
     Row {
         name: "command, turn with an exchange",
@@ -141,7 +141,7 @@ static ROWS: [Row; 14] = [
         before: &[PHASE, TURN, PHASE],
         points: &[],
         command: TURN,
-        requests: 8,
+        requests: 5,
     },
     Row {
         name: "command, go through two exchanges",
@@ -149,7 +149,7 @@ static ROWS: [Row; 14] = [
         before: &[],
         points: &[],
         command: GO,
-        requests: 26,
+        requests: 18,
     },
     Row {
         name: "command, go to a point behind one",
@@ -157,7 +157,7 @@ static ROWS: [Row; 14] = [
         before: &[],
         points: POINTS,
         command: GO,
-        requests: 15,
+        requests: 11,
     },
     Row {
         name: "command, go to a superstep",
@@ -165,7 +165,7 @@ static ROWS: [Row; 14] = [
         before: &[PHASE, TURN, PHASE],
         points: POINTS,
         command: GO,
-        requests: 8,
+        requests: 5,
     },
     Row {
         name: "command, a queue",
@@ -173,7 +173,7 @@ static ROWS: [Row; 14] = [
         before: &[PHASE, TURN, PHASE, TURN],
         points: &[],
         command: QUEUE,
-        requests: 5,
+        requests: 1,
     },
     Row {
         name: "command, costs",

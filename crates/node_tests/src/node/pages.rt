@@ -158,7 +158,7 @@ fn what_a_node_is_refused_it_gets_later(rt: HostRuntime) -> Result<(), Fail> {
         heap,
         "Node::new, an image of two pages",
         &Makes { heap, image },
-        7,
+        11,
     )?;
     for (name, owns, requests) in [
         ("Node::share", false, 1),

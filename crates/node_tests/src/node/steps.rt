@@ -2,10 +2,10 @@
 
 use super::{LIMIT, image_of};
 use bsp_requests::{Inbox, Message, Request};
-use list_vec::ListVec;
 use node_core::{Node, State};
 use node_memory::ReadError;
 use refusing_allocator::{Called, RefusingAllocator, Trial, expect_requests};
+use shared_bytes::SharedBytes;
 use std::alloc::{AllocError, Global};
 use std::test::Fail;
 
@@ -55,7 +55,7 @@ struct Row {
     requests: u64,
 }
 
-static ROWS: [Row; 15] = [
+static ROWS: [Row; 17] = [
     Row {
         name: "step, sw over the edge of a page",
         before: SUPERSTEP,
@@ -78,7 +78,13 @@ static ROWS: [Row; 15] = [
         name: "step, put",
         before: SUPERSTEP,
         call: [7, 1, 0x100, 0x1000, 0, 8],
-        requests: 2,
+        requests: 1,
+    },
+    Row {
+        name: "step, put of more bytes",
+        before: SUPERSTEP,
+        call: [7, 1, 0x100, 0x1000, 0, 32],
+        requests: 3,
     },
     Row {
         name: "step, get",
@@ -108,6 +114,12 @@ static ROWS: [Row; 15] = [
         name: "step, send",
         before: SUPERSTEP,
         call: [12, 1, 0x100, 0x200, 5, 0],
+        requests: 1,
+    },
+    Row {
+        name: "step, send of more bytes",
+        before: SUPERSTEP,
+        call: [12, 1, 0x100, 0x200, 32, 0],
         requests: 3,
     },
     Row {
@@ -132,13 +144,13 @@ static ROWS: [Row; 15] = [
         name: "step, abort",
         before: SUPERSTEP,
         call: [16, 0x100, 4, 0, 0, 0],
-        requests: 2,
+        requests: 1,
     },
     Row {
         name: "step, write",
         before: SUPERSTEP,
         call: [17, 0x100, 4, 0, 0, 0],
-        requests: 2,
+        requests: 1,
     },
     Row {
         name: "step, read over the edge of a page",
@@ -190,8 +202,8 @@ fn queue(heap: &Heap) -> Result<Inbox<&Heap>, AllocError> {
     let mut messages = Vec::new(heap);
     messages.push(Message {
         sender: 1,
-        tag: ListVec::from_vec(b"tag".to_vec(heap)?),
-        payload: ListVec::from_vec(b"payload".to_vec(heap)?),
+        tag: SharedBytes::from_slice(heap, b"tag")?,
+        payload: SharedBytes::from_slice(heap, b"payload")?,
     })?;
     Ok(Inbox::of(messages))
 }

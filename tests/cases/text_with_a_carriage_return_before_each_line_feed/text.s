@@ -1,0 +1,4 @@
+# carriage returns in a comment
+
+li a7, 1
+ecall # all

@@ -1,7 +1,9 @@
 pub mod Answered
 pub mod Bytes
 pub mod Calls
+pub mod CodePages
 pub mod Communications
+pub mod Decoded
 pub mod Effects
 pub mod Fetch
 pub mod Harts
@@ -9,6 +11,7 @@ pub mod Messages
 pub mod OneStep
 pub mod OwnStores
 pub mod Ranks
+pub mod Refused
 pub mod Room
 pub mod Signed
 pub mod Sound

@@ -1,6 +1,7 @@
 pub mod Arithmetic
 pub mod Calls
 pub mod Communication
+pub mod Decoded
 pub mod Effects
 pub mod Hart
 pub mod Inside

@@ -21,6 +21,9 @@
 //!   changed nothing of the record, ticks included, and can be made again; a run keeps the steps that it made before.
 //! - A store takes memory where a page of its range is shared, for a copy of it. A page that is the memory's own stays so, and
 //!   a store over the edge of two pages owns both before it changes a byte.
+//! - Code is decoded once: the pages that the image's bytes reach, when its first node is made, for that node and all that share with
+//!   it. A node steps over what was decoded for as long as a page is not its own, and this shows in no contract: whoever writes into
+//!   code runs what it wrote, at once.
 //! - [`Node::share`] gives the node of another rank, whose memory shares the pages of this one.
 //! - Room for the turn of the registrations, once made, stands until a step pushes or pops.
 //! - At the end of a superstep [`Node::prepare_turn`] makes that room, and [`Node::prepare_land`] makes the pages of a range
@@ -72,6 +75,9 @@
 
 mod arithmetic;
 mod call;
+mod code_memory;
+mod code_pages;
+mod entry;
 mod hart;
 pub mod laws;
 mod node;

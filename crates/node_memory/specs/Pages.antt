@@ -15,6 +15,10 @@ none_own size = replicate (size / 4096) false
 abbrev pub IsOwn : List Bool → ℕ → Type 0
 IsOwn own page = slice_get own page ≡ Some true
 
+-- the memory has a page that is not its own
+abbrev pub IsShared : List Bool → ℕ → Type 0
+IsShared own page = slice_get own page ≡ Some false
+
 -- a page has one of the `len` bytes from `addr` on
 pub record HasOneOf (addr len page : ℕ) : Type 0 where
   pub some : 0 < len

@@ -3,7 +3,7 @@
 ghost use Rattle.std.specs.Prelude.{◌≡◌, ◌+◌, ◌*◌, ◌/◌, ◌%◌, ◌^◌, ◌<◌, ◌≤◌, ◌↔◌, true, false, IsTrue, length, if◌then◌else◌, OnOk, OnErr, IfOk, IsErrOf, slice_set, slice_get, Some};
 ghost use Rattle.node_memory.specs.Bytes.{is_memory_size, fits, bytes_at, with_bytes, byte_at, half_at, word_at};
 ghost use Rattle.node_memory.specs.Image.{image_bytes, is_segment_outside};
-ghost use Rattle.node_memory.specs.Pages.{PagedMemory, none_own, Owns, OwnsMore, IsOwn};
+ghost use Rattle.node_memory.specs.Pages.{PagedMemory, none_own, Owns, OwnsMore, IsOwn, IsShared};
 
 mod loads;
 mod ranges;
@@ -143,6 +143,14 @@ impl<A: Allocator> Memory<A> {
             }
         }
         true
+    }
+
+    /// Whether the memory has a page of this number that is not its own.
+    #[inline]
+    pub fn shares(&self, page: usize) -> bool
+        ensures { IsTrue result ↔ IsShared self.now.own page }
+    {
+        page < self.pages.len() && !self.pages[page].is_own()
     }
 
     /// The `len` bytes from `addr` on, which lie within one page.

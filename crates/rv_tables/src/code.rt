@@ -1,7 +1,7 @@
 //! The code of an instruction, and how long it is.
 
 ghost use Rattle.std.specs.Prelude.{◌≡◌, IfSome};
-ghost use Rattle.rv_tables.specs.Codes.{code_in, length_of, decoded};
+ghost use Rattle.rv_tables.specs.Codes.{code_length, code_in, length_of, decoded};
 ghost use Rattle.rv_tables.specs.Operands.{IsEncodable};
 
 use crate::compressed::decode16;
@@ -54,4 +54,12 @@ impl Code {
             Code::Word(word) => decode(word),
         }
     }
+}
+
+/// The bytes of the code with which a word begins: 4 where the word's low bits are 11, else 2.
+#[inline(always)]
+pub fn code_length(word: u32) -> u32
+    ensures { result ≡ code_length word }
+{
+    if word % 4 == 3 { 4 } else { 2 }
 }

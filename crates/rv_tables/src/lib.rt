@@ -35,7 +35,7 @@ mod registers;
 mod table;
 mod words;
 
-pub use code::Code;
+pub use code::{Code, code_length};
 pub use compressed::decode16;
 pub use decoder::decode;
 pub use encoder::encode;

@@ -1,7 +1,7 @@
 //! The calls that read what was received (BSPlib, Hill and others 1998: `bsp_qsize`, `bsp_get_tag`, `bsp_move`). They
 //! store, and so take memory where a page into which they store is shared.
 
-ghost use Rattle.std.specs.Prelude.{◌≡◌, ◌^◌, ◌<◌, ◌&&◌, ◌↔◌, false, [], length, OnOk, OnErr, IfOk, IsErrOf};
+ghost use Rattle.std.specs.Prelude.{◌≡◌, ◌^◌, ◌<◌, ◌&&◌, ◌↔◌, false, [], length, drop, OnOk, OnErr, IfOk, IsErrOf};
 ghost use Rattle.node_memory.specs.Bytes.{fits, with_bytes};
 ghost use Rattle.node_memory.specs.Pages.{KeepsOwn};
 ghost use Rattle.node_core.specs.declared.call.Call.{Call};
@@ -10,13 +10,15 @@ ghost use Rattle.node_core.specs.Calls.{call_effect, with_word, MayRefuseCall};
 
 use super::Hart;
 use super::calls::{A0, A1, not_written};
+use crate::code_memory::CodeMemory;
 use crate::state::State;
-use node_memory::{Memory, WriteError};
+use bsp_requests::Inbox;
+use node_memory::WriteError;
 use std::alloc::{AllocError, Allocator};
 
 /// Writes a word, and then bytes over it. All pages are made the memory's own before a byte changes, so that it is both or neither.
 fn write_word_and_bytes<A: Allocator + Copy>(
-    memory: &mut Memory<A>,
+    memory: &mut CodeMemory<A>,
     word_addr: u32,
     word: u32,
     addr: u32,
@@ -39,6 +41,13 @@ fn write_word_and_bytes<A: Allocator + Copy>(
     memory.own(addr, len)?;
     memory.store32(word_addr, word)?;
     memory.write_range(addr, bytes)
+}
+
+/// Removes the first message of a queue, if there is one.
+fn drop_first<A: Allocator>(queue: &mut Inbox<A>)
+    ensures { queue.new ≡ drop 1 queue.old }
+{
+    queue.take_first();
 }
 
 impl<A: Allocator + Copy> Hart<A> {
@@ -112,7 +121,7 @@ impl<A: Allocator + Copy> Hart<A> {
             Ok(()) => {}
             Err(error) => return not_written(error),
         }
-        self.communication.inbox.take_first();
+        drop_first(&mut self.communication.inbox);
         Ok(self.advance())
     }
 }

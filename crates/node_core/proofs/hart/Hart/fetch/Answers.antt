@@ -1,11 +1,11 @@
 use Rattle.std.proofs.Common.{◌∙◌, ap}
 use Rattle.node_core.specs.Effects.{fetched}
 use Rattle.node_core.specs.Hart.{PreparedHart}
-use Rattle.node_core.proofs.Fetch.{code_at-word}
+use Rattle.node_core.proofs.Fetch.{code_at_word}
 use Rattle.node_core.proofs.hart.Hart.fetch.Goals as goal
 
 pub returns-in-Some : goal.returns-in-Some
 returns-in-Some g c =
     let h = c.self.inside in
-    rw c.first_in.ensures (code_at-word h.memory.bytes h.pc c.in-Some.word c.in-Some.ensures.value c.in-Some.ensures.low)
+    code_at_word h.memory.bytes h.pc c.in-Some.word c.in-Some.ensures.value c.in-Some.ensures.low
     ∙ ap (λ (p : PreparedHart). fetched p.hart) c.self.view_is

@@ -118,6 +118,10 @@ past_end [] i none = omega arith
 past_end (x ∷ xs) zero none = absurd (none-some x (sym none))
 past_end (x ∷ xs) (suc i) none = omega (arith, past_end xs i none)
 
+pub none_tested : {X : Type 0} (o : Option X) → is_some o ≡ false → o ≡ None
+none_tested None none = refl
+none_tested (Some x) none = absurd (false≢true (sym none))
+
 or_some : {X : Type 0} (o rest : Option X) → is_some o ≡ true → option_or o rest ≡ o
 or_some None rest some = absurd (false≢true some)
 or_some (Some x) rest some = refl

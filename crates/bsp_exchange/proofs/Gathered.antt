@@ -1,25 +1,22 @@
 -- What the nodes receive, gathered request by request.
-use Rattle.std.proofs.Common.{◌≡◌, ℕ, ◌+◌, ◌<◌, ◌≤◌, Bool, true, false, cond, List, [], ◌∷◌, ◌++◌, length, get_or, set, map, take, drop, inl, inr, zero, suc, refl, sym, ap, ◌∙◌, arith, Option, Some, None, Result, Ok, Err}
+use Rattle.std.proofs.Common.{◌≡◌, ℕ, ◌+◌, ◌<◌, ◌≤◌, List, [], ◌∷◌, ◌++◌, length, get_or, set, map, take, drop, inl, inr, zero, suc, refl, sym, ap, ◌∙◌, arith, Some, Result, Ok, Err}
 use Rattle.std.specs.Prelude.{OnOk, option_map, slice_get, unwrap_or}
 use Rattle.std.proofs.lemmas.Option.{slice_get_read}
 use Rattle.std.specs.Prelude.{All}
 use Rattle.std.specs.List.{enumerate_from}
-use Rattle.std.specs.Option.{option_or}
 use Rattle.std.proofs.lemmas.Bool.{cases_lt}
 use Rattle.std.proofs.lemmas.List.{take_all, take-append-le, drop_all, length-map}
 use Rattle.std.proofs.lemmas.Grind.{fold-append}
-use Rattle.std.proofs.lemmas.Option.{none-some, same_Some, slice_get-map, slice_get-get_or, slice_get_within, get_or_from_slice_get}
+use Rattle.std.proofs.lemmas.Option.{same_Some, slice_get-map, slice_get-get_or, slice_get_within, get_or_from_slice_get}
 use Rattle.bsp_requests.specs.Request.{Asked, asks_put, asks_get, asks_send}
 use Rattle.node_core.specs.Communication.{IsWellAddressed}
 use Rattle.node_core.specs.Hart.{IsHart}
 use Rattle.node_core.specs.Node.{NodeState, PreparedNode}
-use Rattle.bsp_exchange.specs.declared.fault.ExchangeFault.TheVariants.{TagMismatch, SlotMismatch, OutsideArea}
-use Rattle.bsp_exchange.specs.Faults.{leaves_area, first_outside, exchange_fault, disagreeing, have_same_tag_size, have_same_shape}
 use Rattle.bsp_exchange.specs.Issued.{Issued, issued_as, issued_by, issued}
 use Rattle.bsp_exchange.specs.Exchange.{states}
 use Rattle.bsp_exchange.specs.Arrivals.{Received, with_asked, with_issued}
 use Rattle.bsp_exchange.specs.Parts.{changed_at, target_of}
-use Rattle.bsp_exchange.proofs.Finds.{drop_from, issued_from, next_request, next_node}
+use Rattle.bsp_exchange.proofs.Finds.{drop_from, issued_from}
 
 changed_at-set : {X : Type 0} (f : X → X) (i : ℕ) (xs : List X) (x : X) → slice_get xs i ≡ Some x → set xs i (f x) ≡ changed_at f i xs
 changed_at-set f i [] x is = refl
@@ -30,15 +27,6 @@ changed_at-set f (suc i) (y ∷ xs) x is = ap (λ zs. y ∷ zs) (changed_at-set 
 pub put_back : {X E : Type 0} (f : X → X) (i : ℕ) (xs : List X) (x y : X) (r : Result (Unit {0}) E) → i < length xs → x ≡ get_or xs i x → OnOk r (y ≡ f x) → OnOk r (set xs i y ≡ changed_at f i xs)
 put_back f i xs x y (Ok u) h is after = ap (set xs i) after ∙ changed_at-set f i xs x (slice_get_read xs (length xs) i x refl h is)
 put_back f i xs x y (Err e) h is after = tt
-
-none_here : {X : Type 0} (b : Bool) (x : X) (rest : Option X) → cond b (Some x) rest ≡ None → (b ≡ false) × (rest ≡ None)
-none_here true x rest none = absurd (none-some x (sym none))
-none_here false x rest none = (refl, none)
-
--- where no request from number i on leaves its area, the next one does not, and none after it
-pub inside_here : (nodes : List NodeState) (n : NodeState) (i : ℕ) (r : Asked) → slice_get n.hart.communication.requests.requests i ≡ Some r → first_outside nodes (issued_from n i) ≡ None → (leaves_area nodes r ≡ false) × (first_outside nodes (issued_from n (i + 1)) ≡ None)
-inside_here nodes n i r is none =
-    none_here (leaves_area nodes r) (OutsideArea n.hart.rank i) (first_outside nodes (issued_from n (i + 1))) (sym (next_request nodes n i r is) ∙ none)
 
 -- what the nodes receive with the next request, and then with those after it
 pub gathered_here : (nodes : List NodeState) (parts : List Received) (n : NodeState) (i : ℕ) (r : Asked) → slice_get n.hart.communication.requests.requests i ≡ Some r → with_issued nodes parts (issued_from n i) ≡ with_issued nodes (with_asked nodes n.hart.rank parts r) (issued_from n (i + 1))
@@ -87,15 +75,6 @@ state_here ps i p within is =
 pub length-states : (ps : List PreparedNode) → length (states ps) ≡ length ps
 length-states ps = length-map ps (λ (p : PreparedNode). p.node)
 
-none_of : {X : Type 0} (a b : Option X) → option_or a b ≡ None → (a ≡ None) × (b ≡ None)
-none_of None b none = (refl, none)
-none_of (Some x) b none = absurd (none-some x (sym none))
-
--- where no request of the nodes from a place on leaves its area, none of the next node does, and none of those after it
-pub node_inside : (nodes : List NodeState) (ps : List PreparedNode) (i : ℕ) (p : PreparedNode) → i < length ps → p ≡ get_or ps i p → first_outside nodes (issued (drop i (states ps))) ≡ None → (first_outside nodes (issued_by p.node) ≡ None) × (first_outside nodes (issued (drop (i + 1) (states ps))) ≡ None)
-node_inside nodes ps i p within is none =
-    none_of (first_outside nodes (issued_by p.node)) (first_outside nodes (issued (drop (i + 1) (states ps)))) (sym (next_node nodes ps i p (slice_get_read ps (length ps) i p refl within is)) ∙ none)
-
 -- what the nodes receive with a node's requests, and then with those of the nodes after it
 pub node_gathered : (nodes : List NodeState) (parts : List Received) (ps : List PreparedNode) (i : ℕ) (p : PreparedNode) → i < length ps → p ≡ get_or ps i p → with_issued nodes parts (issued (drop i (states ps))) ≡ with_issued nodes (with_issued nodes parts (issued_by p.node)) (issued (drop (i + 1) (states ps)))
 node_gathered nodes parts ps i p within is =
@@ -108,11 +87,6 @@ nodes_gathered nodes parts ps i past = ap (λ (ns : List NodeState). with_issued
 pub length-with_issued : (nodes : List NodeState) (parts : List Received) (requests : List Issued) → length (with_issued nodes parts requests) ≡ length parts
 length-with_issued nodes parts [] = refl
 length-with_issued nodes parts (q ∷ requests) = length-with_issued nodes (with_asked nodes q.rank parts q.request) requests ∙ length-with_asked nodes q.rank parts q.request
-
--- no fault at all is none of a request
-pub no_request_outside : (nodes : List NodeState) → exchange_fault nodes ≡ None → first_outside nodes (issued nodes) ≡ None
-no_request_outside nodes none =
-    (none_of (option_map SlotMismatch (disagreeing have_same_shape nodes)) (first_outside nodes (issued nodes)) (none_of (option_map TagMismatch (disagreeing have_same_tag_size nodes)) (option_or (option_map SlotMismatch (disagreeing have_same_shape nodes)) (first_outside nodes (issued nodes))) none).1).1
 
 -- each of the first nodes is sound
 abbrev pub AreSoundBelow : List NodeState → ℕ → Type 0

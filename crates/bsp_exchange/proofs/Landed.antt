@@ -19,7 +19,7 @@ use Rattle.bsp_requests.specs.Message.{Message, IsShort}
 use Rattle.bsp_requests.specs.Request.{Asked, asks_put, asks_get, asks_send, size_of}
 use Rattle.bsp_requests.specs.Requests.{max_requests, max_bytes}
 use Rattle.node_core.specs.Communication.{LiesIn, IsWellAddressed}
-use Rattle.node_core.specs.Hart.{IsHart, with_memory}
+use Rattle.node_core.specs.Hart.{IsHart, max_nodes, with_memory}
 use Rattle.node_core.specs.Node.{NodeState}
 use Rattle.node_core.specs.Turn.{next_superstep}
 use Rattle.bsp_exchange.specs.Exchange.{AreAtSync, exchanged_node}
@@ -269,13 +269,13 @@ few_of n hart =
     let requests : List Asked = n.hart.communication.requests.requests in
     omega (arith, length-map (enumerate_from 0 requests) (issued_as n.hart.rank), length-enumerate_from 0 requests, hart.communication.requests.requests)
 
-few_issued : (nodes : List NodeState) → length nodes ≤ 256 → All (λ (n : NodeState). IsHart n.hart) nodes → length (issued nodes) < 2 ^ 32
+few_issued : (nodes : List NodeState) → length nodes ≤ max_nodes → All (λ (n : NodeState). IsHart n.hart) nodes → length (issued nodes) < 2 ^ 32
 few_issued nodes few harts =
     let most : sum_by (λ (n : NodeState). length (issued_by n)) nodes ≤ length nodes * max_requests = sum_by-le (λ (n : NodeState). length (issued_by n)) max_requests nodes (λ k d below. few_of (get_or nodes k d) (harts k d below)) in
     omega (arith, length-flat_map issued_by nodes)
 
 -- the messages sent to a rank are a queue
-sent_are_queue : (nodes : List NodeState) (rank : ℕ) → length nodes ≤ 256 → All (λ (n : NodeState). IsHart n.hart) nodes → All (IsKept nodes) (issued nodes) → IsQueue (queue_after nodes rank)
+sent_are_queue : (nodes : List NodeState) (rank : ℕ) → length nodes ≤ max_nodes → All (λ (n : NodeState). IsHart n.hart) nodes → All (IsKept nodes) (issued nodes) → IsQueue (queue_after nodes rank)
 sent_are_queue nodes rank few harts all = record {
   few = omega (arith, length-filter_map (λ (i : Issued). message_to rank i.rank i.request) (issued nodes), few_issued nodes few harts);
   short = All-filter_map IsShort (λ (i : Issued). message_to rank i.rank i.request) (issued nodes) (λ k d below.
@@ -287,7 +287,7 @@ sent_are_queue nodes rank few harts all = record {
 fits_at : (nodes : List NodeState) → AreAtSync nodes → exchange_fault nodes ≡ None → All (λ (n : NodeState). IsHart n.hart) nodes → (i : ℕ) (n : NodeState) → slice_get nodes i ≡ Some n → FitsIn (length n.hart.memory) (received_at nodes i)
 fits_at nodes row faultless harts i n is =
     let size : length (memory_of nodes i) ≡ length n.hart.memory = ap length (memory_is nodes i n is) in
-    let few : length nodes ≤ 256 = omega (arith, (All-slice_get (λ (x : NodeState). IsHart x.hart) nodes i n is harts).few, All-slice_get (λ (x : NodeState). x.hart.nprocs ≡ length nodes) nodes i n is row.counts) in
+    let few : length nodes ≤ max_nodes = omega (arith, (All-slice_get (λ (x : NodeState). IsHart x.hart) nodes i n is harts).few, All-slice_get (λ (x : NodeState). x.hart.nprocs ≡ length nodes) nodes i n is row.counts) in
     let requests : All (IsKept nodes) (issued nodes) = kept nodes row harts in
     let inside : All (λ (q : Issued). leaves_area nodes q.request ≡ false) (issued nodes) = all_inside nodes faultless in
     let gets : All (HasPlace nodes) (filter_map (λ (q : Issued). landing_of_get nodes q.rank q.issue q.request) (issued nodes)) =

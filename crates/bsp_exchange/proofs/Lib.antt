@@ -1,3 +1,4 @@
+pub mod Bounds
 pub mod Finds
 pub mod Gathered
 pub mod Gathering
@@ -10,9 +11,11 @@ pub mod Latest
 pub mod Loads
 pub mod Lookups
 pub mod PartOrder
+pub mod Patched
 pub mod Patches
 pub mod Planned
 pub mod Preparing
+pub mod Readings
 pub mod Refusals
 pub mod Tallies
 pub mod Transfers

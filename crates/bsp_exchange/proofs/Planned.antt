@@ -1,5 +1,5 @@
 -- What was gathered for the nodes, as the parts of a plan, each of which can land in its node.
-use Rattle.std.proofs.Common.{◌≡◌, ℕ, zero, suc, ◌+◌, ◌<◌, ◌≤◌, Bool, List, [], ◌∷◌, ◌++◌, length, get_or, map, refl, sym, ap, ap₂, subst, ◌∙◌, arith, Some}
+use Rattle.std.proofs.Common.{◌≡◌, ℕ, zero, suc, ◌+◌, ◌^◌, ◌<◌, ◌≤◌, Bool, List, [], ◌∷◌, ◌++◌, length, get_or, map, refl, sym, ap, ap₂, subst, ◌∙◌, arith, Some}
 use Rattle.std.specs.Prelude.{slice_get}
 use Rattle.std.specs.List.{All, AllZip, enumerate_from, range_with_len}
 use Rattle.std.proofs.lemmas.List.{append_assoc, length_push}
@@ -8,10 +8,14 @@ use Rattle.std.proofs.lemmas.List.FromFn.{get_or-range_with_len, length-range_wi
 use Rattle.std.proofs.lemmas.Option.{same_Some, slice_get_within}
 use Rattle.bsp_requests.specs.Inbox.{IsQueue}
 use Rattle.node_core.specs.declared.state.State.TheVariants.{Synced}
+use Rattle.node_core.specs.Hart.{max_nodes}
 use Rattle.node_core.specs.Node.{NodeState, PreparedNode}
 use Rattle.bsp_exchange.specs.Arrivals.{Received, ArePrepared, IsPrepared, part_from, received_at}
 use Rattle.bsp_exchange.specs.Exchange.{states}
 use Rattle.bsp_exchange.specs.Parts.{Patch, PartState, OwnsEach, CanExchange, CanLand, part_of, parts_of}
+use Rattle.bsp_exchange.specs.declared.traffic.Traffic.{Traffic}
+use Rattle.bsp_exchange.specs.Traffic.{traffic_of}
+use Rattle.bsp_exchange.proofs.Bounds.{traffic_bounded}
 use Rattle.bsp_exchange.proofs.Gathered.{all_at, length-states}
 use Rattle.bsp_exchange.proofs.Landed.{parts_are, rank_is, whole}
 use Rattle.std.proofs.lemmas.Option.{slice_get-map}
@@ -127,10 +131,14 @@ received_same ps qs same =
     ap₂ (λ (ns : List NodeState) (n : ℕ). map (received_at ns) (range_with_len 0 n)) (sym same) long
 
 -- there are no more nodes than ranks that a node can know of
-few_nodes : (nodes : List NodeState) → CanExchange nodes → length nodes ≤ 256
+few_nodes : (nodes : List NodeState) → CanExchange nodes → length nodes ≤ max_nodes
 few_nodes [] can = omega arith
 few_nodes (n ∷ nodes) can = omega (arith, (can.sound 0 n (omega arith)).few, can.row.counts 0 n (omega arith))
 
-pub few_planned : (ps : List PreparedNode) (arrivals : List Received) → CanExchange (states ps) → arrivals ≡ map (received_at (states ps)) (range_with_len 0 (length ps)) → length arrivals ≤ 256
+pub few_planned : (ps : List PreparedNode) (arrivals : List Received) → CanExchange (states ps) → arrivals ≡ map (received_at (states ps)) (range_with_len 0 (length ps)) → length arrivals ≤ max_nodes
 few_planned ps arrivals can planned =
     omega (arith, few_nodes (states ps) can, ap length planned ∙ length-map-range_with_len (received_at (states ps)) 0 (length ps), length-states ps)
+
+-- what they move keeps to bounds
+pub bounded_planned : (nodes : List NodeState) (t : Traffic) → CanExchange nodes → t ≡ traffic_of nodes → (t.h ≤ t.h_all) × (t.h_all ≤ 2 ^ 34) × (t.messages ≤ 2 ^ 26)
+bounded_planned nodes t can is = rw is (traffic_bounded nodes (few_nodes nodes can) can.sound)

@@ -51,3 +51,10 @@ NamesFault-handed {T} {U} e fault names f = (
   λ is. (names f).0 (ap (λ (x : ExchangeError). Err x) (same_error e (Fault f) _ _ refl refl is)),
   λ some. ap (λ (x : ExchangeError). Err x) (same_error e (Fault f) _ _ refl refl ((names f).1 some)),
 )
+
+-- an error that says which fault there is names it as an answer
+pub NamesFault-told : {T : Type 0} (e : ExchangeError) (fault : Option ExchangeFault) → ((f : ExchangeFault) → (e ≡ Fault f) ↔ (fault ≡ Some f)) → NamesFault {T = T} (Err e) fault
+NamesFault-told {T} e fault says f = (
+  λ is. (says f).0 (same_error e (Fault f) _ _ refl refl is),
+  λ some. ap (λ (x : ExchangeError). Err x) ((says f).1 some),
+)

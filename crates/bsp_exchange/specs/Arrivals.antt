@@ -5,6 +5,7 @@ use Rattle.std.specs.List.{fold}
 use Rattle.node_memory.specs.Bytes.{fits, bytes_at}
 use Rattle.bsp_requests.specs.declared.request.Get.{Get}
 use Rattle.bsp_requests.specs.Message.{Message}
+use Rattle.bsp_requests.specs.Outgoing.{Outgoing}
 use Rattle.bsp_requests.specs.Inbox.{IsQueue}
 use Rattle.bsp_requests.specs.Request.{Asked, asks_put, asks_get, asks_send}
 use Rattle.node_core.specs.declared.state.State.TheVariants.{Synced}
@@ -59,13 +60,16 @@ fetched nodes g = record {
   bytes = bytes_at (memory_of nodes g.target) (area_start nodes g.target g.slot + g.offset) g.len;
 }
 
+-- a send, as its target receives it
+abbrev pub message_of : ℕ → Outgoing → Message
+message_of sender m = record { sender = sender; tag = m.tag; payload = m.payload }
+
 -- what the nodes receive when a caller's request is added
 abbrev pub with_asked : List NodeState → ℕ → List Received → Asked → List Received
 with_asked nodes caller parts (asks_put p) =
     changed_at (with_put (record { addr = area_start nodes p.target p.slot + p.offset; bytes = p.bytes })) p.target parts
 with_asked nodes caller parts (asks_get g) = changed_at (with_get (fetched nodes g)) caller parts
-with_asked nodes caller parts (asks_send m) =
-    changed_at (with_message (record { sender = caller; tag = m.tag; payload = m.payload })) m.target parts
+with_asked nodes caller parts (asks_send m) = changed_at (with_message (message_of caller m)) m.target parts
 
 abbrev pub with_issued : List NodeState → List Received → List Issued → List Received
 with_issued nodes parts requests = fold (λ at i. with_asked nodes i.rank at i.request) parts requests

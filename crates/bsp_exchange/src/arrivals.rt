@@ -7,10 +7,11 @@ ghost use Rattle.bsp_exchange.specs.Arrivals.{nothing, FitsIn, IsPrepared, CanTa
 ghost use Rattle.bsp_exchange.specs.Parts.{bytes_in};
 
 use crate::landings::Landings;
+use crate::puts::Puts;
 use bsp_requests::{Inbox, Message};
-use list_vec::ListVec;
 use node_core::Node;
 use node_memory::Memory;
+use shared_bytes::SharedBytes;
 use std::alloc::{AllocError, Allocator};
 use std::marker::Model;
 use std::mem;
@@ -21,7 +22,7 @@ use std::mem;
 pub(crate) struct Arrivals<A: Allocator> {
     alloc: A,
     gets: Landings<A>,
-    puts: Landings<A>,
+    puts: Puts<A>,
     messages: Vec<Message<A>, A>,
 }
 
@@ -36,14 +37,14 @@ impl<A: Allocator> Model for Arrivals<A> {
 impl<A: Allocator + Copy> Arrivals<A> {
     ghost use Rattle.std.specs.Prelude.{◌++◌, ◌∷◌, []};
 
-    /// Nothing. No memory is taken.
-    pub(crate) fn new(alloc: A) -> Arrivals<A>
+    /// Nothing yet, where about so many gets and puts are expected. No memory is taken.
+    pub(crate) fn new(alloc: A, expected: usize) -> Arrivals<A>
         ensures { result ≡ nothing }
     {
         Arrivals {
             alloc,
-            gets: Landings::new(alloc),
-            puts: Landings::new(alloc),
+            gets: Landings::new(alloc, expected),
+            puts: Puts::new(alloc, expected),
             messages: Vec::new(alloc),
         }
     }
@@ -65,7 +66,7 @@ impl<A: Allocator + Copy> Arrivals<A> {
     }
 
     /// Adds bytes that are put, from `addr` on.
-    pub(crate) fn add_put(&mut self, addr: u32, bytes: &[u8]) -> Result<(), AllocError>
+    pub(crate) fn add_put(&mut self, addr: u32, bytes: &SharedBytes<A>) -> Result<(), AllocError>
         ensures ok { OnOk result (self.new ≡ record self.old {
           puts = self.old.puts ++ record { addr = addr; bytes = bytes.now } ∷ [];
         }) }
@@ -77,8 +78,8 @@ impl<A: Allocator + Copy> Arrivals<A> {
     pub(crate) fn add_message(
         &mut self,
         sender: u16,
-        tag: &[u8],
-        payload: &[u8],
+        tag: &SharedBytes<A>,
+        payload: &SharedBytes<A>,
     ) -> Result<(), AllocError>
         ensures ok { OnOk result (self.new ≡ record self.old {
           messages = self.old.messages ++ record { sender = sender; tag = tag.now; payload = payload.now } ∷ [];
@@ -86,8 +87,8 @@ impl<A: Allocator + Copy> Arrivals<A> {
     {
         let message = Message {
             sender,
-            tag: ListVec::from_vec(Vec::from_slice(self.alloc, tag)?),
-            payload: ListVec::from_vec(Vec::from_slice(self.alloc, payload)?),
+            tag: tag.try_clone()?,
+            payload: payload.try_clone()?,
         };
         self.messages.push(message)?;
         Ok(())
@@ -113,7 +114,7 @@ impl<A: Allocator + Copy> Arrivals<A> {
     pub(crate) fn bytes(&self) -> u64
         ensures { result ≡ bytes_in self.now.gets + bytes_in self.now.puts }
     {
-        self.gets.len() as u64 + self.puts.len() as u64
+        self.gets.len() as u64 + self.puts.bytes()
     }
 
     /// Lands all of it in its node, which waits and is prepared for it, and begins the node's next superstep. The messages go

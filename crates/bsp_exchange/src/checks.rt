@@ -28,7 +28,7 @@ pub(crate) fn fault<A: Allocator + Copy>(nodes: &[Node<A>]) -> Option<ExchangeFa
 }
 
 /// The lowest rank with another next tag size than rank 0.
-fn tag_mismatch<A: Allocator + Copy>(nodes: &[Node<A>]) -> Option<u32>
+pub(crate) fn tag_mismatch<A: Allocator + Copy>(nodes: &[Node<A>]) -> Option<u32>
     ensures { result ≡ disagreeing have_same_tag_size (states nodes.now) }
 {
     let first = node_at(nodes, 0)?;
@@ -44,12 +44,18 @@ fn first_of_other_tag_size<'a, A: Allocator + Copy>(
     ensures { option_copied result
         ≡ find (λ (p : PreparedNode). not (have_same_tag_size first.now.node p.node)) nodes.now }
 {
-    let size = first.next_tag_size();
-    nodes.iter().find(|node| size != node.next_tag_size())
+    nodes.iter().find(|node| !have_same_tag_size(first, node))
+}
+
+/// Whether two nodes have the same next tag size.
+fn have_same_tag_size<A: Allocator + Copy>(a: &Node<A>, b: &Node<A>) -> bool
+    ensures { result ≡ have_same_tag_size a.now.node b.now.node }
+{
+    a.next_tag_size() == b.next_tag_size()
 }
 
 /// The lowest rank that made other pushes and pops than rank 0.
-fn slot_mismatch<A: Allocator + Copy>(nodes: &[Node<A>]) -> Option<u32>
+pub(crate) fn slot_mismatch<A: Allocator + Copy>(nodes: &[Node<A>]) -> Option<u32>
     ensures { result ≡ disagreeing have_same_shape (states nodes.now) }
 {
     let first = node_at(nodes, 0)?;
@@ -89,6 +95,7 @@ fn first_outside<A: Allocator + Copy>(nodes: &[Node<A>]) -> Option<ExchangeFault
 }
 
 /// The fault of a node's first put or get that does not keep to its area.
+#[inline(never)]
 fn first_outside_of<A: Allocator + Copy>(nodes: &[Node<A>], node: &Node<A>) -> Option<ExchangeFault>
     ensures { result ≡ first_outside (states nodes.now) (issued_by node.now.node) }
 {
@@ -107,7 +114,7 @@ fn first_outside_of<A: Allocator + Copy>(nodes: &[Node<A>], node: &Node<A>) -> O
 }
 
 /// Whether a request is a put or a get that does not keep to its area.
-fn leaves_area<A: Allocator + Copy>(nodes: &[Node<A>], request: &Request<A>) -> bool
+pub(crate) fn leaves_area<A: Allocator + Copy>(nodes: &[Node<A>], request: &Request<A>) -> bool
     ensures { result ≡ leaves_area (states nodes.now) (asked request.now) }
 {
     match request {

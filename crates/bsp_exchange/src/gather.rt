@@ -4,59 +4,78 @@ ghost use Rattle.std.specs.Prelude.{◌≡◌, ◌+◌, ◌<◌, ◌≤◌, fals
 ghost use Rattle.std.specs.List.{range_with_len};
 ghost use Rattle.node_memory.specs.Bytes.{fits};
 ghost use Rattle.bsp_requests.specs.Request.{asked, asks_get};
-ghost use Rattle.node_core.specs.Hart.{IsHart};
+ghost use Rattle.node_core.specs.Hart.{IsHart, max_nodes};
 ghost use Rattle.node_core.specs.Node.{NodeState};
 ghost use Rattle.bsp_exchange.specs.Exchange.{AreAtSync, states};
 ghost use Rattle.bsp_exchange.specs.Faults.{exchange_fault, first_outside, is_outside, leaves_area};
 ghost use Rattle.bsp_exchange.specs.Issued.{issued, issued_by};
 ghost use Rattle.bsp_exchange.specs.Landings.{area_start, memory_of};
-ghost use Rattle.bsp_exchange.specs.Arrivals.{nothing, received_at, fetched, with_get, with_put, with_message, with_asked, with_issued};
+ghost use Rattle.bsp_exchange.specs.Arrivals.{nothing, received_at, fetched, message_of, with_get, with_put, with_message, with_asked, with_issued};
 ghost use Rattle.bsp_exchange.specs.Parts.{target_of, changed_at};
 
 use crate::arrivals::Arrivals;
-use crate::checks::area_at;
-use bsp_requests::{Get, Request};
+use crate::checks::{area_at, leaves_area, slot_mismatch, tag_mismatch};
+use bsp_requests::{Get, Outgoing, Request};
 use node_core::Node;
+use shared_bytes::SharedBytes;
 use std::alloc::{AllocError, Allocator};
 
-/// What each node receives in the exchange among `nodes`, by rank. All that the exchange needs of memory for it is taken here.
+/// Nothing was gathered, since there is a fault or memory was refused.
+#[derive(Drop)]
+pub(crate) struct NotGathered;
+
+impl From<AllocError> for NotGathered {
+    fn from(_: AllocError) -> NotGathered {
+        NotGathered
+    }
+}
+
+/// What each node receives in the exchange among `nodes`, by rank. All that the exchange needs of memory for it is taken here. Each
+/// request is checked right before it is added, so that one pass does both.
+///
+/// # Errors
+/// Where the exchange has a fault, or memory is refused. Which of them it is, and which fault, has to be found out then.
 pub(crate) fn gather<A: Allocator + Copy>(
     alloc: A,
     nodes: &[Node<A>],
-) -> Result<Vec<Arrivals<A>, A>, AllocError>
+) -> Result<Vec<Arrivals<A>, A>, NotGathered>
     requires row { AreAtSync (states nodes.now) }
-    requires faultless { exchange_fault (states nodes.now) ≡ None }
+    ensures faultless { OnOk result (exchange_fault (states nodes.now) ≡ None) }
     ensures parts { IfOk result (λ parts.
         parts.items ≡ map (received_at (states nodes.now)) (range_with_len 0 (length nodes.now))) }
     ensures sound { OnOk result (All (λ (n : NodeState). IsHart n.hart) (states nodes.now)) }
 {
-    let mut parts = empty_parts(alloc, nodes.len())?;
+    if tag_mismatch(nodes).is_some() || slot_mismatch(nodes).is_some() {
+        return Err(NotGathered);
+    }
+    let mut parts = empty_parts(alloc, nodes)?;
     add_all_requests(nodes, &mut parts)?;
     Ok(parts)
 }
 
-/// So many parts with nothing in them.
+/// A part with nothing in it for each node. As many requests are expected to reach it as the node makes itself, which is so where all
+/// nodes ask alike.
 fn empty_parts<A: Allocator + Copy>(
     alloc: A,
-    count: usize,
+    nodes: &[Node<A>],
 ) -> Result<Vec<Arrivals<A>, A>, AllocError>
-    ensures { IfOk result (λ parts. parts.items ≡ replicate count nothing) }
+    ensures { IfOk result (λ parts. parts.items ≡ replicate (length nodes.now) nothing) }
 {
-    let mut parts = Vec::with_capacity(alloc, count)?;
-    for _made in 0..count {
-        parts.push(Arrivals::new(alloc))?;
+    let mut parts = Vec::with_capacity(alloc, nodes.len())?;
+    for node in nodes {
+        parts.push(Arrivals::new(alloc, node.requests().len()))?;
     }
     Ok(parts)
 }
 
-/// Adds all nodes' requests to the parts of those that they reach.
+/// Adds all nodes' requests to the parts of those that they reach, where each keeps to its area.
 fn add_all_requests<A: Allocator + Copy>(
     nodes: &[Node<A>],
     parts: &mut [Arrivals<A>],
-) -> Result<(), AllocError>
+) -> Result<(), NotGathered>
     requires row { AreAtSync (states nodes.now) }
-    requires inside { first_outside (states nodes.now) (issued (states nodes.now)) ≡ None }
     requires parts { length parts.old ≡ length nodes.now }
+    ensures inside { OnOk result (first_outside (states nodes.now) (issued (states nodes.now)) ≡ None) }
     ensures ok { OnOk result (parts.new ≡ with_issued (states nodes.now) parts.old (issued (states nodes.now))) }
     ensures sound { OnOk result (All (λ (n : NodeState). IsHart n.hart) (states nodes.now)) }
 {
@@ -66,21 +85,26 @@ fn add_all_requests<A: Allocator + Copy>(
     Ok(())
 }
 
-/// Adds a node's requests to the parts of those that they reach.
+/// Adds a node's requests to the parts of those that they reach, where each keeps to its area. It stands by itself, so that its loop
+/// has the registers.
+#[inline(never)]
 fn add_requests<A: Allocator + Copy>(
     nodes: &[Node<A>],
     node: &Node<A>,
     parts: &mut [Arrivals<A>],
-) -> Result<(), AllocError>
+) -> Result<(), NotGathered>
     requires count { node.now.node.hart.nprocs ≡ length nodes.now }
     requires parts { length parts.old ≡ length nodes.now }
-    requires inside { first_outside (states nodes.now) (issued_by node.now.node) ≡ None }
+    ensures inside { OnOk result (first_outside (states nodes.now) (issued_by node.now.node) ≡ None) }
     ensures ok { OnOk result (parts.new ≡ with_issued (states nodes.now) parts.old (issued_by node.now.node)) }
     ensures sound { IsHart node.now.node.hart }
 {
     let requests = node.requests();
     for issue in 0..requests.len() {
         if let Some(request) = requests.at(issue) {
+            if leaves_area(nodes, request) {
+                return Err(NotGathered);
+            }
             add_request(nodes, node.rank(), request, parts)?;
         }
     }
@@ -94,7 +118,7 @@ fn add_request<A: Allocator + Copy>(
     request: &Request<A>,
     parts: &mut [Arrivals<A>],
 ) -> Result<(), AllocError>
-    requires few { length nodes.now ≤ 256 }
+    requires few { length nodes.now ≤ max_nodes }
     requires parts { length parts.old ≡ length nodes.now }
     requires caller { caller < length nodes.now }
     requires target { target_of (asked request.now) < length nodes.now }
@@ -102,15 +126,9 @@ fn add_request<A: Allocator + Copy>(
     ensures { OnOk result (parts.new ≡ with_asked (states nodes.now) caller parts.old (asked request.now)) }
 {
     match request {
-        Request::Put(put) => {
-            let bytes = put.bytes.as_slice();
-            add_put(nodes, put.target, put.slot, put.offset, bytes, parts)
-        }
+        Request::Put(put) => { add_put(nodes, put.target, put.slot, put.offset, &put.bytes, parts) }
         Request::Get(get) => add_get(nodes, caller, get, parts),
-        Request::Send(message) => {
-            let (tag, payload) = (message.tag.as_slice(), message.payload.as_slice());
-            add_message(caller as u16, message.target, tag, payload, parts)
-        }
+        Request::Send(message) => add_message(caller as u16, message, parts),
     }
 }
 
@@ -120,7 +138,7 @@ fn add_put<A: Allocator + Copy>(
     target: u16,
     slot: usize,
     offset: u32,
-    bytes: &[u8],
+    bytes: &SharedBytes<A>,
     parts: &mut [Arrivals<A>],
 ) -> Result<(), AllocError>
     requires parts { length parts.old ≡ length nodes.now }
@@ -152,18 +170,16 @@ fn add_get<A: Allocator + Copy>(
 }
 
 /// Adds a message to its target's part.
+#[inline(never)]
 fn add_message<A: Allocator + Copy>(
     sender: u16,
-    target: u16,
-    tag: &[u8],
-    payload: &[u8],
+    message: &Outgoing<A>,
     parts: &mut [Arrivals<A>],
 ) -> Result<(), AllocError>
-    requires target { target < length parts.old }
-    ensures { OnOk result (parts.new
-        ≡ changed_at (with_message (record { sender = sender; tag = tag.now; payload = payload.now })) target parts.old) }
+    requires target { message.now.target < length parts.old }
+    ensures { OnOk result (parts.new ≡ changed_at (with_message (message_of sender message.now)) message.now.target parts.old) }
 {
-    parts[target as usize].add_message(sender, tag, payload)
+    parts[message.target as usize].add_message(sender, &message.tag, &message.payload)
 }
 
 /// Where a transfer of `len` bytes begins that keeps to its area, in the memory of the area's node.

@@ -1,4 +1,4 @@
-//! Bytes that wait to land in one memory.
+//! Bytes that gets fetched, and that wait to land in one memory.
 
 ghost use Rattle.std.specs.Prelude.{◌≡◌, ◌<◌, ◌^◌, ◌∷◌, ◌++◌, [], length, IsTrue, OnOk, OnErr};
 ghost use Rattle.node_memory.specs.Bytes.{fits, bytes_at};
@@ -7,6 +7,7 @@ ghost use Rattle.node_memory.specs.Pages.{KeepsOwn};
 ghost use Rattle.bsp_exchange.specs.Arrivals.{LieIn};
 ghost use Rattle.bsp_exchange.specs.Parts.{OwnsEach, bytes_in, with_patches};
 
+use crate::room::grow;
 use node_core::Node;
 use node_memory::Memory;
 use std::alloc::{AllocError, Allocator};
@@ -19,7 +20,7 @@ struct Range {
     len: usize,
 }
 
-/// Bytes that wait to land in one node's memory, in the order in which they land.
+/// Bytes that were fetched and wait to land in one node's memory, in the order in which they land.
 ///
 /// Contracts see them as a list of patches, each an address and its bytes. The bytes of all stand in one buffer, so that many
 /// small ones cost no memory of their own each.
@@ -28,6 +29,8 @@ pub(crate) struct Landings<A: Allocator> {
     ranges: Vec<Range, A>,
     // Those of the first range, then those of the second, and so on.
     bytes: Vec<u8, A>,
+    // For how many ranges the first room is made.
+    expected: usize,
 }
 
 impl<A: Allocator> Model for Landings<A> {
@@ -43,29 +46,15 @@ impl<A: Allocator> Model for Landings<A> {
 }
 
 impl<A: Allocator + Copy> Landings<A> {
-    /// No bytes wait. No memory is taken.
-    pub(crate) fn new(alloc: A) -> Landings<A>
+    /// No bytes wait, and about so many gets are expected. No memory is taken.
+    pub(crate) fn new(alloc: A, expected: usize) -> Landings<A>
         ensures { result ≡ [] }
     {
         Landings {
             ranges: Vec::new(alloc),
             bytes: Vec::new(alloc),
+            expected,
         }
-    }
-
-    /// Adds a copy of `bytes`, which land from `addr` on, after those that wait.
-    #[tactic(auto, using(crate::proofs::Patches::patches_push))]
-    pub(crate) fn push(&mut self, addr: u32, bytes: &[u8]) -> Result<(), AllocError>
-        ensures ok { OnOk result (self.new ≡ self.old ++ record { addr = addr; bytes = bytes.now } ∷ []) }
-        ensures err { OnErr result (self.new ≡ self.old) }
-    {
-        self.ranges.reserve(1)?;
-        self.bytes.extend_from_slice(bytes)?;
-        self.ranges.push_reserved(Range {
-            addr,
-            len: bytes.len(),
-        });
-        Ok(())
     }
 
     /// Adds a copy of the `len` bytes from `from` on of a memory, which land from `addr` on, after those that wait.
@@ -82,7 +71,9 @@ impl<A: Allocator + Copy> Landings<A> {
             ≡ self.old ++ record { addr = addr; bytes = bytes_at memory.now.bytes from len } ∷ []) }
         ensures err { OnErr result (self.new ≡ self.old) }
     {
-        self.ranges.reserve(1)?;
+        if self.ranges.len() == self.ranges.capacity() {
+            grow(&mut self.ranges, self.expected)?;
+        }
         memory.append_range(from, len, &mut self.bytes)?;
         self.ranges.push_reserved(Range {
             addr,
@@ -101,6 +92,7 @@ impl<A: Allocator + Copy> Landings<A> {
     }
 
     /// Makes the pages in which they come to lie the node's own. They lie in its memory.
+    #[inline(never)]
     pub(crate) fn prepare(&self, node: &mut Node<A>) -> Result<(), AllocError>
         requires within { LieIn (length node.old.node.hart.memory) self.now }
         ensures node { node.new.node ≡ node.old.node }

@@ -1,13 +1,15 @@
 //! Laws of the exchange, over its definitions alone. Each is the contract of a function that does nothing.
 
-ghost use Rattle.std.specs.Prelude.{◌≡◌, ◌≢◌, ℕ, false, List, length, slice_get, All, Contains, IsPermutation, IsTrue};
+ghost use Rattle.std.specs.Prelude.{◌≡◌, ◌≢◌, ◌≤◌, ℕ, false, List, length, slice_get, All, Contains, IsPermutation, IsTrue};
 ghost use Rattle.std.specs.List.{AllZip};
 ghost use Rattle.node_memory.specs.Bytes.{byte_at};
 ghost use Rattle.node_core.specs.Node.{NodeState};
 ghost use Rattle.bsp_exchange.specs.Exchange.{AreAtSync, exchanged};
 ghost use Rattle.bsp_exchange.specs.Landings.{Landing, IsAtMost, KeysDoNotFall, HaveOwnKeys, AreSameLandings, landings_at, covers, landing_byte, landed_byte, memory_after};
 ghost use Rattle.bsp_exchange.specs.Parts.{CanExchange, PartState, landed, landed_in_turn, parts_of};
+ghost use Rattle.bsp_exchange.specs.Queues.{from_others, queue_after};
 ghost use Rattle.bsp_exchange.specs.SameNode.{IsSameNode};
+ghost use Rattle.bsp_exchange.specs.Traffic.{Transfer, transfers, between_ranks, messages_received, h_of, h_all_of};
 
 /// The landings in a memory come in the order of their keys, and each has a key of its own.
 pub fn landings_come_in_the_order_of_their_keys()
@@ -55,6 +57,21 @@ pub fn parts_land_in_any_order()
         → IsPermutation (parts_of nodes) parts → landed_in_turn nodes parts ≡ exchanged nodes }
     ensures apart { (nodes : List NodeState) (parts : List PartState) (rank : ℕ) → All (λ part. part.rank ≢ rank) parts
         → slice_get (landed_in_turn nodes parts) rank ≡ slice_get nodes rank }
+{}
+
+/// Of the two readings of h the one that leaves out what nodes move to themselves is not more than the other. They agree where nothing
+/// is moved so: where each transfer of a rank to itself has no bytes.
+pub fn h_is_at_most_h_all()
+    ensures most { (nodes : List NodeState) → h_of nodes ≤ h_all_of nodes }
+    ensures same { (nodes : List NodeState)
+        → All (λ (t : Transfer). t.from ≡ t.to → t.bytes ≡ 0) (transfers nodes)
+        → h_of nodes ≡ h_all_of nodes }
+{}
+
+/// The messages that are counted for a rank are those in its queue after the exchange that others sent.
+pub fn messages_are_those_of_the_queue()
+    ensures { (nodes : List NodeState) (rank : ℕ)
+        → messages_received (between_ranks (transfers nodes)) rank ≡ length (from_others rank (queue_after nodes rank)) }
 {}
 
 /// An exchange leaves as many nodes, in the same order, and changes of each only its memory's bytes, what it communicates and its

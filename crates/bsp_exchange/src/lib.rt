@@ -5,6 +5,9 @@
 //! `exchanged` is the list after the exchange: a function of the list before it alone, so that the order in which the nodes came
 //! there does not matter.
 //!
+//! [`plan`] is all of an exchange that takes memory or can be refused. It hands out a [`Part`] for each node, which lands once, by
+//! whichever thread and in whatever order of the nodes; the exchange is made when each has landed.
+//!
 //! What callers may rely on:
 //!
 //! - An exchange is refused for the first of its faults (own order): a next tag size or a sequence of pushes and pops that is not
@@ -16,14 +19,16 @@
 //!   the tag that it was sent with.
 //! - Areas and tag sizes turn, requests and output are empty, and a node runs on, or is exhausted at its limit. Registers, pc,
 //!   ticks and the place in the input stay.
-//! - `h` is the most bytes that one node sent or received, with tags, and with what it moved to itself (own rules).
+//! - `h` is the most bytes that one node sent to others or received from others, with tags; `h_all` counts what it moved to itself
+//!   too, and `messages` is the most messages that one received from others (own rules).
 //! - Whatever is answered but Ok, every node is as it was, also where memory is refused: all memory is taken before the first byte
 //!   lands, that for copies of the shared pages into which bytes come too. Pages that were copied by then stay the nodes' own, which no
 //!   byte shows. An exchange that was refused memory can be made again.
-//! - [`laws`]: the greatest key counts, and no order of landing but that of the keys matters.
+//! - [`laws`]: the greatest key counts, and no order of landing but that of the keys matters; `h` is at most `h_all`.
 //!
-//! Time grows as the requests and the bytes that they move. A byte that a get or a put moves is copied once beside the copy that
-//! lands; and a page into which it comes is copied once, where it is shared until then.
+//! Time grows as the requests and the bytes that they move. A byte that a get moves is copied once beside the copy that lands, and a
+//! byte of a put is not, but for the few that a put holds by itself; messages go over as they are. A page into which bytes come is
+//! copied once, where it is shared until then.
 #![tactic(auto)]
 
 mod arrivals;
@@ -35,6 +40,8 @@ mod landings;
 pub mod laws;
 mod part;
 mod planning;
+mod puts;
+mod room;
 mod sync;
 mod traffic;
 

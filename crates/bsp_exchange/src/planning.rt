@@ -1,23 +1,23 @@
 //! The plan of an exchange: all of it that takes memory or can be refused, and nothing that changes a node.
 
-ghost use Rattle.std.specs.Prelude.{◌≡◌, ◌≤◌, ◌<◌, ◌↔◌, ◌^◌, All, None, Some, IfOk, OnOk, OnErr, IsErrOf, length, map};
+ghost use Rattle.std.specs.Prelude.{◌≡◌, ◌^◌, ◌≤◌, ◌↔◌, All, None, Some, IfOk, OnOk, OnErr, IsErrOf, length, map};
 ghost use Rattle.std.specs.List.{AllZip, enumerate_from, range_with_len};
 ghost use Rattle.bsp_requests.specs.Inbox.{IsQueue};
-ghost use Rattle.node_core.specs.Hart.{IsHart};
+ghost use Rattle.node_core.specs.Hart.{IsHart, max_nodes};
 ghost use Rattle.node_core.specs.Node.{NodeState};
 ghost use Rattle.bsp_exchange.specs.declared.fault.ExchangeFault.{ExchangeFault};
 ghost use Rattle.bsp_exchange.specs.Arrivals.{Received, ArePrepared, part_from, received_at};
 ghost use Rattle.bsp_exchange.specs.Exchange.{AreAtSync, states};
 ghost use Rattle.bsp_exchange.specs.Faults.{exchange_fault};
 ghost use Rattle.bsp_exchange.specs.Parts.{CanExchange, CanLand, EachKeepsOwn, parts_of};
-ghost use Rattle.bsp_exchange.specs.Traffic.{h_of};
+ghost use Rattle.bsp_exchange.specs.Traffic.{traffic_of};
 
 use crate::arrivals::Arrivals;
 use crate::checks::fault;
 use crate::fault::{ExchangeError, ExchangeFault};
 use crate::gather::gather;
 use crate::part::{Part, Plan};
-use crate::traffic::{Traffic, h_of};
+use crate::traffic::traffic_of;
 use node_core::Node;
 use std::alloc::{AllocError, Allocator};
 
@@ -37,22 +37,30 @@ pub fn plan<A: Allocator + Copy>(alloc: A, nodes: &mut [Node<A>]) -> Result<Plan
     ensures parts { IfOk result (λ plan. plan.parts.items ≡ parts_of (states nodes.old)) }
     ensures prepared { IfOk result (λ plan. AllZip CanLand plan.parts.items nodes.new) }
     ensures exchanges { OnOk result (CanExchange (states nodes.old)) }
-    ensures traffic { IfOk result (λ plan. plan.traffic.h ≡ h_of (states nodes.old)) }
-    ensures bounded { IfOk result (λ plan. plan.traffic.h ≤ 2 ^ 32) }
+    ensures traffic { IfOk result (λ plan. plan.traffic ≡ traffic_of (states nodes.old)) }
+    ensures bounded { IfOk result (λ plan. (plan.traffic.h ≤ plan.traffic.h_all)
+        × (plan.traffic.h_all ≤ 2 ^ 34) × (plan.traffic.messages ≤ 2 ^ 26)) }
     ensures fault { (fault : ExchangeFault)
         → IsErrOf result (ExchangeError.Fault fault) ↔ (exchange_fault (states nodes.old) ≡ Some fault) }
 {
-    if let Some(fault) = fault(nodes) {
-        return Err(ExchangeError::Fault(fault));
-    }
-    let arrivals = gather(alloc, nodes)?;
+    let Ok(arrivals) = gather(alloc, nodes) else {
+        return Err(refusal(nodes));
+    };
     prepare_all(nodes, &arrivals)?;
     let parts = parts_from(alloc, arrivals)?;
-    let h = h_of(nodes);
-    Ok(Plan {
-        traffic: Traffic { h },
-        parts,
-    })
+    let traffic = traffic_of(alloc, nodes)?;
+    Ok(Plan { traffic, parts })
+}
+
+/// Why nothing was gathered: the first fault, or else that memory was refused.
+fn refusal<A: Allocator + Copy>(nodes: &[Node<A>]) -> ExchangeError
+    ensures { (fault : ExchangeFault)
+        → (result ≡ ExchangeError.Fault fault) ↔ (exchange_fault (states nodes.now) ≡ Some fault) }
+{
+    match fault(nodes) {
+        Some(fault) => ExchangeError::Fault(fault),
+        None => ExchangeError::NoMemory,
+    }
 }
 
 /// Makes the room that the landings and the turns of all nodes want. The nodes themselves stay as they are.
@@ -79,7 +87,7 @@ fn parts_from<A: Allocator + Copy>(
     alloc: A,
     arrivals: Vec<Arrivals<A>, A>,
 ) -> Result<Vec<Part<A>, A>, AllocError>
-    requires few { length arrivals.items ≤ 256 }
+    requires few { length arrivals.items ≤ max_nodes }
     requires queues { All (λ (r : Received). IsQueue r.messages) arrivals.items }
     ensures { IfOk result (λ parts. parts.items ≡ map part_from (enumerate_from 0 arrivals.items)) }
 {

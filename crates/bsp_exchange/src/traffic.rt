@@ -1,6 +1,6 @@
 //! How much an exchange moves.
 
-ghost use Rattle.std.specs.Prelude.{◌≡◌, ℕ, ◌^◌, ◌<◌, ◌≤◌, length, slice_get, Some, All};
+ghost use Rattle.std.specs.Prelude.{◌≡◌, ℕ, ◌^◌, ◌<◌, ◌≤◌, length, replicate, All, IfOk};
 ghost use Rattle.bsp_requests.specs.Request.{asked, size_of};
 ghost use Rattle.bsp_requests.specs.Requests.{IsWithinLimits};
 ghost use Rattle.node_core.specs.Hart.{IsHart};
@@ -8,58 +8,69 @@ ghost use Rattle.node_core.specs.Node.{NodeState};
 ghost use Rattle.bsp_exchange.specs.Exchange.{AreAtSync, states};
 ghost use Rattle.bsp_exchange.specs.Loads.{no_load, with_transfer, with_transfers, transfers_of, IsWithin, greatest};
 ghost use Rattle.bsp_exchange.specs.Parts.{target_of};
-ghost use Rattle.bsp_exchange.specs.Traffic.{transfer, transfers, h_of};
+ghost use Rattle.bsp_exchange.specs.Traffic.{transfer, transfers, traffic_of};
 
 use bsp_requests::{Request, Requests};
 use node_core::Node;
-use std::alloc::Allocator;
+use std::alloc::{AllocError, Allocator};
 
 /// What an exchange moved.
 #[derive(Clone, Copy, Debug, PartialEq, Eq)]
 pub struct Traffic {
-    /// The most bytes that one node sent or received: the h of the h-relation (BSP). At most 2^32.
+    /// The h of the h-relation (BSP): the most bytes that one node sent to others or received from others.
     pub h: u64,
+    /// The same with what a node moved to itself.
+    pub h_all: u64,
+    /// The most messages that one node received from others.
+    pub messages: u64,
 }
 
-/// The most nodes of a machine.
-const MAX_NODES: usize = 256;
-
-/// What a node sends and receives in an exchange, in bytes.
+/// What a node sends and receives in an exchange.
 #[derive(Clone, Copy)]
 struct Load {
+    /// Bytes to other nodes.
     sent: u64,
+    /// Bytes from other nodes.
     received: u64,
+    /// Bytes from the node to itself.
+    kept: u64,
+    /// Messages from other nodes.
+    messages: u64,
 }
 
-/// The most bytes that a node sends or receives in the exchange among `nodes`.
-pub(crate) fn h_of<A: Allocator + Copy>(nodes: &[Node<A>]) -> u64
+/// How much the exchange among `nodes` moves. It is an error only where memory is refused.
+pub(crate) fn traffic_of<A: Allocator + Copy>(
+    alloc: A,
+    nodes: &[Node<A>],
+) -> Result<Traffic, AllocError>
     requires { AreAtSync (states nodes.now) }
-    ensures value { result ≡ h_of (states nodes.now) }
-    ensures bounded { result ≤ 2 ^ 32 }
+    ensures { IfOk result (λ traffic. traffic ≡ traffic_of (states nodes.now)) }
 {
-    let mut loads = no_loads();
+    let mut loads = no_loads(alloc, nodes.len())?;
     add_nodes(nodes, &mut loads);
-    greatest(&loads[..nodes.len()])
+    Ok(greatest(&loads))
 }
 
 /// Nothing sent or received, for each rank.
-fn no_loads() -> [Load; MAX_NODES]
-    ensures size { length result ≡ 256 }
-    ensures empty { All (λ l. l ≡ no_load) result }
+fn no_loads<A: Allocator + Copy>(alloc: A, count: usize) -> Result<Vec<Load, A>, AllocError>
+    ensures { IfOk result (λ loads. loads.items ≡ replicate count no_load) }
 {
-    [Load {
+    let nothing = Load {
         sent: 0,
         received: 0,
-    }; MAX_NODES]
+        kept: 0,
+        messages: 0,
+    };
+    vec![in alloc; nothing; count]
 }
 
 /// Adds what all nodes ask for to the loads, of which there is one for each rank.
 fn add_nodes<A: Allocator + Copy>(nodes: &[Node<A>], loads: &mut [Load])
     requires row { AreAtSync (states nodes.now) }
-    requires ranks { length loads.old ≡ 256 }
+    requires ranks { length loads.old ≡ length nodes.now }
     requires empty { All (λ l. l ≡ no_load) loads.old }
     ensures loads { loads.new ≡ with_transfers loads.old (transfers (states nodes.now)) }
-    ensures sound { All (λ (n : NodeState). IsHart n.hart) (states nodes.now) }
+    ensures bounded { All (IsWithin (2 ^ 35)) loads.new }
 {
     for node in nodes {
         add_requests(node.rank(), node.requests(), loads);
@@ -71,7 +82,7 @@ fn add_requests<A: Allocator + Copy>(caller: u32, requests: &Requests<A>, loads:
     requires caller { caller < length loads.old }
     requires targets { All (λ r. target_of r < length loads.old) requests.now.requests }
     requires limits { IsWithinLimits requests.now }
-    requires room { All (IsWithin (2 ^ 32)) loads.old }
+    requires room { All (IsWithin (2 ^ 35)) loads.old }
     ensures { loads.new ≡ with_transfers loads.old (transfers_of caller requests.now.requests) }
 {
     for issue in 0..requests.len() {
@@ -86,7 +97,7 @@ fn add_request<A: Allocator + Copy>(caller: u32, request: &Request<A>, loads: &m
     requires caller { caller < length loads.old }
     requires target { target_of (asked request.now) < length loads.old }
     requires limit { size_of (asked request.now) ≤ 2 ^ 32 }
-    requires room { All (IsWithin (2 ^ 33)) loads.old }
+    requires room { All (IsWithin (2 ^ 36)) loads.old }
     ensures { loads.new ≡ with_transfer loads.old (transfer caller (asked request.now)) }
 {
     match request {
@@ -94,42 +105,59 @@ fn add_request<A: Allocator + Copy>(caller: u32, request: &Request<A>, loads: &m
             caller as usize,
             put.target as usize,
             put.bytes.len() as u64,
+            0,
             loads,
         ),
         Request::Get(get) => add_transfer(
             get.target as usize,
             caller as usize,
             u64::from(get.len),
+            0,
             loads,
         ),
         Request::Send(message) => add_transfer(
             caller as usize,
             message.target as usize,
             (message.tag.len() + message.payload.len()) as u64,
+            1,
             loads,
         ),
     }
 }
 
-/// Adds so many bytes, which go from one rank to another, to the loads.
-fn add_transfer(from: usize, to: usize, bytes: u64, loads: &mut [Load])
+/// Adds so many bytes, which go from one rank to another, or to itself, and so many messages with them, to the loads.
+fn add_transfer(from: usize, to: usize, bytes: u64, messages: u64, loads: &mut [Load])
     requires from { from < length loads.old }
     requires to { to < length loads.old }
     requires limit { bytes ≤ 2 ^ 32 }
-    requires room { All (IsWithin (2 ^ 33)) loads.old }
-    ensures { loads.new ≡ with_transfer loads.old (record { from = from; to = to; bytes = bytes }) }
+    requires one { messages ≤ 1 }
+    requires room { All (IsWithin (2 ^ 36)) loads.old }
+    ensures { loads.new ≡ with_transfer loads.old (record { from = from; to = to; bytes = bytes; messages = messages }) }
 {
-    loads[from].sent += bytes;
-    loads[to].received += bytes;
+    if from == to {
+        loads[from].kept += bytes;
+    } else {
+        loads[from].sent += bytes;
+        loads[to].received += bytes;
+        loads[to].messages += messages;
+    }
 }
 
-/// The greatest of all loads, sent or received.
-fn greatest(loads: &[Load]) -> u64
+/// The greatest that the loads have of each.
+fn greatest(loads: &[Load]) -> Traffic
+    requires { All (IsWithin (2 ^ 35)) loads.now }
     ensures { result ≡ greatest loads.now }
 {
-    let mut greatest = 0;
+    let mut most = Traffic {
+        h: 0,
+        h_all: 0,
+        messages: 0,
+    };
     for load in loads {
-        greatest = greatest.max(load.sent.max(load.received));
+        let larger = load.sent.max(load.received);
+        most.h = most.h.max(larger);
+        most.h_all = most.h_all.max(larger + load.kept);
+        most.messages = most.messages.max(load.messages);
     }
-    greatest
+    most
 }

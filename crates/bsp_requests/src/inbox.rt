@@ -2,7 +2,7 @@ ghost use Rattle.std.specs.Prelude.{◌≡◌, ◌^◌, ◌<◌, length, drop, A
 ghost use Rattle.bsp_requests.specs.Inbox.{payload_bytes, IsQueue};
 ghost use Rattle.bsp_requests.specs.Message.{IsShort};
 
-use list_vec::ListVec;
+use shared_bytes::SharedBytes;
 use std::alloc::Allocator;
 use std::collections::VecDeque;
 use std::marker::Model;
@@ -12,8 +12,8 @@ use std::marker::Model;
 pub struct Message<A: Allocator> {
     /// The rank of the node that sent it.
     pub sender: u16,
-    pub tag: ListVec<u8, A>,
-    pub payload: ListVec<u8, A>,
+    pub tag: SharedBytes<A>,
+    pub payload: SharedBytes<A>,
 }
 
 impl<A: Allocator> Model for Message<A> {

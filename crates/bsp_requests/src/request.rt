@@ -1,6 +1,6 @@
 ghost use Rattle.std.specs.Prelude.{◌≡◌, ◌-◌, ◌^◌, min};
 
-use list_vec::ListVec;
+use shared_bytes::SharedBytes;
 use std::alloc::Allocator;
 use std::marker::Model;
 
@@ -13,7 +13,7 @@ pub struct Put<A: Allocator> {
     pub slot: usize,
     /// Where in the area they begin, in bytes.
     pub offset: u32,
-    pub bytes: ListVec<u8, A>,
+    pub bytes: SharedBytes<A>,
 }
 
 impl<A: Allocator> Model for Put<A> {
@@ -44,8 +44,8 @@ pub struct Get {
 pub struct Outgoing<A: Allocator> {
     /// The rank of the node that it goes to.
     pub target: u16,
-    pub tag: ListVec<u8, A>,
-    pub payload: ListVec<u8, A>,
+    pub tag: SharedBytes<A>,
+    pub payload: SharedBytes<A>,
 }
 
 impl<A: Allocator> Model for Outgoing<A> {

@@ -16,8 +16,8 @@ use Rattle.phase_pool.specs.declared.error.Refusal.TheVariants.{NoWorker}
 abbrev pub HaveLanded : List PartState → List PreparedNode → List PreparedNode → Type 0
 HaveLanded parts old new = states new ≡ landed parts (states old)
 
--- two halves for so many threads, each the larger one's part of them: no thread is without a node, each part can land in the node at
--- its place, and the second half of the nodes finds room behind the first
+-- two halves of some landings, for so many threads together: none of them is without a node, each part can land in the node at its
+-- place, and the second half of the nodes finds room behind the first
 pub record AreHalves (threads room : ℕ) (parts : List PartState) (nodes : List PreparedNode) (parts' : List PartState) (nodes' : List PreparedNode) : Type 0 where
   pub some : 1 < threads
   pub first_has : threads - threads / 2 ≤ length nodes

@@ -8,4 +8,4 @@ use Rattle.bsp_exchange.proofs.checks.first_of_other_tag_size.Goals as goal
 pub returns : goal.returns
 returns g c =
     find_from_yields_List (λ (p : PreparedNode). not (have_same_tag_size c.args.first.now.node p.node)) _ _ c.find.result c.find.ensures.ran
-    (YieldsList-from_slice c.args.nodes.now cc) (λ x b q k. search (rules, tests))
+    (YieldsList-from_slice c.args.nodes.now cc) (λ x b q k. search (rules, tests, k.called.met))

@@ -1,10 +1,16 @@
-use Rattle.bsp_exchange.specs.Arrivals.{with_message}
+use Rattle.std.proofs.Common.{◌≡◌, ◌<◌, length, set, subst, sym}
+use Rattle.std.specs.Prelude.{OnOk}
+use Rattle.bsp_requests.specs.Outgoing.{Outgoing}
+use Rattle.bsp_exchange.specs.Arrivals.{Received, with_message, message_of}
+use Rattle.bsp_exchange.specs.Parts.{changed_at}
 use Rattle.bsp_exchange.proofs.Gathered.{put_back}
 use Rattle.bsp_exchange.proofs.gather.add_message.Goals as goal
 
-pub bounds-parts-target : goal.bounds-parts-target
-bounds-parts-target g c = c.requires.target
-
 pub returns : goal.returns
 returns g c =
-    put_back (with_message (record { sender = c.args.sender; tag = c.args.tag.now; payload = c.args.payload.now })) c.args.target c.args.parts.now c.index-parts-target.result c.add_message.new.self c.add_message.result c.requires.target c.index-parts-target.is (rw c.index-parts-target.is c.add_message.ensures.ok)
+    let parts = c.args.parts.now in
+    let sent : Outgoing = record { target = c.message.inside.target; tag = c.message.inside.tag; payload = c.message.inside.payload } in
+    let f : Outgoing → Received → Received = λ m. with_message (message_of c.args.sender m) in
+    let within = subst (λ (m : Outgoing). m.target < length parts) (sym c.message.view_is) c.requires.target in
+    subst (λ (m : Outgoing). OnOk c.add_message.result (set parts sent.target c.add_message.new.self ≡ changed_at (f m) m.target parts)) c.message.view_is
+    (put_back (f sent) sent.target parts c.index-parts-message.result c.add_message.new.self c.add_message.result within c.index-parts-message.is (rw c.index-parts-message.is c.add_message.ensures.ok))

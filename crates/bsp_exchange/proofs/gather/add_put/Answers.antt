@@ -1,4 +1,6 @@
-use Rattle.std.proofs.Common.{sym}
+use Rattle.std.proofs.Common.{ℕ, sym, ap, ◌∙◌}
+use Rattle.bsp_exchange.specs.Exchange.{states}
+use Rattle.bsp_exchange.specs.Faults.{is_outside}
 use Rattle.bsp_exchange.specs.Arrivals.{with_put}
 use Rattle.bsp_exchange.proofs.Gathered.{put_back}
 use Rattle.bsp_exchange.proofs.gather.add_put.Goals as goal
@@ -11,7 +13,8 @@ pub start_of-start-requires-clause-target : goal.start_of-start-requires-clause-
 start_of-start-requires-clause-target g c = c.requires.target
 
 pub start_of-start-requires-clause-inside : goal.start_of-start-requires-clause-inside
-start_of-start-requires-clause-inside g c = c.requires.inside
+start_of-start-requires-clause-inside g c =
+    ap (λ (len : ℕ). is_outside (states c.args.nodes.now) c.args.target c.args.slot c.args.offset len) c.len.ensures ∙ c.requires.inside
 
 pub bounds-parts-target : goal.bounds-parts-target
 bounds-parts-target g c = rw c.requires.parts c.requires.target

@@ -1,4 +1,4 @@
-use Rattle.std.proofs.Common.{◌≡◌, length, None}
+use Rattle.std.proofs.Common.{◌≡◌, length}
 use Rattle.bsp_exchange.specs.Exchange.{states}
 use Rattle.bsp_exchange.specs.Issued.{issued_by}
 use Rattle.bsp_exchange.specs.Faults.{first_outside}
@@ -6,10 +6,10 @@ use Rattle.bsp_exchange.specs.Arrivals.{with_issued}
 use Rattle.bsp_exchange.proofs.Finds.{issued_from}
 use Rattle.bsp_exchange.proofs.gather.add_requests.Given as goal
 
--- the requests that are left keep to their areas, and lead to what all of them do
+-- no request before this one leaves its area, and those that are left lead to what all of them do
 abbrev pub invariant-loop-issue : goal.invariant-loop-issue
 invariant-loop-issue g l = record {
   size : length l.parts ≡ length l.nodes;
-  inside : first_outside (states l.nodes) (issued_from l.node.node l.issue) ≡ None;
+  inside : first_outside (states l.nodes) (issued_from l.node.node l.issue) ≡ first_outside (states l.nodes) (issued_by l.node.node);
   same : with_issued (states l.nodes) l.parts (issued_from l.node.node l.issue) ≡ with_issued (states l.nodes) l.fn.parts (issued_by l.node.node);
 }

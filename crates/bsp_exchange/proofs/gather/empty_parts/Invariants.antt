@@ -2,5 +2,5 @@ use Rattle.std.proofs.Common.{◌≡◌, replicate}
 use Rattle.bsp_exchange.specs.Arrivals.{nothing}
 use Rattle.bsp_exchange.proofs.gather.empty_parts.Given as goal
 
-abbrev pub invariant-loop-made : goal.invariant-loop-made
-invariant-loop-made g l = l.parts.items ≡ replicate l._made nothing
+abbrev pub invariant-loop-node : goal.invariant-loop-node
+invariant-loop-node g l = l.parts.items ≡ replicate l.node-index nothing

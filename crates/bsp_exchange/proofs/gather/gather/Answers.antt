@@ -4,12 +4,11 @@ use Rattle.std.specs.List.{range_with_len}
 use Rattle.bsp_exchange.specs.Exchange.{states}
 use Rattle.bsp_exchange.specs.Issued.{issued}
 use Rattle.bsp_exchange.specs.Arrivals.{Received, nothing, received_at, with_issued}
-use Rattle.bsp_exchange.proofs.Gathered.{length-states, length-with_issued, no_request_outside, whole}
+use Rattle.bsp_exchange.proofs.Finds.{none_tested}
+use Rattle.bsp_exchange.proofs.Gathered.{length-states, length-with_issued, whole}
 use Rattle.bsp_exchange.proofs.Gathering.{gathered}
+use Rattle.bsp_exchange.proofs.Refusals.{fault_of_requests}
 use Rattle.bsp_exchange.proofs.gather.gather.Goals as goal
-
-pub add_all_requests-requires-clause-inside : goal.add_all_requests-requires-clause-inside
-add_all_requests-requires-clause-inside g c = no_request_outside (states c.args.nodes.now) c.requires.faultless
 
 pub add_all_requests-requires-clause-parts : goal.add_all_requests-requires-clause-parts
 add_all_requests-requires-clause-parts g c =
@@ -28,3 +27,8 @@ returns-clause-parts g c =
     ∙ ap (λ (ps : List Received). with_issued nodes ps (issued nodes)) (c.deref_mut.ensures.value ∙ c.in_ok-parts.ensures ∙ ap (λ (n : ℕ). replicate n nothing) (sym states_are))
     ∙ all
     ∙ ap (λ (n : ℕ). map (received_at nodes) (range_with_len 0 n)) states_are
+
+pub returns-clause-faultless : goal.returns-clause-faultless
+returns-clause-faultless g c =
+    sym (fault_of_requests (states c.args.nodes.now) (sym c.tag_mismatch.ensures ∙ none_tested c.tag_mismatch.result (sym c.is_some.ensures ∙ c.if-is_some.false)) (sym c.slot_mismatch.ensures ∙ none_tested c.slot_mismatch.result (sym c.is_some-else-is_some.ensures ∙ c.if-is_some-2.false)))
+    ∙ c.in_ok-add_all_requests.ensures.inside

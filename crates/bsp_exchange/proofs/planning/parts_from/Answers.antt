@@ -3,6 +3,7 @@ use Rattle.std.specs.List.{enumerate_from}
 use Rattle.std.proofs.lemmas.List.{append-nil, nil_from_length}
 use Rattle.std.proofs.lemmas.List.Elements.{All-head, All-tail}
 use Rattle.bsp_requests.specs.Inbox.{IsQueue}
+use Rattle.node_core.specs.Hart.{max_nodes}
 use Rattle.bsp_exchange.specs.Arrivals.{Received, part_from}
 use Rattle.bsp_exchange.proofs.Planned.{next_part, few_more}
 use Rattle.bsp_exchange.proofs.planning.parts_from.Goals as goal
@@ -33,7 +34,7 @@ loop-received-preserved g c =
     record {
       parts = next_part parts _ c.loop-received.received-iterator.rest.items rest c.in-Some.received c.new.result c.len-in-loop-received.result c.push.new.self.items c.loop-received.invariant.parts steps (c.len-in-loop-received.ensures ∙ c.loop-received.parts.ok.0) c.new.ensures pushed;
       queues = All-tail (λ (r : Received). IsQueue r.messages) c.in-Some.received rest (rw steps at c.loop-received.invariant.queues);
-      few = few_more parts c.push.new.self.items c.loop-received.received-iterator.rest.items rest c.in-Some.received c.new.result 256 steps pushed c.loop-received.invariant.few;
+      few = few_more parts c.push.new.self.items c.loop-received.received-iterator.rest.items rest c.in-Some.received c.new.result max_nodes steps pushed c.loop-received.invariant.few;
     }
 
 pub returns : goal.returns

@@ -16,8 +16,8 @@ add_request-requires-clause-limit g c =
 pub add_request-requires-clause-room : goal.add_request-requires-clause-room
 add_request-requires-clause-room g c =
     let rs = c.args.requests.now.requests in
-    All-same (IsWithin (2 ^ 33)) c.loop-issue.loads (with_transfers c.args.loads.now (transfers_of c.args.caller (take c.loop-issue.issue rs))) c.loop-issue.invariant
-    (room_left c.args.loads.now c.args.caller rs c.loop-issue.issue (2 ^ 32) (2 ^ 33) c.requires.room (omega (arith, c.requires.limits.bytes)))
+    All-same (IsWithin (2 ^ 36)) c.loop-issue.loads (with_transfers c.args.loads.now (transfers_of c.args.caller (take c.loop-issue.issue rs))) c.loop-issue.invariant
+    (room_left c.args.loads.now c.args.caller rs c.loop-issue.issue (2 ^ 35) (2 ^ 36) c.requires.room (omega (arith, c.requires.limits.bytes, c.requires.limits.requests)))
 
 pub loop-issue-preserved : goal.loop-issue-preserved
 loop-issue-preserved g c =

@@ -3,4 +3,4 @@ use Rattle.bsp_exchange.specs.Loads.{greatest}
 use Rattle.bsp_exchange.proofs.traffic.greatest.Given as goal
 
 abbrev pub invariant-loop-load : goal.invariant-loop-load
-invariant-loop-load l = l.greatest ≡ greatest (take l.load-index l.loads)
+invariant-loop-load l = l.most ≡ greatest (take l.load-index l.loads)

@@ -1,0 +1,109 @@
+-- How much an exchange moves at most, by the limits of nodes and of their requests.
+use Rattle.std.proofs.Common.{◌≡◌, ℕ, ◌+◌, ◌*◌, ◌^◌, ◌≤◌, max, Bool, not, List, [], ◌∷◌, length, map, All, get_or, refl, sym, ap₂, ◌∙◌, arith}
+use Rattle.std.specs.Prelude.{◌==◌, filter, sum_by}
+use Rattle.std.specs.List.{enumerate_from, fold}
+use Rattle.std.proofs.lemmas.List.{map-append}
+use Rattle.std.proofs.lemmas.List.Elements.{All-head, All-map, All-tail}
+use Rattle.std.proofs.lemmas.List.Filters.{sum_by-filter_both}
+use Rattle.std.proofs.lemmas.List.Sums.{sum_by-append, sum_by-cons}
+use Rattle.bsp_requests.specs.Request.{Asked, asks_put, asks_get, asks_send, size_of}
+use Rattle.bsp_requests.specs.Requests.{max_bytes, max_requests}
+use Rattle.node_core.specs.Hart.{IsHart, max_nodes}
+use Rattle.node_core.specs.Node.{NodeState}
+use Rattle.bsp_exchange.specs.Issued.{Issued, issued, issued_as, issued_by}
+use Rattle.bsp_exchange.specs.Traffic.{Transfer, transfer, transfers, between_ranks, bytes_sent, bytes_received, messages_received, h_relation, h_of, h_all_of, messages_of}
+use Rattle.bsp_exchange.proofs.Readings.{h_at_most}
+use Rattle.bsp_exchange.proofs.Tallies.{AreHarts}
+
+pub fold-max-le : (most : ℕ) (first : ℕ) (xs : List ℕ) → first ≤ most → All (λ x. x ≤ most) xs → fold max first xs ≤ most
+fold-max-le most first [] here all = here
+fold-max-le most first (x ∷ xs) here all =
+    let next = All-head (λ k. k ≤ most) x xs all in
+    fold-max-le most (max first x) xs (omega arith) (All-tail (λ k. k ≤ most) x xs all)
+
+abbrev bytes : List Transfer → ℕ
+bytes ts = sum_by (λ (t : Transfer). t.bytes) ts
+
+abbrev transfer_of : Issued → Transfer
+transfer_of i = transfer i.rank i.request
+
+transfer-bytes : (rank : ℕ) (q : Asked) → (transfer rank q).bytes ≡ size_of q
+transfer-bytes rank (asks_put p) = refl
+transfer-bytes rank (asks_get g) = refl
+transfer-bytes rank (asks_send m) = refl
+
+-- a node's requests transfer as many bytes as they count
+bytes-requests : (rank issue : ℕ) (requests : List Asked) → bytes (map transfer_of (map (issued_as rank) (enumerate_from issue requests))) ≡ sum_by size_of requests
+bytes-requests rank issue [] = refl
+bytes-requests rank issue (q ∷ rest) =
+    sum_by-cons (λ (t : Transfer). t.bytes) (transfer rank q) (map transfer_of (map (issued_as rank) (enumerate_from (issue + 1) rest)))
+    ∙ ap₂ ◌+◌ (transfer-bytes rank q) (bytes-requests rank (issue + 1) rest)
+    ∙ sym (sum_by-cons size_of q rest)
+
+bytes-transfers : (nodes : List NodeState) → AreHarts nodes → bytes (transfers nodes) ≤ length nodes * max_bytes
+bytes-transfers [] harts = omega arith
+bytes-transfers (n ∷ rest) harts =
+    let here = (All-head (λ (x : NodeState). IsHart x.hart) n rest harts).communication.requests.bytes in
+    let there = bytes-transfers rest (All-tail (λ (x : NodeState). IsHart x.hart) n rest harts) in
+    let own = bytes-requests n.hart.rank 0 n.hart.communication.requests.requests in
+    let parts = map-append transfer_of (issued_by n) (issued rest) in
+    let sums = sum_by-append (λ (t : Transfer). t.bytes) (map transfer_of (issued_by n)) (transfers rest) in
+    rw (parts, sums) (omega (arith, here, there, own))
+
+-- some of the transfers have no more bytes than all
+bytes-filter : (test : Transfer → Bool) (ts : List Transfer) → bytes (filter test ts) ≤ bytes ts
+bytes-filter test ts = omega (arith, sum_by-filter_both test (λ t. not (test t)) (λ _. refl) (λ (t : Transfer). t.bytes) ts)
+
+-- and make an h that is no more than these
+relation-le : (most : ℕ) (ts : List Transfer) (nodes : List NodeState) → bytes ts ≤ most → h_relation ts nodes ≤ most
+relation-le most ts nodes few =
+    let each : All (λ (n : NodeState). max (bytes_sent ts n.hart.rank) (bytes_received ts n.hart.rank) ≤ most) nodes = λ k d within.
+    let out = bytes-filter (λ (t : Transfer). t.from == (get_or nodes k d).hart.rank) ts in
+    let inn = bytes-filter (λ (t : Transfer). t.to == (get_or nodes k d).hart.rank) ts in
+    omega (arith, few, out, inn) in
+    fold-max-le most 0 _ (omega arith) (All-map (λ k. k ≤ most) (λ (n : NodeState). max (bytes_sent ts n.hart.rank) (bytes_received ts n.hart.rank)) nodes each)
+
+-- ---- and no more messages than they count requests
+
+abbrev messages : List Transfer → ℕ
+messages ts = sum_by (λ (t : Transfer). t.messages) ts
+
+transfer-messages : (rank : ℕ) (q : Asked) → (transfer rank q).messages ≤ 1
+transfer-messages rank (asks_put p) = omega arith
+transfer-messages rank (asks_get g) = omega arith
+transfer-messages rank (asks_send m) = omega arith
+
+messages-requests : (rank issue : ℕ) (requests : List Asked) → messages (map transfer_of (map (issued_as rank) (enumerate_from issue requests))) ≤ length requests
+messages-requests rank issue [] = omega arith
+messages-requests rank issue (q ∷ rest) =
+    let sums = sum_by-cons (λ (t : Transfer). t.messages) (transfer rank q) (map transfer_of (map (issued_as rank) (enumerate_from (issue + 1) rest))) in
+    omega (arith, sums, transfer-messages rank q, messages-requests rank (issue + 1) rest)
+
+messages-transfers : (nodes : List NodeState) → AreHarts nodes → messages (transfers nodes) ≤ length nodes * max_requests
+messages-transfers [] harts = omega arith
+messages-transfers (n ∷ rest) harts =
+    let here = (All-head (λ (x : NodeState). IsHart x.hart) n rest harts).communication.requests.requests in
+    let there = messages-transfers rest (All-tail (λ (x : NodeState). IsHart x.hart) n rest harts) in
+    let own = messages-requests n.hart.rank 0 n.hart.communication.requests.requests in
+    let parts = map-append transfer_of (issued_by n) (issued rest) in
+    let sums = sum_by-append (λ (t : Transfer). t.messages) (map transfer_of (issued_by n)) (transfers rest) in
+    rw (parts, sums) (omega (arith, here, there, own))
+
+messages-filter : (test : Transfer → Bool) (ts : List Transfer) → messages (filter test ts) ≤ messages ts
+messages-filter test ts = omega (arith, sum_by-filter_both test (λ t. not (test t)) (λ _. refl) (λ (t : Transfer). t.messages) ts)
+
+messages-le : (most : ℕ) (nodes : List NodeState) → messages (transfers nodes) ≤ most → messages_of nodes ≤ most
+messages-le most nodes few =
+    let ts = between_ranks (transfers nodes) in
+    let over = messages-filter (λ (t : Transfer). not (t.from == t.to)) (transfers nodes) in
+    let each : All (λ (n : NodeState). messages_received ts n.hart.rank ≤ most) nodes = λ k d within.
+    let inn = messages-filter (λ (t : Transfer). t.to == (get_or nodes k d).hart.rank) ts in
+    omega (arith, few, over, inn) in
+    fold-max-le most 0 _ (omega arith) (All-map (λ k. k ≤ most) (λ (n : NodeState). messages_received ts n.hart.rank) nodes each)
+
+-- what as many nodes as there may be move among them
+pub traffic_bounded : (nodes : List NodeState) → length nodes ≤ max_nodes → AreHarts nodes → (h_of nodes ≤ h_all_of nodes) × (h_all_of nodes ≤ 2 ^ 34) × (messages_of nodes ≤ 2 ^ 26)
+traffic_bounded nodes few harts =
+    let all_bytes : bytes (transfers nodes) ≤ 2 ^ 34 = omega (arith, bytes-transfers nodes harts, few) in
+    let all_messages : messages (transfers nodes) ≤ 2 ^ 26 = omega (arith, messages-transfers nodes harts, few) in
+    (h_at_most nodes, relation-le (2 ^ 34) (transfers nodes) nodes all_bytes, messages-le (2 ^ 26) nodes all_messages)

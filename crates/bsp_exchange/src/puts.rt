@@ -1,0 +1,126 @@
+//! Bytes that are put and wait to land in one memory.
+
+ghost use Rattle.std.specs.Prelude.{◌≡◌, ◌<◌, ◌^◌, ◌∷◌, ◌++◌, [], length, OnOk};
+ghost use Rattle.node_core.specs.declared.state.State.TheVariants.{Synced};
+ghost use Rattle.node_memory.specs.Pages.{KeepsOwn};
+ghost use Rattle.bsp_exchange.specs.Arrivals.{LieIn};
+ghost use Rattle.bsp_exchange.specs.Parts.{OwnsEach, bytes_in, with_patches};
+
+use crate::room::grow;
+use node_core::Node;
+use shared_bytes::SharedBytes;
+use std::alloc::{AllocError, Allocator};
+use std::marker::Model;
+
+/// More bytes than any memory has.
+const TOO_MANY: u64 = 1 << 63;
+
+/// Bytes that go to an address.
+#[derive(Drop)]
+struct Patch<A: Allocator> {
+    addr: u32,
+    bytes: SharedBytes<A>,
+}
+
+impl<A: Allocator> Model for Patch<A> {
+    ghost use Rattle.bsp_exchange.specs.Parts.{Patch as PatchValue};
+
+    ghost Value = { PatchValue };
+
+    ghost view = { λ p. record { addr = p.addr; bytes = p.bytes } };
+}
+
+/// Bytes that were put and wait to land in one node's memory, in the order in which they land. They are the puts' own bytes, shared
+/// with them: nothing is copied before it lands.
+///
+/// Contracts see them as a list of patches, each an address and its bytes.
+#[derive(Drop)]
+pub(crate) struct Puts<A: Allocator> {
+    patches: Vec<Patch<A>, A>,
+    // How many bytes they are.
+    bytes: u64,
+    // For how many the first room is made.
+    expected: usize,
+}
+
+impl<A: Allocator> Model for Puts<A> {
+    ghost use Rattle.std.specs.Prelude.{◌≡◌, ◌<◌, ◌^◌, List};
+    ghost use Rattle.bsp_exchange.specs.Parts.{Patch as PatchValue};
+
+    ghost Value = { List PatchValue };
+
+    ghost view = { λ p. p.patches.items };
+
+    ghost use Rattle.bsp_exchange.specs.Parts.{bytes_in};
+
+    ghost invariant = { λ p. (p.bytes ≡ bytes_in p.patches.items) × (p.bytes < 2 ^ 63) };
+}
+
+impl<A: Allocator + Copy> Puts<A> {
+    /// No bytes wait, and about so many puts are expected. No memory is taken.
+    pub(crate) fn new(alloc: A, expected: usize) -> Puts<A>
+        ensures { result ≡ [] }
+    {
+        Puts {
+            patches: Vec::new(alloc),
+            bytes: 0,
+            expected,
+        }
+    }
+
+    /// Adds `bytes`, which land from `addr` on, after those that wait.
+    ///
+    /// # Errors
+    /// Where memory is refused, or more bytes would wait than any memory has.
+    pub(crate) fn push(&mut self, addr: u32, bytes: &SharedBytes<A>) -> Result<(), AllocError>
+        ensures ok { OnOk result (self.new ≡ self.old ++ record { addr = addr; bytes = bytes.now } ∷ []) }
+    {
+        let sum = self.bytes.saturating_add(bytes.len() as u64);
+        if sum >= TOO_MANY {
+            return Err(AllocError);
+        }
+        if self.patches.len() == self.patches.capacity() {
+            grow(&mut self.patches, self.expected)?;
+        }
+        let bytes = bytes.try_clone()?;
+        self.patches.push_reserved(Patch { addr, bytes });
+        self.bytes = sum;
+        Ok(())
+    }
+
+    /// How many bytes wait.
+    pub(crate) fn bytes(&self) -> u64
+        ensures value { result ≡ bytes_in self.now }
+        ensures few { result < 2 ^ 63 }
+    {
+        self.bytes
+    }
+
+    /// Makes the pages in which they come to lie the node's own. They lie in its memory.
+    #[inline(never)]
+    pub(crate) fn prepare(&self, node: &mut Node<A>) -> Result<(), AllocError>
+        requires within { LieIn (length node.old.node.hart.memory) self.now }
+        ensures node { node.new.node ≡ node.old.node }
+        ensures ready { node.new.ready ≡ node.old.ready }
+        ensures own { KeepsOwn node.old.own node.new.own }
+        ensures ok { OnOk result (OwnsEach node.new.own self.now) }
+    {
+        // Its contract says that a memory has at most 2^24 bytes.
+        let _size = node.memory().size();
+        for patch in &self.patches {
+            node.prepare_land(patch.addr, patch.bytes.len() as u32)?;
+        }
+        Ok(())
+    }
+
+    /// Lands them in the memory of a node that waits, in pages of its own.
+    pub(crate) fn land(&self, node: &mut Node<A>)
+        requires synced { node.old.node.state ≡ Synced }
+        requires own { OwnsEach node.old.own self.now }
+        ensures { node.new ≡ record node.old { node = with_patches self.now node.old.node } }
+    {
+        for patch in &self.patches {
+            node.land(patch.addr, patch.bytes.as_slice());
+        }
+    }
+}

@@ -1,0 +1,136 @@
+//! Bytes that are cheap to clone.
+//!
+//! A [`SharedBytes`] is made once and never changes, so that whoever wants the same bytes gets a clone of it. Up to 22 bytes stand in
+//! the value itself, and neither making nor cloning it takes memory then; more of them stand in memory that all clones share.
+//! Contracts see it as the list of its bytes. That clones of the same bytes share memory is not proved.
+#![tactic(auto)]
+
+ghost use Rattle.std.specs.Prelude.{◌≡◌, ◌≤◌, ◌==◌, length, IfOk, IsOk};
+
+use std::alloc::{AllocError, Allocator};
+use std::marker::Model;
+use std::sync::ArcSlice;
+
+/// The most bytes that a value holds by itself. With them it has 24 bytes, as a vector has.
+const MOST_WITHIN: usize = 22;
+
+/// Few bytes: the first `len` of `room`.
+#[derive(Clone, Copy)]
+struct Within {
+    len: u8,
+    room: [u8; 22],
+}
+
+/// Where the bytes stand.
+#[derive(Drop)]
+enum Held<A: Allocator> {
+    Within(Within),
+    Shared(ArcSlice<u8, A>),
+}
+
+/// Bytes that never change, and are cheap to clone.
+#[derive(Drop)]
+pub struct SharedBytes<A: Allocator> {
+    held: Held<A>,
+}
+
+impl<A: Allocator> Model for SharedBytes<A> {
+    ghost use Rattle.std.specs.Prelude.{ℕ, List};
+    ghost use Rattle.shared_bytes.specs.Held.{held_bytes, IsHeld};
+
+    ghost Value = { List ℕ };
+
+    ghost view = { λ b. held_bytes b.held };
+
+    ghost invariant = { λ b. IsHeld b.held };
+}
+
+impl<A: Allocator + Copy> SharedBytes<A> {
+    /// A copy of `bytes`.
+    ///
+    /// # Errors
+    /// Where memory is refused, which up to 22 bytes do not take.
+    pub fn from_slice(alloc: A, bytes: &[u8]) -> Result<Self, AllocError>
+        ensures ok { IfOk result (λ b. b ≡ bytes.now) }
+        ensures few { length bytes.now ≤ 22 → IsOk result }
+    {
+        if bytes.len() <= MOST_WITHIN {
+            return Ok(SharedBytes::within(bytes));
+        }
+        let held = Held::Shared(ArcSlice::from_slice(alloc, bytes)?);
+        Ok(SharedBytes { held })
+    }
+
+    /// The bytes of a vector, which keep their memory where they are more than 22.
+    ///
+    /// # Errors
+    /// Where memory is refused, which up to 22 bytes do not take.
+    pub fn from_vec(bytes: Vec<u8, A>) -> Result<Self, AllocError>
+        ensures ok { IfOk result (λ b. b ≡ bytes.items) }
+        ensures few { length bytes.items ≤ 22 → IsOk result }
+    {
+        if bytes.len() <= MOST_WITHIN {
+            return Ok(SharedBytes::within(bytes.as_slice()));
+        }
+        let held = Held::Shared(ArcSlice::from_vec(bytes)?);
+        Ok(SharedBytes { held })
+    }
+}
+
+impl<A: Allocator> SharedBytes<A> {
+    /// The same bytes. No memory is taken.
+    ///
+    /// # Errors
+    /// Where they have too many clones.
+    pub fn try_clone(&self) -> Result<Self, AllocError>
+        ensures ok { IfOk result (λ b. b ≡ self.now) }
+        ensures few { length self.now ≤ 22 → IsOk result }
+    {
+        let held = match &self.held {
+            Held::Within(within) => Held::Within(*within),
+            Held::Shared(bytes) => Held::Shared(bytes.clone()?),
+        };
+        Ok(SharedBytes { held })
+    }
+
+    pub fn as_slice(&self) -> &[u8]
+        ensures { result.now ≡ self.now }
+    {
+        match &self.held {
+            Held::Within(within) => &within.room[..within.len as usize],
+            Held::Shared(bytes) => bytes.as_slice(),
+        }
+    }
+
+    pub fn len(&self) -> usize
+        ensures { result ≡ length self.now }
+    {
+        match &self.held {
+            Held::Within(within) => within.len as usize,
+            Held::Shared(bytes) => bytes.len(),
+        }
+    }
+
+    pub fn is_empty(&self) -> bool
+        ensures { result ≡ (length self.now == 0) }
+    {
+        self.len() == 0
+    }
+
+    /// A copy of a few bytes.
+    fn within(bytes: &[u8]) -> Self
+        requires { length bytes.now ≤ 22 }
+        ensures { result ≡ bytes.now }
+    {
+        let len = bytes.len();
+        let mut room = [0; 22];
+        room[..len].copy_from_slice(bytes);
+        let within = Within {
+            len: len as u8,
+            room,
+        };
+        SharedBytes {
+            held: Held::Within(within),
+        }
+    }
+}

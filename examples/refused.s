@@ -88,7 +88,7 @@ digit:
 item:
     .word 0
 table:
-    .space 1028             # 257 entries, as many as there can be
+    .space 4100             # 1,025 entries, as many as there can be
     .space 12               # room for the digits of a number
 digits_end:
 puts:

@@ -99,9 +99,9 @@ digit:
     ret
 
 row:
-    .space 1024             # 256 words, as many as there can be ranks
+    .space 4096             # 1,024 words, as many as there can be ranks
 column:
-    .space 1024
+    .space 4096
     .space 12               # room for the digits of a number
 digits_end:
 colon:

@@ -79,7 +79,7 @@ item:
     .word 0
     .align 4
 table:
-    .space 1024             # 256 entries, as many as there can be
+    .space 4096             # 1,024 entries, as many as there can be
     .space 12               # room for the digits of a number
 digits_end:
 newline:

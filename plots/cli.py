@@ -75,8 +75,8 @@ def arguments(words: list[str]) -> argparse.Namespace:
     add("--html", metavar="FILE", help="a page in one file, with the pictures that SOURCE has, its table and its settings")
     add("--g", type=price, default=1, metavar="TICKS", help="the price of a byte of h, 1 if not said")
     add("--l", type=price, default=0, metavar="TICKS", help="the price of a superstep's end, 0 if not said")
-    add("--h", type=Reading, choices=list(Reading), default=Reading.ALL, metavar="all|others", help="whether h counts what a"
-        " rank moves to itself, as the report does (all), or not (others)")  # fmt: skip
+    add("--h", type=Reading, choices=list(Reading), default=Reading.OTHERS, metavar="all|others", help="whether h counts what a"
+        " rank moves to itself, as the report of `--ledger 1` does (all), or not (others, if not said)")  # fmt: skip
     add("--supersteps", type=span, default=(0, None), metavar="A:B", help="these supersteps alone; one as A, all from A on as A:")
     add("--title", default="", metavar="TEXT", help="stands above each picture and the page")
     add("--setting", type=setting, action="append", default=[], metavar="NAME=VALUE", help="stands at the top of the page; any number")

@@ -50,9 +50,15 @@ def understood(name: str, content: bytes, reading: profile.Reading) -> Source:
     known = known_report(content, text)
     if known is None:
         raise Refused("this is no profile, no report, and no table of a sweep")
-    if reading is profile.Reading.OTHERS:
-        raise Refused("a report has one h, and not that of other ranks alone: give a profile")
+    if reading is not reading_of(known):
+        raise Refused(f"a report has one h, and this one's is that of --h {reading_of(known).value}: say so, or give a profile")
     return Source(name, costs.of_report(known), outcome=known.outcome)
+
+
+def reading_of(known: report.Report) -> profile.Reading:
+    """Which bytes the h of a report counts: the version of the ledger that tells of messages leaves out what ranks move to themselves."""
+    tells_messages = all("m" in it.costs for it in known.supersteps)
+    return profile.Reading.OTHERS if tells_messages else profile.Reading.ALL
 
 
 def known_report(content: bytes, text: str) -> report.Report | None:

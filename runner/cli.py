@@ -24,6 +24,7 @@ from .why import Why
 
 REPO = pathlib.Path(__file__).resolve().parent.parent
 PAGE = 4096
+NODES = 1024
 MOST_INPUT = 16 << 20
 DEAREST = 5
 KINDS = ("elf", "asm", "raw", "c")
@@ -63,7 +64,7 @@ def arguments(words: list[str]) -> argparse.Namespace:
         allow_abbrev=False,
     )
     add = parser.add_argument
-    add("-n", "--nodes", type=number("the number of nodes", 1, 256), default=1, metavar="P", help="nodes, 1 if not said")
+    add("-n", "--nodes", type=number("the number of nodes", 1, NODES), default=1, metavar="P", help="nodes, 1 if not said")
     add("--input", metavar="FILE", help="the program's input; standard input if not said, where it is no terminal")
     add("--file", metavar="FILE", action="append", default=[], help="a file that fopen can read; any number of them")
     add("--report", metavar="FILE", help="the costs, into FILE: as CSV or JSON where its name says so; - is standard error")

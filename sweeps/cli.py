@@ -9,7 +9,7 @@ import signal
 import sys
 from typing import NoReturn
 
-from runner.cli import PAGE, number
+from runner.cli import NODES, PAGE, number
 from runner.program import Refused
 
 from . import engines, job, table
@@ -70,7 +70,7 @@ def arguments(words: list[str]) -> argparse.Namespace:
     )
     add = parser.add_argument
     top = (1 << 64) - 1
-    add("-n", "--nodes", type=listed("the number of nodes", 1, 256), default=[1], metavar="LIST", help="as 1,2,4,8 or 1:8")
+    add("-n", "--nodes", type=listed("the number of nodes", 1, NODES), default=[1], metavar="LIST", help="as 1,2,4,8 or 1:8")
     add("--g", type=listed("the price of a byte", 0, top), metavar="LIST", help="prices of a byte of h, 1 if not said")
     add("--l", type=listed("the price of a superstep's end", 0, top), metavar="LIST", help="prices of a superstep's end, 0 if not said")
     add("--prices", type=pairs, metavar="G:L,..", help="prices that belong together, beside each g with each l")

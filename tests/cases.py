@@ -220,7 +220,7 @@ def run_case(program, case, repo):
     with tempfile.TemporaryDirectory() as temp:
         places = {"case": case, "repo": repo, "temp": temp}
         prepare(case, temp)
-        for path in [case / "args", *sorted(case.glob("args.*"))]:
+        for path in [case / "args", *sorted(case.glob("args.*"), key=lambda path: int(path.suffix[1:]))]:
             done = run(program, case, arguments(path, places))
             stdout, stderr, status = stdout + done.stdout, stderr + done.stderr, done.returncode
             if status != 0:

@@ -178,7 +178,7 @@ class Judge:
         costs = reports.costs_of(found[0][:-1].split(b"\n")) if found else None
         if costs is None or reports.fault_of_costs(*costs, self.machine):
             return False
-        return self.is_over == any(not turned for _, _, turned in costs[0])
+        return self.is_over == any(not turned for _, _, _, turned in costs[0])
 
     def answers_output(self) -> bool:
         """A first part of what the run writes; all of it once the run is over."""

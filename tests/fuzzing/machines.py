@@ -254,9 +254,9 @@ def fault_of_exchange(nodes: List[Node]) -> str:
     return ""
 
 
-def exchange(nodes: List[Node]) -> int:
-    """Makes an exchange without a fault, and answers h."""
-    sent, received = [0] * len(nodes), [0] * len(nodes)
+def exchange(nodes: List[Node]) -> Tuple[int, int]:
+    """Makes an exchange without a fault, and answers h and the most messages."""
+    sent, received, messages = [0] * len(nodes), [0] * len(nodes), [0] * len(nodes)
     gets: List[Tuple[Node, int, bytes]] = []
     puts: List[Tuple[Node, int, bytes]] = []
     queues: List[List[Tuple[bytes, bytes]]] = [[] for _ in nodes]
@@ -264,8 +264,10 @@ def exchange(nodes: List[Node]) -> int:
         for asked in node.requests:
             other = nodes[asked.target]
             giver, taker = (other, node) if asked.kind == "get" else (node, other)
-            sent[giver.rank] += asked.length
-            received[taker.rank] += asked.length
+            if giver is not taker:
+                sent[giver.rank] += asked.length
+                received[taker.rank] += asked.length
+                messages[taker.rank] += asked.kind == "send"
             if asked.kind == "send":
                 queues[other.rank].append((asked.tag, asked.content))
                 continue
@@ -278,7 +280,7 @@ def exchange(nodes: List[Node]) -> int:
         node.memory[place:place + len(content)] = content
     for node, queue in zip(nodes, queues):
         begin(node, queue)
-    return max(max(pair) for pair in zip(sent, received))
+    return max(max(pair) for pair in zip(sent, received)), max(messages)
 
 
 def begin(node: Node, queue: List[Tuple[bytes, bytes]]) -> None:
@@ -321,8 +323,9 @@ def end_of(entry: int, segments: List[Segment], machine: Machine, text: bytes) -
         for node in nodes:
             node.output = b""
         outcome = outcome_of(nodes)
-        moved = exchange(nodes) if outcome is None else 0
+        moved, messages = exchange(nodes) if outcome is None else (0, 0)
         total += work + machine.g * moved + machine.l
-        lines += b"superstep %d: w %d h %d %s\n" % (lines.count(b"\n"), work, moved, b"last" if outcome else b"turned")
+        row = (lines.count(b"\n"), work, moved, messages, b"last" if outcome else b"turned")
+        lines += b"superstep %d: w %d h %d m %d %s\n" % row
         if outcome:
             return End(output, lines + f"total {total}\n{outcome}\n".encode(), nodes)

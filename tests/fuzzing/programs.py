@@ -67,7 +67,7 @@ class Program:
         """The lines that leave a rank in a0."""
         chance, nodes = self.chance, self.shape.nodes
         if self.is_bad():
-            return f"li a0,{chance.choice([nodes, nodes + 1, WORDS, 65_536, 256])}"
+            return f"li a0,{chance.choice([nodes, nodes + 1, WORDS, 65_536, 1024])}"
         if chance.randrange(2):
             return f"li a0,{chance.choice([0, nodes - 1, chance.randrange(nodes)])}"
         self.lines.append(f"li t0,{nodes}")

@@ -9,7 +9,7 @@ from typing import Dict, List, Optional, Tuple
 from fuzzing.answers import FAULTS_OF_STEPS, one_of
 
 NUMBER = "(0|[1-9][0-9]*)"
-ROW = re.compile(f"superstep {NUMBER}: w {NUMBER} h {NUMBER} (turned|last)".encode())
+ROW = re.compile(f"superstep {NUMBER}: w {NUMBER} h {NUMBER} m {NUMBER} (turned|last)".encode())
 TOTAL = re.compile(f"total {NUMBER}".encode())
 OUTCOMES = {
     "ended": 0,
@@ -25,6 +25,8 @@ HEAD = b"superstep,rank,to,ticks,sent,received,kept,messages,requests,state"
 STATES = ("synced", "ended", "aborted", "exhausted", "faulted")
 REQUESTS = 65_536
 BYTES = 1 << 24
+# Work, h-relation, messages, and whether the exchange was made.
+Row = Tuple[int, int, int, bool]
 
 
 @dataclasses.dataclass(frozen=True)
@@ -48,9 +50,9 @@ class Machine:
 
 @dataclasses.dataclass(frozen=True)
 class Report:
-    """Work and h-relation of each superstep, whether its exchange was made, the total and the outcome."""
+    """Work, h-relation and messages of each superstep, whether its exchange was made, the total and the outcome."""
 
-    rows: List[Tuple[int, int, bool]]
+    rows: List[Row]
     total: int
     outcome: bytes
 
@@ -64,14 +66,14 @@ def outcome_of(line: bytes) -> Optional[Tuple[int, List[int]]]:
     return None
 
 
-def costs_of(lines: List[bytes]) -> Optional[Tuple[List[Tuple[int, int, bool]], int]]:
+def costs_of(lines: List[bytes]) -> Optional[Tuple[List[Row], int]]:
     """The rows and the total that these lines tell, if they are just such lines, with supersteps counted from 0."""
     rows = []
     for number, line in enumerate(lines[:-1]):
         found = ROW.fullmatch(line)
         if found is None or int(found[1]) != number:
             return None
-        rows.append((int(found[2]), int(found[3]), found[4] == b"turned"))
+        rows.append((int(found[2]), int(found[3]), int(found[4]), found[5] == b"turned"))
     total = TOTAL.fullmatch(lines[-1]) if lines else None
     return (rows, int(total[1])) if total else None
 
@@ -87,18 +89,22 @@ def report_of(text: bytes) -> Optional[Report]:
     return Report(costs[0], costs[1], lines[-1])
 
 
-def fault_of_costs(rows: List[Tuple[int, int, bool]], total: int, machine: Machine) -> str:
+def fault_of_costs(rows: List[Row], total: int, machine: Machine) -> str:
     """What is wrong with costs, of a run that may still go on."""
-    if total != sum(work + machine.g * moved + machine.l for work, moved, _ in rows):
+    if total != sum(work + machine.g * moved + machine.l for work, moved, _, _ in rows):
         return "the total is not the sum of the supersteps"
-    if any(not turned for _, _, turned in rows[:-1]):
+    if any(not turned for _, _, _, turned in rows[:-1]):
         return "a superstep before the last made no exchange"
-    if any(not 1 <= work <= machine.limit for work, _, turned in rows if turned):
+    if any(not 1 <= work <= machine.limit for work, _, _, turned in rows if turned):
         return "a superstep that turned has work of no tick, or past the limit"
-    if any(moved > 2 * machine.nodes * BYTES for _, moved, _ in rows):
+    if any(moved > 2 * machine.nodes * BYTES for _, moved, _, _ in rows):
         return "more bytes were moved than nodes can ask for"
-    if any(moved and not turned for _, moved, turned in rows) or any(work > machine.limit for work, _, _ in rows):
-        return "the last superstep has an h-relation, or work past the limit"
+    if any(messages > (machine.nodes - 1) * REQUESTS for _, _, messages, _ in rows):
+        return "more messages were sent than nodes can send to another"
+    if any(moved + messages and not turned for _, moved, messages, turned in rows):
+        return "the last superstep has an h-relation, or messages"
+    if any(work > machine.limit for work, _, _, _ in rows):
+        return "the last superstep has work past the limit"
     return ""
 
 
@@ -107,7 +113,7 @@ def fault_of_report(report: Report, machine: Machine, status: int) -> str:
     found = outcome_of(report.outcome)
     if found is None or found[0] != status:
         return f"status {status} comes with the outcome {report.outcome!r}"
-    if not report.rows or report.rows[-1][2]:
+    if not report.rows or report.rows[-1][3]:
         return "the last superstep made an exchange"
     ranks = found[1][:1] if report.outcome.startswith(b"refused: O") else found[1]
     if any(rank >= machine.nodes for rank in ranks) or len(set(ranks)) < len(ranks):
@@ -162,12 +168,14 @@ def is_line_of_profile(cells: List[str], found: List[Superstep], nodes: int) -> 
     return cells[3] == "" and cells[5:] == [""] * 5
 
 
-def fault_of_superstep(step: Superstep, row: Tuple[int, int, bool]) -> str:
+def fault_of_superstep(step: Superstep, row: Row) -> str:
     """What is wrong between a superstep of a profile and its row of the report."""
     if max(figures[0] for figures in step.ranks) != row[0]:
         return "the greatest ticks of a profile are not the work"
-    if max(max(sent, received) + kept for _, sent, received, kept, _, _ in step.ranks) != row[1]:
+    if max(max(sent, received) for _, sent, received, _, _, _ in step.ranks) != row[1]:
         return "the greatest bytes of a profile are not the h-relation"
+    if max(messages for _, _, _, _, messages, _ in step.ranks) != row[2]:
+        return "the most messages of a profile are not those of the report"
     for rank, (_, sent, received, kept, _, _) in enumerate(step.ranks):
         given = sum(count for (source, target), count in step.moved.items() if source == rank != target)
         taken = sum(count for (source, target), count in step.moved.items() if target == rank != source)

@@ -83,7 +83,7 @@ def starved_run(trial: Trial, space: int) -> None:
     """A run of one thread, since threads come and go by the clock."""
     text, machine = made(trial)
     if trial.one_in(3):
-        machine = dataclasses.replace(machine, nodes=trial.random.choice([64, 256]), memory=1 << 24)
+        machine = dataclasses.replace(machine, nodes=trial.random.choice([64, 1024]), memory=1 << 24)
     ample, short = (trial.run("run", text, *machine.words(), "--report", space=limit) for limit in (0, space))
     trial.expect_that(short.status == 5 or short.same_as(ample), "little memory gives another answer")
 

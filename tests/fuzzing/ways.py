@@ -68,8 +68,8 @@ def debug_to_end(trial: Trial, image: str, machine: Machine, run: Run, lines: by
     """Gives a debugger these lines, and goes on to the end by hand: costs, output, outcome and nodes are those of the run."""
     script = lines + b"phase\nturn\n" * len(run.report.rows) + b"costs\noutput\n"
     costs = b"".join(
-        f"superstep {number}: w {work} h {moved} {'turned' if turned else 'last'}\n".encode()
-        for number, (work, moved, turned) in enumerate(run.report.rows)
+        f"superstep {number}: w {work} h {moved} m {messages} {'turned' if turned else 'last'}\n".encode()
+        for number, (work, moved, messages, turned) in enumerate(run.report.rows)
     )
     due = costs + f"total {run.report.total}\n".encode() + run.output + b"\n"
     for rank in trial.random.sample(range(machine.nodes), min(2, machine.nodes)) if run.end else []:

@@ -17,7 +17,7 @@
     li    a7, 7             # put(0, word, word, 0, 4)
     ecall
     bnez  s0, done
-    li    a0, 256           # no machine has this rank
+    li    a0, 1024          # no machine has this rank
     ecall
 done:
     li    a7, 4             # sync()

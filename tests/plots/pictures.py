@@ -62,12 +62,12 @@ def timeline(found: Profile, picture: svg.Drawing) -> str:
     wanted: Dict[str, Tuple[str, int, int]] = {}
     for it in found.supersteps:
         exchange = start + it.w
-        sync = exchange + G * it.h(Reading.ALL)
+        sync = exchange + G * it.h(Reading.OTHERS)
         for rank, share in enumerate(it.shares):
             done = start + share.ticks
             wanted[f"work-{it.number}-{rank}"] = (f"superstep {it.number}, rank {rank}: work {share.ticks}", start, done)
             wanted[f"wait-{it.number}-{rank}"] = (f"superstep {it.number}, rank {rank}: waits {it.w - share.ticks}", done, exchange)
-        text = f"superstep {it.number}: g·h = {G} × {it.h(Reading.ALL)} = {sync - exchange}"
+        text = f"superstep {it.number}: g·h = {G} × {it.h(Reading.OTHERS)} = {sync - exchange}"
         wanted[f"exchange-{it.number}"] = (text, exchange, sync)
         wanted[f"sync-{it.number}"] = (f"superstep {it.number}: l = {L}", sync, sync + L)
         start = sync + L
@@ -92,7 +92,7 @@ def split(found: Profile, picture: svg.Drawing) -> str:
     wanted: Dict[str, str] = {}
     places: List[Tuple[str, float, float]] = []
     sums = [0, 0, 0]
-    for cost in costs.of_profile(found, Reading.ALL):
+    for cost in costs.of_profile(found, Reading.OTHERS):
         low = 0
         for i, (name, label, part) in enumerate(zip(("w", "gh", "l"), ("w", "g·h", "l"), cost.parts(PRICES))):
             sums[i] += part
@@ -137,8 +137,10 @@ def parts(check: Check) -> None:
     check.expect("matrix of one superstep", set(one.marks) == {f"bytes-0-{to}" for to in (1, 2, 3)}, one.marks)
     some = drawn(check, "costs", source, "--supersteps", "1:2")
     check.expect("costs of two supersteps", {it.split("-")[1] for it in some.marks} == {"1", "2"}, some.marks)
-    others = drawn(check, "costs", STORED / "inner.csv", "--h", "others")
+    others = drawn(check, "costs", STORED / "inner.csv")
     check.expect("h of other ranks alone", others.marks["gh-1"].text == "superstep 1: g·h = 24", others.marks["gh-1"])
+    whole = drawn(check, "costs", STORED / "inner.csv", "--h", "all")
+    check.expect("h of all bytes", whole.marks["gh-1"].text == "superstep 1: g·h = 32", whole.marks["gh-1"])
     rest = drawn(check, "timeline", STORED / "lu.csv", "--supersteps", "12:")
     check.expect("timeline of the last supersteps", {it.split("-")[1] for it in rest.marks} == {"12", "13"}, rest.marks)
 

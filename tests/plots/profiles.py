@@ -75,8 +75,8 @@ def by_report(check: Check, name: str) -> str:
     subprocess.run(words, stdin=subprocess.DEVNULL, capture_output=True, check=False, cwd=REPO)
     found = sources.of_json(json.loads(path.read_text()))
     here = stored(name)
-    if costs.of_report(found) != costs.of_profile(here, profile.Reading.ALL):
-        return f"{costs.of_profile(here, profile.Reading.ALL)} and not {costs.of_report(found)}"
+    if costs.of_report(found) != costs.of_profile(here, profile.Reading.OTHERS):
+        return f"{costs.of_profile(here, profile.Reading.OTHERS)} and not {costs.of_report(found)}"
     wanted = OUTCOMES.get(name, found.outcome)
     return "" if here.outcome() == wanted else f"{here.outcome()} and not {wanted}"
 

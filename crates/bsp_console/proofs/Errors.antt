@@ -1,5 +1,6 @@
 -- The errors of the lines, as errors of the sessions.
 use Rattle.std.proofs.Common.{◌≢◌, ℕ, List, inr, refl}
+use Rattle.cost_ledger.specs.declared.LedgerText.{LedgerText}
 use Rattle.bsp_debug.specs.Debugger.{DebuggerState}
 use Rattle.bsp_session.specs.declared.errors.SessionError.{SessionError}
 use Rattle.bsp_session.specs.declared.errors.SessionError.TheVariants.{BadSettings, TooLong, Text, BadImage, SegmentOutside, ReadFault, WriteFault, NoWorker, NoMemory}
@@ -9,7 +10,7 @@ use Rattle.bsp_console.specs.Console.{Begins, Console, RefusesImage}
 use Rattle.bsp_console.specs.Dialogue.{IsErrorOfDialogue, IsErrorOfTalk}
 use Rattle.bsp_console.specs.Script.{IsErrorOfReplies, IsErrorOfScript, ReadsScript}
 
-pub error_of_talk : (c : Console) (start : DebuggerState) → Begins c start → (e : SessionError) → IsErrorOfTalk c.job.g c.job.l c.script c.out start e → IsErrorOfDialogue c e
+pub error_of_talk : (c : Console) (start : DebuggerState) → Begins c start → (e : SessionError) → IsErrorOfTalk c.job.ledger c.job.g c.job.l c.script c.out start e → IsErrorOfDialogue c e
 error_of_talk c start b (BadSettings cause) p = absurd p
 error_of_talk c start b TooLong p = inr (record { start = start; begins = b; came = p })
 error_of_talk c start b (Text cause) p = absurd p
@@ -21,19 +22,19 @@ error_of_talk c start b NoWorker p = absurd p
 error_of_talk c start b NoMemory p = inr (inr (record { start = start; begins = b; came = p }))
 
 -- they are none of the image's file
-pub talk-no_file : (g l : ℕ) (script out : Stream) (start : DebuggerState) (e : SessionError) → IsErrorOfTalk g l script out start e → RefusesImage e → ⊥
-talk-no_file g l script out start (BadSettings cause) p file = p
-talk-no_file g l script out start TooLong p file = file
-talk-no_file g l script out start (Text cause) p file = p
-talk-no_file g l script out start (BadImage cause) p file = p
-talk-no_file g l script out start SegmentOutside p file = p
-talk-no_file g l script out start ReadFault p file = file
-talk-no_file g l script out start WriteFault p file = file
-talk-no_file g l script out start NoWorker p file = p
-talk-no_file g l script out start NoMemory p file = file
+pub talk-no_file : (version : LedgerText) (g l : ℕ) (script out : Stream) (start : DebuggerState) (e : SessionError) → IsErrorOfTalk version g l script out start e → RefusesImage e → ⊥
+talk-no_file version g l script out start (BadSettings cause) p file = p
+talk-no_file version g l script out start TooLong p file = file
+talk-no_file version g l script out start (Text cause) p file = p
+talk-no_file version g l script out start (BadImage cause) p file = p
+talk-no_file version g l script out start SegmentOutside p file = p
+talk-no_file version g l script out start ReadFault p file = file
+talk-no_file version g l script out start WriteFault p file = file
+talk-no_file version g l script out start NoWorker p file = p
+talk-no_file version g l script out start NoMemory p file = file
 
 pub error_of_lines : (c : Console) (start : DebuggerState) (s : List ℕ) → Begins c start → ReadsScript c s
-    → (e : SessionError) → IsErrorOfReplies c.job.g c.job.l (answered_lines s) start c.out e → IsErrorOfScript c e
+    → (e : SessionError) → IsErrorOfReplies c.job.ledger c.job.g c.job.l (answered_lines s) start c.out e → IsErrorOfScript c e
 error_of_lines c start s b r (BadSettings cause) p = absurd p
 error_of_lines c start s b r TooLong p = absurd p
 error_of_lines c start s b r (Text cause) p = absurd p
@@ -45,14 +46,14 @@ error_of_lines c start s b r NoWorker p = absurd p
 error_of_lines c start s b r NoMemory p = inr (inr (inr (record { start = start; begins = b; came = record { script = s; read = r; done = p } })))
 
 -- they are of the writer or of memory
-pub lines-written : (g l : ℕ) (lines : List (List ℕ)) (start : DebuggerState) (out : Stream) (e : SessionError) → IsErrorOfReplies g l lines start out e
+pub lines-written : (version : LedgerText) (g l : ℕ) (lines : List (List ℕ)) (start : DebuggerState) (out : Stream) (e : SessionError) → IsErrorOfReplies version g l lines start out e
     → e ≢ WriteFault → e ≢ NoMemory → ⊥
-lines-written g l lines start out (BadSettings cause) p write memory = p
-lines-written g l lines start out TooLong p write memory = p
-lines-written g l lines start out (Text cause) p write memory = p
-lines-written g l lines start out (BadImage cause) p write memory = p
-lines-written g l lines start out SegmentOutside p write memory = p
-lines-written g l lines start out ReadFault p write memory = p
-lines-written g l lines start out WriteFault p write memory = write refl
-lines-written g l lines start out NoWorker p write memory = p
-lines-written g l lines start out NoMemory p write memory = memory refl
+lines-written version g l lines start out (BadSettings cause) p write memory = p
+lines-written version g l lines start out TooLong p write memory = p
+lines-written version g l lines start out (Text cause) p write memory = p
+lines-written version g l lines start out (BadImage cause) p write memory = p
+lines-written version g l lines start out SegmentOutside p write memory = p
+lines-written version g l lines start out ReadFault p write memory = p
+lines-written version g l lines start out WriteFault p write memory = write refl
+lines-written version g l lines start out NoWorker p write memory = p
+lines-written version g l lines start out NoMemory p write memory = memory refl

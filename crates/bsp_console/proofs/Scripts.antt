@@ -4,6 +4,7 @@ use Rattle.std.proofs.lemmas.List.{drop_more}
 use Rattle.std.proofs.Math.Seq.{take-append-add}
 use Rattle.std.specs.List.{onto_first, take_while, prefix_len}
 use Rattle.std.proofs.lemmas.Bool.{ne_eqb}
+use Rattle.cost_ledger.specs.declared.LedgerText.{LedgerText}
 use Rattle.counted_io.specs.Counted.{HasRisen}
 use Rattle.counted_io.specs.Lines.{LacksFeed}
 use Rattle.bsp_debug.specs.Debugger.{DebuggerState}
@@ -115,13 +116,13 @@ init-append lines more some =
     ap (λ n. take n (lines ++ more)) size ∙ take-append-add lines more (length more - 1)
 
 -- one more line is answered
-pub Talks-push : (g l : ℕ) (lines : List (List ℕ)) (line : List ℕ) (start d next : DebuggerState) (text first : List ℕ)
-    → Talks g l lines start text d → Answered g l (line_of line) d first next → Talks g l (lines ++ line ∷ []) start (text ++ first) next
-Talks-push g l [] line start d next text first talks answered =
-    (first, [], next, subst (λ s. Answered g l (line_of line) s first next) talks.1 answered, (refl, refl), ap (λ t. t ++ first) talks.0 ∙ sym (append-nil first))
-Talks-push g l (line' ∷ lines) line start d next text first talks answered =
+pub Talks-push : (version : LedgerText) (g l : ℕ) (lines : List (List ℕ)) (line : List ℕ) (start d next : DebuggerState) (text first : List ℕ)
+    → Talks version g l lines start text d → Answered version g l (line_of line) d first next → Talks version g l (lines ++ line ∷ []) start (text ++ first) next
+Talks-push version g l [] line start d next text first talks answered =
+    (first, [], next, subst (λ s. Answered version g l (line_of line) s first next) talks.1 answered, (refl, refl), ap (λ t. t ++ first) talks.0 ∙ sym (append-nil first))
+Talks-push version g l (line' ∷ lines) line start d next text first talks answered =
     let (one, rest, then, was, more, is) = talks in
-    (one, rest ++ first, then, was, Talks-push g l lines line then d next rest first more answered, ap (λ t. t ++ first) is ∙ append_assoc one rest first)
+    (one, rest ++ first, then, was, Talks-push version g l lines line then d next rest first more answered, ap (λ t. t ++ first) is ∙ append_assoc one rest first)
 
 -- a count that has risen, above one that is no greater
 pub HasRisen-above : (a b c : ℕ) → a ≤ b → HasRisen b c → HasRisen a c

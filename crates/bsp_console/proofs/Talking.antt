@@ -4,6 +4,7 @@ use Rattle.std.proofs.lemmas.List.{take-append-le, take_at, length-take-le, get_
 use Rattle.std.specs.Io.KnownBytes.{Appends, Consumes, IsAtEnd}
 use Rattle.std.proofs.KnownBytes.{Appends-trans, Appends-nil, Consumes-nil, Consumes-trans}
 use Rattle.std.specs.List.{take_while}
+use Rattle.cost_ledger.specs.declared.LedgerText.{LedgerText}
 use Rattle.counted_io.specs.Counted.{HasRisen}
 use Rattle.counted_io.specs.declared.ReadError.{ReadError}
 use Rattle.counted_io.specs.declared.ReadError.TheVariants as read
@@ -31,11 +32,11 @@ pub record HasCutAll (asked : List (List ℕ)) (lines : LineReaderState) : Type 
   pub all : lines.given ≡ length lines.read
   pub is : lines_of lines.read ≡ asked
 
-pub record IsTalking (g l : ℕ) (start : DebuggerState) (rest_before rest_after out_before out_after : Option (List ℕ))
+pub record IsTalking (version : LedgerText) (g l : ℕ) (start : DebuggerState) (rest_before rest_after out_before out_after : Option (List ℕ))
     (lines : LineReaderState) (now : DebuggerState) : Type 0 where
   pub asked : List (List ℕ)
   pub text : List ℕ
-  pub talks : Talks g l asked start text now
+  pub talks : Talks version g l asked start text now
   pub go_on : AllGoOn asked
   pub written : Appends out_before out_after text
   pub consumed : Consumes rest_before rest_after lines.read
@@ -46,9 +47,9 @@ pub record IsTalking (g l : ℕ) (start : DebuggerState) (rest_before rest_after
   pub cut : HasCutOff asked lines ⊎ HasCutAll asked lines
 
 -- at first nothing was read
-pub is_talking-first : (g l : ℕ) (start : DebuggerState) (rest out : Option (List ℕ))
-    → IsTalking g l start rest rest out out (record { read = []; given = 0; line = []; most = most_script; ended = false }) start
-is_talking-first g l start rest out = record {
+pub is_talking-first : (version : LedgerText) (g l : ℕ) (start : DebuggerState) (rest out : Option (List ℕ))
+    → IsTalking version g l start rest rest out out (record { read = []; given = 0; line = []; most = most_script; ended = false }) start
+is_talking-first version g l start rest out = record {
   asked = [];
   text = [];
   talks = (refl, refl);
@@ -131,10 +132,10 @@ lines_of-given asked old new bytes P grown within cut (inr last) = (
 -- ---- the ends of a session
 
 -- nothing more is given: all lines were answered
-pub talked-end : (g l : ℕ) (start d : DebuggerState) (script out : Stream) (mid : Option (List ℕ)) (old new : LineReaderState)
-    → IsTalking g l start script.before mid out.before out.after old d → ReadsOn mid script.after old.read new.read → GivesNone old new → IsOver script.after old new
-    → (old.ended ≡ true → (new.read ≡ old.read) × (script.after ≡ mid)) → length new.read ≤ most_script → HasTalked g l script out start
-talked-end g l start d script out mid old new t (bytes, consumed, grown) none over still few = record {
+pub talked-end : (version : LedgerText) (g l : ℕ) (start d : DebuggerState) (script out : Stream) (mid : Option (List ℕ)) (old new : LineReaderState)
+    → IsTalking version g l start script.before mid out.before out.after old d → ReadsOn mid script.after old.read new.read → GivesNone old new → IsOver script.after old new
+    → (old.ended ≡ true → (new.read ≡ old.read) × (script.after ≡ mid)) → length new.read ≤ most_script → HasTalked version g l script out start
+talked-end version g l start d script out mid old new t (bytes, consumed, grown) none over still few = record {
   bytes = new.read;
   limited = few;
   consumed = subst (Consumes script.before script.after) (sym grown) (Consumes-trans _ _ _ old.read bytes t.consumed consumed);
@@ -153,16 +154,16 @@ talked-end g l start d script out mid old new t (bytes, consumed, grown) none ov
   nothing : answered_lines [] ≡ [] ∷ []
   nothing = take_while-through ([] ∷ []) [] (other-goes_on [] (λ e. cc (line_of-nil)), tt)
 
-  all_lines : HasCutOff t.asked old ⊎ HasCutAll t.asked old → Talks g l (answered_lines new.read) start (t.text ++ []) d
+  all_lines : HasCutOff t.asked old ⊎ HasCutAll t.asked old → Talks version g l (answered_lines new.read) start (t.text ++ []) d
   all_lines (inl cut) =
       let is : lines_of new.read ≡ t.asked ++ lines_of [] = lines_of-waiting t.asked old new bytes grown t.within cut ∙ ap (λ r. t.asked ++ lines_of r) none.none in
       let answered : answered_lines new.read ≡ t.asked ++ [] ∷ [] = ap (take_while goes_on) is ∙ take_while-through t.asked (lines_of []) t.go_on ∙ ap (λ r. t.asked ++ r) nothing in
-      subst (λ ls. Talks g l ls start (t.text ++ []) d) (sym answered)
-      (Talks-push g l t.asked [] start d d t.text [] t.talks (subst (λ line. Answered g l line d [] d) (sym line_of-nil) (refl, refl)))
+      subst (λ ls. Talks version g l ls start (t.text ++ []) d) (sym answered)
+      (Talks-push version g l t.asked [] start d d t.text [] t.talks (subst (λ line. Answered version g l line d [] d) (sym line_of-nil) (refl, refl)))
   all_lines (inr all) =
       let is : lines_of new.read ≡ t.asked ++ [] = ap lines_of (still all.ended).0 ∙ all.is ∙ sym (append-nil t.asked) in
       let answered : answered_lines new.read ≡ t.asked = ap (take_while goes_on) is ∙ take_while-through t.asked [] t.go_on ∙ append-nil t.asked in
-      subst (λ ls. Talks g l ls start (t.text ++ []) d) (sym answered) (subst (λ text. Talks g l t.asked start text d) (sym (append-nil t.text)) t.talks)
+      subst (λ ls. Talks version g l ls start (t.text ++ []) d) (sym answered) (subst (λ text. Talks version g l t.asked start text d) (sym (append-nil t.text)) t.talks)
 
 -- a script with a line among its whole ones
 has_quit : (script : List ℕ) (asked more : List (List ℕ)) (line : List ℕ) → lines_of script ≡ asked ++ line ∷ more → 0 < length more → line_of line ≡ Quit → HasQuit script
@@ -177,11 +178,11 @@ has_quit script asked more line is some quits =
     )
 
 -- a line `quit` is given
-pub talked-quit : (g l : ℕ) (start d : DebuggerState) (script out : Stream) (mid : Option (List ℕ)) (old new : LineReaderState)
-    → IsTalking g l start script.before mid out.before out.after old d → ReadsOn mid script.after old.read new.read
+pub talked-quit : (version : LedgerText) (g l : ℕ) (start d : DebuggerState) (script out : Stream) (mid : Option (List ℕ)) (old new : LineReaderState)
+    → IsTalking version g l start script.before mid out.before out.after old d → ReadsOn mid script.after old.read new.read
     → GivesLine old new ⊎ (GivesLast old new × IsOver script.after old new)
-    → (old.ended ≡ true → (new.read ≡ old.read) × (script.after ≡ mid)) → length new.read ≤ most_script → line_of new.line ≡ Quit → HasTalked g l script out start
-talked-quit g l start d script out mid old new t (bytes, consumed, grown) gives still few quits = record {
+    → (old.ended ≡ true → (new.read ≡ old.read) × (script.after ≡ mid)) → length new.read ≤ most_script → line_of new.line ≡ Quit → HasTalked version g l script out start
+talked-quit version g l start d script out mid old new t (bytes, consumed, grown) gives still few quits = record {
   bytes = new.read;
   limited = few;
   consumed = subst (Consumes script.before script.after) (sym grown) (Consumes-trans _ _ _ old.read bytes t.consumed consumed);
@@ -189,7 +190,7 @@ talked-quit g l start d script out mid old new t (bytes, consumed, grown) gives 
   written = record {
     text = t.text;
     now = d;
-    talks = subst (λ ls. Talks g l ls start t.text d) (sym answered) t.talks;
+    talks = subst (λ ls. Talks version g l ls start t.text d) (sym answered) t.talks;
     written = t.written;
   };
 } where
@@ -217,15 +218,15 @@ talked-quit g l start d script out mid old new t (bytes, consumed, grown) gives 
 
 -- ---- one line more
 
-pub talking-step : (g l : ℕ) (start d next : DebuggerState) (rb ra rn ob oa on : Option (List ℕ)) (old new : LineReaderState) (first : List ℕ)
-    → IsTalking g l start rb ra ob oa old d → ReadsOn ra rn old.read new.read → GivesLine old new ⊎ (GivesLast old new × IsOver rn old new)
+pub talking-step : (version : LedgerText) (g l : ℕ) (start d next : DebuggerState) (rb ra rn ob oa on : Option (List ℕ)) (old new : LineReaderState) (first : List ℕ)
+    → IsTalking version g l start rb ra ob oa old d → ReadsOn ra rn old.read new.read → GivesLine old new ⊎ (GivesLast old new × IsOver rn old new)
     → (old.ended ≡ true → (new.read ≡ old.read) × (rn ≡ ra)) → (new.ended ≡ true → (old.ended ≡ true) ⊎ IsAtEnd rn)
     → new.most ≡ old.most → length new.read ≤ new.most → new.given ≤ length new.read → (line_of new.line ≡ Quit → ⊥)
-    → Answered g l (line_of new.line) d first next → Appends oa on first → IsTalking g l start rb rn ob on new next
-talking-step g l start d next rb ra rn ob oa on old new first t (bytes, consumed, grown) gives still ends most limit within other answered appended = record {
+    → Answered version g l (line_of new.line) d first next → Appends oa on first → IsTalking version g l start rb rn ob on new next
+talking-step version g l start d next rb ra rn ob oa on old new first t (bytes, consumed, grown) gives still ends most limit within other answered appended = record {
   asked = t.asked ++ new.line ∷ [];
   text = t.text ++ first;
-  talks = Talks-push g l t.asked new.line start d next t.text first t.talks answered;
+  talks = Talks-push version g l t.asked new.line start d next t.text first t.talks answered;
   go_on = AllGoOn-push t.asked new.line t.go_on (other-goes_on new.line other);
   written = Appends-trans ob oa on t.text first t.written appended;
   consumed = subst (Consumes rb rn) (sym grown) (Consumes-trans _ _ _ old.read bytes t.consumed consumed);
@@ -249,9 +250,9 @@ talking-step g l start d next rb ra rn ob oa on old new first t (bytes, consumed
 -- ---- errors
 
 -- what stands written between two lines
-replies : (g l : ℕ) (start d : DebuggerState) (rb ra : Option (List ℕ)) (out : Stream) (lines : LineReaderState)
-    → (t : IsTalking g l start rb ra out.before out.after lines d) → WritesReplies g l t.asked start out
-replies g l start d rb ra out lines t = record { text = t.text; now = d; talks = t.talks; written = t.written }
+replies : (version : LedgerText) (g l : ℕ) (start d : DebuggerState) (rb ra : Option (List ℕ)) (out : Stream) (lines : LineReaderState)
+    → (t : IsTalking version g l start rb ra out.before out.after lines d) → WritesReplies version g l t.asked start out
+replies version g l start d rb ra out lines t = record { text = t.text; now = d; talks = t.talks; written = t.written }
 
 -- the lines that were given are all whole ones, where no line feed is left
 whole_at_error : (asked : List (List ℕ)) (old new : LineReaderState) (bytes : List ℕ) (rest : Option (List ℕ))
@@ -299,14 +300,14 @@ passes before mid after old new consumed over =
     (old ++ (bytes ++ byte ∷ []), omega (arith, size, over.full), Consumes-trans before mid after old (bytes ++ byte ∷ []) consumed lost)
 
 -- the next line could not be read
-pub talk-error : (g l : ℕ) (start d : DebuggerState) (script out : Stream) (mid : Option (List ℕ)) (old new : LineReaderState) (failures : ℕ) (r : ReadError)
-    → IsTalking g l start script.before mid out.before out.after old d → (old.ended ≡ true → (new.read ≡ old.read) × (script.after ≡ mid))
+pub talk-error : (version : LedgerText) (g l : ℕ) (start d : DebuggerState) (script out : Stream) (mid : Option (List ℕ)) (old new : LineReaderState) (failures : ℕ) (r : ReadError)
+    → IsTalking version g l start script.before mid out.before out.after old d → (old.ended ≡ true → (new.read ≡ old.read) × (script.after ≡ mid))
     → length new.read ≤ most_script → new.given ≡ old.given → LacksFeed (drop new.given new.read) → script.failures_before ≤ failures
     → (r ≡ read.TooLong → PassesLimit mid script.after old.read new.read old.most)
     → (r ≡ read.ReadFault → HasRisen failures script.failures_after × ReadsOn mid script.after old.read new.read)
     → (r ≡ read.NoMemory → ReadsOn mid script.after old.read new.read)
-    → IsErrorOfTalk g l script out start (error_of_read r)
-talk-error g l start d script out mid old new failures r t still few given lacks before long fault memory = cases r long fault memory where
+    → IsErrorOfTalk version g l script out start (error_of_read r)
+talk-error version g l start d script out mid old new failures r t still few given lacks before long fault memory = cases r long fault memory where
   read_lines : ReadsOn mid script.after old.read new.read → ReadsLines script.before script.after t.asked
   read_lines (bytes, consumed, grown) = record {
     bytes = new.read;
@@ -336,12 +337,12 @@ talk-error g l start d script out mid old new failures r t still few given lacks
             (subst (PassesLimit mid script.after old.read new.read) t.most over);
       }
 
-  ends : (cause : Stream → List (List ℕ) → Type 0) → cause script t.asked → EndsAtLine g l cause script out start
-  ends cause why = record { lines = t.asked; cause = why; no_quit = LacksQuit-all t.asked t.go_on; written = replies g l start d script.before mid out old t }
+  ends : (cause : Stream → List (List ℕ) → Type 0) → cause script t.asked → EndsAtLine version g l cause script out start
+  ends cause why = record { lines = t.asked; cause = why; no_quit = LacksQuit-all t.asked t.go_on; written = replies version g l start d script.before mid out old t }
 
   cases : (r : ReadError) → (r ≡ read.TooLong → PassesLimit mid script.after old.read new.read old.most)
       → (r ≡ read.ReadFault → HasRisen failures script.failures_after × ReadsOn mid script.after old.read new.read)
-      → (r ≡ read.NoMemory → ReadsOn mid script.after old.read new.read) → IsErrorOfTalk g l script out start (error_of_read r)
+      → (r ≡ read.NoMemory → ReadsOn mid script.after old.read new.read) → IsErrorOfTalk version g l script out start (error_of_read r)
   cases read.TooLong long fault memory = ends PassesScript (too_long (long refl))
   cases read.ReadFault long fault memory =
       let failed = fault refl in
@@ -375,15 +376,15 @@ lines_with asked old new mid after bytes grown within cut (inr last) still = (
   at_end (inr is) = is
 
 -- a line was not answered: memory was refused, and nothing more was written, or its answer could not be written whole, or not be flushed
-pub talk-stops : (g l : ℕ) (start d next : DebuggerState) (script out : Stream) (mid held : Option (List ℕ)) (old new : LineReaderState) (line : Line) (failures : ℕ) (e : SessionError)
-    → IsTalking g l start script.before mid out.before held old d → ReadsOn mid script.after old.read new.read
+pub talk-stops : (version : LedgerText) (g l : ℕ) (start d next : DebuggerState) (script out : Stream) (mid held : Option (List ℕ)) (old new : LineReaderState) (line : Line) (failures : ℕ) (e : SessionError)
+    → IsTalking version g l start script.before mid out.before held old d → ReadsOn mid script.after old.read new.read
     → GivesLine old new ⊎ (GivesLast old new × IsOver script.after old new) → (old.ended ≡ true → (new.read ≡ old.read) × (script.after ≡ mid))
     → length new.read ≤ most_script → line ≡ line_of new.line → (line_of new.line ≡ Quit → ⊥) → out.failures_before ≤ failures
     → ((e ≡ NoMemory) × (out.after ≡ held))
     ⊎ ((e ≡ WriteFault) × HasRisen failures out.failures_after
-    × (text : List ℕ) × (count : ℕ) × (count ≤ length text) × Answered g l line d text next × Appends held out.after (take count text))
-    → IsErrorOfTalk g l script out start e
-talk-stops g l start d next script out mid held old new line failures e t (bytes, consumed, grown) gives still few is other before why = cases why where
+    × (text : List ℕ) × (count : ℕ) × (count ≤ length text) × Answered version g l line d text next × Appends held out.after (take count text))
+    → IsErrorOfTalk version g l script out start e
+talk-stops version g l start d next script out mid held old new line failures e t (bytes, consumed, grown) gives still few is other before why = cases why where
   cut : HasCutOff t.asked old
   cut = cut-before t.asked old new t.cut (λ ended. (still ended).0) (some-waiting old new (IsOver script.after old new) gives)
 
@@ -411,7 +412,7 @@ talk-stops g l start d next script out mid held old new line failures e t (bytes
 
   cases : ((e ≡ NoMemory) × (out.after ≡ held))
       ⊎ ((e ≡ WriteFault) × HasRisen failures out.failures_after
-      × (text : List ℕ) × (count : ℕ) × (count ≤ length text) × Answered g l line d text next × Appends held out.after (take count text)) → IsErrorOfTalk g l script out start e
+      × (text : List ℕ) × (count : ℕ) × (count ≤ length text) × Answered version g l line d text next × Appends held out.after (take count text)) → IsErrorOfTalk version g l script out start e
   cases (inl (cause, unwritten)) = rw cause (inr (record {
     lines = lines;
     read = read_lines;
@@ -436,7 +437,7 @@ talk-stops g l start d next script out mid held old new line failures e t (bytes
       talks = t.talks;
       reply = text;
       after = next;
-      answered = subst (λ asked. Answered g l asked d text next) is answered;
+      answered = subst (λ asked. Answered version g l asked d text next) is answered;
       count = count;
       within = within;
       written = Appends-trans out.before held out.after t.text (take count text) t.written appended;

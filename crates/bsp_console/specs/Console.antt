@@ -2,6 +2,7 @@
 -- stand written. All over the bytes of readers and of a writer, where they are known.
 use Rattle.std.specs.Prelude.{◌≡◌, ℕ, ◌^◌, ◌≤◌, List, [], ◌∷◌, ◌++◌, length, take, Option, option_map}
 use Rattle.std.specs.Io.KnownBytes.{Appends}
+use Rattle.cost_ledger.specs.declared.LedgerText.{LedgerText}
 use Rattle.node_memory.specs.Image.{Image}
 use Rattle.machine_core.specs.declared.settings.Settings.{Settings}
 use Rattle.machine_core.specs.Machine.{fresh, settings_fault}
@@ -83,32 +84,32 @@ pub record HasNoDebugger (c : Console) (e : SessionError) : Type 0 where
 -- ---- replies
 
 -- the replies to these lines were written, and nothing else. The debugger begins as `start`
-pub record WritesReplies (g l : ℕ) (lines : List (List ℕ)) (start : DebuggerState) (out : Stream) : Type 0 where
+pub record WritesReplies (version : LedgerText) (g l : ℕ) (lines : List (List ℕ)) (start : DebuggerState) (out : Stream) : Type 0 where
   pub text : List ℕ
   pub now : DebuggerState
-  pub talks : Talks g l lines start text now
+  pub talks : Talks version g l lines start text now
   pub written : Appends out.before out.after text
 
 -- the replies to some first ones of these lines were written, whole, and nothing of the reply to the next one
-pub record StopsBefore (g l : ℕ) (lines : List (List ℕ)) (start : DebuggerState) (out : Stream) : Type 0 where
+pub record StopsBefore (version : LedgerText) (g l : ℕ) (lines : List (List ℕ)) (start : DebuggerState) (out : Stream) : Type 0 where
   pub done : List (List ℕ)
   pub next : List ℕ
   pub rest : List (List ℕ)
   pub are : lines ≡ done ++ next ∷ rest
-  pub written : WritesReplies g l done start out
+  pub written : WritesReplies version g l done start out
 
 -- the writer failed: the replies to the first lines `done` were written whole, and of the reply to `next` the first `count` bytes
-pub record CutsReply (g l : ℕ) (lines : List (List ℕ)) (start : DebuggerState) (out : Stream) : Type 0 where
+pub record CutsReply (version : LedgerText) (g l : ℕ) (lines : List (List ℕ)) (start : DebuggerState) (out : Stream) : Type 0 where
   pub done : List (List ℕ)
   pub next : List ℕ
   pub rest : List (List ℕ)
   pub are : lines ≡ done ++ next ∷ rest
   pub text : List ℕ
   pub before : DebuggerState
-  pub talks : Talks g l done start text before
+  pub talks : Talks version g l done start text before
   pub reply : List ℕ
   pub after : DebuggerState
-  pub answered : Answered g l (line_of next) before reply after
+  pub answered : Answered version g l (line_of next) before reply after
   pub count : ℕ
   pub within : count ≤ length reply
   pub written : Appends out.before out.after (text ++ take count reply)

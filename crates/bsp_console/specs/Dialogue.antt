@@ -2,6 +2,7 @@
 -- image understood, machine made, and then line by line.
 use Rattle.std.specs.Prelude.{◌≡◌, ℕ, ◌≤◌, ◌⊎◌, List, [], ◌∷◌, length, Option}
 use Rattle.std.specs.Io.KnownBytes.{Consumes, IsAtEnd}
+use Rattle.cost_ledger.specs.declared.LedgerText.{LedgerText}
 use Rattle.bsp_debug.specs.Debugger.{DebuggerState}
 use Rattle.bsp_session.specs.declared.errors.SessionError.{SessionError}
 use Rattle.bsp_session.specs.declared.errors.SessionError.TheVariants.{BadSettings, TooLong, Text, BadImage, SegmentOutside, ReadFault, WriteFault, NoWorker, NoMemory}
@@ -12,12 +13,12 @@ use Rattle.bsp_console.specs.Console.{Console, BeginsTo, CutsReply, StopsAtFiles
 -- ---- an answer
 
 -- the script was read to its end, or to a line `quit`, and the replies to its lines up to that were written
-pub record HasTalked (g l : ℕ) (script out : Stream) (start : DebuggerState) : Type 0 where
+pub record HasTalked (version : LedgerText) (g l : ℕ) (script out : Stream) (start : DebuggerState) : Type 0 where
   pub bytes : List ℕ
   pub limited : length bytes ≤ most_script
   pub consumed : Consumes script.before script.after bytes
   pub whole : IsAtEnd script.after ⊎ HasQuit bytes
-  pub written : WritesReplies g l (answered_lines bytes) start out
+  pub written : WritesReplies version g l (answered_lines bytes) start out
 
 -- ---- errors
 
@@ -47,11 +48,11 @@ pub record IsUnreadable (script : Stream) (lines : List (List ℕ)) : Type 0 whe
   pub failed : HasFailed script
 
 -- the next line could not be read, for this cause: the replies to all whole lines were written, of which none is `quit`
-pub record EndsAtLine (g l : ℕ) (why : Stream → List (List ℕ) → Type 0) (script out : Stream) (start : DebuggerState) : Type 0 where
+pub record EndsAtLine (version : LedgerText) (g l : ℕ) (why : Stream → List (List ℕ) → Type 0) (script out : Stream) (start : DebuggerState) : Type 0 where
   pub lines : List (List ℕ)
   pub cause : why script lines
   pub no_quit : LacksQuit lines
-  pub written : WritesReplies g l lines start out
+  pub written : WritesReplies version g l lines start out
 
 -- a line was read and not answered: this was done with the whole lines up to the first `quit`
 pub record EndsAtReply (what : List (List ℕ) → DebuggerState → Type 0) (script : Stream) (start : DebuggerState) : Type 0 where
@@ -60,28 +61,28 @@ pub record EndsAtReply (what : List (List ℕ) → DebuggerState → Type 0) (sc
   pub done : what (until_quit lines) start
 
 -- memory was refused when the next line was read, or when a line was answered
-abbrev pub StopsTalking : (g l : ℕ) → (script out : Stream) → DebuggerState → Type 0
-StopsTalking g l script out start =
-    EndsAtLine g l (λ s lines. ReadsLines s.before s.after lines) script out start
-    ⊎ EndsAtReply (λ lines d. StopsBefore g l lines d out) script start
+abbrev pub StopsTalking : (version : LedgerText) (g l : ℕ) → (script out : Stream) → DebuggerState → Type 0
+StopsTalking version g l script out start =
+    EndsAtLine version g l (λ s lines. ReadsLines s.before s.after lines) script out start
+    ⊎ EndsAtReply (λ lines d. StopsBefore version g l lines d out) script start
 
 -- what is known where the lines ended by an error
-abbrev pub IsErrorOfTalk : (g l : ℕ) → (script out : Stream) → DebuggerState → SessionError → Type 0
-IsErrorOfTalk g l script out start TooLong = EndsAtLine g l PassesScript script out start
-IsErrorOfTalk g l script out start ReadFault = EndsAtLine g l IsUnreadable script out start
-IsErrorOfTalk g l script out start WriteFault = EndsAtReply (λ lines d. CutsReply g l lines d out) script start
-IsErrorOfTalk g l script out start NoMemory = StopsTalking g l script out start
-IsErrorOfTalk g l script out start _ = ⊥
+abbrev pub IsErrorOfTalk : (version : LedgerText) (g l : ℕ) → (script out : Stream) → DebuggerState → SessionError → Type 0
+IsErrorOfTalk version g l script out start TooLong = EndsAtLine version g l PassesScript script out start
+IsErrorOfTalk version g l script out start ReadFault = EndsAtLine version g l IsUnreadable script out start
+IsErrorOfTalk version g l script out start WriteFault = EndsAtReply (λ lines d. CutsReply version g l lines d out) script start
+IsErrorOfTalk version g l script out start NoMemory = StopsTalking version g l script out start
+IsErrorOfTalk version g l script out start _ = ⊥
 
 -- ---- the whole session
 
 -- an answer: every line was answered, up to the first that is `quit`
 abbrev pub AnswersDialogue : Console → Type 0
-AnswersDialogue c = BeginsTo (HasTalked c.job.g c.job.l c.script c.out) c
+AnswersDialogue c = BeginsTo (HasTalked c.job.ledger c.job.g c.job.l c.script c.out) c
 
 -- the lines ended by this error
 abbrev pub EndsTalking : Console → SessionError → Type 0
-EndsTalking c e = BeginsTo (λ start. IsErrorOfTalk c.job.g c.job.l c.script c.out start e) c
+EndsTalking c e = BeginsTo (λ start. IsErrorOfTalk c.job.ledger c.job.g c.job.l c.script c.out start e) c
 
 -- image and input were read, and there is no debugger; no line was read
 abbrev pub IsRefusedAtOnce : Console → SessionError → Type 0

@@ -1,6 +1,7 @@
 -- The session whose script is read whole before anything is made of it. The order of work is an own rule: settings, image read, input
 -- read, script read, image understood, machine made, and then the lines, one after another.
 use Rattle.std.specs.Prelude.{ℕ, ◌<◌, ◌⊎◌, List, length}
+use Rattle.cost_ledger.specs.declared.LedgerText.{LedgerText}
 use Rattle.bsp_debug.specs.Debugger.{DebuggerState}
 use Rattle.counted_io.specs.declared.ReadError.{ReadError}
 use Rattle.counted_io.specs.declared.ReadError.TheVariants as read
@@ -35,21 +36,21 @@ pub record TakesScript (what : List (List ℕ) → DebuggerState → Type 0) (c 
 
 -- an answer: the replies to all lines up to the first `quit`, or to the last line, were written
 abbrev pub AnswersScript : Console → Type 0
-AnswersScript c = BeginsTo (TakesScript (λ lines start. WritesReplies c.job.g c.job.l lines start c.out) c) c
+AnswersScript c = BeginsTo (TakesScript (λ lines start. WritesReplies c.job.ledger c.job.g c.job.l lines start c.out) c) c
 
 -- the writer failed at a reply, of which not all was written
-abbrev pub CutsShort : (g l : ℕ) → List (List ℕ) → DebuggerState → (out : Stream) → Type 0
-CutsShort g l lines start out = (cut : CutsReply g l lines start out) × (cut.count < length cut.reply)
+abbrev pub CutsShort : (version : LedgerText) (g l : ℕ) → List (List ℕ) → DebuggerState → (out : Stream) → Type 0
+CutsShort version g l lines start out = (cut : CutsReply version g l lines start out) × (cut.count < length cut.reply)
 
 -- what is known where the lines ended by an error
-abbrev pub IsErrorOfReplies : (g l : ℕ) → List (List ℕ) → DebuggerState → (out : Stream) → SessionError → Type 0
-IsErrorOfReplies g l lines start out WriteFault = CutsShort g l lines start out
-IsErrorOfReplies g l lines start out NoMemory = StopsBefore g l lines start out
-IsErrorOfReplies g l lines start out _ = ⊥
+abbrev pub IsErrorOfReplies : (version : LedgerText) (g l : ℕ) → List (List ℕ) → DebuggerState → (out : Stream) → SessionError → Type 0
+IsErrorOfReplies version g l lines start out WriteFault = CutsShort version g l lines start out
+IsErrorOfReplies version g l lines start out NoMemory = StopsBefore version g l lines start out
+IsErrorOfReplies version g l lines start out _ = ⊥
 
 -- the lines ended by this error
 abbrev pub EndsAnswering : Console → SessionError → Type 0
-EndsAnswering c e = BeginsTo (TakesScript (λ lines start. IsErrorOfReplies c.job.g c.job.l lines start c.out e) c) c
+EndsAnswering c e = BeginsTo (TakesScript (λ lines start. IsErrorOfReplies c.job.ledger c.job.g c.job.l lines start c.out e) c) c
 
 -- what is known where the session ended by an error
 abbrev pub IsErrorOfScript : Console → SessionError → Type 0

@@ -1,6 +1,7 @@
 -- What the lines of a script are answered, and what they make of a debugger (own rules).
 use Rattle.std.specs.Prelude.{◌≡◌, ℕ, ◌+◌, ◌-◌, ◌==◌, Bool, true, false, not, List, [], ◌∷◌, ◌++◌, length, take, codes, if◌then◌else◌, Option, Some, None}
 use Rattle.std.specs.List.{slice_split, take_while, Any}
+use Rattle.cost_ledger.specs.declared.LedgerText.{LedgerText}
 use Rattle.machine_core.specs.Events.{after}
 use Rattle.bsp_debug.specs.declared.command.Command.{Command as Asked}
 use Rattle.bsp_debug.specs.declared.error.DebugError.{DebugError}
@@ -28,13 +29,13 @@ pub record LacksPoint (p : Point) (old new : DebuggerState) : Type 0 where
   pub count : length new.points + 1 ≡ length old.points
   pub others : new ≡ record old { points = new.points }
 
--- a debugger that did what a command says, and the text of its reply, costs at g a byte and l a superstep
-pub record Replies (g l : ℕ) (c : Asked) (old new : DebuggerState) (text : List ℕ) : Type 0 where
+-- a debugger that did what a command says, and the text of its reply, costs in a version of the ledger at g a byte and l a superstep
+pub record Replies (version : LedgerText) (g l : ℕ) (c : Asked) (old new : DebuggerState) (text : List ℕ) : Type 0 where
   pub reply : Answer
   pub makes : Makes old.points old.machine c (events_of new.last) reply
   pub machine : new.machine ≡ after old.machine (events_of new.last)
   pub points : new.points ≡ old.points
-  pub told : text ≡ reply_text g l reply
+  pub told : text ≡ reply_text version g l reply
 
 -- a debugger that may refuse: where it does not, something is done, and else the refusal is told, and the debugger is as it is then
 abbrev pub DoesOrRefuses : Option DebugError → (done : Type 0) → (refused new : DebuggerState) → (text : List ℕ) → Type 0
@@ -42,24 +43,24 @@ DoesOrRefuses None done refused new text = done
 DoesOrRefuses (Some e) done refused new text = (new ≡ refused) × (text ≡ verdict_text (Refused e))
 
 -- what a line is answered: a text, and the debugger after it. A command that is refused has made no event
-abbrev pub Answered : (g l : ℕ) → Line → (old : DebuggerState) → (text : List ℕ) → (new : DebuggerState) → Type 0
-Answered g l (Break p) old text new =
+abbrev pub Answered : (version : LedgerText) (g l : ℕ) → Line → (old : DebuggerState) → (text : List ℕ) → (new : DebuggerState) → Type 0
+Answered version g l (Break p) old text new =
     DoesOrRefuses (add_fault old.points old.machine p) (HasPoint p old new × (text ≡ verdict_text Done)) old new text
-Answered g l (Clear p) old text new =
+Answered version g l (Clear p) old text new =
     DoesOrRefuses (remove_fault old.points p) (LacksPoint p old new × (text ≡ verdict_text Done)) old new text
-Answered g l (Command c) old text new =
-    DoesOrRefuses (command_fault old.machine c) (Replies g l c old new text) (record old { last = [] }) new text
-Answered g l Output old text new = (new ≡ old) × (text ≡ old.machine.output ++ codes "\n")
-Answered g l Quit old text new = (new ≡ old) × (text ≡ [])
-Answered g l Empty old text new = (new ≡ old) × (text ≡ [])
-Answered g l Unknown old text new = (new ≡ old) × (text ≡ verdict_text BadCommand)
+Answered version g l (Command c) old text new =
+    DoesOrRefuses (command_fault old.machine c) (Replies version g l c old new text) (record old { last = [] }) new text
+Answered version g l Output old text new = (new ≡ old) × (text ≡ old.machine.output ++ codes "\n")
+Answered version g l Quit old text new = (new ≡ old) × (text ≡ [])
+Answered version g l Empty old text new = (new ≡ old) × (text ≡ [])
+Answered version g l Unknown old text new = (new ≡ old) × (text ≡ verdict_text BadCommand)
 
 -- lines are answered one after another: their texts together, and the debugger after the last of them
-abbrev pub Talks : (g l : ℕ) → List (List ℕ) → (old : DebuggerState) → (text : List ℕ) → (new : DebuggerState) → Type 0
-Talks g l [] old text new = (text ≡ []) × (new ≡ old)
-Talks g l (line ∷ lines) old text new =
+abbrev pub Talks : (version : LedgerText) (g l : ℕ) → List (List ℕ) → (old : DebuggerState) → (text : List ℕ) → (new : DebuggerState) → Type 0
+Talks version g l [] old text new = (text ≡ []) × (new ≡ old)
+Talks version g l (line ∷ lines) old text new =
     (first rest : List ℕ) × (next : DebuggerState)
-    × Answered g l (line_of line) old first next × Talks g l lines next rest new × (text ≡ first ++ rest)
+    × Answered version g l (line_of line) old first next × Talks version g l lines next rest new × (text ≡ first ++ rest)
 
 -- a line feed
 abbrev pub is_line_feed : ℕ → Bool

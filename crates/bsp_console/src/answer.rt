@@ -11,6 +11,7 @@ ghost use Rattle.bsp_console.specs.Talk.{Answered, DoesOrRefuses, HasPoint, Lack
 
 use bsp_debug::{Command, DebugError, Debugger, Point};
 use bsp_session::{Job, SessionError};
+use cost_ledger::LedgerText;
 use counted_io::{Counted, write_whole};
 use debug_lines::{Line, Verdict, reply_text};
 use std::alloc::{AllocError, Allocator};
@@ -32,16 +33,16 @@ pub(crate) fn answer_to<A: Allocator + Copy, W: Write>(
     out: &mut Counted<W>,
 ) -> Result<(), SessionError>
     ensures ok { OnOk result ((text : List ℕ)
-        × Answered job.now.g job.now.l line debugger.old text debugger.new
+        × Answered job.now.ledger job.now.g job.now.l line debugger.old text debugger.new
         × Appends (W.contents out.old.inner) (W.contents out.new.inner) text) }
     ensures err { IfErr result (λ e. ((e ≡ SessionError.NoMemory) × (out.new ≡ out.old))
         ⊎ ((e ≡ SessionError.WriteFault) × HasRisen out.old.failures out.new.failures
         × (text : List ℕ)
-        × Answered job.now.g job.now.l line debugger.old text debugger.new
+        × Answered job.now.ledger job.now.g job.now.l line debugger.old text debugger.new
         × AppendsPrefix (W.contents out.old.inner) (W.contents out.new.inner) text)) }
     ensures never_falls { out.old.failures ≤ out.new.failures }
 {
-    let text = answer_line(alloc, debugger, line, job.g, job.l)?;
+    let text = answer_line(alloc, debugger, line, job.ledger, job.g, job.l)?;
     write_whole(out, text.as_slice())?;
     Ok(())
 }
@@ -51,15 +52,16 @@ fn answer_line<A: Allocator + Copy>(
     alloc: A,
     debugger: &mut Debugger<A>,
     line: Line,
+    version: LedgerText,
     g: u32,
     l: u32,
 ) -> Result<Vec<u8, A>, AllocError>
-    ensures { IfOk result (λ text. Answered g l line debugger.old text.items debugger.new) }
+    ensures { IfOk result (λ text. Answered version g l line debugger.old text.items debugger.new) }
 {
     match line {
         Line::Break(point) => set_point(alloc, debugger, point),
         Line::Clear(point) => clear_point(alloc, debugger, point),
-        Line::Command(command) => answer_command(alloc, debugger, command, g, l),
+        Line::Command(command) => answer_command(alloc, debugger, command, version, g, l),
         Line::Output => output_line(alloc, debugger.machine().output()),
         Line::Unknown => verdict_line(alloc, Verdict::BadCommand),
         Line::Empty | Line::Quit => Ok(Vec::new(alloc)),
@@ -134,15 +136,19 @@ fn answer_command<A: Allocator + Copy>(
     alloc: A,
     debugger: &mut Debugger<A>,
     command: Command,
+    version: LedgerText,
     g: u32,
     l: u32,
 ) -> Result<Vec<u8, A>, AllocError>
     ensures { IfOk result (λ text. DoesOrRefuses (command_fault debugger.old.machine command)
-        (Replies g l command debugger.old debugger.new text.items)
+        (Replies version g l command debugger.old debugger.new text.items)
         (record debugger.old { last = [] }) debugger.new text.items) }
 {
     match debugger.command(command) {
-        Ok(reply) => Ok(reply_text(alloc, &reply, debugger.machine().ledger(), g, l)?.into_bytes()),
+        Ok(reply) => {
+            let ledger = debugger.machine().ledger();
+            Ok(reply_text(alloc, &reply, ledger, version, g, l)?.into_bytes())
+        }
         Err(error) => verdict_of(alloc, Err(error)),
     }
 }

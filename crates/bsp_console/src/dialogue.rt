@@ -74,9 +74,9 @@ fn answer_lines<A: Allocator + Copy, C: Read, W: Write>(
     commands: &mut Counted<C>,
     out: &mut Counted<W>,
 ) -> Result<(), SessionError>
-    ensures ok { OnOk result (HasTalked job.now.g job.now.l
+    ensures ok { OnOk result (HasTalked job.now.ledger job.now.g job.now.l
         (stream C.remaining commands.old commands.new) (stream W.contents out.old out.new) debugger.old) }
-    ensures err { IfErr result (IsErrorOfTalk job.now.g job.now.l
+    ensures err { IfErr result (IsErrorOfTalk job.now.ledger job.now.g job.now.l
         (stream C.remaining commands.old commands.new) (stream W.contents out.old out.new) debugger.old) }
 {
     let mut lines = LineReader::new(alloc, SCRIPT_BYTES);
@@ -99,12 +99,12 @@ fn answer_at_once<A: Allocator + Copy, W: Write>(
     out: &mut Counted<W>,
 ) -> Result<(), SessionError>
     ensures ok { OnOk result ((text : List ℕ)
-        × Answered job.now.g job.now.l line debugger.old text debugger.new
+        × Answered job.now.ledger job.now.g job.now.l line debugger.old text debugger.new
         × Appends (W.contents out.old.inner) (W.contents out.new.inner) text) }
     ensures err { IfErr result (λ e. ((e ≡ SessionError.NoMemory) × (out.new ≡ out.old))
         ⊎ ((e ≡ SessionError.WriteFault) × HasRisen out.old.failures out.new.failures
         × (text : List ℕ) × (count : ℕ) × (count ≤ length text)
-        × Answered job.now.g job.now.l line debugger.old text debugger.new
+        × Answered job.now.ledger job.now.g job.now.l line debugger.old text debugger.new
         × Appends (W.contents out.old.inner) (W.contents out.new.inner) (take count text))) }
     ensures never_falls { out.old.failures ≤ out.new.failures }
 {

@@ -73,9 +73,9 @@ fn answer_script<A: Allocator + Copy, W: Write>(
     script: &[u8],
     out: &mut Counted<W>,
 ) -> Result<(), SessionError>
-    ensures ok { OnOk result (WritesReplies job.now.g job.now.l (answered_lines script.now)
+    ensures ok { OnOk result (WritesReplies job.now.ledger job.now.g job.now.l (answered_lines script.now)
         debugger.old (stream W.contents out.old out.new)) }
-    ensures err { IfErr result (IsErrorOfReplies job.now.g job.now.l (answered_lines script.now)
+    ensures err { IfErr result (IsErrorOfReplies job.now.ledger job.now.g job.now.l (answered_lines script.now)
         debugger.old (stream W.contents out.old out.new)) }
 {
     let mut rest = Some(script);

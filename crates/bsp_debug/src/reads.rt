@@ -59,20 +59,20 @@ pub(crate) fn queue_of<A: Allocator + Copy>(
     let mut messages = Vec::with_capacity(alloc, inbox.count())?;
     for i in 0..inbox.count() {
         if let Some(message) = inbox.at(i) {
-            messages.push(copy_of(alloc, message)?)?;
+            messages.push(copy_of(message)?)?;
         }
     }
     Ok(Reply::Queue(ListVec::from_vec(messages)))
 }
 
-/// A message with memory of its own.
-fn copy_of<A: Allocator + Copy>(alloc: A, message: &Message<A>) -> Result<Message<A>, AllocError>
+/// The same message.
+fn copy_of<A: Allocator>(message: &Message<A>) -> Result<Message<A>, AllocError>
     ensures { IfOk result (λ copy. copy ≡ message.now) }
 {
     Ok(Message {
         sender: message.sender,
-        tag: ListVec::from_vec(Vec::from_slice(alloc, message.tag.as_slice())?),
-        payload: ListVec::from_vec(Vec::from_slice(alloc, message.payload.as_slice())?),
+        tag: message.tag.try_clone()?,
+        payload: message.payload.try_clone()?,
     })
 }
 

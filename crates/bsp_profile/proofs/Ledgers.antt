@@ -1,5 +1,5 @@
 -- What the rows of a superstep have to do with its costs.
-use Rattle.std.proofs.Common.{◌≡◌, ℕ, zero, suc, ◌+◌, ◌<◌, ◌≤◌, ◌==◌, ◌&&◌, max, Bool, true, false, List, [], ◌∷◌, length, map, sym, ap, ap₂, subst, ◌∙◌, refl, arith, add-one, inl, inr}
+use Rattle.std.proofs.Common.{◌≡◌, ℕ, zero, suc, ◌+◌, ◌<◌, ◌≤◌, ◌==◌, ◌&&◌, max, Bool, true, false, cond, List, [], ◌∷◌, length, map, sym, ap, ap₂, subst, ◌∙◌, refl, arith, add-one, inl, inr}
 use Rattle.std.specs.Prelude.{All, filter, sum_by, zip, if◌then◌else◌}
 use Rattle.std.specs.List.{fold}
 use Rattle.std.proofs.lemmas.Bool.{cases_eq, cases_lt, eq-eqb, ne_eqb}
@@ -7,10 +7,13 @@ use Rattle.std.proofs.lemmas.List.Elements.{All-head, All-tail}
 use Rattle.std.proofs.lemmas.List.Sums.{sum_by-cons}
 use Rattle.std.proofs.lemmas.Slice.Zip.{firsts-zip}
 use Rattle.node_core.specs.Node.{NodeState}
-use Rattle.bsp_exchange.specs.Traffic.{Transfer, transfers, bytes_sent, bytes_received, h_of}
+use Rattle.bsp_exchange.specs.declared.traffic.Traffic.{Traffic}
+use Rattle.bsp_exchange.specs.Queues.{from_others, queue_after}
+use Rattle.bsp_exchange.specs.Traffic.{Transfer, transfers, between_ranks, bytes_sent, bytes_received, messages_received, most, traffic_of}
+use Rattle.bsp_exchange.proofs.Readings.{messages_are_queued, picked_between}
 use Rattle.machine_core.specs.Machine.{MachineState}
 use Rattle.machine_core.specs.Sound.{IsSoundMachine}
-use Rattle.machine_core.specs.Turn.{makes_exchange, cost_row}
+use Rattle.machine_core.specs.Turn.{makes_exchange, no_traffic, traffic, cost_row}
 use Rattle.bsp_profile.specs.declared.row.Row.{Row}
 use Rattle.bsp_profile.specs.Moves.{goes, moves, moved, moved_in, moved_out, others, row_of, rows}
 use Rattle.bsp_profile.proofs.Machines.{among}
@@ -167,21 +170,64 @@ module _ (m : MachineState) (sound : IsSoundMachine m) (makes : makes_exchange m
   all_among : All (IsAmong (length m.nodes)) (transfers m.nodes)
   all_among = ends_among (length m.nodes) m.nodes (among m (length m.nodes) sound refl)
 
-  pub row-sent : (row_of m at).sent + (row_of m at).kept ≡ bytes_sent m.nodes at.0.hart.rank
+  pub row-sent : (row_of m at).sent + (row_of m at).kept ≡ bytes_sent (transfers m.nodes) at.0.hart.rank
   row-sent =
       ap (λ ts. moved_out (length m.nodes) ts at.0.hart.rank + moved ts at.0.hart.rank at.0.hart.rank) whole
       ∙ sent_whole (length m.nodes) at.0.hart.rank (transfers m.nodes) all_among
 
-  pub row-received : (row_of m at).received + (row_of m at).kept ≡ bytes_received m.nodes at.0.hart.rank
+  pub row-received : (row_of m at).received + (row_of m at).kept ≡ bytes_received (transfers m.nodes) at.0.hart.rank
   row-received =
       ap (λ ts. moved_in (length m.nodes) ts at.0.hart.rank + moved ts at.0.hart.rank at.0.hart.rank) whole
       ∙ received_whole (length m.nodes) at.0.hart.rank (transfers m.nodes) all_among
 
-abbrev larger : Row → ℕ
-larger r = max (r.sent + r.kept) (r.received + r.kept)
+-- ---- what goes to others alone
 
-abbrev traffic : List NodeState → NodeState → ℕ
-traffic nodes n = max (bytes_sent nodes n.hart.rank) (bytes_received nodes n.hart.rank)
+abbrev between : ℕ → Transfer → ℕ
+between rank t = if goes rank rank t then t.bytes else 0
+
+-- a transfer from a rank leaves it, or stays there
+one_from : (rank : ℕ) (t : Transfer) → cond (t.from == rank) t.bytes 0 ≡ cond (t.from == t.to) 0 (cond (t.from == rank) t.bytes 0) + between rank t
+one_from rank t = elim (cases_eq t.from t.to) [
+  | inl same ↦ rw (← same) (rw (eq-eqb t.from t.from refl) (elim (t.from == rank) as (λ b. cond b t.bytes 0 ≡ 0 + (if b && b then t.bytes else 0)) [ true ↦ omega arith | false ↦ omega arith ]))
+  | inr other ↦ rw (ne_eqb t.from t.to other) (elim (cases_eq t.from rank) [
+    | inl here ↦ rw (eq-eqb t.from rank here, ne_eqb t.to rank (λ there. other (here ∙ sym there))) (omega arith)
+    | inr elsewhere ↦ rw (ne_eqb t.from rank elsewhere) (omega arith)
+  ])
+]
+
+one_to : (rank : ℕ) (t : Transfer) → cond (t.to == rank) t.bytes 0 ≡ cond (t.from == t.to) 0 (cond (t.to == rank) t.bytes 0) + between rank t
+one_to rank t = elim (cases_eq t.from t.to) [
+  | inl same ↦ rw (← same) (rw (eq-eqb t.from t.from refl) (elim (t.from == rank) as (λ b. cond b t.bytes 0 ≡ 0 + (if b && b then t.bytes else 0)) [ true ↦ omega arith | false ↦ omega arith ]))
+  | inr other ↦ rw (ne_eqb t.from t.to other) (elim (cases_eq t.to rank) [
+    | inl here ↦ rw (eq-eqb t.to rank here, ne_eqb t.from rank (λ there. other (there ∙ sym here))) (omega arith)
+    | inr elsewhere ↦ rw (ne_eqb t.to rank elsewhere, and_false (t.from == rank)) (omega arith)
+  ])
+]
+
+from_between : (rank : ℕ) (ts : List Transfer) → bytes (filter (is_from rank) ts) ≡ bytes_sent (between_ranks ts) rank + moved ts rank rank
+from_between rank [] = refl
+from_between rank (t ∷ ts) =
+    omega (arith, from_between rank ts, one_from rank t, filtered-cons (is_from rank) t ts, picked_between (λ (u : Transfer). u.bytes) (is_from rank) t ts, moved-cons rank rank t ts)
+
+to_between : (rank : ℕ) (ts : List Transfer) → bytes (filter (is_to rank) ts) ≡ bytes_received (between_ranks ts) rank + moved ts rank rank
+to_between rank [] = refl
+to_between rank (t ∷ ts) =
+    omega (arith, to_between rank ts, one_to rank t, filtered-cons (is_to rank) t ts, picked_between (λ (u : Transfer). u.bytes) (is_to rank) t ts, moved-cons rank rank t ts)
+
+module _ (m : MachineState) (sound : IsSoundMachine m) (makes : makes_exchange m.nodes ≡ true) (at : NodeState × ℕ) where
+  sent-others : (row_of m at).sent ≡ bytes_sent (between_ranks (transfers m.nodes)) at.0.hart.rank
+  sent-others =
+      let rank = at.0.hart.rank in
+      let kept : (row_of m at).kept ≡ moved (transfers m.nodes) rank rank = ap (λ b. moved (if b then transfers m.nodes else []) rank rank) makes in
+      omega (arith, row-sent m sound makes at, from_between rank (transfers m.nodes), kept)
+
+  received-others : (row_of m at).received ≡ bytes_received (between_ranks (transfers m.nodes)) at.0.hart.rank
+  received-others =
+      let rank = at.0.hart.rank in
+      let kept : (row_of m at).kept ≡ moved (transfers m.nodes) rank rank = ap (λ b. moved (if b then transfers m.nodes else []) rank rank) makes in
+      omega (arith, row-received m sound makes at, to_between rank (transfers m.nodes), kept)
+
+-- ---- the greatest of rows
 
 none_sum : (xs : List ℕ) → sum_by (λ (k : ℕ). 0) xs ≡ 0
 none_sum [] = refl
@@ -191,24 +237,66 @@ none_greatest : {X : Type 0} (xs : List X) → fold max 0 (map (λ (x : X). 0) x
 none_greatest [] = refl
 none_greatest (x ∷ xs) = none_greatest xs
 
-nothing : (m : MachineState) (at : NodeState × ℕ) → makes_exchange m.nodes ≡ false → larger (row_of m at) ≡ 0
-nothing m at makes =
-    ap (λ b. max
-    (moved_out (length m.nodes) (if b then transfers m.nodes else []) at.0.hart.rank + moved (if b then transfers m.nodes else []) at.0.hart.rank at.0.hart.rank)
-    (moved_in (length m.nodes) (if b then transfers m.nodes else []) at.0.hart.rank + moved (if b then transfers m.nodes else []) at.0.hart.rank at.0.hart.rank)) makes
-    ∙ ap (λ k. max (k + 0) (k + 0)) (none_sum (others (length m.nodes) at.0.hart.rank))
-
-pub traffic-h : (m : MachineState) → IsSoundMachine m → fold max 0 (map larger (rows m)) ≡ (cost_row m).h
-traffic-h m sound = ap (fold max 0) (map_twice larger (row_of m) (zip m.nodes m.started)) ∙ by (makes_exchange m.nodes) refl
+-- a number that rows have is that of their ranks where an exchange is made, and else 0
+rows_greatest : (m : MachineState) → IsSoundMachine m → (p : Row → ℕ) (q : ℕ → ℕ) (whole : Traffic → ℕ)
+    → (makes_exchange m.nodes ≡ true → (at : NodeState × ℕ) → p (row_of m at) ≡ q at.0.hart.rank)
+    → (makes_exchange m.nodes ≡ false → (at : NodeState × ℕ) → p (row_of m at) ≡ 0)
+    → most q m.nodes ≡ whole (traffic_of m.nodes) → whole no_traffic ≡ 0
+    → fold max 0 (map p (rows m)) ≡ whole (traffic m)
+rows_greatest m sound p q whole made unmade all none = ap (fold max 0) (map_twice p (row_of m) (zip m.nodes m.started)) ∙ by (makes_exchange m.nodes) refl
   where
-    by : (b : Bool) → makes_exchange m.nodes ≡ b → fold max 0 (map (λ at. larger (row_of m at)) (zip m.nodes m.started)) ≡ (if makes_exchange m.nodes then h_of m.nodes else 0)
+    by : (b : Bool) → makes_exchange m.nodes ≡ b → fold max 0 (map (λ at. p (row_of m at)) (zip m.nodes m.started)) ≡ whole (traffic m)
     by true makes =
         ap (fold max 0)
-        (map_same (λ at. larger (row_of m at)) (λ at. traffic m.nodes at.0) (zip m.nodes m.started) (λ at. ap₂ max (row-sent m sound makes at) (row-received m sound makes at))
-        ∙ sym (map_twice (traffic m.nodes) (λ (at : NodeState × ℕ). at.0) (zip m.nodes m.started))
-        ∙ ap (map (traffic m.nodes)) (firsts-zip m.nodes m.started (length-started m sound)))
-        ∙ sym (ap (λ b. if b then h_of m.nodes else 0) makes)
+        (map_same (λ at. p (row_of m at)) (λ at. q at.0.hart.rank) (zip m.nodes m.started) (made makes)
+        ∙ sym (map_twice (λ (n : NodeState). q n.hart.rank) (λ (at : NodeState × ℕ). at.0) (zip m.nodes m.started))
+        ∙ ap (map (λ (n : NodeState). q n.hart.rank)) (firsts-zip m.nodes m.started (length-started m sound)))
+        ∙ all
+        ∙ sym (ap (λ b. whole (if b then traffic_of m.nodes else no_traffic)) makes)
     by false makes =
-        ap (fold max 0) (map_same (λ at. larger (row_of m at)) (λ at. 0) (zip m.nodes m.started) (λ at. nothing m at makes))
+        ap (fold max 0) (map_same (λ at. p (row_of m at)) (λ at. 0) (zip m.nodes m.started) (unmade makes))
         ∙ none_greatest (zip m.nodes m.started)
-        ∙ sym (ap (λ b. if b then h_of m.nodes else 0) makes)
+        ∙ sym none
+        ∙ sym (ap (λ b. whole (if b then traffic_of m.nodes else no_traffic)) makes)
+
+module _ (m : MachineState) (at : NodeState × ℕ) (makes : makes_exchange m.nodes ≡ false) where
+  abbrev rank : ℕ
+  rank = at.0.hart.rank
+
+  no_sent : (row_of m at).sent ≡ 0
+  no_sent = ap (λ b. moved_out (length m.nodes) (if b then transfers m.nodes else []) rank) makes ∙ none_sum (others (length m.nodes) rank)
+
+  no_received : (row_of m at).received ≡ 0
+  no_received = ap (λ b. moved_in (length m.nodes) (if b then transfers m.nodes else []) rank) makes ∙ none_sum (others (length m.nodes) rank)
+
+  no_kept : (row_of m at).kept ≡ 0
+  no_kept = ap (λ b. moved (if b then transfers m.nodes else []) rank rank) makes
+
+  no_messages : (row_of m at).messages ≡ 0
+  no_messages = ap (λ b. length (from_others rank (if b then queue_after m.nodes rank else []))) makes
+
+abbrev larger : Row → ℕ
+larger r = max r.sent r.received
+
+abbrev larger_all : Row → ℕ
+larger_all r = max (r.sent + r.kept) (r.received + r.kept)
+
+pub traffic-h : (m : MachineState) → IsSoundMachine m → fold max 0 (map larger (rows m)) ≡ (cost_row m).h
+traffic-h m sound =
+    let ts = between_ranks (transfers m.nodes) in
+    rows_greatest m sound larger (λ k. max (bytes_sent ts k) (bytes_received ts k)) (λ t. t.h)
+    (λ makes at. ap₂ max (sent-others m sound makes at) (received-others m sound makes at))
+    (λ makes at. ap₂ max (no_sent m at makes) (no_received m at makes)) refl refl
+
+pub traffic-h_all : (m : MachineState) → IsSoundMachine m → fold max 0 (map larger_all (rows m)) ≡ (cost_row m).h_all
+traffic-h_all m sound =
+    let ts = transfers m.nodes in
+    rows_greatest m sound larger_all (λ k. max (bytes_sent ts k) (bytes_received ts k)) (λ t. t.h_all)
+    (λ makes at. ap₂ max (row-sent m sound makes at) (row-received m sound makes at))
+    (λ makes at. omega (arith, no_sent m at makes, no_received m at makes, no_kept m at makes)) refl refl
+
+pub traffic-messages : (m : MachineState) → IsSoundMachine m → fold max 0 (map (λ (r : Row). r.messages) (rows m)) ≡ (cost_row m).messages
+traffic-messages m sound =
+    rows_greatest m sound (λ r. r.messages) (messages_received (between_ranks (transfers m.nodes))) (λ t. t.messages)
+    (λ makes at. ap (λ b. length (from_others at.0.hart.rank (if b then queue_after m.nodes at.0.hart.rank else []))) makes ∙ sym (messages_are_queued m.nodes at.0.hart.rank))
+    (λ makes at. no_messages m at makes) refl refl

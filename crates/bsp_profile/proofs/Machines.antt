@@ -4,19 +4,20 @@ use Rattle.std.specs.Prelude.{All, slice_index, sum_by, if◌then◌else◌}
 use Rattle.std.proofs.lemmas.List.{length-map}
 use Rattle.std.proofs.lemmas.List.Elements.{All-weaker}
 use Rattle.std.proofs.lemmas.Nat.{mul-add-lt}
+use Rattle.node_core.specs.Hart.{max_nodes}
 use Rattle.node_core.specs.Node.{NodeState, PreparedNode}
 use Rattle.bsp_exchange.specs.Exchange.{states}
-use Rattle.bsp_exchange.specs.Queues.{queue_after}
+use Rattle.bsp_exchange.specs.Queues.{from_others, queue_after}
 use Rattle.bsp_exchange.specs.Traffic.{transfers}
 use Rattle.machine_core.specs.Machine.{MachineState}
 use Rattle.machine_core.specs.Sound.{IsSoundMachine, IsNodeOf}
 use Rattle.machine_core.specs.Turn.{makes_exchange}
 use Rattle.machine_core.proofs.Sound.{length-nodes}
-use Rattle.bsp_profile.specs.Moves.{moved, from_others}
+use Rattle.bsp_profile.specs.Moves.{moved}
 use Rattle.bsp_profile.specs.Tally.{place, added_by, IsNodeAmong, IsWithin, Tells}
 use Rattle.bsp_profile.proofs.Told.{nodes-told, messages-told}
 
-pub few_nodes : (m : MachineState) → IsSoundMachine m → length m.nodes ≤ 256
+pub few_nodes : (m : MachineState) → IsSoundMachine m → length m.nodes ≤ max_nodes
 few_nodes m sound = omega (arith, length-nodes m sound, sound.settings.few)
 
 pub length-row : (ps : List PreparedNode) (nodes : List NodeState) → states ps ≡ nodes → length ps ≡ length nodes
@@ -39,7 +40,7 @@ pub message_within : (count rank : ℕ) → rank < count → rank < (count + 1) 
 message_within count rank r = let within : place count 0 rank < (count + 1) * count = place_within count 0 rank (omega arith) r in omega arith
 
 module _ (m : MachineState) (count : ℕ) (cells : List ℕ) (sound : IsSoundMachine m) (counts : count ≡ length m.nodes) (size : length cells ≡ (count + 1) * count) where
-  pub tells_made : makes_exchange m.nodes ≡ true → ((k : ℕ) → k < length cells → slice_index cells k ≡ sum_by (added_by count k) m.nodes) → IsWithin (2 ^ 33) cells → Tells m.nodes count cells
+  pub tells_made : makes_exchange m.nodes ≡ true → ((k : ℕ) → k < length cells → slice_index cells k ≡ sum_by (added_by count k) m.nodes) → IsWithin (2 ^ 35) cells → Tells m.nodes count cells
   tells_made makes each bounded = record {
     long = sym counts;
     few = omega (arith, counts, few_nodes m sound);

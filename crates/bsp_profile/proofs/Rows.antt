@@ -12,7 +12,8 @@ use Rattle.bsp_exchange.specs.Exchange.{states}
 use Rattle.machine_core.specs.Machine.{MachineState}
 use Rattle.machine_core.specs.Sound.{IsSoundMachine, IsUnderWay}
 use Rattle.machine_core.proofs.Sound.{length-nodes}
-use Rattle.bsp_profile.specs.Moves.{moves, moved, moved_in, moved_out, others, arrivals, from_others, row_of, rows}
+use Rattle.bsp_exchange.specs.Queues.{from_others}
+use Rattle.bsp_profile.specs.Moves.{moves, moved, moved_in, moved_out, others, arrivals, row_of, rows}
 use Rattle.bsp_profile.specs.Tally.{place, Tells}
 use Rattle.bsp_profile.proofs.Others.{others_same}
 

@@ -12,10 +12,10 @@ use Rattle.bsp_requests.specs.Request.{Asked, asks_put, asks_get, asks_send}
 use Rattle.node_core.specs.Node.{NodeState}
 use Rattle.bsp_exchange.specs.Issued.{Issued, issued, issued_as, issued_by}
 use Rattle.bsp_exchange.specs.Parts.{target_of}
-use Rattle.bsp_exchange.specs.Queues.{message_to, queue_after}
+use Rattle.bsp_exchange.specs.Queues.{from_others, message_to, queue_after}
 use Rattle.bsp_exchange.specs.Traffic.{Transfer, transfer, transfers}
 use Rattle.bsp_exchange.proofs.Tallies.{targets_named}
-use Rattle.bsp_profile.specs.Moves.{goes, moved, from_others}
+use Rattle.bsp_profile.specs.Moves.{goes, moved}
 use Rattle.bsp_profile.specs.Tally.{place, bytes_added, message_added, messages_added, added, added_by, IsNodeAmong}
 
 -- ---- bytes

@@ -1,10 +1,11 @@
 -- What one superstep was for each rank: its work, and its part of the exchange (BSP, Valiant 1990: the local work of a processor, and
--- what it sends and receives in an h-relation). The bytes are those of which h is made, and what is counted beside them is an own rule.
+-- what it sends and receives in an h-relation). The bytes to others and from others are those of which h is made; what a rank keeps is
+-- told apart. That, and what is counted beside the bytes, are own rules.
 use Rattle.std.specs.Prelude.{ℕ, ◌-◌, ◌==◌, ◌&&◌, not, Bool, List, [], length, map, filter, sum_by, zip, if◌then◌else◌}
 use Rattle.std.specs.List.{range_with_len}
 use Rattle.bsp_requests.specs.Message.{Message}
 use Rattle.node_core.specs.Node.{NodeState}
-use Rattle.bsp_exchange.specs.Queues.{queue_after}
+use Rattle.bsp_exchange.specs.Queues.{from_others, queue_after}
 use Rattle.bsp_exchange.specs.Traffic.{Transfer, transfers}
 use Rattle.machine_core.specs.Machine.{MachineState}
 use Rattle.machine_core.specs.Turn.{makes_exchange}
@@ -35,10 +36,6 @@ moved_out count ts rank = sum_by (λ to. moved ts rank to) (others count rank)
 
 abbrev pub moved_in : ℕ → List Transfer → ℕ → ℕ
 moved_in count ts rank = sum_by (λ from. moved ts from rank) (others count rank)
-
--- the messages among these that others than this rank sent
-abbrev pub from_others : ℕ → List Message → List Message
-from_others rank messages = filter (λ (m : Message). not (m.sender == rank)) messages
 
 -- the row of a node that had made so many ticks when the superstep began
 abbrev pub row_of : MachineState → NodeState × ℕ → Row

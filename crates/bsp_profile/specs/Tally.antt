@@ -2,16 +2,17 @@
 -- definitions of a profile do not rest on this.
 use Rattle.std.specs.Prelude.{◌≡◌, ℕ, ◌+◌, ◌*◌, ◌^◌, ◌<◌, ◌≤◌, ◌==◌, List, length, slice_index, sum_by, if◌then◌else◌}
 use Rattle.bsp_requests.specs.Request.{Asked, asks_put, asks_get, asks_send}
-use Rattle.node_core.specs.Hart.{IsHart}
+use Rattle.node_core.specs.Hart.{IsHart, max_nodes}
 use Rattle.node_core.specs.Node.{NodeState}
+use Rattle.bsp_exchange.specs.Queues.{from_others}
 use Rattle.bsp_exchange.specs.Traffic.{Transfer, transfer}
-use Rattle.bsp_profile.specs.Moves.{moved, moves, arrivals, from_others}
+use Rattle.bsp_profile.specs.Moves.{moved, moves, arrivals}
 
 -- the place of a cell in a table of so many columns. Its first row is for messages, and each further one for a rank's bytes
 abbrev pub place : ℕ → ℕ → ℕ → ℕ
 place count row column = row * count + column
 
--- what a transfer adds to a cell
+-- what the bytes of a transfer add to a cell, whatever its messages
 abbrev pub bytes_added : ℕ → ℕ → Transfer → ℕ
 bytes_added count cell t = if place count (t.from + 1) t.to == cell then t.bytes else 0
 
@@ -44,8 +45,8 @@ pub record IsNodeAmong (count : ℕ) (n : NodeState) : Type 0 where
 -- the cells tell what an exchange among nodes moves
 pub record Tells (nodes : List NodeState) (count : ℕ) (cells : List ℕ) : Type 0 where
   pub long : length nodes ≡ count
-  pub few : count ≤ 256
+  pub few : count ≤ max_nodes
   pub size : length cells ≡ (count + 1) * count
   pub bytes : (from to : ℕ) → from < count → to < count → slice_index cells (place count (from + 1) to) ≡ moved (moves nodes) from to
   pub messages : (rank : ℕ) → rank < count → slice_index cells rank ≡ length (from_others rank (arrivals nodes rank))
-  pub bounded : IsWithin (2 ^ 33) cells
+  pub bounded : IsWithin (2 ^ 35) cells

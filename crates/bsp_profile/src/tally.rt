@@ -4,6 +4,7 @@ ghost use Rattle.std.specs.Prelude.{◌≡◌, ℕ, ◌+◌, ◌*◌, ◌^◌, �
 ghost use Rattle.std.specs.List.{range_with_len};
 ghost use Rattle.bsp_requests.specs.Request.{asked, size_of};
 ghost use Rattle.bsp_requests.specs.Requests.{IsWithinLimits};
+ghost use Rattle.node_core.specs.Hart.{max_nodes};
 ghost use Rattle.bsp_exchange.specs.Exchange.{states};
 ghost use Rattle.bsp_exchange.specs.Parts.{target_of};
 ghost use Rattle.bsp_profile.specs.Moves.{others};
@@ -42,13 +43,13 @@ impl<A: Allocator + Copy> Tally<A> {
 impl<A: Allocator> Tally<A> {
     /// The bytes that go from one rank to another, or to itself.
     pub(crate) fn bytes(&self, from: usize, to: usize) -> u64
-        requires few { self.now.count ≤ 256 }
+        requires few { self.now.count ≤ max_nodes }
         requires size { length self.now.cells.items ≡ (self.now.count + 1) * self.now.count }
         requires from { from < self.now.count }
         requires to { to < self.now.count }
-        requires bounded { IsWithin (2 ^ 33) self.now.cells.items }
+        requires bounded { IsWithin (2 ^ 35) self.now.cells.items }
         ensures value { result ≡ slice_index self.now.cells.items (place_of self.now.count (from + 1) to) }
-        ensures bounded { result ≤ 2 ^ 33 }
+        ensures bounded { result ≤ 2 ^ 35 }
     {
         self.cells[place(self.count, from + 1, to)]
     }
@@ -63,9 +64,9 @@ impl<A: Allocator> Tally<A> {
 
     /// The bytes that go from a rank to all others.
     pub(crate) fn moved_out(&self, rank: usize) -> u64
-        requires few { self.now.count ≤ 256 }
+        requires few { self.now.count ≤ max_nodes }
         requires size { length self.now.cells.items ≡ (self.now.count + 1) * self.now.count }
-        requires bounded { IsWithin (2 ^ 33) self.now.cells.items }
+        requires bounded { IsWithin (2 ^ 35) self.now.cells.items }
         requires rank { rank < self.now.count }
         ensures { result ≡ sum_by (λ to. slice_index self.now.cells.items (place_of self.now.count (rank + 1) to)) (others self.now.count rank) }
     {
@@ -80,9 +81,9 @@ impl<A: Allocator> Tally<A> {
 
     /// The bytes that come to a rank from all others.
     pub(crate) fn moved_in(&self, rank: usize) -> u64
-        requires few { self.now.count ≤ 256 }
+        requires few { self.now.count ≤ max_nodes }
         requires size { length self.now.cells.items ≡ (self.now.count + 1) * self.now.count }
-        requires bounded { IsWithin (2 ^ 33) self.now.cells.items }
+        requires bounded { IsWithin (2 ^ 35) self.now.cells.items }
         requires rank { rank < self.now.count }
         ensures { result ≡ sum_by (λ from. slice_index self.now.cells.items (place_of self.now.count (from + 1) rank)) (others self.now.count rank) }
     {
@@ -98,7 +99,7 @@ impl<A: Allocator> Tally<A> {
 
 /// The cells of a table with nothing in it.
 fn empty_cells<A: Allocator + Copy>(alloc: A, count: usize) -> Result<Vec<u64, A>, AllocError>
-    requires { count ≤ 256 }
+    requires { count ≤ max_nodes }
     ensures size { IfOk result (λ cells. length cells.items ≡ (count + 1) * count) }
     ensures empty { IfOk result (λ cells. IsWithin 0 cells.items) }
 {
@@ -107,7 +108,7 @@ fn empty_cells<A: Allocator + Copy>(alloc: A, count: usize) -> Result<Vec<u64, A
 
 /// The place of a cell, by its row and column.
 fn place(count: usize, row: usize, column: usize) -> usize
-    requires few { count ≤ 256 }
+    requires few { count ≤ max_nodes }
     requires row { row < count + 1 }
     requires column { column < count }
     ensures value { result ≡ place_of count row column }
@@ -118,14 +119,14 @@ fn place(count: usize, row: usize, column: usize) -> usize
 
 /// Adds what the requests of all nodes move.
 fn add_nodes<A: Allocator + Copy>(count: usize, nodes: &[Node<A>], cells: &mut [u64])
-    requires few { count ≤ 256 }
+    requires few { count ≤ max_nodes }
     requires size { length cells.old ≡ (count + 1) * count }
     requires nodes { All (IsNodeAmong count) (states nodes.now) }
     requires long { length nodes.now ≡ count }
     requires empty { IsWithin 0 cells.old }
     ensures cells { (k : ℕ) → k < length cells.old
         → slice_index cells.new k ≡ sum_by (added_by count k) (states nodes.now) }
-    ensures bounded { IsWithin (2 ^ 33) cells.new }
+    ensures bounded { IsWithin (2 ^ 35) cells.new }
 {
     for node in nodes {
         add_requests(count, node.rank() as usize, node.requests(), cells);
@@ -139,12 +140,12 @@ fn add_requests<A: Allocator + Copy>(
     requests: &Requests<A>,
     cells: &mut [u64],
 )
-    requires few { count ≤ 256 }
+    requires few { count ≤ max_nodes }
     requires size { length cells.old ≡ (count + 1) * count }
     requires caller { caller < count }
     requires targets { All (λ r. target_of r < count) requests.now.requests }
     requires limits { IsWithinLimits requests.now }
-    requires room { IsWithin (2 ^ 33) cells.old }
+    requires room { IsWithin (2 ^ 35) cells.old }
     ensures { (k : ℕ) → k < length cells.old
         → slice_index cells.new k ≡ slice_index cells.old k + sum_by (added count k caller) requests.now.requests }
 {
@@ -162,12 +163,12 @@ fn add_request<A: Allocator + Copy>(
     request: &Request<A>,
     cells: &mut [u64],
 )
-    requires few { count ≤ 256 }
+    requires few { count ≤ max_nodes }
     requires size { length cells.old ≡ (count + 1) * count }
     requires caller { caller < count }
     requires target { target_of (asked request.now) < count }
     requires limit { size_of (asked request.now) ≤ 2 ^ 24 }
-    requires room { IsWithin (2 ^ 34) cells.old }
+    requires room { IsWithin (2 ^ 36) cells.old }
     ensures { (k : ℕ) → k < length cells.old
         → slice_index cells.new k ≡ slice_index cells.old k + added count k caller (asked request.now) }
 {
@@ -188,17 +189,17 @@ fn add_request<A: Allocator + Copy>(
     }
 }
 
-/// Adds bytes that go from one rank to another, or to itself.
+/// Adds bytes that go from one rank to another, or to itself. Messages among them have cells of their own.
 fn add_bytes(count: usize, from: usize, to: usize, bytes: u64, cells: &mut [u64])
-    requires few { count ≤ 256 }
+    requires few { count ≤ max_nodes }
     requires size { length cells.old ≡ (count + 1) * count }
     requires from { from < count }
     requires to { to < count }
     requires limit { bytes ≤ 2 ^ 24 }
-    requires room { IsWithin (2 ^ 34) cells.old }
+    requires room { IsWithin (2 ^ 36) cells.old }
     ensures { (k : ℕ) → k < length cells.old
         → slice_index cells.new k
-        ≡ slice_index cells.old k + bytes_added count k (record { from = from; to = to; bytes = bytes }) }
+        ≡ slice_index cells.old k + bytes_added count k (record { from = from; to = to; bytes = bytes; messages = 0 }) }
 {
     add(place(count, from + 1, to), bytes, cells);
 }
@@ -206,7 +207,7 @@ fn add_bytes(count: usize, from: usize, to: usize, bytes: u64, cells: &mut [u64]
 /// Adds a message from one rank to another; one to itself is not counted.
 fn add_message(from: usize, to: usize, cells: &mut [u64])
     requires to { to < length cells.old }
-    requires room { IsWithin (2 ^ 35) cells.old }
+    requires room { IsWithin (2 ^ 37) cells.old }
     ensures { (k : ℕ) → k < length cells.old
         → slice_index cells.new k ≡ slice_index cells.old k + message_added k from to }
 {
@@ -219,7 +220,7 @@ fn add_message(from: usize, to: usize, cells: &mut [u64])
 fn add(place: usize, more: u64, cells: &mut [u64])
     requires place { place < length cells.old }
     requires limit { more ≤ 2 ^ 24 }
-    requires room { IsWithin (2 ^ 35) cells.old }
+    requires room { IsWithin (2 ^ 37) cells.old }
     ensures { cells.new ≡ slice_set cells.old place (slice_index cells.old place + more) }
 {
     cells[place] += more;

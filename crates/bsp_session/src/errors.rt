@@ -16,7 +16,7 @@ use thiserror::Error;
 /// The setting that is out of its range. Of several the first in this order is named.
 #[derive(Clone, Copy, Debug, PartialEq, Eq)]
 pub enum BadSetting {
-    /// The number of nodes is not 1 to 256.
+    /// The number of nodes is not 1 to 1,024.
     BadNodes,
     /// The bytes of a node's memory are not 4,096 to 16,777,216, or no multiple of 4,096.
     BadMemory,

@@ -1,5 +1,6 @@
 //! What a session is asked to do.
 
+use cost_ledger::LedgerText;
 use machine_core::Settings;
 
 /// How the bytes of an image file are read.
@@ -41,6 +42,8 @@ pub struct Job {
     pub slice: u64,
     /// Whether the costs of the supersteps, their total and the outcome follow the output.
     pub report: bool,
+    /// The version in which costs are told.
+    pub ledger: LedgerText,
     /// The price of a byte of the h-relation, in ticks.
     pub g: u32,
     /// The price of a superstep's end, in ticks.

@@ -42,6 +42,7 @@ mod profiles;
 mod report;
 mod sessions;
 
+pub use cost_ledger::LedgerText;
 pub use errors::{BadSetting, SessionError, status};
 pub use images::image_of;
 pub use job::{Format, Job};

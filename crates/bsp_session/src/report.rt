@@ -7,6 +7,7 @@ ghost use Rattle.counted_io.specs.Transfers.{AppendsPrefix};
 ghost use Rattle.bsp_session.specs.Report.{costs_and_outcome as costs_and_outcome_of, report_lines as report_lines_of};
 
 use crate::job::Job;
+use cost_ledger::LedgerText;
 use counted_io::{Counted, WriteFault, write_whole};
 use machine_core::Machine;
 use std::alloc::{AllocError, Allocator};
@@ -21,22 +22,23 @@ pub(crate) fn report_lines<A: Allocator + Copy>(
     ensures { IfOk result (λ text. string_bytes text ≡ report_lines_of job.now machine.now) }
 {
     if job.report {
-        costs_and_outcome(alloc, machine, job.g, job.l)
+        costs_and_outcome(alloc, machine, job.ledger, job.g, job.l)
     } else {
         Ok(String::new(alloc))
     }
 }
 
-/// The lines of the ledger, and one for the outcome.
+/// The lines of the ledger in a version, and one for the outcome.
 fn costs_and_outcome<A: Allocator + Copy>(
     alloc: A,
     machine: &Machine<A>,
+    version: LedgerText,
     g: u32,
     l: u32,
 ) -> Result<String<A>, AllocError>
-    ensures { IfOk result (λ text. string_bytes text ≡ costs_and_outcome_of g l machine.now) }
+    ensures { IfOk result (λ text. string_bytes text ≡ costs_and_outcome_of version g l machine.now) }
 {
-    let mut text = machine.ledger().lines(alloc, g, l)?;
+    let mut text = machine.ledger().lines(alloc, version, g, l)?;
     if let Some(outcome) = machine.outcome() {
         writeln!(text, "{outcome}")?;
     }

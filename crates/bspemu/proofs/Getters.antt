@@ -1,12 +1,14 @@
 -- What the typed getters of the matches read.
-use Rattle.std.proofs.Common.{◌≡◌, ◌<◌, ◌^◌, ℕ, Bool, true, false, Option, Some, None, Result, ap, codes, refl, subst, sym}
+use Rattle.std.proofs.Common.{◌≡◌, ◌<◌, ◌^◌, ℕ, Bool, true, false, List, Option, Some, None, Result, ap, codes, refl, subst, sym, ◌∙◌}
+use Rattle.std.specs.Prelude.{IfNone, IfSome}
 use Rattle.std.specs.declared.num.ParseIntError.{ParseIntError}
 use Rattle.std.specs.declared.str.ParseBoolError.{ParseBoolError}
 use Rattle.std.specs.Str.Parse.{ExplainsUnsignedError, HasUnsignedDigitsIfOk, ParsesBool, ParsesUnsigned, digits_value, without_leading_plus}
-use Rattle.clap.specs.Words.{ReadsOne, one_of, one_text, Text, rows_of}
+use Rattle.clap.specs.Words.{ReadsOne, Row, one_of, one_text, Text, rows_of}
 use Rattle.clap.specs.declared.parser.matches.Found.{Found}
 use Rattle.clap.proofs.WalkLemmas.{one_text-rows}
-use Rattle.bspemu.specs.Options.{GivesFlag, GivesNumber}
+use Rattle.cost_ledger.specs.declared.LedgerText.{LedgerText}
+use Rattle.bspemu.specs.Options.{GivesFlag, GivesLedger, GivesNumber, IsNeverMet, number_of_ledger}
 
 pub none≢some : {t : Text} → ◌≡◌ {A = Option Text} None (Some t) → ⊥
 none≢some e = cc
@@ -44,6 +46,23 @@ pub no_number_of_getter : (k n : ℕ) (found : Found) (id : Text)
     → ((t : Text) → one_text found id ≡ Some t → ReadsOne (Parses k) t None) → GivesNumber k (one_of id (rows_of found)) n → ⊥
 no_number_of_getter k n found id some number =
     no_number_of_text k n (one_text found id) some (subst (λ value. GivesNumber k value n) (sym (one_text-rows found id)) number)
+
+-- a value spells one number
+pub one_number : (k m n : ℕ) (value : Option Text) → GivesNumber k value m → GivesNumber k value n → m ≡ n
+one_number k m n value first second =
+    let same : first.digits ≡ second.digits = same_text (sym first.is ∙ second.is) in
+    first.number ∙ ap (λ (t : Text). digits_value 10 (without_leading_plus t)) same ∙ sym second.number
+
+-- the version of a number, and where it is that of none, no version
+pub ledger_of_number : (rows : List Row) (n : ℕ) (r : Option LedgerText) → GivesNumber 32 (one_of (codes "ledger") rows) n
+    → IfSome r (λ v. n ≡ number_of_ledger v) → IfSome r (GivesLedger rows)
+ledger_of_number rows n None gives is = tt
+ledger_of_number rows n (Some v) gives is = subst (λ k. GivesNumber 32 (one_of (codes "ledger") rows) k) is gives
+
+pub no_ledger_of_number : (rows : List Row) (n : ℕ) (r : Option LedgerText) → GivesNumber 32 (one_of (codes "ledger") rows) n
+    → IfNone r (IsNeverMet (λ v. n ≡ number_of_ledger v)) → IfNone r (IsNeverMet (GivesLedger rows))
+no_ledger_of_number rows n None gives never = λ v given. never v (one_number 32 n (number_of_ledger v) (one_of (codes "ledger") rows) gives given)
+no_ledger_of_number rows n (Some v) gives never = tt
 
 flag_of_text : (b : Bool) (value : Option Text) → (value ≡ None → Some b ≡ None)
     → ((t : Text) → value ≡ Some t → ReadsOne {E = ParseBoolError} ParsesBool t (Some b)) → GivesFlag value b

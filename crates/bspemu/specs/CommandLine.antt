@@ -55,18 +55,22 @@ g_rule = checked_rule (codes "g") in_32_bits (codes "1")
 abbrev pub l_rule : Rule
 l_rule = checked_rule (codes "l") in_32_bits (codes "0")
 
+-- the versions of the ledger by their numbers
+abbrev pub ledger_rule : Rule
+ledger_rule = checked_rule (codes "ledger") (Signed (pos 1) (pos 2)) (codes "2")
+
 abbrev pub workers_rule : Rule
 workers_rule = checked_rule (codes "workers") in_32_bits (codes "1")
 
 abbrev pub slice_rule : Rule
 slice_rule = checked_rule (codes "slice") (Unsigned 0 18446744073709551615) (codes "65536")
 
--- `NAME IMAGE` with what a machine is made of, and the prices of its costs
+-- `NAME IMAGE` with what a machine is made of, and the prices of its costs and the version in which they are told
 abbrev pub machine_app : Text → NameList → App
 machine_app name formats =
-    with_rule (with_rule (with_rule (with_rule (with_rule (with_rule (with_rule (with_rule (new_app name)
+    with_rule (with_rule (with_rule (with_rule (with_rule (with_rule (with_rule (with_rule (with_rule (new_app name)
     (file_rule (codes "image"))) (format_rule formats)) nodes_rule) memory_rule) limit_rule) (option_rule (codes "input")))
-    g_rule) l_rule
+    g_rule) l_rule) ledger_rule
 
 -- `run IMAGE` with its options
 abbrev pub run_app : NameList → App

@@ -6,6 +6,8 @@ use Rattle.clap.specs.declared.error.Error.{Error}
 use Rattle.clap.specs.declared.error.kind.ErrorKind.TheVariants.{MissingSubcommand, OutOfMemory}
 use Rattle.bsp_session.specs.declared.job.Format.{Format}
 use Rattle.bsp_session.specs.declared.job.Format.TheVariants.{Elf, Raw, Asm}
+use Rattle.cost_ledger.specs.declared.LedgerText.{LedgerText}
+use Rattle.cost_ledger.specs.declared.LedgerText.TheVariants.{V1, V2}
 use Rattle.machine_core.specs.declared.settings.Settings.{Settings}
 use Rattle.bspemu.specs.declared.options.MachineOptions.{MachineOptions}
 use Rattle.bspemu.specs.declared.options.RunOptions.{RunOptions}
@@ -44,6 +46,15 @@ pub record GivesSettings (rows : List Row) (s : Settings) : Type 0 where
   pub memory : GivesNumber 32 (one_of (codes "memory") rows) s.memory
   pub limit : GivesNumber 64 (one_of (codes "limit") rows) s.limit
 
+-- the number of a version of the ledger
+abbrev pub number_of_ledger : LedgerText → ℕ
+number_of_ledger V1 = 1
+number_of_ledger V2 = 2
+
+-- they give this version
+abbrev pub GivesLedger : List Row → LedgerText → Type 0
+GivesLedger rows version = GivesNumber 32 (one_of (codes "ledger") rows) (number_of_ledger version)
+
 -- and these options, whatever the workers, the slice and the report
 pub record GivesMachineOptions (rows : List Row) (o : MachineOptions) : Type 0 where
   pub image : first_of (codes "image") rows ≡ Some o.image.now
@@ -52,6 +63,7 @@ pub record GivesMachineOptions (rows : List Row) (o : MachineOptions) : Type 0 w
   pub settings : GivesSettings rows o.job.settings
   pub g : GivesNumber 32 (one_of (codes "g") rows) o.job.g
   pub l : GivesNumber 32 (one_of (codes "l") rows) o.job.l
+  pub ledger : GivesLedger rows o.job.ledger
 
 -- the matches of `run` give these options
 pub record GivesRunOptions (rows : List Row) (o : RunOptions) : Type 0 where

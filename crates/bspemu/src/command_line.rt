@@ -2,7 +2,7 @@
 
 ghost use Rattle.std.specs.Prelude.{IfOk, codes};
 ghost use Rattle.bspemu.specs.CommandLine.{HasApp, HasAppOfFormats, HasRule, asm_app, bspemu_app, checked_rule, debug_app, file_rule, flag_rule, format_rule};
-ghost use Rattle.bspemu.specs.CommandLine.{g_rule, l_rule, limit_rule, list_app, machine_app, memory_rule, nodes_rule, option_rule, run_app, slice_rule, workers_rule};
+ghost use Rattle.bspemu.specs.CommandLine.{g_rule, l_rule, ledger_rule, limit_rule, list_app, machine_app, memory_rule, nodes_rule, option_rule, run_app, slice_rule, workers_rule};
 
 use clap::builder::ValueParser;
 use clap::{Arg, ArgAction, Command, value_parser};
@@ -128,7 +128,8 @@ fn machine_command<'a>(
         .arg(limit(alloc))?
         .arg(input(alloc))?
         .arg(byte_price(alloc))?
-        .arg(superstep_price(alloc))
+        .arg(superstep_price(alloc))?
+        .arg(ledger(alloc))
 }
 
 fn list_command<'a>(alloc: Global, formats: &'a [&'a str]) -> Result<Command<'a>, AllocError>
@@ -219,7 +220,7 @@ fn nodes<'a>(alloc: Global) -> Arg<'a>
         "N",
         value_parser!(u32),
         "1",
-        "Nodes of the machine, 1 to 256",
+        "Nodes of the machine, 1 to 1024",
     )
 }
 
@@ -310,6 +311,19 @@ fn superstep_price<'a>(alloc: Global) -> Arg<'a>
         value_parser!(u32),
         "0",
         "Ticks that the end of a superstep costs in the total",
+    )
+}
+
+fn ledger<'a>(alloc: Global) -> Arg<'a>
+    ensures { HasRule result ledger_rule }
+{
+    checked_option(
+        alloc,
+        "ledger",
+        "VERSION",
+        ValueParser::Signed(1, 2),
+        "2",
+        "Version of the ledger: 2, in which h leaves out what a rank moves to itself and m counts messages, or 1, in which h counts it",
     )
 }
 

@@ -2,11 +2,11 @@
 
 ghost use Rattle.std.specs.Prelude.{◌≡◌, IfOk, IfErr, IfNone, IfSome, map};
 ghost use Rattle.clap.specs.Words.{found_of, kind_of, rows_of, subcommand_rows_of};
-ghost use Rattle.bspemu.specs.Options.{AsksFor, Gives, GivesAction, GivesAsmOptions, GivesDebugOptions, GivesListOptions, GivesMachineOptions};
-ghost use Rattle.bspemu.specs.Options.{GivesRunOptions, GivesSettings, IsFaultOf, IsNeverMet, name_of_format};
+ghost use Rattle.bspemu.specs.Options.{AsksFor, Gives, GivesAction, GivesAsmOptions, GivesDebugOptions, GivesLedger, GivesListOptions, GivesMachineOptions};
+ghost use Rattle.bspemu.specs.Options.{GivesRunOptions, GivesSettings, IsFaultOf, IsNeverMet, name_of_format, number_of_ledger};
 
 use crate::command_line::command;
-use bsp_session::{Format, Job, Settings};
+use bsp_session::{Format, Job, LedgerText, Settings};
 use clap::error::ErrorKind;
 use clap::{ArgMatches, Error};
 use std::alloc::{AllocError, Global};
@@ -161,6 +161,7 @@ fn options_of_machine<'a>(
             workers,
             slice,
             report,
+            ledger: ledger_of(found)?,
             g: found.get_one("g")?,
             l: found.get_one("l")?,
         },
@@ -196,6 +197,24 @@ fn settings_of_machine(found: &ArgMatches<'_>) -> Option<Settings>
         memory: found.get_one("memory")?,
         limit: found.get_one("limit")?,
     })
+}
+
+fn ledger_of(found: &ArgMatches<'_>) -> Option<LedgerText>
+    ensures some { IfSome result (GivesLedger (rows_of (found_of found.now))) }
+    ensures none { IfNone result (IsNeverMet (GivesLedger (rows_of (found_of found.now)))) }
+{
+    ledger_numbered(found.get_one("ledger")?)
+}
+
+fn ledger_numbered(number: u32) -> Option<LedgerText>
+    ensures some { IfSome result (λ version. number ≡ number_of_ledger version) }
+    ensures none { IfNone result (IsNeverMet (λ version. number ≡ number_of_ledger version)) }
+{
+    match number {
+        1 => Some(LedgerText::V1),
+        2 => Some(LedgerText::V2),
+        _ => None,
+    }
 }
 
 fn format_named(name: &str) -> Option<Format>

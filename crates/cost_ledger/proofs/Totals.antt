@@ -1,19 +1,40 @@
-use Rattle.std.proofs.Common.{ℕ, ◌*◌, ◌^◌, ◌<◌, ◌≤◌, List, length, arith}
+use Rattle.std.proofs.Common.{ℕ, ◌*◌, ◌^◌, ◌<◌, ◌≤◌, List, [], ◌∷◌, length, arith}
 use Rattle.std.specs.Prelude.{All}
 use Rattle.std.proofs.Math.Nat.{mul-le-mul}
-use Rattle.std.proofs.lemmas.List.Sums.{sum_by-le}
+use Rattle.std.proofs.lemmas.List.Elements.{All-head, All-tail}
+use Rattle.std.proofs.lemmas.List.Sums.{sum_by-cons, sum_by-le}
 use Rattle.cost_ledger.specs.declared.CostRow.{CostRow}
-use Rattle.cost_ledger.specs.CostRow.{IsBounded, cost_of, total_cost}
+use Rattle.cost_ledger.specs.declared.LedgerText.{LedgerText}
+use Rattle.cost_ledger.specs.declared.LedgerText.TheVariants.{V1, V2}
+use Rattle.cost_ledger.specs.CostRow.{IsBounded, h_in, cost_of, total_in, TotalIsAtMostV1}
+
+h_bound : (version : LedgerText) (row : CostRow) → IsBounded row → h_in version row < 2 ^ 48
+h_bound V1 row bounded = bounded.whole_relation
+h_bound V2 row bounded = bounded.relation
 
 -- the greatest cost of one row
-cost_bound : (g l : ℕ) (row : CostRow) → g < 2 ^ 32 → l < 2 ^ 32 → IsBounded row → cost_of g l row ≤ 2 ^ 81
-cost_bound g l row g_fits l_fits bounded =
-    let most : g * row.h ≤ 2 ^ 32 * 2 ^ 48 = mul-le-mul {n₂ = 2 ^ 32} {m₂ = 2 ^ 48} (omega arith) (omega arith) in
+cost_bound : (version : LedgerText) (g l : ℕ) (row : CostRow) → g < 2 ^ 32 → l < 2 ^ 32 → IsBounded row → cost_of version g l row ≤ 2 ^ 81
+cost_bound version g l row g_fits l_fits bounded =
+    let fits = h_bound version row bounded in
+    let most : g * h_in version row ≤ 2 ^ 32 * 2 ^ 48 = mul-le-mul {n₂ = 2 ^ 32} {m₂ = 2 ^ 48} (omega arith) (omega arith) in
     omega arith
 
 -- the total of as many rows as a ledger holds is below 2^128
-pub total_fits : (g l : ℕ) (rows : List CostRow) → g < 2 ^ 32 → l < 2 ^ 32 → length rows ≤ 2 ^ 41 → All IsBounded rows → total_cost g l rows < 2 ^ 128
-total_fits g l rows g_fits l_fits few bounded =
-    let each : All (λ row. cost_of g l row ≤ 2 ^ 81) rows = λ k d within. cost_bound g l _ g_fits l_fits (bounded k d within) in
-    let bound : total_cost g l rows ≤ length rows * 2 ^ 81 = sum_by-le (cost_of g l) (2 ^ 81) rows each in
+pub total_fits : (version : LedgerText) (g l : ℕ) (rows : List CostRow) → g < 2 ^ 32 → l < 2 ^ 32 → length rows ≤ 2 ^ 41 → All IsBounded rows → total_in version g l rows < 2 ^ 128
+total_fits version g l rows g_fits l_fits few bounded =
+    let each : All (λ row. cost_of version g l row ≤ 2 ^ 81) rows = λ k d within. cost_bound version g l _ g_fits l_fits (bounded k d within) in
+    let bound : total_in version g l rows ≤ length rows * 2 ^ 81 = sum_by-le (cost_of version g l) (2 ^ 81) rows each in
     omega arith
+
+-- a row costs no more than in the first version where its h is no more
+cost_at_most : (g l : ℕ) (row : CostRow) → row.h ≤ row.h_all → cost_of V2 g l row ≤ cost_of V1 g l row
+cost_at_most g l row least =
+    let most : g * row.h ≤ g * row.h_all = mul-le-mul {n₂ = g} {m₂ = row.h_all} (omega arith) least in
+    omega (arith, most)
+
+pub total_is_at_most_v1 : TotalIsAtMostV1
+total_is_at_most_v1 g l [] least = omega arith
+total_is_at_most_v1 g l (row ∷ rows) least =
+    let first = cost_at_most g l row (All-head (λ (r : CostRow). r.h ≤ r.h_all) row rows least) in
+    let rest = total_is_at_most_v1 g l rows (All-tail (λ (r : CostRow). r.h ≤ r.h_all) row rows least) in
+    omega (arith, first, rest, sum_by-cons (cost_of V2 g l) row rows, sum_by-cons (cost_of V1 g l) row rows)

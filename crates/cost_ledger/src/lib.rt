@@ -2,7 +2,8 @@
 //!
 //! A [`Ledger`] is a list of [`CostRow`]s, one for each superstep, in the order in which they ended. Contracts see it
 //! as that list, and whether room is made for one row more. Its total is that of the BSP cost model, `w + g h + l` summed
-//! over all rows.
+//! over all rows. In h a rank's bytes to itself are left out; the first version of the ledger counted them, and each row keeps that
+//! reading too, in `h_all`, with a total of its own and lines of its own ([`LedgerText`]).
 //!
 //! Callers may rely on this:
 //!
@@ -10,28 +11,44 @@
 //! - After `prepare` a row can be added without being refused, by [`add_prepared`](Ledger::add_prepared).
 //! - A total is exact: under the conditions of `add` no sum of costs passes 128 bits.
 //! - The lines that tell of rows are those of the definitions ([`cost_lines`], [`Ledger::lines`]).
-//! - The order of the rows does not change a total ([`total_ignores_order`]).
+//! - The order of the rows does not change a total ([`total_ignores_order`]), and where no h is more than its `h_all`, no total is
+//!   more than that of the first version ([`total_is_at_most_v1`]).
 #![tactic(auto)]
 
 mod lines;
 
 ghost use Rattle.std.specs.Prelude.{◌≡◌, ◌^◌, ◌<◌, ◌≤◌, true, false, [], ◌∷◌, ◌++◌, length, string_bytes, IsTrue, IfOk, OnOk, OnErr};
-ghost use Rattle.cost_ledger.specs.CostRow.{IsBounded, cost_of, total_cost, cost_lines as cost_lines_of, TotalIgnoresOrder};
+ghost use Rattle.cost_ledger.specs.declared.LedgerText.TheVariants.{V1, V2};
+ghost use Rattle.cost_ledger.specs.CostRow.{IsBounded, h_in, cost_of, total_in, ending_text, cost_lines as cost_lines_of, TotalIgnoresOrder, TotalIsAtMostV1};
 
 pub use lines::cost_lines;
 use std::alloc::{AllocError, Allocator};
 use std::fmt;
 use std::marker::Model;
 
-/// What one superstep cost. Its text is as `w 10 h 4 turned`, and ends with `last` where no exchange was made.
+/// What one superstep cost. Its text is as `w 10 h 4 m 1 turned`, and ends with `last` where no exchange was made. That such a row has
+/// no more than its work is the machine's rule; a ledger takes what it is given.
 #[derive(Clone, Copy, Debug, PartialEq, Eq)]
 pub struct CostRow {
     /// The work: the most ticks that a node made.
     pub w: u64,
-    /// The h-relation: the most bytes that a node sent or received, or 0 where no exchange was made.
+    /// The h-relation: the most bytes that a node sent to others or received from others.
     pub h: u64,
+    /// The same with what a node moved to itself, as the first version of the ledger had it.
+    pub h_all: u64,
+    /// The most messages that a node received from others.
+    pub messages: u64,
     /// Whether an exchange was made.
     pub turned: bool,
+}
+
+/// The version in which the lines of costs are written.
+#[derive(Clone, Copy, Debug, PartialEq, Eq)]
+pub enum LedgerText {
+    /// Rows as `w 10 h 4 turned` and the total of the first version, whose h is `h_all`.
+    V1,
+    /// Rows as `w 10 h 4 m 1 turned`, and the total.
+    V2,
 }
 
 /// The costs of the supersteps so far, oldest first.
@@ -72,6 +89,8 @@ impl<A: Allocator> Ledger<A> {
     pub fn add(&mut self, row: CostRow) -> Result<(), AllocError>
         requires work { row.w ≤ 2 ^ 40 }
         requires relation { row.h < 2 ^ 48 }
+        requires whole_relation { row.h_all < 2 ^ 48 }
+        requires messages { row.messages < 2 ^ 48 }
         requires few { length self.old.rows < 2 ^ 41 }
         ensures ok { OnOk result
             (self.new ≡ record { rows = self.old.rows ++ row ∷ []; ready = false }) }
@@ -99,6 +118,8 @@ impl<A: Allocator> Ledger<A> {
     pub fn add_prepared(&mut self, row: CostRow)
         requires work { row.w ≤ 2 ^ 40 }
         requires relation { row.h < 2 ^ 48 }
+        requires whole_relation { row.h_all < 2 ^ 48 }
+        requires messages { row.messages < 2 ^ 48 }
         requires few { length self.old.rows < 2 ^ 41 }
         requires ready { IsTrue self.old.ready }
         ensures { self.new ≡ record { rows = self.old.rows ++ row ∷ []; ready = false } }
@@ -117,49 +138,89 @@ impl<A: Allocator> Ledger<A> {
     /// The cost of all rows, turned or not, at `g` a byte and `l` a superstep.
     #[tactic(auto, using(crate::proofs::Totals::total_fits))]
     pub fn total(&self, g: u32, l: u32) -> u128
-        ensures { result ≡ total_cost g l self.now.rows }
+        ensures { result ≡ total_in V2 g l self.now.rows }
     {
-        sum_of_costs(&self.rows, g, l)
+        sum_of_costs(LedgerText::V2, &self.rows, g, l)
     }
 
-    /// The lines that tell of all rows, and of their total at `g` a byte and `l` a superstep. It is an error only where memory is
-    /// refused.
+    /// The same in the first version, in which h counts what nodes moved to themselves too.
     #[tactic(auto, using(crate::proofs::Totals::total_fits))]
-    pub fn lines<B: Allocator>(&self, alloc: B, g: u32, l: u32) -> Result<String<B>, AllocError>
-        ensures { IfOk result (λ text. string_bytes text ≡ cost_lines_of g l self.now.rows) }
+    pub fn total_v1(&self, g: u32, l: u32) -> u128
+        ensures { result ≡ total_in V1 g l self.now.rows }
     {
-        cost_lines(alloc, &self.rows, g, l)
+        sum_of_costs(LedgerText::V1, &self.rows, g, l)
+    }
+
+    /// The lines that tell of all rows in a version, and of their total at `g` a byte and `l` a superstep. It is an error only where
+    /// memory is refused.
+    #[tactic(auto, using(crate::proofs::Totals::total_fits))]
+    pub fn lines<B: Allocator>(
+        &self,
+        alloc: B,
+        version: LedgerText,
+        g: u32,
+        l: u32,
+    ) -> Result<String<B>, AllocError>
+        ensures { IfOk result (λ text. string_bytes text ≡ cost_lines_of version g l self.now.rows) }
+    {
+        cost_lines(alloc, version, &self.rows, g, l)
     }
 }
 
-fn sum_of_costs(rows: &[CostRow], g: u32, l: u32) -> u128
-    requires { total_cost g l rows.now < 2 ^ 128 }
-    ensures { result ≡ total_cost g l rows.now }
+/// The total of rows in a version.
+fn sum_of_costs(version: LedgerText, rows: &[CostRow], g: u32, l: u32) -> u128
+    requires { total_in version g l rows.now < 2 ^ 128 }
+    ensures { result ≡ total_in version g l rows.now }
 {
-    rows.iter().map(|row| row.cost(g, l)).sum()
+    rows.iter().map(|row| row.cost(version, g, l)).sum()
 }
 
 impl fmt::Display for CostRow {
     ghost use Rattle.std.specs.Prelude.{Some};
+    ghost use Rattle.cost_ledger.specs.declared.LedgerText.TheVariants.{V2};
     ghost use Rattle.cost_ledger.specs.CostRow.{row_text};
 
-    ghost output = { λ row. Some (row_text row) };
+    ghost output = { λ row. Some (row_text V2 row) };
 
     fn fmt<W: fmt::Write>(&self, f: &mut fmt::Formatter<W>) -> fmt::Result {
-        let end = if self.turned { "turned" } else { "last" };
-        write!(f, "w {} h {} {end}", self.w, self.h)
+        let end = self.ending();
+        write!(f, "w {} h {} m {} {end}", self.w, self.h, self.messages)
     }
 }
 
 impl CostRow {
-    fn cost(&self, g: u32, l: u32) -> u128
-        ensures { result ≡ cost_of g l self.now }
+    /// What it costs in a version.
+    fn cost(&self, version: LedgerText, g: u32, l: u32) -> u128
+        ensures { result ≡ cost_of version g l self.now }
     {
-        u128::from(self.w) + u128::from(g) * u128::from(self.h) + u128::from(l)
+        u128::from(self.w) + u128::from(g) * u128::from(self.h_in(version)) + u128::from(l)
+    }
+
+    /// The h that a version counts.
+    fn h_in(&self, version: LedgerText) -> u64
+        ensures { result ≡ h_in version self.now }
+    {
+        match version {
+            LedgerText::V1 => self.h_all,
+            LedgerText::V2 => self.h,
+        }
+    }
+
+    /// The last word of its text: whether an exchange was made.
+    fn ending(&self) -> &'static str
+        ensures { result.now ≡ ending_text self.now }
+    {
+        if self.turned { "turned" } else { "last" }
     }
 }
 
-/// States that rows in another order have the same total.
+/// States that rows in another order have the same total, in either version.
 pub fn total_ignores_order()
     ensures { TotalIgnoresOrder }
+{}
+
+/// States that no total is more than that of the first version, where no row's h is more than its `h_all`.
+#[tactic(auto, using(crate::proofs::Totals::total_is_at_most_v1))]
+pub fn total_is_at_most_v1()
+    ensures { TotalIsAtMostV1 }
 {}

@@ -7,6 +7,7 @@ use Rattle.bsp_requests.specs.Message.{Message}
 use Rattle.rv_listing.specs.Numerals.{two_digits, eight_digits}
 use Rattle.node_core.specs.declared.state.State.{State}
 use Rattle.node_core.specs.Names.{state_name}
+use Rattle.cost_ledger.specs.declared.LedgerText.{LedgerText}
 use Rattle.cost_ledger.specs.CostRow.{cost_lines}
 use Rattle.machine_core.specs.Outcome.{outcome_text}
 use Rattle.bsp_debug.specs.declared.point.Point.{Point}
@@ -58,14 +59,14 @@ abbrev pub queue_lines : List Message → List ℕ
 queue_lines q =
     codes "count " ++ decimal (length q) ++ codes " bytes " ++ decimal (payload_bytes q) ++ codes "\n" ++ flat_map message_line q
 
--- the lines of an answer, costs at g a byte and l a superstep
-abbrev pub reply_text : (g l : ℕ) → Answer → List ℕ
-reply_text g l (moved steps) = codes "moved " ++ decimal steps ++ codes "\n"
-reply_text g l (turned true) = codes "turned\n"
-reply_text g l (turned false) = codes "not turned\n"
-reply_text g l (stopped point) = codes "stopped at " ++ point_text point ++ codes "\n"
-reply_text g l (finished outcome) = outcome_text outcome ++ codes "\n"
-reply_text g l (registers rank pc ticks state x) = node_line rank pc ticks state ++ register_lines x
-reply_text g l (bytes bs) = byte_lines bs
-reply_text g l (queue q) = queue_lines q
-reply_text g l (costs rows) = cost_lines g l rows
+-- the lines of an answer, costs in a version of the ledger at g a byte and l a superstep
+abbrev pub reply_text : LedgerText → (g l : ℕ) → Answer → List ℕ
+reply_text version g l (moved steps) = codes "moved " ++ decimal steps ++ codes "\n"
+reply_text version g l (turned true) = codes "turned\n"
+reply_text version g l (turned false) = codes "not turned\n"
+reply_text version g l (stopped point) = codes "stopped at " ++ point_text point ++ codes "\n"
+reply_text version g l (finished outcome) = outcome_text outcome ++ codes "\n"
+reply_text version g l (registers rank pc ticks state x) = node_line rank pc ticks state ++ register_lines x
+reply_text version g l (bytes bs) = byte_lines bs
+reply_text version g l (queue q) = queue_lines q
+reply_text version g l (costs rows) = cost_lines version g l rows

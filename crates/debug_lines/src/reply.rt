@@ -10,25 +10,26 @@ ghost use Rattle.debug_lines.specs.Replies.{entry_end, message_line, node_line, 
 use crate::octets::Octets;
 use bsp_debug::{Point, Reply};
 use bsp_requests::Message;
-use cost_ledger::Ledger;
+use cost_ledger::{Ledger, LedgerText};
 use node_core::State;
 use rv_listing::{EightDigits, TwoDigits};
 use std::alloc::{AllocError, Allocator};
 use std::fmt;
 
-/// The lines of a reply, each with the line feed that ends it, and costs at `g` a byte and `l` a superstep. It is an error only
-/// where memory is refused.
+/// The lines of a reply, each with the line feed that ends it, and costs in a version of the ledger at `g` a byte and `l` a
+/// superstep. It is an error only where memory is refused.
 ///
 /// A reply of costs has the rows of `ledger`: those of the machine that gave it. So their total fits, whatever the prices.
 pub fn reply_text<A: Allocator, L: Allocator, B: Allocator>(
     alloc: B,
     reply: &Reply<A>,
     ledger: &Ledger<L>,
+    version: LedgerText,
     g: u32,
     l: u32,
 ) -> Result<String<B>, AllocError>
     requires { (rows : List CostRowValue) → answer reply.now ≡ costs rows → rows ≡ ledger.now.rows }
-    ensures { IfOk result (λ text. string_bytes text ≡ reply_text_of g l (answer reply.now)) }
+    ensures { IfOk result (λ text. string_bytes text ≡ reply_text_of version g l (answer reply.now)) }
 {
     match reply {
         Reply::Moved(steps) => format!(in alloc; "moved {steps}\n"),
@@ -49,7 +50,7 @@ pub fn reply_text<A: Allocator, L: Allocator, B: Allocator>(
         }
         Reply::Bytes(bytes) => byte_lines(alloc, bytes.as_slice()),
         Reply::Queue(messages) => queue_lines(alloc, messages.as_slice()),
-        Reply::Costs(_) => ledger.lines(alloc, g, l),
+        Reply::Costs(_) => ledger.lines(alloc, version, g, l),
     }
 }
 

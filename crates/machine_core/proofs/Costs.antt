@@ -1,27 +1,17 @@
 -- The cost of a superstep keeps to the bounds of the ledger.
-use Rattle.std.proofs.Common.{◌≡◌, ℕ, ◌+◌, ◌-◌, ◌*◌, ◌^◌, ◌<◌, ◌≤◌, max, Bool, true, false, not, List, [], ◌∷◌, length, map, All, get_or, refl, sym, ap₂, ◌∙◌, arith}
-use Rattle.std.specs.Prelude.{◌==◌, filter, sum_by, zip, if◌then◌else◌}
-use Rattle.std.specs.List.{enumerate_from, fold}
-use Rattle.std.proofs.lemmas.List.{map-append}
+use Rattle.std.proofs.Common.{ℕ, ◌-◌, ◌^◌, ◌≤◌, Bool, true, false, List, [], ◌∷◌, length, All, arith}
+use Rattle.std.specs.Prelude.{zip, if◌then◌else◌}
 use Rattle.std.proofs.lemmas.List.Elements.{All-nil, All-cons, All-head, All-map, All-tail, All-weaker}
-use Rattle.std.proofs.lemmas.List.Filters.{sum_by-filter_both}
-use Rattle.std.proofs.lemmas.List.Sums.{sum_by-append, sum_by-cons}
-use Rattle.bsp_requests.specs.Request.{Asked, asks_put, asks_get, asks_send, size_of}
-use Rattle.bsp_requests.specs.Requests.{max_bytes}
-use Rattle.node_core.specs.Node.{NodeState, IsSoundNode}
-use Rattle.bsp_exchange.specs.Issued.{Issued, issued, issued_as, issued_by}
-use Rattle.bsp_exchange.specs.Traffic.{Transfer, transfer, transfers, bytes_sent, bytes_received, h_of}
+use Rattle.node_core.specs.Hart.{IsHart, max_nodes}
+use Rattle.node_core.specs.Node.{NodeState}
+use Rattle.bsp_exchange.specs.Traffic.{h_of, h_all_of, messages_of, traffic_of}
+use Rattle.bsp_exchange.proofs.Bounds.{fold-max-le, traffic_bounded}
+use Rattle.bsp_exchange.proofs.Readings.{h_at_most}
 use Rattle.cost_ledger.specs.CostRow.{IsBounded}
 use Rattle.machine_core.specs.Machine.{MachineState}
 use Rattle.machine_core.specs.Sound.{IsNodeOf, IsSoundMachine}
-use Rattle.machine_core.specs.Turn.{makes_exchange, work, cost_row}
+use Rattle.machine_core.specs.Turn.{makes_exchange, work, no_traffic, cost_row}
 use Rattle.machine_core.proofs.Sound.{length-nodes}
-
-fold-max-le : (most : ℕ) (first : ℕ) (xs : List ℕ) → first ≤ most → All (λ x. x ≤ most) xs → fold max first xs ≤ most
-fold-max-le most first [] here all = here
-fold-max-le most first (x ∷ xs) here all =
-    let next = All-head (λ k. k ≤ most) x xs all in
-    fold-max-le most (max first x) xs (omega arith) (All-tail (λ k. k ≤ most) x xs all)
 
 -- the ticks that nodes made are some of those that they may make
 ticks-all : (limit : ℕ) (nodes : List NodeState) (started : List ℕ) → All (λ n. n.ticks ≤ limit) nodes → All (λ (at : NodeState × ℕ). at.0.ticks - at.1 ≤ limit) (zip nodes started)
@@ -31,59 +21,40 @@ ticks-all limit (n ∷ rest) (t ∷ started) within =
     let here = All-head (λ (n : NodeState). n.ticks ≤ limit) n rest within in
     All-cons (λ (at : NodeState × ℕ). at.0.ticks - at.1 ≤ limit) (n, t) (zip rest started) (omega arith) (ticks-all limit rest started (All-tail (λ (n : NodeState). n.ticks ≤ limit) n rest within))
 
-abbrev bytes : List Transfer → ℕ
-bytes ts = sum_by (λ (t : Transfer). t.bytes) ts
-
-abbrev transfer_of : Issued → Transfer
-transfer_of i = transfer i.rank i.request
-
-transfer-bytes : (rank : ℕ) (q : Asked) → (transfer rank q).bytes ≡ size_of q
-transfer-bytes rank (asks_put p) = refl
-transfer-bytes rank (asks_get g) = refl
-transfer-bytes rank (asks_send m) = refl
-
--- a node's requests transfer as many bytes as they count
-bytes-requests : (rank issue : ℕ) (requests : List Asked) → bytes (map transfer_of (map (issued_as rank) (enumerate_from issue requests))) ≡ sum_by size_of requests
-bytes-requests rank issue [] = refl
-bytes-requests rank issue (q ∷ rest) =
-    sum_by-cons (λ (t : Transfer). t.bytes) (transfer rank q) (map transfer_of (map (issued_as rank) (enumerate_from (issue + 1) rest)))
-    ∙ ap₂ ◌+◌ (transfer-bytes rank q) (bytes-requests rank (issue + 1) rest)
-    ∙ sym (sum_by-cons size_of q rest)
-
-bytes-transfers : (nodes : List NodeState) → All IsSoundNode nodes → bytes (transfers nodes) ≤ length nodes * max_bytes
-bytes-transfers [] sound = omega arith
-bytes-transfers (n ∷ rest) sound =
-    let here = (All-head IsSoundNode n rest sound).hart.communication.requests.bytes in
-    let there = bytes-transfers rest (All-tail IsSoundNode n rest sound) in
-    let own = bytes-requests n.hart.rank 0 n.hart.communication.requests.requests in
-    let parts = map-append transfer_of (issued_by n) (issued rest) in
-    let sums = sum_by-append (λ (t : Transfer). t.bytes) (map transfer_of (issued_by n)) (transfers rest) in
-    rw (parts, sums) (omega (arith, here, there, own))
-
--- some of the transfers have no more bytes than all
-bytes-filter : (test : Transfer → Bool) (ts : List Transfer) → bytes (filter test ts) ≤ bytes ts
-bytes-filter test ts = omega (arith, sum_by-filter_both test (λ t. not (test t)) (λ _. refl) (λ (t : Transfer). t.bytes) ts)
-
 module _ (m : MachineState) (sound : IsSoundMachine m) where
   work-le : work m ≤ m.settings.limit
   work-le =
       let each : All (λ n. n.ticks ≤ m.settings.limit) m.nodes = All-weaker (IsNodeOf m.settings) (λ n. n.ticks ≤ m.settings.limit) (λ n of. omega (arith, of.limit, of.sound.node.within)) m.nodes sound.nodes in
       fold-max-le m.settings.limit 0 _ (omega arith) (All-map (λ k. k ≤ m.settings.limit) (λ (at : NodeState × ℕ). at.0.ticks - at.1) (zip m.nodes m.started) (ticks-all m.settings.limit m.nodes m.started each))
 
-  h-le : h_of m.nodes ≤ 256 * max_bytes
-  h-le =
-      let few = sound.settings.few in
-      let long = length-nodes m sound in
-      let all = bytes-transfers m.nodes (All-weaker (IsNodeOf m.settings) IsSoundNode (λ n of. of.sound) m.nodes sound.nodes) in
-      let each : All (λ n. max (bytes_sent m.nodes n.hart.rank) (bytes_received m.nodes n.hart.rank) ≤ 256 * max_bytes) m.nodes = λ k d within.
-      let out = bytes-filter (λ (t : Transfer). t.from == (get_or m.nodes k d).hart.rank) (transfers m.nodes) in
-      let inn = bytes-filter (λ (t : Transfer). t.to == (get_or m.nodes k d).hart.rank) (transfers m.nodes) in
-      omega (arith, all, out, inn, few, long) in
-      fold-max-le (256 * max_bytes) 0 _ (omega arith) (All-map (λ k. k ≤ 256 * max_bytes) (λ n. max (bytes_sent m.nodes n.hart.rank) (bytes_received m.nodes n.hart.rank)) m.nodes each)
+  few-nodes : length m.nodes ≤ max_nodes
+  few-nodes = omega (arith, sound.settings.few, length-nodes m sound)
 
-  row-le : (exchanged : Bool) → (if exchanged then h_of m.nodes else 0) < 2 ^ 48
-  row-le true = omega (arith, h-le)
-  row-le false = omega arith
+  moved : (h_of m.nodes ≤ h_all_of m.nodes) × (h_all_of m.nodes ≤ 2 ^ 34) × (messages_of m.nodes ≤ 2 ^ 26)
+  moved = traffic_bounded m.nodes few-nodes (All-weaker (IsNodeOf m.settings) (λ (n : NodeState). IsHart n.hart) (λ n of. of.sound.hart) m.nodes sound.nodes)
+
+  bounded-by : (exchanged : Bool) → IsBounded (record {
+    w = work m;
+    h = (if exchanged then traffic_of m.nodes else no_traffic).h;
+    h_all = (if exchanged then traffic_of m.nodes else no_traffic).h_all;
+    messages = (if exchanged then traffic_of m.nodes else no_traffic).messages;
+    turned = exchanged;
+  })
+  bounded-by true = record {
+    work = omega (arith, work-le, sound.settings.limit);
+    relation = omega (arith, moved.0, moved.1);
+    whole_relation = omega (arith, moved.1);
+    messages = omega (arith, moved.2);
+  }
+  bounded-by false = record { work = omega (arith, work-le, sound.settings.limit); relation = omega arith; whole_relation = omega arith; messages = omega arith }
 
 pub IsBounded-cost_row : (m : MachineState) → IsSoundMachine m → IsBounded (cost_row m)
-IsBounded-cost_row m sound = record { work = omega (arith, work-le m sound, sound.settings.limit); relation = row-le m sound (makes_exchange m.nodes) }
+IsBounded-cost_row m sound = bounded-by m sound (makes_exchange m.nodes)
+
+-- its h is no more than in the first version of the ledger
+pub cost_row-at_most : (m : MachineState) → (cost_row m).h ≤ (cost_row m).h_all
+cost_row-at_most m = by (makes_exchange m.nodes)
+  where
+    by : (exchanged : Bool) → (if exchanged then traffic_of m.nodes else no_traffic).h ≤ (if exchanged then traffic_of m.nodes else no_traffic).h_all
+    by true = h_at_most m.nodes
+    by false = omega arith

@@ -16,6 +16,7 @@ use Rattle.bsp_requests.specs.Request.{Asked, asks_put, asks_get, asks_send, siz
 use Rattle.bsp_requests.specs.Requests.{max_bytes, max_requests}
 use Rattle.node_core.specs.declared.state.State.TheVariants.{Running, Synced}
 use Rattle.node_core.specs.Communication.{Communication, IsCommunication}
+use Rattle.node_core.specs.Hart.{max_nodes}
 use Rattle.node_core.specs.Node.{NodeState, IsNode, IsSoundNode}
 use Rattle.node_core.specs.Turn.{next_communication}
 use Rattle.node_core.proofs.Sound.{state_at-running}
@@ -114,7 +115,7 @@ IsCommunication-exchanged queue nprocs size c sound few short = record {
   next_tag_size = sound.next_tag_size;
 }
 
-pub IsSoundNode-exchanged : (nodes : List NodeState) → length nodes ≤ 256 → All IsSoundNode nodes → (n : NodeState) → IsSoundNode n → n.state ≡ Synced → IsSoundNode (exchanged_node nodes n)
+pub IsSoundNode-exchanged : (nodes : List NodeState) → length nodes ≤ max_nodes → All IsSoundNode nodes → (n : NodeState) → IsSoundNode n → n.state ≡ Synced → IsSoundNode (exchanged_node nodes n)
 IsSoundNode-exchanged nodes few all n sound waits =
     let asked = issued-all nodes all in
     let sent = messages-all n.hart.rank (issued nodes) asked.1 in

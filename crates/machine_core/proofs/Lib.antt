@@ -3,6 +3,7 @@ pub mod Costs
 pub mod Ends
 pub mod Exchanged
 pub mod Fresh
+pub mod Ledgers
 pub mod Lent
 pub mod Onward
 pub mod Options

@@ -5,6 +5,7 @@ use Rattle.std.proofs.lemmas.List.{length-map, map-append}
 use Rattle.std.proofs.lemmas.List.FromFn.{length-map-range_with_len, get_or-map-range_with_len, map-range_with_len_more}
 use Rattle.std.proofs.lemmas.Option.{get_or_from_slice_get}
 use Rattle.node_memory.specs.Image.{Image, is_segment_outside}
+use Rattle.node_core.specs.Hart.{max_nodes}
 use Rattle.node_core.specs.Node.{NodeState, PreparedNode, start_node}
 use Rattle.bsp_exchange.specs.Exchange.{states}
 use Rattle.cost_ledger.specs.declared.CostRow.{CostRow}
@@ -16,7 +17,7 @@ use Rattle.machine_core.proofs.States.{state_at_place}
 pub settings_fault-nodes : (s : Settings) → settings_fault s ≡ None → 1 ≤ s.nodes
 settings_fault-nodes s good = grind arith
 
-settings_fault-few : (s : Settings) → settings_fault s ≡ None → s.nodes ≤ 256
+settings_fault-few : (s : Settings) → settings_fault s ≡ None → s.nodes ≤ max_nodes
 settings_fault-few s good = grind arith
 
 pub AreInRange-from : (s : Settings) → settings_fault s ≡ None → AreInRange s

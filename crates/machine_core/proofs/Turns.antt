@@ -8,14 +8,15 @@ use Rattle.std.proofs.lemmas.Slice.Zip.{AllZip-long}
 use Rattle.node_core.specs.Node.{NodeState}
 use Rattle.bsp_exchange.specs.Exchange.{exchanged}
 use Rattle.bsp_exchange.specs.Parts.{CanExchange}
-use Rattle.bsp_exchange.specs.Traffic.{h_of}
+use Rattle.bsp_exchange.specs.Traffic.{traffic_of}
+use Rattle.bsp_exchange.specs.declared.traffic.Traffic.{Traffic}
 use Rattle.cost_ledger.specs.CostRow.{IsBounded}
 use Rattle.cost_ledger.specs.declared.CostRow.{CostRow}
 use Rattle.machine_core.specs.declared.outcome.Outcome.{Outcome}
 use Rattle.machine_core.specs.declared.event.Event.TheVariants.{Turn}
 use Rattle.machine_core.specs.Lander.{AwaitsRow}
 use Rattle.machine_core.specs.Machine.{MachineState}
-use Rattle.machine_core.specs.Turn.{outcome_of, written, work, cost_row, recorded, decided, turned}
+use Rattle.machine_core.specs.Turn.{outcome_of, written, work, no_traffic, cost_row, recorded, decided, turned}
 use Rattle.machine_core.specs.Events.{is_enabled}
 use Rattle.machine_core.specs.Sound.{IsUnderWay, IsSoundMachine}
 use Rattle.machine_core.proofs.Costs.{IsBounded-cost_row}
@@ -24,23 +25,23 @@ use Rattle.machine_core.proofs.Exchanged.{map-exchanged}
 use Rattle.machine_core.proofs.Options.{none_from}
 use Rattle.machine_core.proofs.Sound.{IsSoundMachine-turned, enabled_open, turn_stopped}
 
-abbrev pub row_of : ℕ → ℕ → Bool → CostRow
-row_of w h exchanged = record { w = w; h = h; turned = exchanged }
+abbrev pub row_of : ℕ → Traffic → Bool → CostRow
+row_of w moved exchanged = record { w = w; h = moved.h; h_all = moved.h_all; messages = moved.messages; turned = exchanged }
 
 -- the row of the superstep's cost, by whether there is an outcome
 abbrev row_by : MachineState → Option Outcome → CostRow
-row_by m o = record { w = work m; h = if is_none o then h_of m.nodes else 0; turned = is_none o }
+row_by m o = row_of (work m) (if is_none o then traffic_of m.nodes else no_traffic) (is_none o)
 
 turned-by : (m : MachineState) → decided (outcome_of m.nodes) (recorded m) ≡ turned m
 unfolding turned
 turned-by m = refl
 
 module _ (m : MachineState) where
-  pub cost-over : (o : Outcome) (w : ℕ) → outcome_of m.nodes ≡ Some o → w ≡ work m → row_of w 0 false ≡ cost_row m
-  cost-over o w is w_is = ap (λ k. row_of k 0 false) w_is ∙ ap (row_by m) (sym is)
+  pub cost-over : (o : Outcome) (w : ℕ) → outcome_of m.nodes ≡ Some o → w ≡ work m → row_of w no_traffic false ≡ cost_row m
+  cost-over o w is w_is = ap (λ k. row_of k no_traffic false) w_is ∙ ap (row_by m) (sym is)
 
-  pub cost-exchanged : (w h : ℕ) → outcome_of m.nodes ≡ None → w ≡ work m → h ≡ h_of m.nodes → row_of w h true ≡ cost_row m
-  cost-exchanged w h is w_is h_is = ap₂ (λ a b. row_of a b true) w_is h_is ∙ ap (row_by m) (sym is)
+  pub cost-exchanged : (w : ℕ) (moved : Traffic) → outcome_of m.nodes ≡ None → w ≡ work m → moved ≡ traffic_of m.nodes → row_of w moved true ≡ cost_row m
+  cost-exchanged w moved is w_is moved_is = ap₂ (λ a b. row_of a b true) w_is moved_is ∙ ap (row_by m) (sym is)
 
   pub turned-over : (o : Outcome) (nodes : List NodeState) (output : List ℕ) (ledger : List CostRow) → outcome_of m.nodes ≡ Some o → nodes ≡ m.nodes → output ≡ m.output ++ written m.nodes → ledger ≡ m.ledger ++ cost_row m ∷ [] → record m { nodes = nodes; output = output; ledger = ledger; outcome = Some o } ≡ turned m
   turned-over o nodes output ledger is same output_is ledger_is =

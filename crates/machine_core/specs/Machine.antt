@@ -5,6 +5,7 @@ use Rattle.std.specs.List.{range_with_len}
 use Rattle.std.specs.Option.{option_or}
 use Rattle.node_memory.specs.Bytes.{is_memory_size}
 use Rattle.node_memory.specs.Image.{Image, is_segment_outside}
+use Rattle.node_core.specs.Hart.{max_nodes}
 use Rattle.node_core.specs.Node.{NodeState, start_node}
 use Rattle.cost_ledger.specs.declared.CostRow.{CostRow}
 use Rattle.machine_core.specs.declared.error.MachineError.{MachineError}
@@ -49,7 +50,7 @@ fresh image input settings = record {
 -- the first setting that is out of its range (own limits)
 abbrev pub settings_fault : Settings → Option MachineError
 settings_fault s =
-    if nat_le 1 s.nodes && nat_le s.nodes 256 then
+    if nat_le 1 s.nodes && nat_le s.nodes max_nodes then
     (if is_memory_size s.memory then
     (if nat_le 1 s.limit && nat_le s.limit (2 ^ 40) then None else Some BadLimit)
     else Some BadMemory)

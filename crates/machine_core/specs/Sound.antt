@@ -3,6 +3,7 @@ use Rattle.std.specs.Prelude.{◌≡◌, ℕ, ◌+◌, ◌^◌, ◌<◌, ◌≤�
 use Rattle.std.specs.List.{range_with_len, AllZip}
 use Rattle.node_memory.specs.Bytes.{is_memory_size}
 use Rattle.node_core.specs.declared.state.State.TheVariants.{Synced}
+use Rattle.node_core.specs.Hart.{max_nodes}
 use Rattle.node_core.specs.Node.{NodeState, IsSoundNode}
 use Rattle.machine_core.specs.declared.settings.Settings.{Settings}
 use Rattle.machine_core.specs.Machine.{MachineState}
@@ -11,7 +12,7 @@ use Rattle.machine_core.specs.Events.{some_runs}
 -- settings of a machine that can be made (own limits)
 pub record AreInRange (s : Settings) : Type 0 where
   pub some : 0 < s.nodes
-  pub few : s.nodes ≤ 256
+  pub few : s.nodes ≤ max_nodes
   pub memory : IsTrue (is_memory_size s.memory)
   pub ticks : 0 < s.limit
   pub limit : s.limit ≤ 2 ^ 40

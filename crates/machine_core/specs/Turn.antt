@@ -10,7 +10,8 @@ use Rattle.node_core.specs.declared.state.State.TheVariants.{Running, Synced, En
 use Rattle.node_core.specs.Node.{NodeState, phase}
 use Rattle.bsp_exchange.specs.Exchange.{exchanged}
 use Rattle.bsp_exchange.specs.Faults.{exchange_fault}
-use Rattle.bsp_exchange.specs.Traffic.{h_of}
+use Rattle.bsp_exchange.specs.Traffic.{traffic_of}
+use Rattle.bsp_exchange.specs.declared.traffic.Traffic.{Traffic}
 use Rattle.cost_ledger.specs.declared.CostRow.{CostRow}
 use Rattle.machine_core.specs.declared.outcome.Outcome.{Outcome}
 use Rattle.machine_core.specs.declared.outcome.Outcome.TheVariants as outcome
@@ -80,11 +81,21 @@ most_ticks nodes started = fold max 0 (map (λ (at : NodeState × ℕ). at.0.tic
 abbrev pub work : MachineState → ℕ
 work m = most_ticks m.nodes m.started
 
--- the cost of this superstep. Requests count only where the exchange is made
+-- nothing is moved
+abbrev pub no_traffic : Traffic
+no_traffic = record { h = 0; h_all = 0; messages = 0 }
+
+-- what the exchange at the end of this superstep moves. Requests count only where it is made
+abbrev pub traffic : MachineState → Traffic
+traffic m = if makes_exchange m.nodes then traffic_of m.nodes else no_traffic
+
+-- the cost of this superstep
 abbrev pub cost_row : MachineState → CostRow
 cost_row m = record {
   w = work m;
-  h = if makes_exchange m.nodes then h_of m.nodes else 0;
+  h = (traffic m).h;
+  h_all = (traffic m).h_all;
+  messages = (traffic m).messages;
   turned = makes_exchange m.nodes;
 }
 

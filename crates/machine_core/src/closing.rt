@@ -89,11 +89,13 @@ pub(crate) fn makes_exchange<A: Allocator + Copy>(nodes: &[Node<A>]) -> bool
 
 /// The row of costs of a superstep without an exchange, in which requests count in no cost.
 pub(crate) fn last_row(w: u64) -> CostRow
-    ensures { result ≡ record { w = w; h = 0; turned = false } }
+    ensures { result ≡ record { w = w; h = 0; h_all = 0; messages = 0; turned = false } }
 {
     CostRow {
         w,
         h: 0,
+        h_all: 0,
+        messages: 0,
         turned: false,
     }
 }

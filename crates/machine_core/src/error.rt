@@ -5,7 +5,7 @@ use std::alloc::AllocError;
 /// Why no machine was made, in the order in which the causes are tried (own rules).
 #[derive(Clone, Copy, Debug, PartialEq, Eq)]
 pub enum MachineError {
-    /// The number of nodes is not 1 to 256.
+    /// The number of nodes is not 1 to 1,024.
     BadNodes,
     /// The bytes of a node's memory are not 4,096 to 16,777,216, or no multiple of 4,096.
     BadMemory,

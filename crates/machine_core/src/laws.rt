@@ -4,7 +4,8 @@ ghost use Rattle.std.specs.Prelude.{◌≡◌, ◌≢◌, ℕ, ◌+◌, ◌*◌,
 ghost use Rattle.node_memory.specs.Image.{Image};
 ghost use Rattle.node_core.specs.Node.{NodeState, local_steps};
 ghost use Rattle.bsp_exchange.specs.Exchange.{AreAtSync};
-ghost use Rattle.cost_ledger.specs.CostRow.{IsBounded};
+ghost use Rattle.cost_ledger.specs.declared.LedgerText.TheVariants.{V1, V2};
+ghost use Rattle.cost_ledger.specs.CostRow.{AreAtMostV1, IsBounded, total_in};
 ghost use Rattle.machine_core.specs.declared.event.Event.{Event};
 ghost use Rattle.machine_core.specs.declared.settings.Settings.{Settings};
 ghost use Rattle.machine_core.specs.Machine.{MachineState, fresh};
@@ -102,6 +103,20 @@ pub fn costs_are_bounded()
     ensures exchanges { (m : MachineState) → IsSoundMachine m → m.exchanges ≤ m.settings.limit }
     ensures rows { (m : MachineState) → IsSoundMachine m → length m.ledger ≤ m.settings.limit + 1 }
     ensures row { (m : MachineState) → IsSoundMachine m → IsBounded (cost_row m) }
+{}
+
+/// No row of a run's ledger has an h that is more than in the ledger's first version, whatever events were made: each row that a turn
+/// adds is so, and a ledger stays so. That is what the law of totals asks for, so no total of a run is more than in the first version.
+pub fn no_total_is_above_the_first_version()
+    ensures row { (m : MachineState) → (cost_row m).h ≤ (cost_row m).h_all }
+    ensures several { (m : MachineState) (events : List Event)
+        → AreAtMostV1 m.ledger → AreAtMostV1 (after m events).ledger }
+    ensures last { (m : MachineState) → AreAtMostV1 m.ledger → AreAtMostV1 (end_of m).ledger }
+    ensures run { (image : Image) (input : List ℕ) (settings : Settings) (events : List Event)
+        → AreAtMostV1 (after (fresh image input settings) events).ledger }
+    ensures total { (image : Image) (input : List ℕ) (settings : Settings) (events : List Event) (g l : ℕ)
+        → total_in V2 g l (after (fresh image input settings) events).ledger
+        ≤ total_in V1 g l (after (fresh image input settings) events).ledger }
 {}
 
 /// Nodes none of which runs, was stopped or ended are at sync, so that the exchange can be asked for: they stand at the places of

@@ -3,10 +3,13 @@
 use crate::error::MachineError;
 use node_memory::is_memory_size;
 
+/// The most nodes of a machine (own limit).
+const MAX_NODES: u32 = 1_024;
+
 /// How many nodes there are, and what each of them has. The ranges are own rules.
 #[derive(Clone, Copy, Debug, PartialEq, Eq)]
 pub struct Settings {
-    /// How many nodes: 1 to 256. Their ranks are 0 to `nodes` - 1.
+    /// How many nodes: 1 to 1,024. Their ranks are 0 to `nodes` - 1.
     pub nodes: u32,
     /// The memory of each node in bytes: 4,096 to 16,777,216, a multiple of 4,096.
     pub memory: u32,
@@ -26,7 +29,7 @@ impl Settings {
         ensures ok { OnOk result (settings_fault self.now ≡ None) }
         ensures err { IfErr result (λ cause. settings_fault self.now ≡ Some cause) }
     {
-        if !(1..=256).contains(&self.nodes) {
+        if !(1..=MAX_NODES).contains(&self.nodes) {
             return Err(MachineError::BadNodes);
         }
         if !is_memory_size(self.memory) {

@@ -103,6 +103,8 @@ impl<A: Allocator + Copy> Machine<A> {
                 let cost = CostRow {
                     w,
                     h: traffic.h,
+                    h_all: traffic.h_all,
+                    messages: traffic.messages,
                     turned: true,
                 };
                 let Machine {

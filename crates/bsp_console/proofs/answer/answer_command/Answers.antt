@@ -19,7 +19,7 @@ reply_text-requires g c = λ rows is.
     let makes = subst (Makes d.points d.machine c.args.command (events_of c.command.new.self.last)) is c.in-Ok.ensures.ok in
     let are = costs_are _ _ c.args.command _ rows makes in
     let same : c.command.new.self.machine ≡ d.machine = rw are.0 at c.command.ensures.machine in
-    are.1 ∙ sym (c.ledger.ensures ∙ ap (λ m. m.ledger) c.machine.ensures ∙ ap (λ m. m.ledger) same)
+    are.1 ∙ sym (c.ledger-ledger.ensures ∙ ap (λ m. m.ledger) c.machine.ensures ∙ ap (λ m. m.ledger) same)
 
 -- a refusal is told of a debugger that is as it was, but for what the last command made
 told : (fault : Option DebugError) (done : Type 0) (old new : DebuggerState) (text : List ℕ) (e : DebugError)

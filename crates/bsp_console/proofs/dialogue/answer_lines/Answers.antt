@@ -12,7 +12,7 @@ use Rattle.bsp_console.proofs.dialogue.answer_lines.Goals as goal
 
 pub loop-lines-init : goal.loop-lines-init
 loop-lines-init g c = record {
-  talking = rw c.new-lines.ensures (is_talking-first c.args.job.now.g c.args.job.now.l c.args.debugger.now (g.C.Read.remaining c.args.commands.now.inner) (g.W.Write.contents c.args.out.now.inner));
+  talking = rw c.new-lines.ensures (is_talking-first c.args.job.now.ledger c.args.job.now.g c.args.job.now.l c.args.debugger.now (g.C.Read.remaining c.args.commands.now.inner) (g.W.Write.contents c.args.out.now.inner));
   commands = omega arith;
   out = omega arith;
 }
@@ -23,7 +23,7 @@ returns-in_err-next_line-clause-err g c =
     let t = c.loop-lines.invariant.talking in
     let said = c.in_err-next_line.ensures in
     let few : length c.next_line.new.self.read ≤ most_script = subst (λ m. length c.next_line.new.self.read ≤ m) (c.next_line.ensures.most ∙ t.most) c.next_line.ensures.limit in
-    rw (exit.1, exit.2) (talk-error _ _ _ c.loop-lines.debugger (stream g.C.Read.remaining c.args.commands.now c.next_line.new.from) (stream g.W.Write.contents c.args.out.now c.loop-lines.out)
+    rw (exit.1, exit.2) (talk-error _ _ _ _ c.loop-lines.debugger (stream g.C.Read.remaining c.args.commands.now c.next_line.new.from) (stream g.W.Write.contents c.args.out.now c.loop-lines.out)
     (g.C.Read.remaining c.loop-lines.commands.inner) c.loop-lines.lines c.next_line.new.self c.loop-lines.commands.failures c.in_err-next_line.field-0.0
     t (λ e. let still = c.next_line.ensures.over e in (still.2, ap (λ r. g.C.Read.remaining r.inner) still.1)) few said.err.0 said.err.2 c.loop-lines.invariant.commands
     (λ e. said.too_long (ap Err e)) (λ e. said.fault (ap Err e)) (λ e. said.no_memory (ap Err e)))
@@ -34,7 +34,7 @@ returns-clause-ok g c =
     let few : length c.next_line.new.self.read ≤ most_script = subst (λ m. length c.next_line.new.self.read ≤ m) (c.next_line.ensures.most ∙ t.most) c.next_line.ensures.limit in
     let none : c.next_line.result ≡ Ok false = c.in_ok-next_line.was {u = tt} ∙ ap Ok c.if-branch.false in
     let said = c.next_line.ensures.end none in
-    talked-end _ _ _ c.loop-lines.debugger (stream g.C.Read.remaining c.args.commands.now c.next_line.new.from) (stream g.W.Write.contents c.args.out.now c.loop-lines.out)
+    talked-end _ _ _ _ c.loop-lines.debugger (stream g.C.Read.remaining c.args.commands.now c.next_line.new.from) (stream g.W.Write.contents c.args.out.now c.loop-lines.out)
     (g.C.Read.remaining c.loop-lines.commands.inner) c.loop-lines.lines c.next_line.new.self t c.in_ok-next_line.ensures.bytes said.0 said.1
     (λ e. let still = c.next_line.ensures.over e in (still.2, ap (λ r. g.C.Read.remaining r.inner) still.1)) few
 
@@ -45,7 +45,7 @@ returns-then-is_quit-clause-ok g c =
     let some : c.next_line.result ≡ Ok true = c.in_ok-next_line.was {u = tt} ∙ ap Ok c.if-branch.true in
     let line : c.parse_line-line.result ≡ line_of c.next_line.new.self.line = c.parse_line-line.ensures ∙ ap line_of c.line.ensures in
     let quits : line_of c.next_line.new.self.line ≡ Quit = sym line ∙ is_quit-true _ (sym c.is_quit.ensures ∙ c.if-is_quit.true) in
-    talked-quit _ _ _ c.loop-lines.debugger (stream g.C.Read.remaining c.args.commands.now c.next_line.new.from) (stream g.W.Write.contents c.args.out.now c.loop-lines.out)
+    talked-quit _ _ _ _ c.loop-lines.debugger (stream g.C.Read.remaining c.args.commands.now c.next_line.new.from) (stream g.W.Write.contents c.args.out.now c.loop-lines.out)
     (g.C.Read.remaining c.loop-lines.commands.inner) c.loop-lines.lines c.next_line.new.self t c.in_ok-next_line.ensures.bytes (c.next_line.ensures.line some)
     (λ e. let still = c.next_line.ensures.over e in (still.2, ap (λ r. g.C.Read.remaining r.inner) still.1)) few quits
 
@@ -57,7 +57,7 @@ returns-in_err-answer_at_once-clause-err g c =
     let some : c.next_line.result ≡ Ok true = c.in_ok-next_line.was {u = tt} ∙ ap Ok c.if-branch.true in
     let line : c.parse_line-line.result ≡ line_of c.next_line.new.self.line = c.parse_line-line.ensures ∙ ap line_of c.line.ensures in
     let other : line_of c.next_line.new.self.line ≡ Quit → ⊥ = λ quits. is_quit-false _ (sym c.is_quit.ensures ∙ c.if-is_quit.false) (line ∙ quits) in
-    rw (exit.1, exit.2) (talk-stops _ _ _ c.loop-lines.debugger c.answer_at_once.new.debugger (stream g.C.Read.remaining c.args.commands.now c.next_line.new.from) (stream g.W.Write.contents c.args.out.now c.answer_at_once.new.out)
+    rw (exit.1, exit.2) (talk-stops _ _ _ _ c.loop-lines.debugger c.answer_at_once.new.debugger (stream g.C.Read.remaining c.args.commands.now c.next_line.new.from) (stream g.W.Write.contents c.args.out.now c.answer_at_once.new.out)
     (g.C.Read.remaining c.loop-lines.commands.inner) (g.W.Write.contents c.loop-lines.out.inner) c.loop-lines.lines c.next_line.new.self c.parse_line-line.result c.loop-lines.out.failures c.in_err-answer_at_once.field-0.0
     t c.in_ok-next_line.ensures.bytes (c.next_line.ensures.line some)
     (λ e. let still = c.next_line.ensures.over e in (still.2, ap (λ r. g.C.Read.remaining r.inner) still.1)) few line other c.loop-lines.invariant.out
@@ -81,12 +81,12 @@ loop-lines-preserved g c =
     let other : line_of c.next_line.new.self.line ≡ Quit → ⊥ = λ quits. is_quit-false _ (sym c.is_quit.ensures ∙ c.if-is_quit.false) (line ∙ quits) in
     let (text, answered, written) = c.in_ok-answer_at_once.ensures.ok in
     record {
-      talking = talking-step _ _ _ c.loop-lines.debugger c.answer_at_once.new.debugger _ (g.C.Read.remaining c.loop-lines.commands.inner) (g.C.Read.remaining c.next_line.new.from.inner)
+      talking = talking-step _ _ _ _ c.loop-lines.debugger c.answer_at_once.new.debugger _ (g.C.Read.remaining c.loop-lines.commands.inner) (g.C.Read.remaining c.next_line.new.from.inner)
           _ (g.W.Write.contents c.loop-lines.out.inner) _ c.loop-lines.lines c.next_line.new.self text
           t c.in_ok-next_line.ensures.bytes (c.next_line.ensures.line some)
           (λ e. let still = c.next_line.ensures.over e in (still.2, ap (λ r. g.C.Read.remaining r.inner) still.1)) c.next_line.ensures.ends
           c.next_line.ensures.most c.next_line.ensures.limit c.next_line.ensures.within other
-          (subst (λ asked. Answered c.args.job.now.g c.args.job.now.l asked c.loop-lines.debugger text c.answer_at_once.new.debugger) line answered) written;
+          (subst (λ asked. Answered c.args.job.now.ledger c.args.job.now.g c.args.job.now.l asked c.loop-lines.debugger text c.answer_at_once.new.debugger) line answered) written;
       commands = omega arith;
       out = omega arith;
     }

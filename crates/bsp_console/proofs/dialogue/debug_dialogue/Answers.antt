@@ -14,7 +14,7 @@ returns-clause-ok g c =
     let debugger : IsDebuggerOf c.args.job.now c.in_ok-file.file.items c.in_ok-file.input.items c.in_ok-debugger.debugger = rw c.as_slice-2.ensures.value at made in
     let begins : Begins session c.in_ok-debugger.debugger = record { i = c.in_ok-file.file.items; n = c.in_ok-file.input.items; read = c.in_ok-file.ensures.ok; debugger = debugger } in
     on_ok_weaker c.answer_lines.result
-    (λ (talked : HasTalked c.args.job.now.g c.args.job.now.l session.script session.out c.in_ok-debugger.debugger).
+    (λ (talked : HasTalked c.args.job.now.ledger c.args.job.now.g c.args.job.now.l session.script session.out c.in_ok-debugger.debugger).
     let all : AnswersDialogue session = record { start = c.in_ok-debugger.debugger; begins = begins; came = talked } in all) c.answer_lines.ensures.ok
 
 pub returns-clause-err : goal.returns-clause-err
@@ -24,12 +24,12 @@ returns-clause-err g c =
     let made : IsDebuggerOf c.args.job.now c.in_ok-file.file.items c.as_slice-2.result.now c.in_ok-debugger.debugger = rw c.as_slice.ensures.value at c.in_ok-debugger.ensures.ok in
     let debugger : IsDebuggerOf c.args.job.now c.in_ok-file.file.items c.in_ok-file.input.items c.in_ok-debugger.debugger = rw c.as_slice-2.ensures.value at made in
     let begins : Begins session c.in_ok-debugger.debugger = record { i = c.in_ok-file.file.items; n = c.in_ok-file.input.items; read = c.in_ok-file.ensures.ok; debugger = debugger } in
-    IfErr-weaker c.answer_lines.result (IsErrorOfTalk c.args.job.now.g c.args.job.now.l session.script session.out c.in_ok-debugger.debugger) (IsErrorOfDialogue session)
+    IfErr-weaker c.answer_lines.result (IsErrorOfTalk c.args.job.now.ledger c.args.job.now.g c.args.job.now.l session.script session.out c.in_ok-debugger.debugger) (IsErrorOfDialogue session)
     (error_of_talk session c.in_ok-debugger.debugger begins) c.answer_lines.ensures.err
 
 pub returns-clause-no_lines : goal.returns-clause-no_lines
 returns-clause-no_lines g c =
     let script = stream g.C.Read.remaining c.args.commands.now c.answer_lines.new.commands in
     let out = stream g.W.Write.contents c.args.out.now c.answer_lines.new.out in
-    IfErr-weaker c.answer_lines.result (IsErrorOfTalk c.args.job.now.g c.args.job.now.l script out c.in_ok-debugger.debugger) _
-    (λ e talk file. absurd (talk-no_file _ _ script out c.in_ok-debugger.debugger e talk file)) c.answer_lines.ensures.err
+    IfErr-weaker c.answer_lines.result (IsErrorOfTalk c.args.job.now.ledger c.args.job.now.g c.args.job.now.l script out c.in_ok-debugger.debugger) _
+    (λ e talk file. absurd (talk-no_file _ _ _ script out c.in_ok-debugger.debugger e talk file)) c.answer_lines.ensures.err

@@ -7,7 +7,7 @@ use Rattle.bsp_console.proofs.script.answer_script.Given as goal
 
 abbrev pub invariant-lines : goal.invariant-lines
 invariant-lines g l = record {
-  answering : IsAnswering l.job.g l.job.l (answered_lines l.script) (option_map_or (λ text. lines_of text.now) l.rest []) l.initial.debugger l.debugger (g.W.Write.contents l.initial.out.inner) (g.W.Write.contents l.out.inner);
+  answering : IsAnswering l.job.ledger l.job.g l.job.l (answered_lines l.script) (option_map_or (λ text. lines_of text.now) l.rest []) l.initial.debugger l.debugger (g.W.Write.contents l.initial.out.inner) (g.W.Write.contents l.out.inner);
   out : l.initial.out.failures ≤ l.out.failures;
 }
 

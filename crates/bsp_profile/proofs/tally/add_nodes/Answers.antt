@@ -13,6 +13,9 @@ use Rattle.bsp_profile.specs.Tally.{IsNodeAmong, added, added_by}
 use Rattle.bsp_profile.proofs.Added.{nodes-le, among_at}
 use Rattle.bsp_profile.proofs.tally.add_nodes.Goals as goal
 
+pub loop-node-init : goal.loop-node-init
+loop-node-init g c = λ k within. omega (arith, c.requires.empty k within)
+
 pub add_requests-requires-clause-caller : goal.add_requests-requires-clause-caller
 add_requests-requires-clause-caller g c =
     let here = among_at c.args.count c.args.nodes.now c.loop-node.node-index c.node-item.result c.requires.nodes c.loop-node-test.true c.node-item.is in

@@ -15,4 +15,5 @@ returns c =
     let limit = with_arg _ _ _ _ _ c.in_ok-arg-5.ensures memory c.limit.ensures in
     let input = with_arg _ _ _ _ _ c.in_ok-arg-6.ensures limit c.input.ensures in
     let g = with_arg _ _ _ _ _ c.in_ok-arg-7.ensures input c.byte_price.ensures in
-    IfOk-weaker c.arg-8.result _ _ (λ r adds. with_arg _ _ _ _ _ adds g c.superstep_price.ensures) c.arg-8.ensures
+    let l = with_arg _ _ _ _ _ c.in_ok-arg-8.ensures g c.superstep_price.ensures in
+    IfOk-weaker c.arg-9.result _ _ (λ r adds. with_arg _ _ _ _ _ adds l c.ledger.ensures) c.arg-9.ensures

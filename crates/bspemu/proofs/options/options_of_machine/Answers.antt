@@ -11,6 +11,7 @@ returns-clause-some c =
       image = sym (c.in_ok-get_str.ensures ∙ first_value-rows found (codes "image"));
       input = sym (c.get_str-2.ensures ∙ first_value-rows found (codes "input"));
       format = sym (c.in_ok-get_str-2.ensures ∙ first_value-rows found (codes "format")) ∙ ap (λ (name : List ℕ). Some name) c.in_ok-format_named.ensures.some;
+      ledger = c.in_ok-ledger_of.ensures.some;
       settings = c.in_ok-settings_of_machine.ensures.some;
       g = number_of_getter 32 _ found (codes "g") c.in_ok-get_one.ensures.none c.in_ok-get_one.ensures.value;
       l = number_of_getter 32 _ found (codes "l") c.in_ok-get_one-2.ensures.none c.in_ok-get_one-2.ensures.value;
@@ -35,6 +36,10 @@ pub returns-in_err-settings_of_machine-clause-none : goal.returns-in_err-setting
 returns-in_err-settings_of_machine-clause-none c =
     rw c.from_residual-in_err-settings_of_machine.ensures
     (λ o gives. c.in_err-settings_of_machine.ensures.none o.job.settings gives.settings)
+
+pub returns-in_err-ledger_of-clause-none : goal.returns-in_err-ledger_of-clause-none
+returns-in_err-ledger_of-clause-none c =
+    rw c.from_residual-in_err-ledger_of.ensures (λ o gives. c.in_err-ledger_of.ensures.none o.job.ledger gives.ledger)
 
 pub returns-in_err-get_one-clause-none : goal.returns-in_err-get_one-clause-none
 returns-in_err-get_one-clause-none c =

@@ -6,5 +6,5 @@ use Rattle.cost_ledger.proofs.lines.superstep_lines.Given as goal
 
 abbrev pub invariant-loop-superstep : goal.invariant-loop-superstep
 invariant-loop-superstep g l =
-    string_bytes l.text ++ flat_map superstep_line (enumerate_from l.superstep-counter (drop l.superstep-counter l.rows))
-    ≡ superstep_lines l.rows
+    string_bytes l.text ++ flat_map (superstep_line l.version) (enumerate_from l.superstep-counter (drop l.superstep-counter l.rows))
+    ≡ superstep_lines l.version l.rows

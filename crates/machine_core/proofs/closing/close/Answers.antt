@@ -2,7 +2,7 @@ use Rattle.std.proofs.Common.{◌≡◌, Some, refl, sym, ap, ◌∙◌, option_
 use Rattle.bsp_exchange.specs.Exchange.{states}
 use Rattle.bsp_exchange.specs.Faults.{exchange_fault}
 use Rattle.bsp_exchange.specs.Parts.{CanExchange, parts_of}
-use Rattle.bsp_exchange.specs.Traffic.{h_of}
+use Rattle.bsp_exchange.specs.Traffic.{traffic_of}
 use Rattle.machine_core.specs.declared.outcome.Outcome.TheVariants.{Refused}
 use Rattle.machine_core.specs.Turn.{outcome_of}
 use Rattle.bsp_exchange.proofs.KeepsOwn.{EachKeepsOwn-same}
@@ -21,7 +21,7 @@ returns-in-Ok-clause-ok g c =
       exchanges = subst CanExchange (sym same) can;
       gathered = planned.parts ∙ ap parts_of (sym same);
       ready = planned.prepared;
-      relation = planned.traffic ∙ ap h_of (sym same);
+      traffic = planned.traffic ∙ ap traffic_of (sym same);
     }
 
 pub returns-in-Err-Fault-clause-ok : goal.returns-in-Err-Fault-clause-ok

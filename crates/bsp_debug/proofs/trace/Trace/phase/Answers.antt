@@ -1,6 +1,7 @@
 use Rattle.std.proofs.Common.{◌≡◌, ℕ, ◌+◌, ◌≤◌, ◌^◌, ◌++◌, length, replicate, refl, sym, ap, ◌∙◌, subst, arith}
 use Rattle.std.proofs.lemmas.List.{length-append, length-replicate}
 use Rattle.std.proofs.lemmas.Result.{err_from_is_err_and}
+use Rattle.node_core.specs.Hart.{max_nodes}
 use Rattle.machine_core.specs.declared.event.Event.TheVariants.{Step}
 use Rattle.machine_core.specs.declared.settings.Settings.{Settings}
 use Rattle.machine_core.specs.Events.{after}
@@ -60,7 +61,7 @@ overflow_add-moved g c =
     let so_far = c.loop-rank.invariant in
     let sound = subst IsSoundMachine c.machine.ensures.value c.settings-settings.ensures.sound in
     let same : c.settings-settings.result ≡ c.args.self.now.machine.settings = c.settings-settings.ensures.value ∙ ap (λ (m : MachineState). m.settings) c.machine.ensures.value in
-    let nodes : c.settings-settings.result.nodes ≤ 256 = rw (ap (λ (s : Settings). s.nodes) same) sound.settings.few in
+    let nodes : c.settings-settings.result.nodes ≤ max_nodes = rw (ap (λ (s : Settings). s.nodes) same) sound.settings.few in
     let limit : c.settings-settings.result.limit ≤ 2 ^ 40 = rw (ap (λ (s : Settings). s.limit) same) sound.settings.limit in
     let more = c.in_ok-moved.ensures.few in
     omega (arith, so_far.few, nodes, limit, more, c.loop-rank-test.true)

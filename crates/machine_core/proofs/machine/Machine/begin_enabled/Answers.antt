@@ -4,7 +4,7 @@ use Rattle.std.proofs.lemmas.List.{length-map, with_items_is}
 use Rattle.node_core.specs.Node.{PreparedNode}
 use Rattle.bsp_exchange.specs.Exchange.{AreAtSync, states}
 use Rattle.bsp_exchange.specs.Parts.{CanExchange, CanLand, parts_of}
-use Rattle.bsp_exchange.specs.Traffic.{h_of}
+use Rattle.bsp_exchange.specs.Traffic.{traffic_of}
 use Rattle.cost_ledger.specs.CostRow.{PreparedRows}
 use Rattle.cost_ledger.specs.declared.CostRow.{CostRow}
 use Rattle.machine_core.specs.declared.event.Event.TheVariants.{Turn}
@@ -98,7 +98,7 @@ invariant_of-lander g c =
     let is = ap outcome_of (sym same) ∙ planned.none in
     let output_is = c.in-Ok-Planned.ensures.written ∙ ap (λ (ps : List PreparedNode). m.output ++ written (states ps)) c.deref_mut.ensures.value in (
       awaits m c.of-before.result.value c.begin.new.output.items c.begin.new.ledger.rows _ (c.self.view_is ∙ sym c.of-before.ensures) c.self.invariant enabled is (subst CanExchange same planned.exchanges) output_is c.begin.ensures.rows
-          (cost-exchanged m c.work-w.result _ is w_is (planned.relation ∙ ap h_of same)),
+          (cost-exchanged m c.work-w.result _ is w_is (planned.traffic ∙ ap traffic_of same)),
       c.in-Ok-Planned.ensures.ready,
     )
 

@@ -28,6 +28,16 @@ add_prepared-requires-clause-relation g c =
     let waits = c.self.invariant.0 in
     (bounds c.self.inside.before.value c.self.inside.cost waits.sound waits.costs).relation
 
+pub add_prepared-requires-clause-whole_relation : goal.add_prepared-requires-clause-whole_relation
+add_prepared-requires-clause-whole_relation g c =
+    let waits = c.self.invariant.0 in
+    (bounds c.self.inside.before.value c.self.inside.cost waits.sound waits.costs).whole_relation
+
+pub add_prepared-requires-clause-messages : goal.add_prepared-requires-clause-messages
+add_prepared-requires-clause-messages g c =
+    let waits = c.self.invariant.0 in
+    (bounds c.self.inside.before.value c.self.inside.cost waits.sound waits.costs).messages
+
 pub add_prepared-requires-clause-few : goal.add_prepared-requires-clause-few
 add_prepared-requires-clause-few g c =
     let waits = c.self.invariant.0 in

@@ -7,8 +7,9 @@ ghost use Rattle.node_core.specs.Arithmetic.{modulo, floor_div, signed};
 ghost use Rattle.node_core.specs.Arithmetic.{r_value as r_value_of, i_value as i_value_of};
 ghost use Rattle.node_core.specs.Arithmetic.{shift_value as shift_value_of};
 ghost use Rattle.node_core.specs.Arithmetic.{is_taken as is_taken_of};
+ghost use Rattle.node_core.specs.Effects.{upper_value as upper_value_of};
 
-use rv_tables::{BranchOp, IOp, ROp, ShiftOp};
+use rv_tables::{BranchOp, IOp, ROp, ShiftOp, UpperOp};
 
 /// What an instruction on two registers puts into its third.
 #[inline]
@@ -143,6 +144,18 @@ pub fn shift_value(op: ShiftOp, a: u32, shamt: u8) -> u32
         ShiftOp::Slli => a.wrapping_shl(k),
         ShiftOp::Srli => a >> k,
         ShiftOp::Srai => shift_right_signed(a, k),
+    }
+}
+
+/// What an instruction with a constant of 20 bits puts into a register.
+#[inline]
+pub fn upper_value(op: UpperOp, pc: u32, imm: u32) -> u32
+    ensures { result ≡ upper_value_of op pc imm }
+{
+    let upper = imm.wrapping_shl(12);
+    match op {
+        UpperOp::Lui => upper,
+        UpperOp::Auipc => pc.wrapping_add(upper),
     }
 }
 

@@ -78,13 +78,16 @@ IsWorked-all input old present i r long past worked =
     rw (first, second) at worked
 
 -- steps after steps
+pub steps_then : (input : List ℕ) (k m : ℕ) (old mid new : NodeState) → mid ≡ local_steps input k old → new ≡ local_steps input m mid → new ≡ local_steps input (k + m) old
+steps_then input k m old mid new first second = second ∙ ap (λ (x : NodeState). local_steps input m x) first ∙ sym (local_steps-add input k m old)
+
 pub HaveStepped-on : (input : List ℕ) (old mid new : List NodeState) → HaveStepped input old mid → HaveStepped input mid new → HaveStepped input old new
 HaveStepped-on input [] [] new first second = second
 HaveStepped-on input [] (n ∷ mid) new first second = absurd first
 HaveStepped-on input (o ∷ old) [] new first second = absurd first
 HaveStepped-on input (o ∷ old) (n ∷ mid) [] first second = absurd second
 HaveStepped-on input (o ∷ old) (n ∷ mid) (m ∷ new) first second = (
-  (first.0.0 + second.0.0, second.0.1 ∙ ap (λ (x : NodeState). local_steps input second.0.0 x) first.0.1 ∙ sym (local_steps-add input first.0.0 second.0.0 o)),
+  (first.0.0 + second.0.0, steps_then input first.0.0 second.0.0 o n m first.0.1 second.0.1),
   HaveStepped-on input old mid new first.1 second.1,
 )
 

@@ -19,6 +19,20 @@ use std::thread::Threads;
 /// The most steps that a node may make, whatever its limit.
 const MOST_STEPS: u64 = 1 << 40;
 
+/// After how many steps of a node the bytes that it has asked for are first looked at; after these, each time that its steps have
+/// doubled.
+const FIRST_LOOK: u64 = 256;
+
+/// How much of a superstep this thread makes by itself before others are started: so many steps, and fewer where the nodes have asked
+/// for so many bytes before that.
+#[derive(Clone, Copy)]
+pub(crate) struct FirstShare {
+    /// The most steps, of all nodes together.
+    pub(crate) steps: u64,
+    /// How many bytes its nodes ask for in the superstep, by requests and output, before it ends.
+    pub(crate) bytes: u64,
+}
+
 /// Nodes that come back from their work, and what was refused meanwhile.
 #[derive(Drop)]
 pub(crate) struct Worked<A: Allocator> {
@@ -26,8 +40,8 @@ pub(crate) struct Worked<A: Allocator> {
     pub(crate) answer: Result<(), Refusal>,
 }
 
-/// Takes nodes through their local parts of the superstep. This thread makes a first share of the steps of each node. Where one
-/// runs on then, so many workers share out the nodes, slice by slice. What they leave running, this thread finishes.
+/// Takes nodes through their local parts of the superstep. This thread makes a first share of their steps. Where a node runs then,
+/// so many workers share out the nodes, slice by slice. What they leave running, this thread finishes.
 ///
 /// A refusal stops no node that did not need what was refused.
 pub(crate) fn work_on<
@@ -37,7 +51,7 @@ pub(crate) fn work_on<
 >(
     rt: &R,
     work: &Work<'_, G>,
-    share: u64,
+    share: FirstShare,
     workers: usize,
     input: &[u8],
     nodes: Vec<Node<A>, A>,
@@ -155,31 +169,46 @@ fn work_in_halves<R: Threads + Wait + Sync, A: Allocator + Copy + Send + Sync, G
     )
 }
 
-/// Makes so many steps of each node, one node after another. One that is refused memory stops no other.
-fn begin<A: Allocator + Copy>(input: &[u8], steps: u64, mut nodes: Vec<Node<A>, A>) -> Worked<A>
+/// Makes a first share of the nodes' steps, as many of each, one node after another, until the bytes of the share are asked for. A node
+/// that is refused memory stops no other.
+fn begin<A: Allocator + Copy>(
+    input: &[u8],
+    share: FirstShare,
+    mut nodes: Vec<Node<A>, A>,
+) -> Worked<A>
     ensures stepped { HaveStepped input.now (states nodes.items) (states result.nodes.items) }
     ensures no_worker { result.answer ≢ Err Refusal.NoWorker }
 {
+    let steps = share.steps / nodes.len().max(1) as u64;
+    let mut bytes = share.bytes;
     let mut answer = Ok(());
     for place in 0..nodes.len() {
-        answer = both(answer, begin_node(input, steps, &mut nodes[place]));
+        let begun = begin_node(input, FirstShare { steps, bytes }, &mut nodes[place]);
+        answer = both(answer, begun);
+        bytes = bytes.saturating_sub(nodes[place].requests().bytes());
     }
     Worked { nodes, answer }
 }
 
-/// Makes so many steps of a node.
+/// Makes a share of a node's steps. How many bytes it has asked for is looked at now and then, so that it ends near those of the share.
 ///
 /// # Errors
 /// [`Refusal::NoMemory`] in a step. The steps before it are made.
 fn begin_node<A: Allocator + Copy>(
     input: &[u8],
-    steps: u64,
+    share: FirstShare,
     node: &mut Node<A>,
 ) -> Result<(), Refusal>
     ensures stepped { (k : ℕ) × (node.new.node ≡ local_steps input.now k node.old.node) }
     ensures no_worker { result ≢ Err Refusal.NoWorker }
 {
-    node.run(input, steps).map_err(|_| Refusal::NoMemory)
+    let mut made = 0;
+    while made < share.steps && node.requests().bytes() < share.bytes && node.state().is_running() {
+        let more = made.max(FIRST_LOOK).min(share.steps - made);
+        node.run(input, more).map_err(|_| Refusal::NoMemory)?;
+        made += more;
+    }
+    Ok(())
 }
 
 /// Takes nodes to the end of their local parts one after another, in this thread. One that is refused memory stops no other.

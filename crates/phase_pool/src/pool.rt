@@ -13,7 +13,7 @@ ghost use Rattle.phase_pool.specs.Work.{HaveCome};
 use crate::error::{PoolError, Refusal, both};
 use crate::landing::{Share, bytes_of, land_in_threads};
 use crate::numbers::check_numbers;
-use crate::part::work_on;
+use crate::part::{FirstShare, work_on};
 use bsp_exchange::Part;
 use claim_table::{Gate, OpenGate, Work};
 use machine_core::{Begun, Landing, Machine, Settings};
@@ -21,9 +21,12 @@ use std::alloc::{AllocError, Allocator};
 use std::sync::Wait;
 use std::thread::Threads;
 
-/// Over how many steps of all nodes together a superstep is made by the caller's thread alone, by [`run_sparing`] (own rule): a
-/// thread costs about as much as so many steps do.
-const FIRST_STEPS: u64 = 200_000;
+/// What the caller's thread makes of a superstep before others are started, by [`run_sparing`] (own rule): a thread costs about as much
+/// as so many steps do, or the copies of so many bytes.
+const FIRST_SHARE: FirstShare = FirstShare {
+    steps: 200_000,
+    bytes: 1 << 20,
+};
 
 /// From how many bytes of an exchange on threads land its parts, by [`run_sparing`] (own rule).
 const LANDED_BYTES: u64 = 1 << 20;
@@ -33,8 +36,8 @@ const LANDED_BYTES: u64 = 1 << 20;
 struct Team<'g, G> {
     workers: u32,
     slice: u64,
-    /// How many steps of all nodes together the caller's thread makes first.
-    first_steps: u64,
+    /// What the caller's thread makes first.
+    first: FirstShare,
     /// From how many bytes of an exchange on threads land its parts.
     landed_bytes: u64,
     gate: &'g G,
@@ -48,7 +51,7 @@ impl<'g, G> Team<'g, G> {
         Team {
             workers,
             slice,
-            first_steps: 0,
+            first: FirstShare { steps: 0, bytes: 0 },
             landed_bytes: 0,
             gate,
         }
@@ -56,14 +59,18 @@ impl<'g, G> Team<'g, G> {
 }
 
 impl Team<'static, OpenGate> {
-    /// The caller's thread makes the first steps of all nodes, and the only worker all of them.
+    /// The caller's thread makes the first steps of the nodes, and the only worker all of them.
     fn sparing(workers: u32, slice: u64) -> Team<'static, OpenGate>
         ensures { (result.workers ≡ workers) × (result.slice ≡ slice) }
     {
+        let whole = FirstShare {
+            steps: u64::MAX,
+            bytes: u64::MAX,
+        };
         Team {
             workers,
             slice,
-            first_steps: if workers == 1 { u64::MAX } else { FIRST_STEPS },
+            first: if workers == 1 { whole } else { FIRST_SHARE },
             landed_bytes: LANDED_BYTES,
             gate: &OpenGate,
         }
@@ -166,8 +173,8 @@ pub fn run<R: Threads + Wait + Sync, A: Allocator + Copy + Send + Sync, G: Gate<
 }
 
 /// As [`run`], with an open gate, but starts threads only for the work that pays for them: first the caller's thread makes some
-/// steps of each node, and only where a node still runs then do the workers share out the nodes; and parts land in several threads
-/// only where there are bytes enough. One worker needs no table.
+/// steps of each node, or fewer where they ask for many bytes, and only where a node still runs then do the workers share out the nodes;
+/// and parts land in several threads only where there are bytes enough. One worker needs no table.
 ///
 /// # Errors
 /// As [`run`].
@@ -290,10 +297,9 @@ fn work_on_machine<R: Threads + Wait + Sync, A: Allocator + Copy + Send + Sync, 
         slice: team.slice,
         allowance: allowance(settings, team.slice),
     };
-    let share = team.first_steps / u64::from(settings.nodes);
     let (lender, row) = machine.lend();
     let workers = row.len().min(team.workers as usize);
-    let worked = work_on(rt, &work, share, workers, lender.input(), row);
+    let worked = work_on(rt, &work, team.first, workers, lender.input(), row);
     (lender.take_back(worked.nodes), worked.answer)
 }
 

@@ -9,14 +9,14 @@ loop-place-preserved g c =
     let old = c.args.nodes.items in
     let row = c.loop-place.nodes.items in
     let i = c.loop-place.place in
-    let after = c.begin_node.new.node in
+    let after = c.begin_node-begun.new.node in
     record {
-      stepped = HaveStepped-next c.args.input.now old row i c.index_mut.result.now after (omega (arith, c.loop-place-test.true, c.len-place-end.ensures, c.args.nodes.ok.0)) so_far.length so_far.rest c.index_mut.ensures.value c.begin_node.ensures.stepped so_far.stepped;
+      stepped = HaveStepped-next c.args.input.now old row i c.index_mut.result.now after (omega (arith, c.loop-place-test.true, c.len-place-end.ensures, c.args.nodes.ok.0)) so_far.length so_far.rest c.index_mut.ensures.value c.begin_node-begun.ensures.stepped so_far.stepped;
       rest = drop-set-lt (i + 1) row i after (omega arith) ∙ drop_one_more row old i so_far.rest;
       length = length-set row i after ∙ so_far.length;
       no_worker = λ refused. elim (c.both-answer.ensures.no_worker.0 refused) [
         | inl before ↦ so_far.no_worker before
-        | inr now ↦ c.begin_node.ensures.no_worker now
+        | inr now ↦ c.begin_node-begun.ensures.no_worker now
       ];
     }
 

@@ -9,7 +9,7 @@ use Rattle.node_memory.specs.declared.page.Page.TheVariants.{Own, Shared}
 
 -- the bytes of a page, whoever has it
 abbrev pub page_bytes : {A : Type 0} → Page A → List ℕ
-page_bytes (Own b) = b.value
+page_bytes (Own b) = b.value.bytes
 page_bytes (Shared s) = arc_value s
 
 abbrev pub is_own : {A : Type 0} → Page A → Bool

@@ -9,10 +9,19 @@ use std::sync::Arc;
 /// The bytes of a page.
 pub(crate) const PAGE: usize = 0x1000;
 
+/// The bytes of a page of the memory's own.
+// For speed: they stand as far behind the place of the box as an `Arc` has its value behind the count, so that a load need not find out
+// whose a page is.
+#[derive(Drop)]
+pub(crate) struct OwnBytes {
+    _count: usize,
+    pub(crate) bytes: [u8; 0x1000],
+}
+
 /// A page's bytes. Only a page of the memory's own is ever written; a shared one is the same for all that share it.
 #[derive(Drop)]
 pub(crate) enum Page<A: Allocator> {
-    Own(Box<[u8; 0x1000], A>),
+    Own(Box<OwnBytes, A>),
     Shared(Arc<[u8; 0x1000], A>),
 }
 
@@ -22,7 +31,7 @@ impl<A: Allocator> Page<A> {
         ensures { result.now ≡ page_bytes self.now }
     {
         match self {
-            Page::Own(bytes) => bytes,
+            Page::Own(own) => &own.bytes,
             Page::Shared(bytes) => bytes,
         }
     }
@@ -43,7 +52,7 @@ impl<A: Allocator> Page<A> {
         ensures shared { IfOk result (λ p. is_own p ≡ false) }
     {
         match self {
-            Page::Own(bytes) => Ok(Page::Shared(Arc::new(alloc, **bytes)?)),
+            Page::Own(own) => Ok(Page::Shared(Arc::new(alloc, own.bytes)?)),
             Page::Shared(bytes) => Ok(Page::Shared(Arc::try_clone(bytes)?)),
         }
     }
@@ -53,6 +62,10 @@ impl<A: Allocator> Page<A> {
         ensures bytes { IfOk result (λ p. page_bytes p ≡ page_bytes self.now) }
         ensures own { IfOk result (λ p. is_own p ≡ true) }
     {
-        Ok(Page::Own(Box::new(alloc, *self.bytes())?))
+        let own = OwnBytes {
+            _count: 0,
+            bytes: *self.bytes(),
+        };
+        Ok(Page::Own(Box::new(alloc, own)?))
     }
 }

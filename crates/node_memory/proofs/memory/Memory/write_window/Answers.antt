@@ -1,5 +1,6 @@
 use Rattle.std.proofs.Common.{◌≡◌, ◌/◌, ◌%◌, ◌<◌, true, false, length, refl, sym, ap, ◌∙◌, arith}
 use Rattle.node_memory.specs.Table.{page_bytes, is_own}
+use Rattle.node_memory.specs.declared.page.OwnBytes.{OwnBytes}
 use Rattle.node_memory.proofs.Table.{table}
 use Rattle.std.proofs.lemmas.Bool.{false≢true}
 use Rattle.std.proofs.lemmas.Option.{slice_get_within, same_Some}
@@ -12,10 +13,10 @@ returns-in-Own-clause-bytes g c =
     let t = table _ _ c.self.view_is c.self.invariant in
     let in_table : c.args.addr / 4096 < length c.self.inside.pages.items = let e = pages-shown t in let i = slice_get_within c.args.self.now.own (c.args.addr / 4096) true c.requires.own in omega (arith, e, i) in
     let page = c.index_mut.result.now in
-    let old : page_bytes page ≡ c.in-Own.page.value = ap page_bytes c.in-Own.is in
+    let old : page_bytes page ≡ c.in-Own.page.value.bytes = ap page_bytes c.in-Own.is in
     let long : length (page_bytes page) ≡ 4096 = whole-at page_bytes _ _ _ page c.self.invariant.whole refl in_table c.index_mut.ensures.value in
     write-shown t c.args.addr c.args.bytes.now page _ in_table c.requires.one_page c.index_mut.ensures.value
-    (put_mid-with_bytes (c.args.addr % 4096) (length c.args.bytes.now) _ (page_bytes page) _ _ _ (c.deref_mut.ensures.value ∙ sym old) c.copy_from_slice.ensures.after refl (omega arith) (omega (arith, c.requires.one_page)))
+    (put_mid-with_bytes (c.args.addr % 4096) (length c.args.bytes.now) _ (page_bytes page) _ _ _ (ap (λ (o : OwnBytes). o.bytes) c.deref_mut.ensures.value ∙ sym old) c.copy_from_slice.ensures.after refl (omega arith) (omega (arith, c.requires.one_page)))
 
 pub returns-in-Own-clause-same_own : goal.returns-in-Own-clause-same_own
 returns-in-Own-clause-same_own g c =

@@ -8,7 +8,8 @@ use Rattle.std.proofs.lemmas.Option.{none-some, slice_get-map, slice_get_read}
 use Rattle.std.proofs.lemmas.List.{drop_all, length-map}
 use Rattle.std.proofs.lemmas.List.Folds.{find-append}
 use Rattle.bsp_slots.specs.declared.area.Area.{Area}
-use Rattle.bsp_requests.specs.Request.{Asked}
+use Rattle.bsp_requests.specs.declared.request.Request.{Request}
+use Rattle.bsp_requests.specs.Request.{Asked, asked}
 use Rattle.node_core.specs.Node.{NodeState, PreparedNode}
 use Rattle.bsp_exchange.specs.declared.fault.ExchangeFault.{ExchangeFault}
 use Rattle.bsp_exchange.specs.declared.fault.ExchangeFault.TheVariants.{OutsideArea}
@@ -111,6 +112,17 @@ leaves_here nodes n i r is leaves =
 pub keeps_here : (nodes : List NodeState) (n : NodeState) (i : ℕ) (r : Asked) → slice_get n.hart.communication.requests.requests i ≡ Some r → leaves_area nodes r ≡ false → first_outside nodes (issued_from n i) ≡ first_outside nodes (issued_from n (i + 1))
 keeps_here nodes n i r is keeps =
     next_request nodes n i r is ∙ ap (λ b. cond b (Some (OutsideArea n.hart.rank i)) (first_outside nodes (issued_from n (i + 1)))) keeps
+
+-- a request that is lent from a place is the one that is asked there
+pub asked_here : {A : Type 0} (rs : List Asked) (lent : List (Request A)) (i : ℕ) (r : Request A) → map asked lent ≡ rs → i < length lent → r ≡ get_or lent i r → slice_get rs i ≡ Some (asked r)
+asked_here rs lent i r same within is =
+    ap (λ (qs : List Asked). slice_get qs i) (sym same)
+    ∙ slice_get-map asked lent i
+    ∙ ap (option_map asked) (slice_get_read lent (length lent) i r refl within is)
+
+-- and none is asked past those that are lent
+pub asked_all : {A : Type 0} (rs : List Asked) (lent : List (Request A)) (i : ℕ) → map asked lent ≡ rs → length lent ≤ i → length rs ≤ i
+asked_all rs lent i same past = rw (ap length (sym same) ∙ length-map lent asked) past
 
 -- there is no element only past the end
 pub past_end : {X : Type 0} (xs : List X) (i : ℕ) → slice_get xs i ≡ None → length xs ≤ i

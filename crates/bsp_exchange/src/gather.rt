@@ -99,14 +99,11 @@ fn add_requests<A: Allocator + Copy>(
     ensures ok { OnOk result (parts.new ≡ with_issued (states nodes.now) parts.old (issued_by node.now.node)) }
     ensures sound { IsHart node.now.node.hart }
 {
-    let requests = node.requests();
-    for issue in 0..requests.len() {
-        if let Some(request) = requests.at(issue) {
-            if leaves_area(nodes, request) {
-                return Err(NotGathered);
-            }
-            add_request(nodes, node.rank(), request, parts)?;
+    for request in node.requests().as_slice() {
+        if leaves_area(nodes, request) {
+            return Err(NotGathered);
         }
+        add_request(nodes, node.rank(), request, parts)?;
     }
     Ok(())
 }

@@ -85,10 +85,8 @@ fn add_requests<A: Allocator + Copy>(caller: u32, requests: &Requests<A>, loads:
     requires room { All (IsWithin (2 ^ 35)) loads.old }
     ensures { loads.new ≡ with_transfers loads.old (transfers_of caller requests.now.requests) }
 {
-    for issue in 0..requests.len() {
-        if let Some(request) = requests.at(issue) {
-            add_request(caller, request, loads);
-        }
+    for request in requests.as_slice() {
+        add_request(caller, request, loads);
     }
 }
 

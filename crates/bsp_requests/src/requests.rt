@@ -1,4 +1,4 @@
-ghost use Rattle.std.specs.Prelude.{◌≡◌, ◌≤◌, ◌↔◌, length, IsTrue, IsErrOf, OnOk, OnErr, option_map, option_copied, slice_get};
+ghost use Rattle.std.specs.Prelude.{◌≡◌, ◌≤◌, ◌↔◌, length, map, IsTrue, IsErrOf, OnOk, OnErr, option_map, option_copied, slice_get};
 ghost use Rattle.bsp_requests.specs.Request.{asked, asks_put, asks_get, asks_send};
 ghost use Rattle.bsp_requests.specs.Requests.{no_requests, with_request, with_output, total_bytes, max_requests, max_bytes, are_too_many, is_full_for, is_too_much};
 ghost use Rattle.bsp_requests.specs.declared.requests.AddError.TheVariants.{NoMemory};
@@ -125,6 +125,13 @@ impl<A: Allocator> Requests<A> {
         ensures { option_map asked (option_copied result) ≡ slice_get self.now.requests issue }
     {
         self.requests.get(issue)
+    }
+
+    /// The requests, in issue order.
+    pub fn as_slice(&self) -> &[Request<A>]
+        ensures { map asked result.now ≡ self.now.requests }
+    {
+        self.requests.as_slice()
     }
 
     /// The bytes of all requests and of the output, as one sum.

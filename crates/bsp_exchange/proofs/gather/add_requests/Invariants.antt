@@ -7,9 +7,9 @@ use Rattle.bsp_exchange.proofs.Finds.{issued_from}
 use Rattle.bsp_exchange.proofs.gather.add_requests.Given as goal
 
 -- no request before this one leaves its area, and those that are left lead to what all of them do
-abbrev pub invariant-loop-issue : goal.invariant-loop-issue
-invariant-loop-issue g l = record {
+abbrev pub invariant-loop-request : goal.invariant-loop-request
+invariant-loop-request g l = record {
   size : length l.parts ≡ length l.nodes;
-  inside : first_outside (states l.nodes) (issued_from l.node.node l.issue) ≡ first_outside (states l.nodes) (issued_by l.node.node);
-  same : with_issued (states l.nodes) l.parts (issued_from l.node.node l.issue) ≡ with_issued (states l.nodes) l.fn.parts (issued_by l.node.node);
+  inside : first_outside (states l.nodes) (issued_from l.node.node l.request-index) ≡ first_outside (states l.nodes) (issued_by l.node.node);
+  same : with_issued (states l.nodes) l.parts (issued_from l.node.node l.request-index) ≡ with_issued (states l.nodes) l.fn.parts (issued_by l.node.node);
 }

@@ -1,33 +1,37 @@
-use Rattle.std.proofs.Common.{◌≤◌, ◌^◌, length, take, arith, ap, sym, ◌∙◌, option_copied}
-use Rattle.std.specs.Prelude.{option_map}
+use Rattle.std.proofs.Common.{◌<◌, ◌^◌, length, take, arith}
 use Rattle.std.proofs.lemmas.List.Elements.{All-same}
 use Rattle.bsp_requests.specs.Request.{asked}
 use Rattle.bsp_exchange.specs.Loads.{with_transfers, transfers_of, IsWithin}
-use Rattle.bsp_exchange.proofs.Finds.{past_end}
+use Rattle.bsp_exchange.specs.Parts.{target_of}
+use Rattle.bsp_exchange.proofs.Finds.{asked_here}
+use Rattle.bsp_exchange.proofs.Gathered.{all_at}
 use Rattle.bsp_exchange.proofs.Loads.{next_transfer, size_within, room_left}
-use Rattle.bsp_exchange.proofs.traffic.add_requests.Goals.{in-Some, in_default}
 use Rattle.bsp_exchange.proofs.traffic.add_requests.Goals as goal
+
+pub add_request-requires-clause-target : goal.add_request-requires-clause-target
+add_request-requires-clause-target g c =
+    let rs = c.args.requests.now.requests in
+    let i = c.loop-request.request-index in
+    let found = asked_here rs c.as_slice-request-items.result.now i c.request-item.result c.as_slice-request-items.ensures c.loop-request-test.true c.request-item.is in
+    rw c.loop-request.auto.loads (all_at (λ r. target_of r < length c.args.loads.now) rs i (asked c.request-item.result) c.requires.targets found)
 
 pub add_request-requires-clause-limit : goal.add_request-requires-clause-limit
 add_request-requires-clause-limit g c =
-    let found = sym c.at.ensures ∙ ap (option_map asked) (ap option_copied c.in-Some.is) in
-    size_within c.args.requests.now.requests c.loop-issue.issue (asked c.in-Some.request.now) (2 ^ 32) found (omega (arith, c.requires.limits.bytes))
+    let rs = c.args.requests.now.requests in
+    let i = c.loop-request.request-index in
+    let found = asked_here rs c.as_slice-request-items.result.now i c.request-item.result c.as_slice-request-items.ensures c.loop-request-test.true c.request-item.is in
+    size_within rs i (asked c.request-item.result) (2 ^ 32) found (omega (arith, c.requires.limits.bytes))
 
 pub add_request-requires-clause-room : goal.add_request-requires-clause-room
 add_request-requires-clause-room g c =
     let rs = c.args.requests.now.requests in
-    All-same (IsWithin (2 ^ 36)) c.loop-issue.loads (with_transfers c.args.loads.now (transfers_of c.args.caller (take c.loop-issue.issue rs))) c.loop-issue.invariant
-    (room_left c.args.loads.now c.args.caller rs c.loop-issue.issue (2 ^ 35) (2 ^ 36) c.requires.room (omega (arith, c.requires.limits.bytes, c.requires.limits.requests)))
+    let i = c.loop-request.request-index in
+    All-same (IsWithin (2 ^ 36)) c.loop-request.loads (with_transfers c.args.loads.now (transfers_of c.args.caller (take i rs))) c.loop-request.invariant
+    (room_left c.args.loads.now c.args.caller rs i (2 ^ 35) (2 ^ 36) c.requires.room (omega (arith, c.requires.limits.bytes, c.requires.limits.requests)))
 
-pub loop-issue-preserved : goal.loop-issue-preserved
-loop-issue-preserved g c =
-    let i = c.loop-issue.issue in
+pub loop-request-preserved : goal.loop-request-preserved
+loop-request-preserved g c =
     let rs = c.args.requests.now.requests in
-    elim c.match-at.branch [
-      | in-Some w ↦
-          let found = sym c.at.ensures ∙ ap (option_map asked) (ap option_copied w.in-Some.is) in
-          w.loads-is ∙ next_transfer c.args.loads.now c.loop-issue.loads w.add_request.new.loads c.args.caller rs i (asked w.in-Some.request.now) c.loop-issue.invariant found w.add_request.ensures
-      | in_default w ↦
-          let past : length rs ≤ i = past_end rs i (sym c.at.ensures ∙ ap (option_map asked) (ap option_copied w.in_default.is)) in
-          absurd (omega (arith, c.len-issue-end.ensures.len, c.loop-issue-test.true))
-    ]
+    let i = c.loop-request.request-index in
+    let found = asked_here rs c.as_slice-request-items.result.now i c.request-item.result c.as_slice-request-items.ensures c.loop-request-test.true c.request-item.is in
+    next_transfer c.args.loads.now c.loop-request.loads c.add_request.new.loads c.args.caller rs i (asked c.request-item.result) c.loop-request.invariant found c.add_request.ensures

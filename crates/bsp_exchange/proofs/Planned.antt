@@ -12,10 +12,10 @@ use Rattle.node_core.specs.Hart.{max_nodes}
 use Rattle.node_core.specs.Node.{NodeState, PreparedNode}
 use Rattle.bsp_exchange.specs.Arrivals.{Received, ArePrepared, IsPrepared, part_from, received_at}
 use Rattle.bsp_exchange.specs.Exchange.{states}
-use Rattle.bsp_exchange.specs.Parts.{Patch, PartState, OwnsEach, CanExchange, CanLand, part_of, parts_of}
+use Rattle.bsp_exchange.specs.Parts.{Patch, PartState, OwnsEach, CanExchange, CanLand, bytes_in, part_of, parts_of}
 use Rattle.bsp_exchange.specs.declared.traffic.Traffic.{Traffic}
 use Rattle.bsp_exchange.specs.Traffic.{traffic_of}
-use Rattle.bsp_exchange.proofs.Bounds.{traffic_bounded}
+use Rattle.bsp_exchange.proofs.Bounds.{puts_bounded, traffic_bounded}
 use Rattle.bsp_exchange.proofs.Gathered.{all_at, length-states}
 use Rattle.bsp_exchange.proofs.Landed.{parts_are, rank_is, whole}
 use Rattle.std.proofs.lemmas.Option.{slice_get-map}
@@ -36,6 +36,11 @@ parts_planned ps arrivals planned =
     ∙ numbered (states ps) 0 (length ps)
     ∙ ap (λ (n : ℕ). map (part_of (states ps)) (range_with_len 0 n)) (sym (length-states ps))
 
+-- there are no more nodes than ranks that a node can know of
+few_nodes : (nodes : List NodeState) → CanExchange nodes → length nodes ≤ max_nodes
+few_nodes [] can = omega arith
+few_nodes (n ∷ nodes) can = omega (arith, (can.sound 0 n (omega arith)).few, can.row.counts 0 n (omega arith))
+
 node_there : (nodes : List NodeState) (k : ℕ) → k < length nodes → (n : NodeState) × (slice_get nodes k ≡ Some n)
 node_there [] k there = absurd (omega arith)
 node_there (n ∷ nodes) zero there = (n, refl)
@@ -51,6 +56,13 @@ queues_planned ps arrivals can planned =
     let is : get_or (range_with_len 0 (length ps)) k d ≡ k = get_or-range_with_len 0 (length ps) k d there ∙ omega arith in
     rw is (whole nodes can.row can.faultless can.sound k n here).fits.queue in
     rw planned (All-map (λ (r : Received). IsQueue r.messages) (received_at nodes) (range_with_len 0 (length ps)) each)
+
+-- and each is put fewer bytes than a number of 64 bits counts
+pub bytes_planned : (ps : List PreparedNode) (arrivals : List Received) → CanExchange (states ps) → arrivals ≡ map (received_at (states ps)) (range_with_len 0 (length ps)) → All (λ (r : Received). bytes_in r.puts < 2 ^ 63) arrivals
+bytes_planned ps arrivals can planned =
+    let nodes = states ps in
+    let few = few_nodes nodes can in
+    rw planned (All-map (λ (r : Received). bytes_in r.puts < 2 ^ 63) (received_at nodes) (range_with_len 0 (length ps)) (λ k d below. puts_bounded nodes (get_or (range_with_len 0 (length ps)) k d) few can.sound))
 
 pub owns_both : (own : List Bool) (a b : List Patch) → OwnsEach own a → OwnsEach own b → OwnsEach own (a ++ b)
 owns_both own [] b first second = second
@@ -129,11 +141,6 @@ pub received_same : (ps qs : List PreparedNode) → states qs ≡ states ps → 
 received_same ps qs same =
     let long : length ps ≡ length qs = sym (length-states ps) ∙ ap length (sym same) ∙ length-states qs in
     ap₂ (λ (ns : List NodeState) (n : ℕ). map (received_at ns) (range_with_len 0 n)) (sym same) long
-
--- there are no more nodes than ranks that a node can know of
-few_nodes : (nodes : List NodeState) → CanExchange nodes → length nodes ≤ max_nodes
-few_nodes [] can = omega arith
-few_nodes (n ∷ nodes) can = omega (arith, (can.sound 0 n (omega arith)).few, can.row.counts 0 n (omega arith))
 
 pub few_planned : (ps : List PreparedNode) (arrivals : List Received) → CanExchange (states ps) → arrivals ≡ map (received_at (states ps)) (range_with_len 0 (length ps)) → length arrivals ≤ max_nodes
 few_planned ps arrivals can planned =

@@ -1,6 +1,6 @@
 //! What arrives at one node in an exchange.
 
-ghost use Rattle.std.specs.Prelude.{◌≡◌, ◌+◌, false, length, IsTrue, OnOk, OnErr};
+ghost use Rattle.std.specs.Prelude.{◌≡◌, ◌+◌, ◌<◌, ◌^◌, false, length, IsTrue, OnOk, OnErr};
 ghost use Rattle.node_memory.specs.Bytes.{fits, bytes_at};
 ghost use Rattle.node_memory.specs.Pages.{KeepsOwn};
 ghost use Rattle.bsp_exchange.specs.Arrivals.{nothing, FitsIn, IsPrepared, CanTake, with_arrivals};
@@ -112,6 +112,7 @@ impl<A: Allocator + Copy> Arrivals<A> {
 
     /// How many bytes come into the node's memory.
     pub(crate) fn bytes(&self) -> u64
+        requires { bytes_in self.now.puts < 2 ^ 63 }
         ensures { result ≡ bytes_in self.now.gets + bytes_in self.now.puts }
     {
         self.gets.len() as u64 + self.puts.bytes()

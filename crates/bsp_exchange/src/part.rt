@@ -1,6 +1,6 @@
 //! The part of an exchange that one node receives.
 
-ghost use Rattle.std.specs.Prelude.{◌≡◌};
+ghost use Rattle.std.specs.Prelude.{◌≡◌, ◌<◌, ◌^◌};
 ghost use Rattle.bsp_requests.specs.Inbox.{IsQueue};
 ghost use Rattle.bsp_exchange.specs.Arrivals.{Received, part_from};
 ghost use Rattle.bsp_exchange.specs.Parts.{CanLand, bytes_in, landed_as, spent_part};
@@ -31,9 +31,9 @@ pub struct Plan<A: Allocator> {
 }
 
 impl<A: Allocator> Model for Part<A> {
-    ghost use Rattle.std.specs.Prelude.{◌++◌};
+    ghost use Rattle.std.specs.Prelude.{◌++◌, ◌<◌, ◌^◌};
     ghost use Rattle.bsp_requests.specs.Inbox.{IsQueue};
-    ghost use Rattle.bsp_exchange.specs.Parts.{PartState};
+    ghost use Rattle.bsp_exchange.specs.Parts.{PartState, bytes_in};
 
     ghost Value = { PartState };
 
@@ -44,13 +44,14 @@ impl<A: Allocator> Model for Part<A> {
       queue = p.arrivals.messages;
     } };
 
-    ghost invariant = { λ p. IsQueue p.arrivals.messages };
+    ghost invariant = { λ p. IsQueue p.arrivals.messages × (bytes_in p.arrivals.puts < 2 ^ 63) };
 }
 
 impl<A: Allocator + Copy> Part<A> {
     /// The part of the node of a rank, at which this arrives.
     pub(crate) fn new(rank: u32, arrivals: Arrivals<A>) -> Part<A>
-        requires { IsQueue arrivals.messages }
+        requires queue { IsQueue arrivals.messages }
+        requires few { bytes_in arrivals.puts < 2 ^ 63 }
         ensures { result ≡ part_from (rank, arrivals) }
     {
         Part {
@@ -61,7 +62,7 @@ impl<A: Allocator + Copy> Part<A> {
     }
 
     /// How many bytes it takes into its node's memory, and its landing copies. Its messages are not among them, which go over as they
-    /// are.
+    /// are. It takes time in the number of its puts.
     pub fn bytes(&self) -> u64
         ensures { result ≡ bytes_in self.now.patches }
     {

@@ -1,6 +1,6 @@
 //! The plan of an exchange: all of it that takes memory or can be refused, and nothing that changes a node.
 
-ghost use Rattle.std.specs.Prelude.{◌≡◌, ◌^◌, ◌≤◌, ◌↔◌, All, None, Some, IfOk, OnOk, OnErr, IsErrOf, length, map};
+ghost use Rattle.std.specs.Prelude.{◌≡◌, ◌^◌, ◌<◌, ◌≤◌, ◌↔◌, All, None, Some, IfOk, OnOk, OnErr, IsErrOf, length, map};
 ghost use Rattle.std.specs.List.{AllZip, enumerate_from, range_with_len};
 ghost use Rattle.bsp_requests.specs.Inbox.{IsQueue};
 ghost use Rattle.node_core.specs.Hart.{IsHart, max_nodes};
@@ -9,7 +9,7 @@ ghost use Rattle.bsp_exchange.specs.declared.fault.ExchangeFault.{ExchangeFault}
 ghost use Rattle.bsp_exchange.specs.Arrivals.{Received, ArePrepared, part_from, received_at};
 ghost use Rattle.bsp_exchange.specs.Exchange.{AreAtSync, states};
 ghost use Rattle.bsp_exchange.specs.Faults.{exchange_fault};
-ghost use Rattle.bsp_exchange.specs.Parts.{CanExchange, CanLand, EachKeepsOwn, parts_of};
+ghost use Rattle.bsp_exchange.specs.Parts.{CanExchange, CanLand, EachKeepsOwn, bytes_in, parts_of};
 ghost use Rattle.bsp_exchange.specs.Traffic.{traffic_of};
 
 use crate::arrivals::Arrivals;
@@ -89,6 +89,7 @@ fn parts_from<A: Allocator + Copy>(
 ) -> Result<Vec<Part<A>, A>, AllocError>
     requires few { length arrivals.items ≤ max_nodes }
     requires queues { All (λ (r : Received). IsQueue r.messages) arrivals.items }
+    requires bytes { All (λ (r : Received). bytes_in r.puts < 2 ^ 63) arrivals.items }
     ensures { IfOk result (λ parts. parts.items ≡ map part_from (enumerate_from 0 arrivals.items)) }
 {
     let mut parts = Vec::with_capacity(alloc, arrivals.len())?;

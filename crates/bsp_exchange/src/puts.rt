@@ -12,9 +12,6 @@ use shared_bytes::SharedBytes;
 use std::alloc::{AllocError, Allocator};
 use std::marker::Model;
 
-/// More bytes than any memory has.
-const TOO_MANY: u64 = 1 << 63;
-
 /// Bytes that go to an address.
 #[derive(Drop)]
 struct Patch<A: Allocator> {
@@ -37,23 +34,17 @@ impl<A: Allocator> Model for Patch<A> {
 #[derive(Drop)]
 pub(crate) struct Puts<A: Allocator> {
     patches: Vec<Patch<A>, A>,
-    // How many bytes they are.
-    bytes: u64,
     // For how many the first room is made.
     expected: usize,
 }
 
 impl<A: Allocator> Model for Puts<A> {
-    ghost use Rattle.std.specs.Prelude.{◌≡◌, ◌<◌, ◌^◌, List};
+    ghost use Rattle.std.specs.Prelude.{List};
     ghost use Rattle.bsp_exchange.specs.Parts.{Patch as PatchValue};
 
     ghost Value = { List PatchValue };
 
     ghost view = { λ p. p.patches.items };
-
-    ghost use Rattle.bsp_exchange.specs.Parts.{bytes_in};
-
-    ghost invariant = { λ p. (p.bytes ≡ bytes_in p.patches.items) × (p.bytes < 2 ^ 63) };
 }
 
 impl<A: Allocator + Copy> Puts<A> {
@@ -63,7 +54,6 @@ impl<A: Allocator + Copy> Puts<A> {
     {
         Puts {
             patches: Vec::new(alloc),
-            bytes: 0,
             expected,
         }
     }
@@ -71,29 +61,27 @@ impl<A: Allocator + Copy> Puts<A> {
     /// Adds `bytes`, which land from `addr` on, after those that wait.
     ///
     /// # Errors
-    /// Where memory is refused, or more bytes would wait than any memory has.
+    /// Where memory is refused, or the bytes have too many clones.
     pub(crate) fn push(&mut self, addr: u32, bytes: &SharedBytes<A>) -> Result<(), AllocError>
         ensures ok { OnOk result (self.new ≡ self.old ++ record { addr = addr; bytes = bytes.now } ∷ []) }
     {
-        let sum = self.bytes.saturating_add(bytes.len() as u64);
-        if sum >= TOO_MANY {
-            return Err(AllocError);
-        }
         if self.patches.len() == self.patches.capacity() {
             grow(&mut self.patches, self.expected)?;
         }
         let bytes = bytes.try_clone()?;
         self.patches.push_reserved(Patch { addr, bytes });
-        self.bytes = sum;
         Ok(())
     }
 
-    /// How many bytes wait.
+    /// How many bytes wait. They are added up here, since most exchanges do without their sum.
     pub(crate) fn bytes(&self) -> u64
-        ensures value { result ≡ bytes_in self.now }
-        ensures few { result < 2 ^ 63 }
+        requires { bytes_in self.now < 2 ^ 63 }
+        ensures { result ≡ bytes_in self.now }
     {
-        self.bytes
+        self.patches
+            .iter()
+            .map(|patch| patch.bytes.len() as u64)
+            .sum()
     }
 
     /// Makes the pages in which they come to lie the node's own. They lie in its memory.

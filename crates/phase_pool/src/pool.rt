@@ -361,8 +361,8 @@ fn landing_threads<A: Allocator + Copy, G>(team: &Team<'_, G>, parts: &[Part<A>]
     ensures parts { result ≤ length parts.now }
 {
     let most = parts.len().min(team.workers as usize);
-    if bytes_of(parts) < team.landed_bytes {
-        most.min(1)
+    if most > 1 && bytes_of(parts) < team.landed_bytes {
+        1
     } else {
         most
     }

@@ -6,7 +6,7 @@ use Rattle.bsp_exchange.specs.Exchange.{states}
 use Rattle.bsp_exchange.specs.Parts.{CanExchange, CanLand, PartState, parts_of}
 use Rattle.bsp_exchange.specs.Traffic.{traffic_of}
 use Rattle.bsp_exchange.proofs.KeepsOwn.{EachKeepsOwn-same}
-use Rattle.bsp_exchange.proofs.Planned.{bounded_planned, can_land_each, few_planned, parts_planned, queues_planned, received_same}
+use Rattle.bsp_exchange.proofs.Planned.{bounded_planned, bytes_planned, can_land_each, few_planned, parts_planned, queues_planned, received_same}
 use Rattle.bsp_exchange.specs.Faults.{exchange_fault}
 use Rattle.bsp_exchange.proofs.Refusals.{NamesFault-told}
 use Rattle.bsp_exchange.proofs.planning.plan.Goals as goal
@@ -24,6 +24,10 @@ parts_from-requires-clause-few g c =
 pub parts_from-requires-clause-queues : goal.parts_from-requires-clause-queues
 parts_from-requires-clause-queues g c =
     queues_planned c.args.nodes.now c.in-Ok.arrivals.items (record { row = c.requires; faultless = c.in-Ok.ensures.faultless; sound = c.in-Ok.ensures.sound }) c.in-Ok.ensures.parts
+
+pub parts_from-requires-clause-bytes : goal.parts_from-requires-clause-bytes
+parts_from-requires-clause-bytes g c =
+    bytes_planned c.args.nodes.now c.in-Ok.arrivals.items (record { row = c.requires; faultless = c.in-Ok.ensures.faultless; sound = c.in-Ok.ensures.sound }) c.in-Ok.ensures.parts
 
 pub returns-clause-parts : goal.returns-clause-parts
 returns-clause-parts g c = c.in_ok-parts.ensures ∙ parts_planned c.args.nodes.now c.in-Ok.arrivals.items c.in-Ok.ensures.parts

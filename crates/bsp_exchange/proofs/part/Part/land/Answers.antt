@@ -14,7 +14,7 @@ land-requires g c =
     let can = rw (sym c.self.view_is) at c.requires in
     record {
       waiting = can.waiting;
-      queue = c.self.invariant;
+      queue = c.self.invariant.0;
       prepared = record { ready = can.ready; gets = owns_first p.own part.gets part.puts can.own; puts = owns_second p.own part.gets part.puts can.own };
     }
 

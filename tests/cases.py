@@ -82,12 +82,14 @@ def limited(case):
     return lambda: resource.setrlimit(resource.RLIMIT_AS, (most, most))
 
 
-def at_terminal(case, command):
-    """Runs a command whose standard error is a terminal, and gives what it wrote there with plain line ends."""
+def at_terminal(case, script, words):
+    """Runs the script with a terminal as standard error, and gives what it wrote there with plain line ends."""
+    # What it says of the program that it takes, it says once.
+    subprocess.run([script, "--which"], stdout=subprocess.DEVNULL, stderr=subprocess.DEVNULL, timeout=SECONDS, check=False)
     ours, theirs = pty.openpty()
     try:
         done = subprocess.run(
-            command, input=standard_input(case), stdout=subprocess.PIPE, stderr=theirs, timeout=SECONDS, check=False
+            [script, *words], input=standard_input(case), stdout=subprocess.PIPE, stderr=theirs, timeout=SECONDS, check=False
         )
     finally:
         os.close(theirs)
@@ -129,7 +131,7 @@ def converse(case, command):
 
 def run(program, case, words):
     if (case / "terminal").exists():
-        return at_terminal(case, [str(case.parent.parent.parent / "bspemu"), *words])
+        return at_terminal(case, str(case.parent.parent.parent / "bspemu"), words)
     command = [str(program), *words]
     if (case / "script").exists():
         command[0] = str(case.parent.parent.parent / read(case / "script").decode().strip())

@@ -5,7 +5,7 @@
 //! Contracts see it as the list of its bytes. That clones of the same bytes share memory is not proved.
 #![tactic(auto)]
 
-ghost use Rattle.std.specs.Prelude.{◌≡◌, ◌≤◌, ◌==◌, length, IfOk, IsOk};
+ghost use Rattle.std.specs.Prelude.{◌≡◌, ◌≤◌, ◌==◌, [], length, IfOk, IsOk, OnOk, OnErr};
 
 use std::alloc::{AllocError, Allocator};
 use std::marker::Model;
@@ -20,6 +20,12 @@ struct Within {
     len: u8,
     room: [u8; 22],
 }
+
+/// No bytes.
+const NONE_WITHIN: Within = Within {
+    len: 0,
+    room: [0; 22],
+};
 
 /// Where the bytes stand.
 #[derive(Drop)]
@@ -78,6 +84,16 @@ impl<A: Allocator + Copy> SharedBytes<A> {
 }
 
 impl<A: Allocator> SharedBytes<A> {
+    /// No bytes. No memory is taken.
+    #[inline]
+    pub fn empty() -> Self
+        ensures { result ≡ [] }
+    {
+        SharedBytes {
+            held: Held::Within(NONE_WITHIN),
+        }
+    }
+
     /// The same bytes. No memory is taken.
     ///
     /// # Errors
@@ -91,6 +107,27 @@ impl<A: Allocator> SharedBytes<A> {
             Held::Shared(bytes) => Held::Shared(bytes.clone()?),
         };
         Ok(SharedBytes { held })
+    }
+
+    /// Becomes the same bytes as `source`, as `clone_from` of Rust's `Clone`. No memory is taken.
+    ///
+    /// # Errors
+    /// Where `source` has too many clones. Nothing has changed then.
+    // For speed: few bytes go straight from one place to the other, as they do not where a clone is made first and then moved.
+    #[inline]
+    pub fn try_clone_from(&mut self, source: &Self) -> Result<(), AllocError>
+        ensures ok { OnOk result (self.new ≡ source.now) }
+        ensures err { OnErr result (self.new ≡ self.old) }
+        ensures few { length source.now ≤ 22 → IsOk result }
+    {
+        if let Held::Within(here) = &mut self.held {
+            if let Held::Within(there) = &source.held {
+                *here = *there;
+                return Ok(());
+            }
+        }
+        *self = source.try_clone()?;
+        Ok(())
     }
 
     pub fn as_slice(&self) -> &[u8]

@@ -17,6 +17,7 @@ pub mod Planned
 pub mod Preparing
 pub mod Readings
 pub mod Refusals
+pub mod Spans
 pub mod Tallies
 pub mod Transfers
 pub mod Waiting

@@ -1,7 +1,8 @@
 -- Patches that wait, one after another.
-use Rattle.std.proofs.Common.{◌≡◌, ℕ, ◌+◌, ◌<◌, ◌≤◌, zero, suc, Bool, List, [], ◌∷◌, length, take, get_or, sym, subst, arith}
-use Rattle.std.specs.Prelude.{IsTrue}
+use Rattle.std.proofs.Common.{◌≡◌, ℕ, ◌+◌, ◌<◌, ◌≤◌, zero, suc, Bool, List, [], ◌∷◌, ◌++◌, length, take, get_or, set, sym, ap₂, subst, ◌∙◌, Result, Ok, Err, arith}
+use Rattle.std.specs.Prelude.{IsTrue, OnOk}
 use Rattle.std.proofs.lemmas.List.{take_all}
+use Rattle.std.proofs.Math.Seq.{set-append_seam}
 use Rattle.node_memory.specs.Bytes.{fits}
 use Rattle.node_memory.specs.Pages.{Owns, KeepsOwn}
 use Rattle.bsp_exchange.specs.Arrivals.{LieIn}
@@ -34,3 +35,11 @@ owns_more old new patches i p within here keeps owns before =
 -- where the pages of all of them are
 pub owns_whole : (own : List Bool) (patches items : List Patch) (i : ℕ) → items ≡ patches → length items ≤ i → OwnsEach own (take i items) → OwnsEach own patches
 owns_whole own patches items i are past before = subst (OwnsEach own) are (subst (OwnsEach own) (take_all i items past) before)
+
+-- a patch with other bytes in the place of the last one, which was pushed without any
+pub filled_in : {T E : Type 0} (answer : Result T E) (old items : List Patch) (place : ℕ) (p q : Patch) (addr : ℕ) (bytes : List ℕ) → items ≡ old ++ p ∷ [] → place ≡ length old → q.addr ≡ addr → OnOk answer (q.bytes ≡ bytes) → OnOk answer (set items place q ≡ old ++ record { addr = addr; bytes = bytes } ∷ [])
+filled_in (Ok x) old items place p q addr bytes pushed there same filled =
+    ap₂ (λ (ps : List Patch) (n : ℕ). set ps n q) pushed there
+    ∙ set-append_seam old p [] q
+    ∙ ap₂ (λ (a : ℕ) (bs : List ℕ). old ++ record { addr = a; bytes = bs } ∷ []) same filled
+filled_in (Err e) old items place p q addr bytes pushed there same filled = tt

@@ -1,4 +1,4 @@
--- What was gathered for the nodes, as the parts of a plan, each of which can land in its node.
+-- What was gathered for the nodes, as the parts of a plan, for each of which its node can be prepared.
 use Rattle.std.proofs.Common.{◌≡◌, ℕ, zero, suc, ◌+◌, ◌^◌, ◌<◌, ◌≤◌, Bool, List, [], ◌∷◌, ◌++◌, length, get_or, map, refl, sym, ap, ap₂, subst, ◌∙◌, arith, Some}
 use Rattle.std.specs.Prelude.{slice_get}
 use Rattle.std.specs.List.{All, AllZip, enumerate_from, range_with_len}
@@ -10,16 +10,14 @@ use Rattle.bsp_requests.specs.Inbox.{IsQueue}
 use Rattle.node_core.specs.declared.state.State.TheVariants.{Synced}
 use Rattle.node_core.specs.Hart.{max_nodes}
 use Rattle.node_core.specs.Node.{NodeState, PreparedNode}
-use Rattle.bsp_exchange.specs.Arrivals.{Received, ArePrepared, IsPrepared, part_from, received_at}
+use Rattle.bsp_exchange.specs.Arrivals.{Received, part_from, received_at}
 use Rattle.bsp_exchange.specs.Exchange.{states}
-use Rattle.bsp_exchange.specs.Parts.{Patch, PartState, OwnsEach, CanExchange, CanLand, bytes_in, part_of, parts_of}
+use Rattle.bsp_exchange.specs.Parts.{Patch, PartState, LieIn, OwnsEach, CanExchange, CanPrepare, bytes_in, part_of, parts_of}
 use Rattle.bsp_exchange.specs.declared.traffic.Traffic.{Traffic}
 use Rattle.bsp_exchange.specs.Traffic.{traffic_of}
 use Rattle.bsp_exchange.proofs.Bounds.{puts_bounded, traffic_bounded}
 use Rattle.bsp_exchange.proofs.Gathered.{all_at, length-states}
 use Rattle.bsp_exchange.proofs.Landed.{parts_are, rank_is, whole}
-use Rattle.std.proofs.lemmas.Option.{slice_get-map}
-use Rattle.std.specs.Prelude.{option_map}
 
 -- what arrives at a rank's node is its part
 pub part_is : (nodes : List NodeState) (rank : ℕ) → part_from (rank, received_at nodes rank) ≡ part_of nodes rank
@@ -76,6 +74,18 @@ pub owns_second : (own : List Bool) (a b : List Patch) → OwnsEach own (a ++ b)
 owns_second own [] b all = all
 owns_second own (p ∷ a) b all = owns_second own a b all.1
 
+lie_both : (size : ℕ) (a b : List Patch) → LieIn size a → LieIn size b → LieIn size (a ++ b)
+lie_both size [] b first second = second
+lie_both size (p ∷ a) b first second = (first.0, lie_both size a b first.1 second)
+
+pub lie_first : (size : ℕ) (a b : List Patch) → LieIn size (a ++ b) → LieIn size a
+lie_first size [] b all = tt
+lie_first size (p ∷ a) b all = (all.0, lie_first size a b all.1)
+
+pub lie_second : (size : ℕ) (a b : List Patch) → LieIn size (a ++ b) → LieIn size b
+lie_second size [] b all = all
+lie_second size (p ∷ a) b all = lie_second size a b all.1
+
 -- an element of a list that is made by index
 made_at : {X : Type 0} (f : ℕ → X) (i n k : ℕ) → k < n → slice_get (map f (range_with_len i n)) k ≡ Some (f (i + k))
 made_at f i zero k below = absurd (omega arith)
@@ -86,37 +96,28 @@ made_at f i (suc n) (suc k) below =
     let next : i + 1 + k ≡ i + suc k = omega arith in
     made_at f (i + 1) n k (omega arith) ∙ ap (λ j. Some (f j)) next
 
-zip_each : {X Y : Type 0} (R : X → Y → Type 0) (xs : List X) (ys : List Y) → length xs ≡ length ys → ((k : ℕ) (x : X) (y : Y) → slice_get xs k ≡ Some x → slice_get ys k ≡ Some y → R x y) → AllZip R xs ys
+pub zip_each : {X Y : Type 0} (R : X → Y → Type 0) (xs : List X) (ys : List Y) → length xs ≡ length ys → ((k : ℕ) (x : X) (y : Y) → slice_get xs k ≡ Some x → slice_get ys k ≡ Some y → R x y) → AllZip R xs ys
 zip_each R [] [] long each = tt
 zip_each R [] (y ∷ ys) long each = absurd (omega (arith, long))
 zip_each R (x ∷ xs) [] long each = absurd (omega (arith, long))
 zip_each R (x ∷ xs) (y ∷ ys) long each = (each 0 x y refl refl, zip_each R xs ys (omega (arith, long)) (λ k a b first second. each (suc k) a b first second))
 
--- each part can land in its node, once the nodes are prepared for what arrives at them
-pub can_land_each : (ps : List PreparedNode) (arrivals : List Received) → CanExchange (states ps) → arrivals ≡ map (received_at (states ps)) (range_with_len 0 (length ps)) → ArePrepared arrivals ps → AllZip CanLand (parts_of (states ps)) ps
-can_land_each ps arrivals can planned prepared = zip_each CanLand (parts_of (states ps)) ps long each
+-- each node can be prepared for its part
+pub can_prepare_each : (nodes : List NodeState) → CanExchange nodes → AllZip CanPrepare (parts_of nodes) nodes
+can_prepare_each nodes can = zip_each CanPrepare (parts_of nodes) nodes (length-map-range_with_len (part_of nodes) 0 (length nodes)) each
   where
-    nodes : List NodeState
-    nodes = states ps
-
-    long : length (parts_of nodes) ≡ length ps
-    long = length-map-range_with_len (part_of nodes) 0 (length nodes) ∙ length-states ps
-
-    each : (k : ℕ) (part : PartState) (p : PreparedNode) → slice_get (parts_of nodes) k ≡ Some part → slice_get ps k ≡ Some p → CanLand part p
-    each k part p first second =
-        let there : k < length ps = slice_get_within ps k p second in
-        let state : slice_get nodes k ≡ Some p.node = slice_get-map (λ (q : PreparedNode). q.node) ps k ∙ ap (option_map (λ (q : PreparedNode). q.node)) second in
+    each : (k : ℕ) (part : PartState) (n : NodeState) → slice_get (parts_of nodes) k ≡ Some part → slice_get nodes k ≡ Some n → CanPrepare part n
+    each k part n first second =
         let zero_more : 0 + k ≡ k = omega arith in
-        let mine : part ≡ part_of nodes k = same_Some part (part_of nodes k) (sym first ∙ made_at (part_of nodes) 0 (length nodes) k (slice_get_within nodes k p.node state) ∙ ap (λ j. Some (part_of nodes j)) zero_more) in
-        let arrived : slice_get arrivals k ≡ Some (received_at nodes k) = ap (λ (rs : List Received). slice_get rs k) planned ∙ made_at (received_at nodes) 0 (length ps) k there ∙ ap (λ j. Some (received_at nodes j)) zero_more in
-        let ready : IsPrepared (received_at nodes k) p = prepared k (received_at nodes k) p arrived second in
-        let own : OwnsEach p.own (part_of nodes k).patches = subst (OwnsEach p.own) (parts_are nodes k) (owns_both p.own (received_at nodes k).gets (received_at nodes k).puts ready.gets ready.puts) in
+        let mine : part ≡ part_of nodes k = same_Some part (part_of nodes k) (sym first ∙ made_at (part_of nodes) 0 (length nodes) k (slice_get_within nodes k n second) ∙ ap (λ j. Some (part_of nodes j)) zero_more) in
+        let size = length n.hart.memory in
+        let part = received_at nodes k in
+        let fits = (whole nodes can.row can.faultless can.sound k n second).fits in
         rw mine (record {
           unspent = refl;
-          rank = rank_is nodes can.row k p.node state;
-          waiting = all_at (λ (n : NodeState). n.state ≡ Synced) nodes k p.node can.row.waiting state;
-          ready = ready.ready;
-          own = own;
+          rank = rank_is nodes can.row k n second;
+          waiting = all_at (λ (m : NodeState). m.state ≡ Synced) nodes k n can.row.waiting second;
+          within = subst (LieIn size) (parts_are nodes k) (lie_both size part.gets part.puts fits.gets fits.puts);
         })
 
 -- one part more, with the number of those before it
@@ -135,12 +136,6 @@ few_more parts parts' rest rest' r new most steps pushed few =
     let long : length parts + 1 ≡ length parts' = sym (length_push parts new) ∙ ap length (sym pushed) in
     let left : length rest ≡ length rest' + 1 = ap length steps ∙ omega arith in
     omega (arith, long, left, few)
-
--- what arrives at the nodes does not rest on the room that is made for it
-pub received_same : (ps qs : List PreparedNode) → states qs ≡ states ps → map (received_at (states ps)) (range_with_len 0 (length ps)) ≡ map (received_at (states qs)) (range_with_len 0 (length qs))
-received_same ps qs same =
-    let long : length ps ≡ length qs = sym (length-states ps) ∙ ap length (sym same) ∙ length-states qs in
-    ap₂ (λ (ns : List NodeState) (n : ℕ). map (received_at ns) (range_with_len 0 n)) (sym same) long
 
 pub few_planned : (ps : List PreparedNode) (arrivals : List Received) → CanExchange (states ps) → arrivals ≡ map (received_at (states ps)) (range_with_len 0 (length ps)) → length arrivals ≤ max_nodes
 few_planned ps arrivals can planned =

@@ -1,11 +1,11 @@
 -- What the nodes of a machine send and receive.
 use Rattle.std.proofs.Common.{◌≡◌, ℕ, ◌+◌, ◌*◌, ◌^◌, ◌<◌, ◌≤◌, ◌==◌, zero, suc, max, Bool, true, false, not, if◌then◌else◌, cond, List, [], ◌∷◌, ◌++◌, length, get_or, map, take, refl, sym, ap, ap₂, ◌∙◌, add-zero, zero-add, inl, inr, arith}
-use Rattle.std.specs.Prelude.{All, filter, sum_by}
+use Rattle.std.specs.Prelude.{All, Some, filter, slice_get, sum_by}
 use Rattle.std.specs.List.{fold, range_with_len, enumerate_from}
 use Rattle.std.proofs.lemmas.Bool.{cases_eq, eq-eqb, ne_eqb}
 use Rattle.std.proofs.lemmas.List.{append-nil, map-append, map_push, take_more, get_or-map, length-map}
 use Rattle.std.proofs.lemmas.List.Concat.{flat_map-append}
-use Rattle.std.proofs.lemmas.List.Elements.{All-head, All-tail, All-weaker}
+use Rattle.std.proofs.lemmas.List.Elements.{All-cons, All-head, All-nil, All-tail, All-weaker}
 use Rattle.std.proofs.lemmas.List.Folds.{fold-map}
 use Rattle.std.proofs.lemmas.List.FromFn.{fill_by_all}
 use Rattle.std.proofs.lemmas.List.Sums.{fold-append, sum_by-append, sum_by-cons}
@@ -91,6 +91,24 @@ few_nodes (p ∷ ps) row harts =
     let hart : IsHart p.node.hart = All-head (λ (m : NodeState). IsHart m.hart) p.node (states ps) harts in
     let count : p.node.hart.nprocs ≡ length (p ∷ ps) = count_of (p ∷ ps) 0 p row (omega arith) refl in
     omega (arith, hart.few, count)
+
+-- the harts of the first nodes are sound, where each of them is
+pub sound_taken : (ps : List PreparedNode) (i : ℕ) → ((k : ℕ) (n : NodeState) → k < i → slice_get (states ps) k ≡ Some n → IsHart n.hart) → AreHarts (states (take i ps))
+sound_taken [] zero below = All-nil (λ (n : NodeState). IsHart n.hart)
+sound_taken [] (suc i) below = All-nil (λ (n : NodeState). IsHart n.hart)
+sound_taken (p ∷ ps) zero below = All-nil (λ (n : NodeState). IsHart n.hart)
+sound_taken (p ∷ ps) (suc i) below =
+    All-cons (λ (n : NodeState). IsHart n.hart) p.node (states (take i ps)) (below 0 p.node (omega arith) refl)
+    (sound_taken ps i (λ k n less is. below (suc k) n (omega (arith, less)) is))
+
+-- so many of them weigh no more than a load may
+pub taken_fit : (ps : List PreparedNode) (i : ℕ) → AreAtSync (states ps) → i ≤ length ps → ((k : ℕ) (n : NodeState) → k < i → slice_get (states ps) k ≡ Some n → IsHart n.hart) → i * 2 ^ 25 ≤ 2 ^ 35
+taken_fit ps zero row within below = omega arith
+taken_fit [] (suc i) row within below = absurd (omega (arith, within))
+taken_fit (p ∷ ps) (suc i) row within below =
+    let hart : IsHart p.node.hart = below 0 p.node (omega arith) refl in
+    let count : p.node.hart.nprocs ≡ length (p ∷ ps) = count_of (p ∷ ps) 0 p row (omega arith) refl in
+    omega (arith, hart.few, count, within)
 
 -- what nodes move weighs no more than their limits of bytes and of requests
 weight_limited : (ns : List NodeState) → AreHarts ns → weight_of (transfers ns) ≤ length ns * 2 ^ 25

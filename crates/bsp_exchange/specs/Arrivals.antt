@@ -1,8 +1,8 @@
 -- What arrives at each node in an exchange, gathered request by request before anything lands. The exchange's definitions do not
 -- rest on this: it is what the code keeps of them, gets and puts apart.
-use Rattle.std.specs.Prelude.{◌≡◌, ℕ, false, ◌+◌, ◌==◌, List, [], ◌∷◌, ◌++◌, length, map, take, drop, filter, filter_map, sum_by, slice_get, Some, IsTrue}
+use Rattle.std.specs.Prelude.{◌≡◌, ℕ, false, ◌+◌, ◌==◌, List, [], ◌∷◌, ◌++◌, length, map, take, drop, filter, filter_map, sum_by, IsTrue}
 use Rattle.std.specs.List.{fold}
-use Rattle.node_memory.specs.Bytes.{fits, bytes_at}
+use Rattle.node_memory.specs.Bytes.{bytes_at}
 use Rattle.bsp_requests.specs.declared.request.Get.{Get}
 use Rattle.bsp_requests.specs.Message.{Message}
 use Rattle.bsp_requests.specs.Outgoing.{Outgoing}
@@ -17,6 +17,7 @@ use Rattle.bsp_exchange.specs.Issued.{Issued, issued}
 use Rattle.bsp_exchange.specs.Landings.{area_start, memory_of, landing_of_get, landing_of_put}
 use Rattle.bsp_exchange.specs.Parts.{Patch, PartState, OwnsEach, changed_at, patch_of, with_patches}
 use Rattle.bsp_exchange.specs.Queues.{queue_after}
+pub use Rattle.bsp_exchange.specs.Parts.{LieIn}
 
 -- the patches whose bytes stand one after another
 abbrev pub patches_of : List Range → List ℕ → List Patch
@@ -29,11 +30,6 @@ patches_view l = patches_of l.ranges.items l.bytes.items
 -- the bytes are those of the ranges
 abbrev pub AreCovered : {A : Type 0} → Inside A → Type 0
 AreCovered l = sum_by (λ (r : Range). r.len) l.ranges.items ≡ length l.bytes.items
-
--- each of them lies in a memory of so many bytes
-abbrev pub LieIn : ℕ → List Patch → Type 0
-LieIn size [] = Unit {0}
-LieIn size (p ∷ patches) = IsTrue (fits size p.addr (length p.bytes)) × LieIn size patches
 
 -- what one node receives: what its gets fetch, what is put into its areas, and the messages that are sent to it
 pub record Received : Type 0 where
@@ -97,11 +93,6 @@ pub record IsPrepared (part : Received) (p : PreparedNode) : Type 0 where
   pub ready : IsTrue p.ready
   pub gets : OwnsEach p.own part.gets
   pub puts : OwnsEach p.own part.puts
-
--- each node is prepared for its part
-abbrev pub ArePrepared : List Received → List PreparedNode → Type 0
-ArePrepared parts nodes =
-    (rank : ℕ) (part : Received) (p : PreparedNode) → slice_get parts rank ≡ Some part → slice_get nodes rank ≡ Some p → IsPrepared part p
 
 -- a node, prepared, with all that it received
 abbrev pub with_arrivals : Received → PreparedNode → PreparedNode

@@ -3,7 +3,7 @@
 -- by whom and when its parts land is left open there, and has no part in the definitions of it either.
 use Rattle.std.specs.Prelude.{◌≡◌, ℕ, false, true, suc, zero, Bool, List, [], ◌∷◌, length, map, All, None, IsTrue, sum_by}
 use Rattle.std.specs.List.{fold, range_with_len, AllZip}
-use Rattle.node_memory.specs.Bytes.{with_bytes}
+use Rattle.node_memory.specs.Bytes.{fits, with_bytes}
 use Rattle.node_memory.specs.Pages.{Owns, KeepsOwn}
 use Rattle.bsp_requests.specs.Message.{Message}
 use Rattle.bsp_requests.specs.Request.{Asked, asks_put, asks_get, asks_send}
@@ -35,6 +35,11 @@ with_patches patches n = record n { hart = with_memory (laid n.hart.memory patch
 -- how many bytes they are
 abbrev pub bytes_in : List Patch → ℕ
 bytes_in patches = sum_by (λ (p : Patch). length p.bytes) patches
+
+-- each of them lies in a memory of so many bytes
+abbrev pub LieIn : ℕ → List Patch → Type 0
+LieIn size [] = Unit {0}
+LieIn size (p ∷ patches) = IsTrue (fits size p.addr (length p.bytes)) × LieIn size patches
 
 -- the pages of each of them are the memory's own
 abbrev pub OwnsEach : List Bool → List Patch → Type 0
@@ -100,6 +105,14 @@ pub record CanExchange (nodes : List NodeState) : Type 0 where
   pub row : AreAtSync nodes
   pub faultless : exchange_fault nodes ≡ None
   pub sound : All (λ (n : NodeState). IsHart n.hart) nodes
+
+-- a node can be prepared for a part: it has not landed yet, and the node has its rank, waits, and has room in its memory for each of
+-- the bytes that it receives
+pub record CanPrepare (part : PartState) (n : NodeState) : Type 0 where
+  pub unspent : part.spent ≡ false
+  pub rank : n.hart.rank ≡ part.rank
+  pub waiting : n.state ≡ Synced
+  pub within : LieIn (length n.hart.memory) part.patches
 
 -- a part can land in a node: it has not landed yet, and the node has its rank, waits, is ready for its turn, and owns the pages
 -- into which it receives bytes

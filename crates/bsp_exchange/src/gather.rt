@@ -1,6 +1,6 @@
-//! Gathers what each node receives, before anything lands.
+//! Gathers what each node receives, and how much that is, before anything lands.
 
-ghost use Rattle.std.specs.Prelude.{◌≡◌, ◌+◌, ◌<◌, ◌≤◌, false, None, All, IsTrue, length, map, replicate, OnOk, IfOk};
+ghost use Rattle.std.specs.Prelude.{◌≡◌, ◌+◌, ◌<◌, ◌≤◌, ◌^◌, false, None, All, IsTrue, length, map, replicate, OnOk, IfOk};
 ghost use Rattle.std.specs.List.{range_with_len};
 ghost use Rattle.node_memory.specs.Bytes.{fits};
 ghost use Rattle.bsp_requests.specs.Request.{asked, asks_get};
@@ -11,10 +11,13 @@ ghost use Rattle.bsp_exchange.specs.Faults.{exchange_fault, first_outside, is_ou
 ghost use Rattle.bsp_exchange.specs.Issued.{issued, issued_by};
 ghost use Rattle.bsp_exchange.specs.Landings.{area_start, memory_of};
 ghost use Rattle.bsp_exchange.specs.Arrivals.{nothing, received_at, fetched, message_of, with_get, with_put, with_message, with_asked, with_issued};
+ghost use Rattle.bsp_exchange.specs.Loads.{no_load, with_transfers, transfers_of, IsWithin};
 ghost use Rattle.bsp_exchange.specs.Parts.{target_of, changed_at};
+ghost use Rattle.bsp_exchange.specs.Traffic.{transfers, traffic_of};
 
 use crate::arrivals::Arrivals;
 use crate::checks::{area_at, leaves_area, slot_mismatch, tag_mismatch};
+use crate::traffic::{Load, Traffic, add_load, greatest, no_loads};
 use bsp_requests::{Get, Outgoing, Request};
 use node_core::Node;
 use shared_bytes::SharedBytes;
@@ -30,27 +33,39 @@ impl From<AllocError> for NotGathered {
     }
 }
 
-/// What each node receives in the exchange among `nodes`, by rank. All that the exchange needs of memory for it is taken here. Each
-/// request is checked right before it is added, so that one pass does both.
+/// What the nodes receive in an exchange.
+#[derive(Drop)]
+pub(crate) struct Gathered<A: Allocator> {
+    /// What each node receives, by rank.
+    pub(crate) arrivals: Vec<Arrivals<A>, A>,
+    /// How much that is.
+    pub(crate) traffic: Traffic,
+}
+
+/// What each node receives in the exchange among `nodes`, and how much that is. All that the exchange needs of memory for it is taken
+/// here. Each request is checked and counted where it is added, so that one pass does all of it.
 ///
 /// # Errors
 /// Where the exchange has a fault, or memory is refused. Which of them it is, and which fault, has to be found out then.
 pub(crate) fn gather<A: Allocator + Copy>(
     alloc: A,
     nodes: &[Node<A>],
-) -> Result<Vec<Arrivals<A>, A>, NotGathered>
+) -> Result<Gathered<A>, NotGathered>
     requires row { AreAtSync (states nodes.now) }
     ensures faultless { OnOk result (exchange_fault (states nodes.now) ≡ None) }
-    ensures parts { IfOk result (λ parts.
-        parts.items ≡ map (received_at (states nodes.now)) (range_with_len 0 (length nodes.now))) }
+    ensures parts { IfOk result (λ gathered.
+        gathered.arrivals.items ≡ map (received_at (states nodes.now)) (range_with_len 0 (length nodes.now))) }
+    ensures traffic { IfOk result (λ gathered. gathered.traffic ≡ traffic_of (states nodes.now)) }
     ensures sound { OnOk result (All (λ (n : NodeState). IsHart n.hart) (states nodes.now)) }
 {
     if tag_mismatch(nodes).is_some() || slot_mismatch(nodes).is_some() {
         return Err(NotGathered);
     }
-    let mut parts = empty_parts(alloc, nodes)?;
-    add_all_requests(nodes, &mut parts)?;
-    Ok(parts)
+    let mut arrivals = empty_parts(alloc, nodes)?;
+    let mut loads = no_loads(alloc, nodes.len())?;
+    add_all_requests(nodes, &mut arrivals, &mut loads)?;
+    let traffic = greatest(&loads);
+    Ok(Gathered { arrivals, traffic })
 }
 
 /// A part with nothing in it for each node. As many requests are expected to reach it as the node makes itself, which is so where all
@@ -68,42 +83,53 @@ fn empty_parts<A: Allocator + Copy>(
     Ok(parts)
 }
 
-/// Adds all nodes' requests to the parts of those that they reach, where each keeps to its area.
+/// Adds all nodes' requests to the parts of those that they reach, where each keeps to its area, and what they move to the loads.
 fn add_all_requests<A: Allocator + Copy>(
     nodes: &[Node<A>],
     parts: &mut [Arrivals<A>],
+    loads: &mut [Load],
 ) -> Result<(), NotGathered>
     requires row { AreAtSync (states nodes.now) }
     requires parts { length parts.old ≡ length nodes.now }
+    requires ranks { length loads.old ≡ length nodes.now }
+    requires empty { All (λ l. l ≡ no_load) loads.old }
     ensures inside { OnOk result (first_outside (states nodes.now) (issued (states nodes.now)) ≡ None) }
     ensures ok { OnOk result (parts.new ≡ with_issued (states nodes.now) parts.old (issued (states nodes.now))) }
     ensures sound { OnOk result (All (λ (n : NodeState). IsHart n.hart) (states nodes.now)) }
+    ensures loads { OnOk result (loads.new ≡ with_transfers loads.old (transfers (states nodes.now))) }
+    ensures bounded { OnOk result (All (IsWithin (2 ^ 35)) loads.new) }
 {
     for node in nodes {
-        add_requests(nodes, node, parts)?;
+        add_requests(nodes, node, parts, loads)?;
     }
     Ok(())
 }
 
-/// Adds a node's requests to the parts of those that they reach, where each keeps to its area. It stands by itself, so that its loop
-/// has the registers.
+/// Adds a node's requests to the parts of those that they reach, where each keeps to its area, and what they move to the loads. It
+/// stands by itself, so that its loop has the registers.
 #[inline(never)]
 fn add_requests<A: Allocator + Copy>(
     nodes: &[Node<A>],
     node: &Node<A>,
     parts: &mut [Arrivals<A>],
+    loads: &mut [Load],
 ) -> Result<(), NotGathered>
     requires count { node.now.node.hart.nprocs ≡ length nodes.now }
     requires parts { length parts.old ≡ length nodes.now }
+    requires ranks { length loads.old ≡ length nodes.now }
+    requires room { All (IsWithin (2 ^ 35)) loads.old }
     ensures inside { OnOk result (first_outside (states nodes.now) (issued_by node.now.node) ≡ None) }
     ensures ok { OnOk result (parts.new ≡ with_issued (states nodes.now) parts.old (issued_by node.now.node)) }
     ensures sound { IsHart node.now.node.hart }
+    ensures loads { OnOk result (loads.new
+        ≡ with_transfers loads.old (transfers_of node.now.node.hart.rank node.now.node.hart.communication.requests.requests)) }
 {
     for request in node.requests().as_slice() {
         if leaves_area(nodes, request) {
             return Err(NotGathered);
         }
         add_request(nodes, node.rank(), request, parts)?;
+        add_load(node.rank(), request, loads);
     }
     Ok(())
 }

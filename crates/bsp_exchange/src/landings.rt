@@ -8,6 +8,7 @@ ghost use Rattle.bsp_exchange.specs.Arrivals.{LieIn};
 ghost use Rattle.bsp_exchange.specs.Parts.{OwnsEach, bytes_in, with_patches};
 
 use crate::room::grow;
+use crate::span::Span;
 use node_core::Node;
 use node_memory::Memory;
 use std::alloc::{AllocError, Allocator};
@@ -17,7 +18,7 @@ use std::marker::Model;
 #[derive(Clone, Copy)]
 struct Range {
     addr: u32,
-    len: usize,
+    len: u32,
 }
 
 /// Bytes that were fetched and wait to land in one node's memory, in the order in which they land.
@@ -75,10 +76,7 @@ impl<A: Allocator + Copy> Landings<A> {
             grow(&mut self.ranges, self.expected)?;
         }
         memory.append_range(from, len, &mut self.bytes)?;
-        self.ranges.push_reserved(Range {
-            addr,
-            len: len as usize,
-        });
+        self.ranges.push_reserved(Range { addr, len });
         Ok(())
     }
 
@@ -91,6 +89,20 @@ impl<A: Allocator + Copy> Landings<A> {
         self.bytes.len()
     }
 
+    /// Whether the pages in which they come to lie are the node's own already, as far as a look at the whole range tells.
+    fn lie_in_own(&self, node: &Node<A>) -> bool
+        requires within { LieIn (length node.now.node.hart.memory) self.now }
+        ensures { IsTrue result → OwnsEach node.now.own self.now }
+    {
+        // Its contract says that a memory has at most 2^24 bytes.
+        let _size = node.memory().size();
+        let mut span = Span::of_none();
+        for range in &self.ranges {
+            span = span.with(range.addr, range.len);
+        }
+        span.is_owned_by(node)
+    }
+
     /// Makes the pages in which they come to lie the node's own. They lie in its memory.
     #[inline(never)]
     pub(crate) fn prepare(&self, node: &mut Node<A>) -> Result<(), AllocError>
@@ -100,10 +112,11 @@ impl<A: Allocator + Copy> Landings<A> {
         ensures own { KeepsOwn node.old.own node.new.own }
         ensures ok { OnOk result (OwnsEach node.new.own self.now) }
     {
-        // Its contract says that a memory has at most 2^24 bytes.
-        let _size = node.memory().size();
+        if self.lie_in_own(node) {
+            return Ok(());
+        }
         for range in &self.ranges {
-            node.prepare_land(range.addr, range.len as u32)?;
+            node.prepare_land(range.addr, range.len)?;
         }
         Ok(())
     }
@@ -116,7 +129,7 @@ impl<A: Allocator + Copy> Landings<A> {
     {
         let mut rest = self.bytes.as_slice();
         for range in &self.ranges {
-            let (bytes, after) = rest.split_at(range.len);
+            let (bytes, after) = rest.split_at(range.len as usize);
             node.land(range.addr, bytes);
             rest = after;
         }

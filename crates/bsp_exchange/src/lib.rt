@@ -6,7 +6,9 @@
 //! there does not matter.
 //!
 //! [`plan`] is all of an exchange that takes memory or can be refused. It hands out a [`Part`] for each node, which lands once, by
-//! whichever thread and in whatever order of the nodes; the exchange is made when each has landed.
+//! whichever thread and in whatever order of the nodes; the exchange is made when each has landed. [`draft`] is what of a plan reads
+//! other nodes than the one at hand. The rest of it, to prepare each node for its part, is [`prepare_all`], or [`Part::prepare`] by
+//! whichever thread.
 //!
 //! What callers may rely on:
 //!
@@ -42,12 +44,13 @@ mod part;
 mod planning;
 mod puts;
 mod room;
+mod span;
 mod sync;
 mod traffic;
 
 pub use barrier::{exchange, land_all};
 pub use fault::{ExchangeError, ExchangeFault};
 pub use part::{Part, Plan};
-pub use planning::plan;
+pub use planning::{draft, plan, prepare_all};
 pub use sync::{are_at_sync, first_fault};
 pub use traffic::Traffic;

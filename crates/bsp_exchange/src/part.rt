@@ -1,14 +1,15 @@
 //! The part of an exchange that one node receives.
 
-ghost use Rattle.std.specs.Prelude.{◌≡◌, ◌<◌, ◌^◌};
+ghost use Rattle.std.specs.Prelude.{◌≡◌, ◌<◌, ◌^◌, OnOk};
+ghost use Rattle.node_memory.specs.Pages.{KeepsOwn};
 ghost use Rattle.bsp_requests.specs.Inbox.{IsQueue};
 ghost use Rattle.bsp_exchange.specs.Arrivals.{Received, part_from};
-ghost use Rattle.bsp_exchange.specs.Parts.{CanLand, bytes_in, landed_as, spent_part};
+ghost use Rattle.bsp_exchange.specs.Parts.{CanLand, CanPrepare, bytes_in, landed_as, spent_part};
 
 use crate::arrivals::Arrivals;
 use crate::traffic::Traffic;
 use node_core::Node;
-use std::alloc::Allocator;
+use std::alloc::{AllocError, Allocator};
 use std::marker::Model;
 
 /// What one node receives in an exchange: the bytes that come into its memory, in the order of their landing, and its queue for the
@@ -23,7 +24,7 @@ pub struct Part<A: Allocator> {
     arrivals: Arrivals<A>,
 }
 
-/// An exchange that is planned: what it moves, and the parts of all nodes, each at the place of its rank.
+/// An exchange that is planned or drafted: what it moves, and the parts of all nodes, each at the place of its rank.
 #[derive(Drop)]
 pub struct Plan<A: Allocator> {
     pub traffic: Traffic,
@@ -69,8 +70,24 @@ impl<A: Allocator + Copy> Part<A> {
         self.arrivals.bytes()
     }
 
+    /// Makes its node ready for it: makes the pages into which it receives bytes the node's own, and room for the node's turn. The
+    /// node waits, and the part has not landed. The node's state stays as it is, and what was the node's own stays so.
+    ///
+    /// No other node is looked at, so that each node can be prepared by whichever thread has it with its part.
+    ///
+    /// # Errors
+    /// Where memory is refused. It can be prepared again.
+    pub fn prepare(&self, node: &mut Node<A>) -> Result<(), AllocError>
+        requires { CanPrepare self.now node.old.node }
+        ensures same { node.new.node ≡ node.old.node }
+        ensures own { KeepsOwn node.old.own node.new.own }
+        ensures ok { OnOk result (CanLand self.now node.new) }
+    {
+        self.arrivals.prepare(node)
+    }
+
     /// Lands all of it in its node, and begins the node's next superstep there (BSPlib's `bsp_sync`). The node waits, and was made
-    /// ready for this by [`plan`](crate::plan); the part has not landed before. Its messages go over to the node, and it is spent.
+    /// ready for this by [`Part::prepare`]; the part has not landed before. Its messages go over to the node, and it is spent.
     ///
     /// No memory is taken, and nothing can be refused. It takes time in the number of the bytes that land.
     pub fn land(&mut self, node: &mut Node<A>)

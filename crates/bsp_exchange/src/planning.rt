@@ -1,23 +1,22 @@
-//! The plan of an exchange: all of it that takes memory or can be refused, and nothing that changes a node.
+//! The plan of an exchange: all of it that takes memory or can be refused, and nothing that changes a node. What of it reads other
+//! nodes than the one at hand is a draft.
 
-ghost use Rattle.std.specs.Prelude.{◌≡◌, ◌^◌, ◌<◌, ◌≤◌, ◌↔◌, All, None, Some, IfOk, OnOk, OnErr, IsErrOf, length, map};
-ghost use Rattle.std.specs.List.{AllZip, enumerate_from, range_with_len};
+ghost use Rattle.std.specs.Prelude.{◌≡◌, ◌^◌, ◌<◌, ◌≤◌, ◌↔◌, All, Some, IfOk, OnOk, OnErr, IsErrOf, length, map};
+ghost use Rattle.std.specs.List.{AllZip, enumerate_from};
 ghost use Rattle.bsp_requests.specs.Inbox.{IsQueue};
-ghost use Rattle.node_core.specs.Hart.{IsHart, max_nodes};
-ghost use Rattle.node_core.specs.Node.{NodeState};
+ghost use Rattle.node_core.specs.Hart.{max_nodes};
 ghost use Rattle.bsp_exchange.specs.declared.fault.ExchangeFault.{ExchangeFault};
-ghost use Rattle.bsp_exchange.specs.Arrivals.{Received, ArePrepared, part_from, received_at};
+ghost use Rattle.bsp_exchange.specs.Arrivals.{Received, part_from};
 ghost use Rattle.bsp_exchange.specs.Exchange.{AreAtSync, states};
 ghost use Rattle.bsp_exchange.specs.Faults.{exchange_fault};
-ghost use Rattle.bsp_exchange.specs.Parts.{CanExchange, CanLand, EachKeepsOwn, bytes_in, parts_of};
+ghost use Rattle.bsp_exchange.specs.Parts.{CanExchange, CanLand, CanPrepare, EachKeepsOwn, bytes_in, parts_of};
 ghost use Rattle.bsp_exchange.specs.Traffic.{traffic_of};
 
 use crate::arrivals::Arrivals;
 use crate::checks::fault;
 use crate::fault::{ExchangeError, ExchangeFault};
-use crate::gather::gather;
+use crate::gather::{Gathered, gather};
 use crate::part::{Part, Plan};
-use crate::traffic::traffic_of;
 use node_core::Node;
 use std::alloc::{AllocError, Allocator};
 
@@ -26,7 +25,8 @@ use std::alloc::{AllocError, Allocator};
 /// threads, the exchange is made.
 ///
 /// Gets read the memories as they are now. No node changes at any answer, but pages become the nodes' own, and room is made for
-/// their turns: all that the landings will want. Time grows as the requests and the bytes that they move.
+/// their turns: all that the landings will want. It is [`draft`], and then [`prepare_all`]. Time grows as the requests and the bytes
+/// that they move.
 ///
 /// # Errors
 /// Those of [`exchange`](crate::exchange), in the same order.
@@ -43,13 +43,56 @@ pub fn plan<A: Allocator + Copy>(alloc: A, nodes: &mut [Node<A>]) -> Result<Plan
     ensures fault { (fault : ExchangeFault)
         → IsErrOf result (ExchangeError.Fault fault) ↔ (exchange_fault (states nodes.old) ≡ Some fault) }
 {
-    let Ok(arrivals) = gather(alloc, nodes) else {
+    let drafted = draft(alloc, nodes)?;
+    prepare_all(nodes, &drafted.parts)?;
+    Ok(drafted)
+}
+
+/// Drafts the exchange at the end of a superstep among `nodes`, of which [`plan`] says the rest: all of the plan for which one node
+/// is read for another. It hands out the parts, for which the nodes have to be prepared yet, by [`Part::prepare`] or [`prepare_all`].
+///
+/// Gets read the memories as they are now. No node changes.
+///
+/// # Errors
+/// Those of [`exchange`](crate::exchange), in the same order. `NoMemory` only where it is refused for what is gathered.
+pub fn draft<A: Allocator + Copy>(alloc: A, nodes: &[Node<A>]) -> Result<Plan<A>, ExchangeError>
+    requires { AreAtSync (states nodes.now) }
+    ensures parts { IfOk result (λ plan. plan.parts.items ≡ parts_of (states nodes.now)) }
+    ensures ready { IfOk result (λ plan. AllZip CanPrepare plan.parts.items (states nodes.now)) }
+    ensures exchanges { OnOk result (CanExchange (states nodes.now)) }
+    ensures traffic { IfOk result (λ plan. plan.traffic ≡ traffic_of (states nodes.now)) }
+    ensures bounded { IfOk result (λ plan. (plan.traffic.h ≤ plan.traffic.h_all)
+        × (plan.traffic.h_all ≤ 2 ^ 34) × (plan.traffic.messages ≤ 2 ^ 26)) }
+    ensures fault { (fault : ExchangeFault)
+        → IsErrOf result (ExchangeError.Fault fault) ↔ (exchange_fault (states nodes.now) ≡ Some fault) }
+{
+    let Ok(Gathered { arrivals, traffic }) = gather(alloc, nodes) else {
         return Err(refusal(nodes));
     };
-    prepare_all(nodes, &arrivals)?;
     let parts = parts_from(alloc, arrivals)?;
-    let traffic = traffic_of(alloc, nodes)?;
     Ok(Plan { traffic, parts })
+}
+
+/// Prepares each node for the part at its place: [`Part::prepare`] for each of them, in this thread. They may be a whole row and its
+/// draft, or some nodes and just their parts, in the same order. No node changes at any answer, but pages become the nodes' own, and
+/// room is made for their turns.
+///
+/// # Errors
+/// Where memory is refused, for the first node in the order of the places. The nodes before it are prepared, and all of them can be
+/// prepared again.
+pub fn prepare_all<A: Allocator + Copy>(
+    nodes: &mut [Node<A>],
+    parts: &[Part<A>],
+) -> Result<(), AllocError>
+    requires { AllZip CanPrepare parts.now (states nodes.old) }
+    ensures same { states nodes.new ≡ states nodes.old }
+    ensures own { EachKeepsOwn nodes.old nodes.new }
+    ensures ok { OnOk result (AllZip CanLand parts.now nodes.new) }
+{
+    for place in 0..nodes.len() {
+        parts[place].prepare(&mut nodes[place])?;
+    }
+    Ok(())
 }
 
 /// Why nothing was gathered: the first fault, or else that memory was refused.
@@ -61,25 +104,6 @@ fn refusal<A: Allocator + Copy>(nodes: &[Node<A>]) -> ExchangeError
         Some(fault) => ExchangeError::Fault(fault),
         None => ExchangeError::NoMemory,
     }
-}
-
-/// Makes the room that the landings and the turns of all nodes want. The nodes themselves stay as they are.
-fn prepare_all<A: Allocator + Copy>(
-    nodes: &mut [Node<A>],
-    parts: &[Arrivals<A>],
-) -> Result<(), AllocError>
-    requires row { AreAtSync (states nodes.old) }
-    requires faultless { exchange_fault (states nodes.old) ≡ None }
-    requires sound { All (λ (n : NodeState). IsHart n.hart) (states nodes.old) }
-    requires planned { parts.now ≡ map (received_at (states nodes.old)) (range_with_len 0 (length nodes.old)) }
-    ensures same { states nodes.new ≡ states nodes.old }
-    ensures own { EachKeepsOwn nodes.old nodes.new }
-    ensures prepared { OnOk result (ArePrepared parts.now nodes.new) }
-{
-    for rank in 0..nodes.len() {
-        parts[rank].prepare(&mut nodes[rank])?;
-    }
-    Ok(())
 }
 
 /// The parts of the nodes, of what arrives at each of them.

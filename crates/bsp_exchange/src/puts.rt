@@ -1,12 +1,13 @@
 //! Bytes that are put and wait to land in one memory.
 
-ghost use Rattle.std.specs.Prelude.{◌≡◌, ◌<◌, ◌^◌, ◌∷◌, ◌++◌, [], length, OnOk};
+ghost use Rattle.std.specs.Prelude.{◌≡◌, ◌<◌, ◌^◌, ◌∷◌, ◌++◌, [], length, OnOk, IsTrue};
 ghost use Rattle.node_core.specs.declared.state.State.TheVariants.{Synced};
 ghost use Rattle.node_memory.specs.Pages.{KeepsOwn};
 ghost use Rattle.bsp_exchange.specs.Arrivals.{LieIn};
 ghost use Rattle.bsp_exchange.specs.Parts.{OwnsEach, bytes_in, with_patches};
 
 use crate::room::grow;
+use crate::span::Span;
 use node_core::Node;
 use shared_bytes::SharedBytes;
 use std::alloc::{AllocError, Allocator};
@@ -68,9 +69,12 @@ impl<A: Allocator + Copy> Puts<A> {
         if self.patches.len() == self.patches.capacity() {
             grow(&mut self.patches, self.expected)?;
         }
-        let bytes = bytes.try_clone()?;
-        self.patches.push_reserved(Patch { addr, bytes });
-        Ok(())
+        let place = self.patches.len();
+        self.patches.push_reserved(Patch {
+            addr,
+            bytes: SharedBytes::empty(),
+        });
+        self.patches[place].bytes.try_clone_from(bytes)
     }
 
     /// How many bytes wait. They are added up here, since most exchanges do without their sum.
@@ -84,6 +88,20 @@ impl<A: Allocator + Copy> Puts<A> {
             .sum()
     }
 
+    /// Whether the pages in which they come to lie are the node's own already, as far as a look at the whole range tells.
+    fn lie_in_own(&self, node: &Node<A>) -> bool
+        requires within { LieIn (length node.now.node.hart.memory) self.now }
+        ensures { IsTrue result → OwnsEach node.now.own self.now }
+    {
+        // Its contract says that a memory has at most 2^24 bytes.
+        let _size = node.memory().size();
+        let mut span = Span::of_none();
+        for patch in &self.patches {
+            span = span.with(patch.addr, patch.bytes.len() as u32);
+        }
+        span.is_owned_by(node)
+    }
+
     /// Makes the pages in which they come to lie the node's own. They lie in its memory.
     #[inline(never)]
     pub(crate) fn prepare(&self, node: &mut Node<A>) -> Result<(), AllocError>
@@ -93,6 +111,9 @@ impl<A: Allocator + Copy> Puts<A> {
         ensures own { KeepsOwn node.old.own node.new.own }
         ensures ok { OnOk result (OwnsEach node.new.own self.now) }
     {
+        if self.lie_in_own(node) {
+            return Ok(());
+        }
         // Its contract says that a memory has at most 2^24 bytes.
         let _size = node.memory().size();
         for patch in &self.patches {

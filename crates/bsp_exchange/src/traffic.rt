@@ -1,17 +1,12 @@
 //! How much an exchange moves.
 
-ghost use Rattle.std.specs.Prelude.{◌≡◌, ℕ, ◌^◌, ◌<◌, ◌≤◌, length, replicate, All, IfOk};
+ghost use Rattle.std.specs.Prelude.{◌≡◌, ◌^◌, ◌<◌, ◌≤◌, length, replicate, All, IfOk};
 ghost use Rattle.bsp_requests.specs.Request.{asked, size_of};
-ghost use Rattle.bsp_requests.specs.Requests.{IsWithinLimits};
-ghost use Rattle.node_core.specs.Hart.{IsHart};
-ghost use Rattle.node_core.specs.Node.{NodeState};
-ghost use Rattle.bsp_exchange.specs.Exchange.{AreAtSync, states};
-ghost use Rattle.bsp_exchange.specs.Loads.{no_load, with_transfer, with_transfers, transfers_of, IsWithin, greatest};
+ghost use Rattle.bsp_exchange.specs.Loads.{no_load, with_transfer, IsWithin, greatest};
 ghost use Rattle.bsp_exchange.specs.Parts.{target_of};
-ghost use Rattle.bsp_exchange.specs.Traffic.{transfer, transfers, traffic_of};
+ghost use Rattle.bsp_exchange.specs.Traffic.{transfer};
 
-use bsp_requests::{Request, Requests};
-use node_core::Node;
+use bsp_requests::Request;
 use std::alloc::{AllocError, Allocator};
 
 /// What an exchange moved.
@@ -27,7 +22,7 @@ pub struct Traffic {
 
 /// What a node sends and receives in an exchange.
 #[derive(Clone, Copy)]
-struct Load {
+pub(crate) struct Load {
     /// Bytes to other nodes.
     sent: u64,
     /// Bytes from other nodes.
@@ -38,21 +33,11 @@ struct Load {
     messages: u64,
 }
 
-/// How much the exchange among `nodes` moves. It is an error only where memory is refused.
-pub(crate) fn traffic_of<A: Allocator + Copy>(
-    alloc: A,
-    nodes: &[Node<A>],
-) -> Result<Traffic, AllocError>
-    requires { AreAtSync (states nodes.now) }
-    ensures { IfOk result (λ traffic. traffic ≡ traffic_of (states nodes.now)) }
-{
-    let mut loads = no_loads(alloc, nodes.len())?;
-    add_nodes(nodes, &mut loads);
-    Ok(greatest(&loads))
-}
-
 /// Nothing sent or received, for each rank.
-fn no_loads<A: Allocator + Copy>(alloc: A, count: usize) -> Result<Vec<Load, A>, AllocError>
+pub(crate) fn no_loads<A: Allocator + Copy>(
+    alloc: A,
+    count: usize,
+) -> Result<Vec<Load, A>, AllocError>
     ensures { IfOk result (λ loads. loads.items ≡ replicate count no_load) }
 {
     let nothing = Load {
@@ -64,34 +49,8 @@ fn no_loads<A: Allocator + Copy>(alloc: A, count: usize) -> Result<Vec<Load, A>,
     vec![in alloc; nothing; count]
 }
 
-/// Adds what all nodes ask for to the loads, of which there is one for each rank.
-fn add_nodes<A: Allocator + Copy>(nodes: &[Node<A>], loads: &mut [Load])
-    requires row { AreAtSync (states nodes.now) }
-    requires ranks { length loads.old ≡ length nodes.now }
-    requires empty { All (λ l. l ≡ no_load) loads.old }
-    ensures loads { loads.new ≡ with_transfers loads.old (transfers (states nodes.now)) }
-    ensures bounded { All (IsWithin (2 ^ 35)) loads.new }
-{
-    for node in nodes {
-        add_requests(node.rank(), node.requests(), loads);
-    }
-}
-
-/// Adds what the node `caller` asks for to the loads.
-fn add_requests<A: Allocator + Copy>(caller: u32, requests: &Requests<A>, loads: &mut [Load])
-    requires caller { caller < length loads.old }
-    requires targets { All (λ r. target_of r < length loads.old) requests.now.requests }
-    requires limits { IsWithinLimits requests.now }
-    requires room { All (IsWithin (2 ^ 35)) loads.old }
-    ensures { loads.new ≡ with_transfers loads.old (transfers_of caller requests.now.requests) }
-{
-    for request in requests.as_slice() {
-        add_request(caller, request, loads);
-    }
-}
-
 /// Adds what a request of the node `caller` moves to the loads.
-fn add_request<A: Allocator + Copy>(caller: u32, request: &Request<A>, loads: &mut [Load])
+pub(crate) fn add_load<A: Allocator + Copy>(caller: u32, request: &Request<A>, loads: &mut [Load])
     requires caller { caller < length loads.old }
     requires target { target_of (asked request.now) < length loads.old }
     requires limit { size_of (asked request.now) ≤ 2 ^ 32 }
@@ -142,7 +101,7 @@ fn add_transfer(from: usize, to: usize, bytes: u64, messages: u64, loads: &mut [
 }
 
 /// The greatest that the loads have of each.
-fn greatest(loads: &[Load]) -> Traffic
+pub(crate) fn greatest(loads: &[Load]) -> Traffic
     requires { All (IsWithin (2 ^ 35)) loads.now }
     ensures { result ≡ greatest loads.now }
 {

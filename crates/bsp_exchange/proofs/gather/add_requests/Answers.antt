@@ -1,10 +1,15 @@
-use Rattle.std.proofs.Common.{◌+◌, List, ap, sym, ◌∙◌}
-use Rattle.bsp_requests.specs.Request.{asked}
+use Rattle.std.proofs.Common.{◌+◌, ◌^◌, List, take, ap, sym, ◌∙◌, arith}
+use Rattle.std.proofs.lemmas.List.{take_all}
+use Rattle.std.proofs.lemmas.List.Elements.{All-same}
+use Rattle.bsp_requests.specs.Request.{Asked, asked}
 use Rattle.bsp_requests.specs.Requests.{Requests}
 use Rattle.bsp_exchange.specs.Exchange.{states}
 use Rattle.bsp_exchange.specs.Arrivals.{Received, with_asked, with_issued}
+use Rattle.bsp_exchange.specs.Loads.{with_transfer, with_transfers, transfers_of, IsWithin}
+use Rattle.bsp_exchange.specs.Traffic.{transfer}
 use Rattle.bsp_exchange.proofs.Finds.{asked_all, asked_here, issued_from, keeps_here, no_request_left}
 use Rattle.bsp_exchange.proofs.Gathered.{gathered_here, gathered_all, target_there}
+use Rattle.bsp_exchange.proofs.Loads.{next_transfer, size_within, room_left}
 use Rattle.bsp_exchange.proofs.gather.add_requests.Goals as goal
 
 pub add_request-requires-clause-target : goal.add_request-requires-clause-target
@@ -29,7 +34,41 @@ loop-request-preserved g c =
       size = c.add_request.auto.parts ∙ c.loop-request.invariant.size;
       inside = sym (keeps_here nodes n i r is (sym c.leaves_area.ensures ∙ c.if-leaves_area.false)) ∙ c.loop-request.invariant.inside;
       same = ap (λ (ps : List Received). with_issued nodes ps (issued_from n (i + 1))) new ∙ sym (gathered_here nodes parts n i r is) ∙ c.loop-request.invariant.same;
+      added = next_transfer c.args.loads.now c.loop-request.loads c.add_load.new.loads n.hart.rank n.hart.communication.requests.requests i r c.loop-request.invariant.added is (c.add_load.ensures ∙ ap (λ k. with_transfer c.loop-request.loads (transfer k r)) c.rank-in-loop-request.ensures);
     }
+
+pub add_load-requires-clause-target : goal.add_load-requires-clause-target
+add_load-requires-clause-target g c =
+    let i = c.loop-request.request-index in
+    let n = c.args.node.now.node in
+    let lent = c.as_slice-request-items.ensures ∙ ap (λ (q : Requests). q.requests) c.requests.ensures.value in
+    let is = asked_here n.hart.communication.requests.requests c.as_slice-request-items.result.now i c.request-item.result lent c.loop-request-test.true c.request-item.is in
+    rw (c.loop-request.auto.loads ∙ c.requires.ranks) (rw (← c.requires.count) (target_there n i (asked c.request-item.result) c.requests.ensures.sound is))
+
+pub add_load-requires-clause-limit : goal.add_load-requires-clause-limit
+add_load-requires-clause-limit g c =
+    let i = c.loop-request.request-index in
+    let n = c.args.node.now.node in
+    let lent = c.as_slice-request-items.ensures ∙ ap (λ (q : Requests). q.requests) c.requests.ensures.value in
+    let is = asked_here n.hart.communication.requests.requests c.as_slice-request-items.result.now i c.request-item.result lent c.loop-request-test.true c.request-item.is in
+    size_within n.hart.communication.requests.requests i (asked c.request-item.result) (2 ^ 32) is (omega (arith, c.requests.ensures.sound.communication.requests.bytes))
+
+pub add_load-requires-clause-room : goal.add_load-requires-clause-room
+add_load-requires-clause-room g c =
+    let i = c.loop-request.request-index in
+    let n = c.args.node.now.node in
+    let rs = n.hart.communication.requests.requests in
+    let limits = c.requests.ensures.sound.communication.requests in
+    All-same (IsWithin (2 ^ 36)) c.loop-request.loads (with_transfers c.args.loads.now (transfers_of n.hart.rank (take i rs))) c.loop-request.invariant.added
+    (room_left c.args.loads.now n.hart.rank rs i (2 ^ 35) (2 ^ 36) c.requires.room (omega (arith, limits.bytes, limits.requests)))
+
+pub returns-clause-loads : goal.returns-clause-loads
+returns-clause-loads g c =
+    let n = c.args.node.now.node in
+    let rs = n.hart.communication.requests.requests in
+    let lent = c.as_slice-request-items.ensures ∙ ap (λ (q : Requests). q.requests) c.requests.ensures.value in
+    let past = asked_all rs c.as_slice-request-items.result.now c.loop-request.request-index lent c.loop-request-test.false in
+    c.loop-request.invariant.added ∙ ap (λ (asks : List Asked). with_transfers c.args.loads.now (transfers_of n.hart.rank asks)) (take_all c.loop-request.request-index rs past)
 
 pub returns-clause-ok : goal.returns-clause-ok
 returns-clause-ok g c =

@@ -5,9 +5,9 @@ use Rattle.bsp_exchange.proofs.Preparing.{ArePreparedBelow}
 use Rattle.bsp_exchange.proofs.planning.prepare_all.Given as goal
 
 -- the nodes are as they were but for the pages that have become their own, and those before this one are prepared
-abbrev pub invariant-loop-rank : goal.invariant-loop-rank
-invariant-loop-rank g l = record {
+abbrev pub invariant-loop-place : goal.invariant-loop-place
+invariant-loop-place g l = record {
   same : states l.nodes ≡ states l.fn.nodes;
   own : EachKeepsOwn l.fn.nodes l.nodes;
-  prepared : ArePreparedBelow l.parts l.nodes l.rank;
+  prepared : ArePreparedBelow l.parts l.nodes l.place;
 }

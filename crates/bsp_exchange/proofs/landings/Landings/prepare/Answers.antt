@@ -1,9 +1,7 @@
-use Rattle.std.proofs.Common.{◌≤◌, ◌^◌, length, get_or, refl, sym, ap, ◌∙◌, arith}
-use Rattle.std.specs.Prelude.{IsTrue}
-use Rattle.node_memory.specs.Bytes.{fits}
+use Rattle.std.proofs.Common.{length, refl, ap, ◌∙◌, arith}
 use Rattle.node_core.specs.Node.{NodeState}
 use Rattle.node_memory.proofs.Owned.{KeepsOwn-same, KeepsOwn-then}
-use Rattle.bsp_exchange.proofs.Patches.{range_fits, len_within, owned_more, owns_all}
+use Rattle.bsp_exchange.proofs.Patches.{range_fits, owned_more, owns_all}
 use Rattle.bsp_exchange.proofs.landings.Landings.prepare.Goals as goal
 
 pub loop-range-init : goal.loop-range-init
@@ -13,14 +11,6 @@ pub prepare_land-requires : goal.prepare_land-requires
 prepare_land-requires g c =
     let same = ap (λ (n : NodeState). length n.hart.memory) c.loop-range.invariant.node in
     range_fits (length c.args.node.now.node.hart.memory) _ c.self.inside.ranges.items _ c.self.inside.bytes.items c.args.self.now c.loop-range.range-index _ c.deref-range-items.ensures.value c.self.invariant c.self.view_is same c.requires.within c.loop-range-test.true
-
-pub overflow_cast-range : goal.overflow_cast-range
-overflow_cast-range g c =
-    let size = length c.args.node.now.node.hart.memory in
-    let most : size ≤ 2 ^ 24 = rw (ap length (sym c.memory.ensures.value) ∙ sym c.size-size.ensures.value) c.size-size.ensures.most in
-    let range = get_or c.deref-range-items.result.now c.loop-range.range-index (record { addr = 0; len = 0 }) in
-    let within : IsTrue (fits size range.addr range.len) = range_fits size size c.self.inside.ranges.items c.deref-range-items.result.now c.self.inside.bytes.items c.args.self.now c.loop-range.range-index _ c.deref-range-items.ensures.value c.self.invariant c.self.view_is refl c.requires.within c.loop-range-test.true in
-    omega (arith, most, len_within size range.addr range.len within)
 
 pub loop-range-preserved : goal.loop-range-preserved
 loop-range-preserved g c =

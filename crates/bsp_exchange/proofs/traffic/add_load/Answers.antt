@@ -3,7 +3,7 @@ use Rattle.bsp_requests.specs.Outgoing.{Outgoing}
 use Rattle.bsp_requests.specs.Request.{asked, asks_send}
 use Rattle.bsp_exchange.specs.Loads.{with_transfer}
 use Rattle.bsp_exchange.specs.Traffic.{transfer}
-use Rattle.bsp_exchange.proofs.traffic.add_request.Goals as goal
+use Rattle.bsp_exchange.proofs.traffic.add_load.Goals as goal
 
 pub returns-in-Send : goal.returns-in-Send
 returns-in-Send g c =

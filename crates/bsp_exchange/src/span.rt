@@ -1,0 +1,43 @@
+//! The range that has all of some ranges.
+
+ghost use Rattle.std.specs.Prelude.{ℕ, ◌+◌, ◌<◌, ◌≤◌, ◌^◌, IsTrue};
+ghost use Rattle.node_memory.specs.Pages.{Owns};
+
+use node_core::Node;
+use std::alloc::Allocator;
+
+/// From the lowest address of some ranges on to the highest end of one. Where there are none, it ends before it begins.
+#[derive(Clone, Copy)]
+pub(crate) struct Span {
+    low: u32,
+    end: u32,
+}
+
+impl Span {
+    /// That of no ranges.
+    pub(crate) fn of_none() -> Span {
+        Span {
+            low: u32::MAX,
+            end: 0,
+        }
+    }
+
+    /// That of one range more.
+    pub(crate) fn with(self, addr: u32, len: u32) -> Span
+        requires { addr + len < 2 ^ 32 }
+        ensures has { (result.low ≤ addr) × (addr + len ≤ result.end) }
+        ensures more { (result.low ≤ self.low) × (self.end ≤ result.end) }
+    {
+        Span {
+            low: self.low.min(addr),
+            end: self.end.max(addr + len),
+        }
+    }
+
+    /// Whether all of it lies in a node's memory, in pages of its own, and so each of its ranges does. Where there are none, it says no.
+    pub(crate) fn is_owned_by<A: Allocator>(self, node: &Node<A>) -> bool
+        ensures { IsTrue result → (addr len : ℕ) → self.low ≤ addr → addr + len ≤ self.end → Owns node.now.own addr len }
+    {
+        self.low <= self.end && node.memory().owns(self.low, self.end - self.low)
+    }
+}

@@ -1,8 +1,9 @@
 -- The turn, field by field.
-use Rattle.std.proofs.Common.{◌≡◌, ℕ, ◌+◌, ◌^◌, ◌<◌, Bool, true, false, List, [], ◌∷◌, ◌++◌, length, map, Option, Some, None, refl, sym, ap, ap₂, subst, ◌∙◌, arith}
+use Rattle.std.proofs.Common.{◌≡◌, ℕ, ◌+◌, ◌^◌, ◌<◌, Bool, true, false, List, [], ◌∷◌, ◌++◌, length, map, take, Option, Some, None, refl, sym, ap, ap₂, subst, ◌∙◌, arith}
 use mir.Syntax.{w64}
 use mir.Val.{Fits}
 use Rattle.std.specs.Prelude.{is_some, is_none, if◌then◌else◌}
+use Rattle.std.proofs.Math.Seq.{take-append_seam}
 use Rattle.std.proofs.lemmas.Bool.{false≢true}
 use Rattle.std.proofs.lemmas.Slice.Zip.{AllZip-long}
 use Rattle.node_core.specs.Node.{NodeState}
@@ -86,6 +87,17 @@ module _ (m : MachineState) where
             ∙ ap (λ (o : Option Outcome). record m { output = m.output ++ written m.nodes; outcome = o }) (sym (no_outcome sound enabled));
         costs = cost_is;
       }
+
+-- what was appended is cut off again
+pub cut : (old more : List ℕ) (k : ℕ) → k ≡ length old → take k (old ++ more) ≡ old
+cut old more k is = ap (λ n. take n (old ++ more)) is ∙ take-append_seam old more
+
+-- what is kept of a machine, with its row and without the output of the superstep, is that machine
+pub called_off : (m rest : MachineState) {cost : CostRow} (nodes : List NodeState) (output : List ℕ) (before : ℕ) → AwaitsRow m rest cost → before ≡ length m.output → nodes ≡ m.nodes → output ≡ take before rest.output → record rest { nodes = nodes; output = output } ≡ m
+called_off m rest nodes output before waits len nodes_are output_is =
+    let old : output ≡ m.output = output_is ∙ ap (λ (x : MachineState). take before x.output) waits.recorded ∙ cut m.output (written m.nodes) before len in
+    ap₂ (λ (ns : List NodeState) (xs : List ℕ). record rest { nodes = ns; output = xs }) nodes_are old
+    ∙ ap (λ (x : MachineState). record x { nodes = m.nodes; output = m.output }) waits.recorded
 
 pub bounds : (m : MachineState) (cost : CostRow) → IsSoundMachine m → cost ≡ cost_row m → IsBounded cost
 bounds m cost sound is = rw is (IsBounded-cost_row m sound)

@@ -1,5 +1,5 @@
 -- What the fields of a `Lander` show: the machine whose turn has begun. And what it keeps of that machine meanwhile.
-use Rattle.std.specs.Prelude.{◌≡◌, ◌++◌, None, IsTrue, true}
+use Rattle.std.specs.Prelude.{◌≡◌, ◌++◌, None, IsTrue, length, true}
 use Rattle.cost_ledger.specs.declared.CostRow.{CostRow}
 use Rattle.bsp_exchange.specs.Parts.{CanExchange}
 use Rattle.machine_core.specs.declared.event.Event.TheVariants.{Turn}
@@ -33,5 +33,6 @@ pub record AwaitsRow (m rest : MachineState) (cost : CostRow) : Type 0 where
   pub recorded : rest ≡ record m { output = m.output ++ written m.nodes }
   pub costs : cost ≡ cost_row m
 
+-- and how long the machine's output was, so that the superstep's can be cut off again
 abbrev pub IsLander : {A : Type 0} → Inside A → Type 0
-IsLander m = AwaitsRow (lander_view m) (kept m) m.cost × IsTrue m.ledger.ready
+IsLander m = AwaitsRow (lander_view m) (kept m) m.cost × IsTrue m.ledger.ready × (m.output_before ≡ length m.before.value.output)

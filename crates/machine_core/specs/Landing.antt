@@ -5,7 +5,7 @@ use Rattle.std.specs.declared.alloc.AllocError.{AllocError}
 use Rattle.std.specs.List.{AllZip}
 use Rattle.node_core.specs.Node.{NodeState, PreparedNode}
 use Rattle.bsp_exchange.specs.Exchange.{states}
-use Rattle.bsp_exchange.specs.Parts.{PartState, CanLand, landed, parts_of}
+use Rattle.bsp_exchange.specs.Parts.{PartState, CanPrepare, landed, parts_of}
 use Rattle.machine_core.specs.declared.event.Event.TheVariants.{Turn}
 use Rattle.machine_core.specs.declared.machine.turn.Begun.{Begun}
 use Rattle.machine_core.specs.declared.machine.turn.Begun.TheVariants.{Whole, Landing}
@@ -21,16 +21,17 @@ pub record IsAnswered (old new : MachineState) (answer : Result Bool AllocError)
   pub err : OnErr answer (new ≡ old)
   pub refuses : OnErr answer (is_enabled old Turn ≡ true)
 
--- the turn of a machine makes the exchange, whose parts are handed out with its row. Each can land in the node at its place
+-- the turn of a machine makes the exchange, whose parts are handed out with its row. Each node can be prepared for the part at its
+-- place, which lands there then
 pub record IsHandedOut (old lander : MachineState) (nodes : List PreparedNode) (parts : List PartState) : Type 0 where
   pub enabled : is_enabled old Turn ≡ true
   pub exchanges : outcome_of old.nodes ≡ None
   pub rest : lander ≡ old
   pub row : states nodes ≡ old.nodes
   pub gathered : parts ≡ parts_of old.nodes
-  pub ready : AllZip CanLand parts nodes
+  pub ready : AllZip CanPrepare parts (states nodes)
 
--- a turn that has begun: whole, and with an outcome if it was made, or with parts that have to land
+-- a turn that has begun: whole, and with an outcome if it was made, or with parts that have to land in nodes that are prepared for them
 abbrev pub HasBegun : {A : Type 0} → MachineState → Begun A → Type 0
 HasBegun m (Whole new answer) = IsAnswered m new answer × IfOk answer (λ made. IsTrue made → IsSome new.outcome)
 HasBegun m (Landing at) = IsHandedOut m at.lander at.nodes.items at.parts.items

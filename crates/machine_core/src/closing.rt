@@ -3,13 +3,12 @@
 ghost use Rattle.std.specs.Prelude.{false, ◌≡◌, ◌++◌, None, Some, find, option_copied, IfOk, OnOk, IfSome, IsNone, IsTrue, OnErr};
 ghost use Rattle.node_core.specs.Node.{PreparedNode};
 ghost use Rattle.bsp_exchange.specs.Exchange.{AreAtSync, states};
-ghost use Rattle.bsp_exchange.specs.Parts.{EachKeepsOwn};
 ghost use Rattle.machine_core.specs.Closing.{Closes};
 ghost use Rattle.machine_core.specs.Turn.{was_stopped as was_stopped_of, has_ended as has_ended_of, is_waiting as is_waiting_of, lowest, makes_exchange as makes_exchange_of, outcome_of, written};
 
 use crate::outcome::Outcome;
 use crate::row;
-use bsp_exchange::{ExchangeError, Plan, first_fault, plan};
+use bsp_exchange::{ExchangeError, Plan, draft, first_fault};
 use cost_ledger::{CostRow, Ledger};
 use node_core::{Node, State};
 use std::alloc::{AllocError, Allocator};
@@ -19,27 +18,26 @@ use std::alloc::{AllocError, Allocator};
 pub(crate) enum Closing<A: Allocator> {
     /// With an outcome, and no exchange.
     Over(Outcome),
-    /// With the exchange, which is planned.
-    Planned(Plan<A>),
+    /// With the exchange, for the parts of which the nodes have to be prepared yet.
+    Drafted(Plan<A>),
 }
 
 /// Begins the end of a superstep of nodes none of which runs: makes room for a row of costs, appends what the nodes wrote to `output`, and
-/// finds how the superstep ends. All memory of a turn is asked for here, so that nothing can be refused after it. No node changes.
+/// finds how the superstep ends. All memory of a turn is asked for here, but for that of the nodes that have to be prepared for their
+/// parts.
 ///
 /// # Errors
 /// Where memory is refused. Rows and output are then as they were.
 pub(crate) fn begin<A: Allocator + Copy>(
     alloc: A,
-    nodes: &mut [Node<A>],
     output: &mut Vec<u8, A>,
     ledger: &mut Ledger<A>,
+    nodes: &[Node<A>],
 ) -> Result<Closing<A>, AllocError>
-    requires { lowest was_stopped_of (states nodes.old) ≡ None
-        → lowest has_ended_of (states nodes.old) ≡ None → AreAtSync (states nodes.old) }
-    ensures same { states nodes.new ≡ states nodes.old }
-    ensures own { EachKeepsOwn nodes.old nodes.new }
-    ensures closes { IfOk result (Closes nodes.new) }
-    ensures written { OnOk result (output.new.items ≡ output.old.items ++ written (states nodes.old)) }
+    requires { lowest was_stopped_of (states nodes.now) ≡ None
+        → lowest has_ended_of (states nodes.now) ≡ None → AreAtSync (states nodes.now) }
+    ensures closes { IfOk result (Closes (states nodes.now)) }
+    ensures written { OnOk result (output.new.items ≡ output.old.items ++ written (states nodes.now)) }
     ensures kept { OnErr result (output.new.items ≡ output.old.items) }
     ensures rows { ledger.new.rows ≡ ledger.old.rows }
     ensures ready { OnOk result (IsTrue ledger.new.ready) }
@@ -56,22 +54,20 @@ pub(crate) fn begin<A: Allocator + Copy>(
     }
 }
 
-/// Finds the outcome of nodes none of which runs, or plans their exchange. No node changes.
+/// Finds the outcome of nodes none of which runs, or drafts their exchange.
 ///
 /// # Errors
 /// Where memory is refused.
-fn close<A: Allocator + Copy>(alloc: A, nodes: &mut [Node<A>]) -> Result<Closing<A>, AllocError>
-    requires { lowest was_stopped_of (states nodes.old) ≡ None
-        → lowest has_ended_of (states nodes.old) ≡ None → AreAtSync (states nodes.old) }
-    ensures same { states nodes.new ≡ states nodes.old }
-    ensures own { EachKeepsOwn nodes.old nodes.new }
-    ensures ok { IfOk result (Closes nodes.new) }
+fn close<A: Allocator + Copy>(alloc: A, nodes: &[Node<A>]) -> Result<Closing<A>, AllocError>
+    requires { lowest was_stopped_of (states nodes.now) ≡ None
+        → lowest has_ended_of (states nodes.now) ≡ None → AreAtSync (states nodes.now) }
+    ensures ok { IfOk result (Closes (states nodes.now)) }
 {
     if let Some(outcome) = outcome_before_exchange(nodes) {
         return Ok(Closing::Over(outcome));
     }
-    match plan(alloc, nodes) {
-        Ok(plan) => Ok(Closing::Planned(plan)),
+    match draft(alloc, nodes) {
+        Ok(plan) => Ok(Closing::Drafted(plan)),
         Err(ExchangeError::Fault(fault)) => Ok(Closing::Over(Outcome::Refused(fault))),
         Err(ExchangeError::NoMemory) => Err(AllocError),
     }

@@ -20,8 +20,9 @@
 //!   its own further, and nothing else of the machine has changed then. Neither takes memory, and a row that was lent cannot be
 //!   lost: a `Lender` has no other end.
 //! - [`Machine::begin_turn`] is the first half of a turn. Where it makes the exchange, it hands out the row with the part that each node
-//!   receives, for threads to land. The [`Lander`] that stays takes the row back once each part has landed, and the machine is as
-//!   [`Machine::turn`] leaves it. All memory is asked for in the first half, and a `Lander` has no other end.
+//!   receives, for threads to prepare the nodes and then to land the parts. The [`Lander`] that stays takes the row back once each part
+//!   has landed, and the machine is as [`Machine::turn`] leaves it. Where a node was refused memory for which it was prepared, the
+//!   `Lander` calls the turn off, and the machine is as it was. It has no other end.
 //! - Whether memory was refused is all that no clause says: the tests refuse each request in turn.
 //!
 //! [`laws`] has what holds of every machine, and first that order does not matter: whatever events are made, a machine has the

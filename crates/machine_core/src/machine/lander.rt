@@ -1,4 +1,4 @@
-//! The turn's second half: the row comes back, and the machine's next superstep begins.
+//! The turn's second half: the row comes back, and the machine's next superstep begins, or the turn is called off.
 
 ghost use Rattle.std.specs.Prelude.{◌≡◌, None};
 ghost use Rattle.bsp_exchange.specs.Exchange.{states};
@@ -15,10 +15,11 @@ use std::alloc::Allocator;
 use std::marker::Model;
 use std::snapshot::Snapshot;
 
-/// A machine whose turn has begun and makes the exchange: all of it but the nodes, in which the parts have to land.
+/// A machine whose turn has begun and makes the exchange: all of it but the nodes, which have to be prepared for their parts, and in
+/// which these have to land.
 ///
-/// Contracts see it as the `MachineState` before the turn. It can be neither copied nor dropped: [`Lander::finish`] is the only end
-/// that it has, so that no row is lost, and no turn is left half made.
+/// Contracts see it as the `MachineState` before the turn. It can be neither copied nor dropped: it ends by [`Lander::finish`], or by
+/// [`Lander::call_off`] before a part has landed, so that no row is lost, and no turn is left half made.
 pub struct Lander<A: Allocator> {
     pub(super) alloc: A,
     pub(super) settings: Settings,
@@ -26,6 +27,8 @@ pub struct Lander<A: Allocator> {
     pub(super) started: Vec<u64, A>,
     /// That of this superstep stands in it.
     pub(super) output: Vec<u8, A>,
+    /// How long the output was before the turn.
+    pub(super) output_before: usize,
     /// With room for the superstep's row.
     pub(super) ledger: Ledger<A>,
     pub(super) exchanges: u64,
@@ -59,6 +62,7 @@ impl<A: Allocator> Lander<A> {
             input,
             mut started,
             output,
+            output_before: _,
             mut ledger,
             exchanges,
             cost,
@@ -75,6 +79,38 @@ impl<A: Allocator> Lander<A> {
             output,
             ledger,
             exchanges: exchanges + 1,
+            outcome: None,
+        }
+    }
+
+    /// The machine as it was before its turn, which is called off, since memory was refused while the nodes were prepared for their
+    /// parts. None of these has landed. What became the nodes' own stays so, and the turn can be made again.
+    pub fn call_off(self, row: Vec<Node<A>, A>) -> Machine<A>
+        requires { states row.items ≡ self.nodes }
+        ensures { result ≡ self }
+    {
+        let Lander {
+            alloc,
+            settings,
+            input,
+            started,
+            mut output,
+            output_before,
+            ledger,
+            exchanges,
+            cost: _,
+            before: _,
+        } = self;
+        output.truncate(output_before);
+        Machine {
+            alloc,
+            settings,
+            input,
+            nodes: row,
+            started,
+            output,
+            ledger,
+            exchanges,
             outcome: None,
         }
     }

@@ -1,4 +1,4 @@
-//! The turn, at once or in two halves between which the parts of its exchange land.
+//! The turn, at once or in two halves, between which the nodes are prepared for the parts of their exchange, and these land.
 
 ghost use Rattle.std.specs.Prelude.{◌≡◌, IfOk, OnOk, OnErr, true};
 ghost use Rattle.machine_core.specs.declared.event.Event.TheVariants.{Turn as the_turn};
@@ -9,7 +9,7 @@ use crate::closing::{Closing, begin, last_row};
 use crate::machine::Machine;
 use crate::machine::lander::Lander;
 use crate::row;
-use bsp_exchange::{Part, Plan, land_all};
+use bsp_exchange::{Part, Plan, land_all, prepare_all};
 use cost_ledger::CostRow;
 use node_core::Node;
 use std::alloc::{AllocError, Allocator};
@@ -20,11 +20,12 @@ pub enum Begun<A: Allocator> {
     /// No part has to land, and the machine is whole. The answer is that of [`Machine::turn`]: the turn was made, and the machine has
     /// its outcome; or it is not enabled, or memory was refused, and nothing has changed.
     Whole(Machine<A>, Result<bool, AllocError>),
-    /// The turn makes the exchange, whose parts have to land.
+    /// The turn makes the exchange, whose parts have to land in nodes that are prepared for them.
     Landing(Landing<A>),
 }
 
-/// The exchange of a turn: the row, the part of each node at the same place, and the machine that takes the row back.
+/// The exchange of a turn: the row, the part of each node at the same place, and the machine that takes the row back. Each node has to
+/// be prepared for its part before that lands.
 pub struct Landing<A: Allocator> {
     pub lander: Lander<A>,
     pub nodes: Vec<Node<A>, A>,
@@ -48,7 +49,7 @@ impl<A: Allocator + Copy> Machine<A> {
         )
     }
 
-    /// Makes the turn, whose parts land in this thread.
+    /// Makes the turn, whose nodes are prepared and whose parts land in this thread.
     fn turn_whole(self) -> (Machine<A>, Result<bool, AllocError>)
         ensures { IsAnswered self result.0 result.1 }
     {
@@ -60,17 +61,22 @@ impl<A: Allocator + Copy> Machine<A> {
                     mut nodes,
                     mut parts,
                 },
-            ) => {
-                land_all(&mut nodes, &mut parts);
-                (lander.finish(nodes), Ok(true))
-            }
+            ) => match prepare_all(&mut nodes, &parts) {
+                Ok(()) => {
+                    land_all(&mut nodes, &mut parts);
+                    (lander.finish(nodes), Ok(true))
+                }
+                Err(refused) => (lander.call_off(nodes), Err(refused)),
+            },
         }
     }
 
-    /// Begins the turn, and hands the landings of its exchange out: a [`Part`] for each node, which [`Part::land`] takes into it, in
-    /// whichever thread. [`Lander::finish`] makes the machine whole again. Where no exchange is made, it is whole at once.
+    /// Begins the turn, and hands its exchange out: a [`Part`] for each node, for which [`Part::prepare`] makes the node ready, and
+    /// which [`Part::land`] takes into it, in whichever thread. [`Lander::finish`] makes the machine whole again when all parts have
+    /// landed. Where no exchange is made, it is whole at once.
     ///
-    /// All memory that the turn wants is asked for here, so that nothing can be refused after it.
+    /// What is still asked for after this is the memory of each node that is prepared. Where that is refused, and no part has landed,
+    /// [`Lander::call_off`] leads back to the machine before the turn. When all nodes are prepared, nothing can be refused any more.
     pub fn begin_turn(self) -> Begun<A>
         ensures { HasBegun self result }
     {
@@ -87,19 +93,15 @@ impl<A: Allocator + Copy> Machine<A> {
     {
         let before = Snapshot::of(&self);
         let w = row::work(&self.nodes, &self.started);
-        match begin(
-            self.alloc,
-            &mut self.nodes,
-            &mut self.output,
-            &mut self.ledger,
-        ) {
+        let output_before = self.output.len();
+        match begin(self.alloc, &mut self.output, &mut self.ledger, &self.nodes) {
             Err(refused) => Begun::Whole(self, Err(refused)),
             Ok(Closing::Over(outcome)) => {
                 self.ledger.add_prepared(last_row(w));
                 self.outcome = Some(outcome);
                 Begun::Whole(self, Ok(true))
             }
-            Ok(Closing::Planned(Plan { traffic, parts })) => {
+            Ok(Closing::Drafted(Plan { traffic, parts })) => {
                 let cost = CostRow {
                     w,
                     h: traffic.h,
@@ -124,6 +126,7 @@ impl<A: Allocator + Copy> Machine<A> {
                     input,
                     started,
                     output,
+                    output_before,
                     ledger,
                     exchanges,
                     cost,

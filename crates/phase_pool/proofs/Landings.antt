@@ -1,13 +1,17 @@
--- Landings in two halves of a row.
-use Rattle.std.proofs.Common.{◌≡◌, suc, List, [], ◌∷◌, ◌++◌, length, Result, Ok, Err, refl, sym, ap, ap₂, ◌∙◌, arith}
-use Rattle.std.specs.Prelude.{OnErr}
+-- Stages of an exchange in two halves of a row.
+use Rattle.std.proofs.Common.{◌≡◌, ◌≤◌, ◌&&◌, Bool, true, false, suc, List, [], ◌∷◌, ◌++◌, length, Result, Ok, Err, refl, sym, ap, ap₂, subst, ◌∙◌, arith}
+use Rattle.std.specs.Prelude.{IsTrue, OnErr, OnOk, is_ok}
 use Rattle.std.specs.List.{AllZip}
+use Rattle.std.proofs.lemmas.Bool.{false≢true}
 use Rattle.std.proofs.lemmas.List.{length-map, map-append}
+use Rattle.std.proofs.lemmas.Slice.Zip.{AllZip-long}
 use Rattle.node_core.specs.Node.{NodeState, PreparedNode}
 use Rattle.bsp_exchange.specs.Exchange.{states}
-use Rattle.bsp_exchange.specs.Parts.{PartState, CanLand, landed, with_part}
+use Rattle.bsp_exchange.specs.Parts.{PartState, CanLand, CanPrepare, landed, with_part}
 use Rattle.bsp_exchange.proofs.LandedRow.{as_many}
-use Rattle.phase_pool.specs.Landings.{HaveLanded}
+use Rattle.phase_pool.specs.declared.landing.Stage.{Stage}
+use Rattle.phase_pool.specs.declared.landing.Stage.TheVariants.{Prepare, Land}
+use Rattle.phase_pool.specs.Landings.{HaveLanded, IsDone, IsReadyFor}
 
 length-landed : (parts : List PartState) (nodes : List NodeState) → length (landed parts nodes) ≡ length nodes
 length-landed [] nodes = refl
@@ -25,13 +29,18 @@ pub on_err_from : {T E P : Type 0} (r : Result T E) → P → OnErr r P
 on_err_from (Ok x) holds = tt
 on_err_from (Err e) holds = holds
 
+-- what holds at Ok holds of an answer that is one
+pub on_ok_where : {T E P : Type 0} (r : Result T E) → IsTrue (is_ok r) → OnOk r P → P
+on_ok_where (Ok x) ok holds = holds
+on_ok_where (Err e) ok holds = absurd (false≢true ok)
+
 -- as many nodes as before
-pub HaveLanded-length : (parts : List PartState) (old new : List PreparedNode) → HaveLanded parts old new → length new ≡ length old
+HaveLanded-length : (parts : List PartState) (old new : List PreparedNode) → HaveLanded parts old new → length new ≡ length old
 HaveLanded-length parts old new done =
     sym (length-map new (λ (p : PreparedNode). p.node)) ∙ ap length done ∙ length-landed parts (states old) ∙ length-map old (λ (p : PreparedNode). p.node)
 
 -- both halves, put together
-pub HaveLanded-halves : (first second : List PartState) (a b a' b' whole : List PreparedNode) → AllZip CanLand first a → whole ≡ a' ++ b' → HaveLanded first a a' → HaveLanded second b b' → HaveLanded (first ++ second) (a ++ b) whole
+HaveLanded-halves : (first second : List PartState) (a b a' b' whole : List PreparedNode) → AllZip CanLand first a → whole ≡ a' ++ b' → HaveLanded first a a' → HaveLanded second b b' → HaveLanded (first ++ second) (a ++ b) whole
 HaveLanded-halves first second a b a' b' whole can together here there =
     let node = λ (p : PreparedNode). p.node in
     let long : length first ≡ length (states a) = as_many first a can ∙ sym (length-map a node) in
@@ -41,15 +50,70 @@ HaveLanded-halves first second a b a' b' whole can together here there =
     ∙ sym (landed-append first second (states a) (states b) long)
     ∙ ap (landed (first ++ second)) (sym (map-append node a b))
 
--- the halves of a share land as the share does
-pub lands_first : (first second : List PartState) (a b : List PreparedNode) → length first ≡ length a → AllZip CanLand (first ++ second) (a ++ b) → AllZip CanLand first a
-lands_first [] second [] b long can = tt
-lands_first [] second (p ∷ a) b long can = absurd (omega (arith, long))
-lands_first (part ∷ first) second [] b long can = absurd (omega (arith, long))
-lands_first (part ∷ first) second (p ∷ a) b long can = (can.0, lands_first first second a b (omega (arith, long)) can.1)
+-- the halves of two lists fit as the lists do
+zip_first : {X Y : Type 0} (R : X → Y → Type 0) (first second : List X) (a b : List Y) → length first ≡ length a → AllZip R (first ++ second) (a ++ b) → AllZip R first a
+zip_first R [] second [] b long all = tt
+zip_first R [] second (y ∷ a) b long all = absurd (omega (arith, long))
+zip_first R (x ∷ first) second [] b long all = absurd (omega (arith, long))
+zip_first R (x ∷ first) second (y ∷ a) b long all = (all.0, zip_first R first second a b (omega (arith, long)) all.1)
 
-pub lands_second : (first second : List PartState) (a b : List PreparedNode) → length first ≡ length a → AllZip CanLand (first ++ second) (a ++ b) → AllZip CanLand second b
-lands_second [] second [] b long can = can
-lands_second [] second (p ∷ a) b long can = absurd (omega (arith, long))
-lands_second (part ∷ first) second [] b long can = absurd (omega (arith, long))
-lands_second (part ∷ first) second (p ∷ a) b long can = lands_second first second a b (omega (arith, long)) can.1
+zip_second : {X Y : Type 0} (R : X → Y → Type 0) (first second : List X) (a b : List Y) → length first ≡ length a → AllZip R (first ++ second) (a ++ b) → AllZip R second b
+zip_second R [] second [] b long all = all
+zip_second R [] second (y ∷ a) b long all = absurd (omega (arith, long))
+zip_second R (x ∷ first) second [] b long all = absurd (omega (arith, long))
+zip_second R (x ∷ first) second (y ∷ a) b long all = zip_second R first second a b (omega (arith, long)) all.1
+
+zip_both : {X Y : Type 0} (R : X → Y → Type 0) (first second : List X) (a b : List Y) → AllZip R first a → AllZip R second b → AllZip R (first ++ second) (a ++ b)
+zip_both R [] second [] b here there = there
+zip_both R [] second (y ∷ a) b here there = absurd here
+zip_both R (x ∷ first) second [] b here there = absurd here
+zip_both R (x ∷ first) second (y ∷ a) b here there = (here.0, zip_both R first second a b here.1 there)
+
+abbrev node_of : PreparedNode → NodeState
+node_of p = p.node
+
+-- ---- a stage, whichever it is
+
+-- as many parts as nodes
+pub ready_as_many : (stage : Stage) (parts : List PartState) (nodes : List PreparedNode) → IsReadyFor stage parts nodes → length parts ≡ length nodes
+ready_as_many Prepare parts nodes ready = sym (AllZip-long CanPrepare parts (states nodes) ready) ∙ length-map nodes node_of
+ready_as_many Land parts nodes ready = as_many parts nodes ready
+
+-- the halves of a share are ready as the share is
+pub ready_first : (stage : Stage) (first second : List PartState) (a b : List PreparedNode) → length first ≡ length a → IsReadyFor stage (first ++ second) (a ++ b) → IsReadyFor stage first a
+ready_first Prepare first second a b long ready =
+    zip_first CanPrepare first second (states a) (states b) (long ∙ sym (length-map a node_of)) (subst (AllZip CanPrepare (first ++ second)) (map-append node_of a b) ready)
+ready_first Land first second a b long ready = zip_first CanLand first second a b long ready
+
+pub ready_second : (stage : Stage) (first second : List PartState) (a b : List PreparedNode) → length first ≡ length a → IsReadyFor stage (first ++ second) (a ++ b) → IsReadyFor stage second b
+ready_second Prepare first second a b long ready =
+    zip_second CanPrepare first second (states a) (states b) (long ∙ sym (length-map a node_of)) (subst (AllZip CanPrepare (first ++ second)) (map-append node_of a b) ready)
+ready_second Land first second a b long ready = zip_second CanLand first second a b long ready
+
+-- as many nodes as before
+pub IsDone-nodes : (stage : Stage) (parts : List PartState) (old : List PreparedNode) (parts' : List PartState) (new : List PreparedNode) (complete : Bool) → IsDone stage parts old parts' new complete → length new ≡ length old
+IsDone-nodes Prepare parts old parts' new complete done = sym (length-map new node_of) ∙ ap length done.1 ∙ length-map old node_of
+IsDone-nodes Land parts old parts' new complete done = HaveLanded-length parts old new done.1
+
+-- and no more parts
+pub IsDone-parts : (stage : Stage) (parts : List PartState) (old : List PreparedNode) (parts' : List PartState) (new : List PreparedNode) (complete : Bool) → IsDone stage parts old parts' new complete → length parts' ≤ length parts
+IsDone-parts Prepare parts old parts' new complete done = omega (arith, ap length done.0)
+IsDone-parts Land parts old parts' new complete done = omega (arith, ap length done.0)
+
+both_true : (x y : Bool) → IsTrue (x && y) → IsTrue x × IsTrue y
+both_true true y all = (refl, all)
+both_true false y all = absurd (false≢true all)
+
+-- both halves, put together
+pub IsDone-halves : (stage : Stage) (first second : List PartState) (a b : List PreparedNode) (first' second' parts' : List PartState) (a' b' nodes' : List PreparedNode) (x y complete : Bool) → IsReadyFor stage first a → parts' ≡ first' ++ second' → nodes' ≡ a' ++ b' → complete ≡ (x && y) → IsDone stage first a first' a' x → IsDone stage second b second' b' y → IsDone stage (first ++ second) (a ++ b) parts' nodes' complete
+IsDone-halves Prepare first second a b first' second' parts' a' b' nodes' x y complete ready parts nodes whole here there = (
+  parts ∙ ap₂ ◌++◌ here.0 there.0,
+  ap states nodes ∙ map-append node_of a' b' ∙ ap₂ ◌++◌ here.1 there.1 ∙ sym (map-append node_of a b),
+  λ all.
+      let each = both_true x y (subst IsTrue whole all) in
+      rw (parts, nodes) (zip_both CanLand first' second' a' b' (here.2 each.0) (there.2 each.1)),
+)
+IsDone-halves Land first second a b first' second' parts' a' b' nodes' x y complete ready parts nodes whole here there = (
+  parts ∙ ap₂ ◌++◌ here.0 there.0,
+  HaveLanded-halves first second a b a' b' nodes' ready nodes here.1 there.1,
+)

@@ -1,14 +1,12 @@
-//! Landings: the parts of an exchange, each of which one thread lands in its node.
+//! The exchange of a turn, whose stages one thread makes for each node: nodes are prepared for their parts, and then these land.
 
-ghost use Rattle.std.specs.Prelude.{◌≡◌, ◌↔◌, ◌⊎◌, ◌+◌, ◌-◌, ◌++◌, ◌<◌, ◌≤◌, ◌/◌, Err, Ok, IsOk, IfOk, IfErr, IsErrOf, length, vec_len, vec_capacity};
-ghost use Rattle.std.specs.List.{AllZip};
+ghost use Rattle.std.specs.Prelude.{◌≡◌, ◌↔◌, ◌⊎◌, ◌+◌, ◌-◌, ◌++◌, ◌<◌, ◌≤◌, ◌/◌, ◌&&◌, Err, Ok, IsOk, IfOk, IfErr, IsErrOf, length, vec_len, vec_capacity};
 ghost use Rattle.std.specs.Thread.{IsSend, IsSync};
 ghost use denote.Param.Send.{Frees};
-ghost use Rattle.bsp_exchange.specs.Parts.{CanLand};
-ghost use Rattle.phase_pool.specs.Landings.{AreHalves, HaveLanded};
+ghost use Rattle.phase_pool.specs.Landings.{AreHalves, IsDone, IsReadyFor};
 
 use crate::error::{Refusal, both};
-use bsp_exchange::{Part, land_all};
+use bsp_exchange::{Part, land_all, prepare_all};
 use node_core::Node;
 use std::alloc::Allocator;
 use std::snapshot::Snapshot;
@@ -17,6 +15,15 @@ use std::sync::atomic::{AtomicBool, Ordering};
 use std::thread;
 use std::thread::{Promise, Threads};
 
+/// What is made of nodes and their parts, the one when the other is complete.
+#[derive(Clone, Copy)]
+pub(crate) enum Stage {
+    /// Each node is prepared for its part.
+    Prepare,
+    /// Each part lands in its node, and is gone.
+    Land,
+}
+
 /// Some nodes of a row, with the part of each at the same place.
 #[derive(Drop)]
 pub(crate) struct Share<A: Allocator> {
@@ -24,22 +31,26 @@ pub(crate) struct Share<A: Allocator> {
     pub(crate) parts: Vec<Part<A>, A>,
 }
 
-/// Nodes in which their parts have landed, and what was refused meanwhile.
+/// A share of which a stage was made, and what was refused meanwhile.
 #[derive(Drop)]
-pub(crate) struct Landed<A: Allocator> {
-    pub(crate) nodes: Vec<Node<A>, A>,
+pub(crate) struct Done<A: Allocator> {
+    pub(crate) share: Share<A>,
+    /// Whether no node was refused the memory for which it was prepared. Landings are always complete.
+    pub(crate) complete: bool,
+    /// What threads and room were refused. The stage was made all the same.
     pub(crate) answer: Result<(), Refusal>,
 }
 
-/// The promise of a thread that it lands the parts that it is handed.
+/// The promise of a thread that it makes a stage of the share that it is handed.
 #[derive(Drop)]
-struct LandShare<A: Allocator> {
+struct MakeStage<A: Allocator> {
+    stage: Stage,
     share: Snapshot<Share<A>>,
 }
 
-impl<A: Allocator> Promise<Landed<A>> for LandShare<A> {
-    ghost kept_by = { λ promise done. HaveLanded promise.share.value.parts.items
-        promise.share.value.nodes.items done.nodes.items };
+impl<A: Allocator> Promise<Done<A>> for MakeStage<A> {
+    ghost kept_by = { λ promise done. IsDone promise.stage promise.share.value.parts.items
+        promise.share.value.nodes.items done.share.parts.items done.share.nodes.items done.complete };
 }
 
 /// How many bytes land in all of some parts.
@@ -51,81 +62,88 @@ pub(crate) fn bytes_of<A: Allocator + Copy>(parts: &[Part<A>]) -> u64 {
     bytes
 }
 
-/// Lands each part in the node at its place, in so many threads, this one among them. The other half goes to a thread that does the
-/// same.
+/// Makes a stage of each node and the part at its place, in so many threads, this one among them. The other half goes to a thread that
+/// does the same.
 ///
-/// A half whose thread cannot be started lands here as it is, and so does a share that there is no room to halve. So each part lands,
-/// whatever is refused.
+/// A half whose thread cannot be started is made here as it is, and so is a share that there is no room to halve. So the stage is made
+/// of each node, whatever threads and room are refused.
 #[cycle(threads)]
-pub(crate) fn land_in_threads<R: Threads + Wait + Sync, A: Allocator + Copy + Send + Sync>(
+pub(crate) fn make_in_threads<R: Threads + Wait + Sync, A: Allocator + Copy + Send + Sync>(
     rt: &R,
     threads: usize,
+    stage: Stage,
     share: Share<A>,
-) -> Landed<A>
-    requires lands { AllZip CanLand share.parts.items share.nodes.items }
+) -> Done<A>
+    requires ready { IsReadyFor stage share.parts.items share.nodes.items }
     requires enough { 1 < threads → threads ≤ vec_len share.nodes }
-    ensures landed { HaveLanded share.parts.items share.nodes.items result.nodes.items }
+    ensures done { IsDone stage share.parts.items share.nodes.items result.share.parts.items result.share.nodes.items result.complete }
     ensures no_worker { IsErrOf result.answer Refusal.NoWorker → 1 < threads }
-    ensures room { vec_capacity share.nodes ≤ vec_capacity result.nodes }
+    ensures node_room { vec_capacity share.nodes ≤ vec_capacity result.share.nodes }
+    ensures part_room { vec_capacity share.parts ≤ vec_capacity result.share.parts }
 {
     if threads < 2 {
-        return land_here(share);
+        return make_here(stage, share);
     }
     let end = end_of_first_half(share.nodes.len(), threads);
     match split(share, end) {
-        Ok((here, there)) => land_in_halves(rt, threads, here, there),
-        Err(whole) => refused(land_here(whole), Refusal::NoMemory),
+        Ok((here, there)) => make_in_halves(rt, threads, stage, here, there),
+        Err(whole) => refused(make_here(stage, whole), Refusal::NoMemory),
     }
 }
 
-/// Lands both halves of a share, the second in a thread of its own. Where that cannot be started, the second half lands here as it is,
-/// without memory.
+/// Makes a stage of both halves of a share, of the second in a thread of its own. Where that cannot be started, the second half is made
+/// here as it is, without memory for threads or room.
 #[cycle(threads)]
-fn land_in_halves<R: Threads + Wait + Sync, A: Allocator + Copy + Send + Sync>(
+fn make_in_halves<R: Threads + Wait + Sync, A: Allocator + Copy + Send + Sync>(
     rt: &R,
     threads: usize,
+    stage: Stage,
     here: Share<A>,
     there: Share<A>,
-) -> Landed<A>
-    requires { AreHalves threads (vec_capacity here.nodes) here.parts.items here.nodes.items there.parts.items there.nodes.items }
-    ensures landed { HaveLanded (here.parts.items ++ there.parts.items)
-        (here.nodes.items ++ there.nodes.items) result.nodes.items }
-    ensures room { vec_capacity here.nodes ≤ vec_capacity result.nodes }
+) -> Done<A>
+    requires { AreHalves stage threads (vec_capacity here.nodes) (vec_capacity here.parts) here.parts.items here.nodes.items there.parts.items there.nodes.items }
+    ensures done { IsDone stage (here.parts.items ++ there.parts.items) (here.nodes.items ++ there.nodes.items)
+        result.share.parts.items result.share.nodes.items result.complete }
+    ensures node_room { vec_capacity here.nodes ≤ vec_capacity result.share.nodes }
+    ensures part_room { vec_capacity here.parts ≤ vec_capacity result.share.parts }
 {
     let has_no_thread = AtomicBool::new(false);
     thread::scope(
         thread::scope_env(),
         rt,
-        |scope| -> Landed<A>
+        |scope| -> Done<A>
             requires { IsSync R.row × IsSend A.row × IsSync A.row × Frees A.Allocator A.dealloc_token
-                × AreHalves threads (vec_capacity here.nodes) here.parts.items here.nodes.items there.parts.items there.nodes.items }
-            ensures { HaveLanded (here.parts.items ++ there.parts.items)
-                (here.nodes.items ++ there.nodes.items) result.nodes.items
-                × (vec_capacity here.nodes ≤ vec_capacity result.nodes) }
+                × AreHalves stage threads (vec_capacity here.nodes) (vec_capacity here.parts) here.parts.items here.nodes.items there.parts.items there.nodes.items }
+            ensures { IsDone stage (here.parts.items ++ there.parts.items) (here.nodes.items ++ there.nodes.items)
+                result.share.parts.items result.share.nodes.items result.complete
+                × (vec_capacity here.nodes ≤ vec_capacity result.share.nodes)
+                × (vec_capacity here.parts ≤ vec_capacity result.share.parts) }
         {
-            let promise = LandShare {
+            let promise = MakeStage {
+                stage,
                 share: Snapshot::of(&there),
             };
             let has_no_thread = &has_no_thread;
-            let other = move || -> Landed<A>
+            let other = move || -> Done<A>
                 requires { IsSync R.row × IsSend A.row × IsSync A.row × Frees A.Allocator A.dealloc_token
                     × (1 < threads) × (threads / 2 ≤ vec_len there.nodes)
-                    × AllZip CanLand there.parts.items there.nodes.items }
-                ensures { HaveLanded there.parts.items there.nodes.items result.nodes.items }
+                    × IsReadyFor stage there.parts.items there.nodes.items }
+                ensures { IsDone stage there.parts.items there.nodes.items
+                    result.share.parts.items result.share.nodes.items result.complete }
             {
                 if has_no_thread.load(Ordering::Relaxed) {
-                    land_here(there)
+                    make_here(stage, there)
                 } else {
-                    land_in_threads(rt, threads / 2, there)
+                    make_in_threads(rt, threads / 2, stage, there)
                 }
             };
             match scope.spawn_with(promise, other) {
                 Ok(child) => {
-                    let first = land_in_threads(rt, threads - threads / 2, here);
+                    let first = make_in_threads(rt, threads - threads / 2, stage, here);
                     put_together(first, child.join(rt))
                 }
                 Err(not_started) => {
-                    let first = land_in_threads(rt, threads - threads / 2, here);
+                    let first = make_in_threads(rt, threads - threads / 2, stage, here);
                     has_no_thread.store(true, Ordering::Relaxed);
                     let whole = put_together(first, (not_started.value)());
                     refused(whole, Refusal::NoWorker)
@@ -157,9 +175,10 @@ fn split<A: Allocator + Copy>(share: Share<A>, end: usize) -> Result<(Share<A>, 
     ensures nodes { IfOk result (λ halves. halves.0.nodes.items ++ halves.1.nodes.items ≡ share.nodes.items) }
     ensures parts { IfOk result (λ halves. halves.0.parts.items ++ halves.1.parts.items ≡ share.parts.items) }
     ensures end { IfOk result (λ halves. (length halves.0.nodes.items ≡ end) × (length halves.0.parts.items ≡ end)) }
-    ensures room { IfOk result (λ halves. vec_capacity halves.0.nodes ≡ vec_capacity share.nodes) }
+    ensures room { IfOk result (λ halves. (vec_capacity halves.0.nodes ≡ vec_capacity share.nodes)
+        × (vec_capacity halves.0.parts ≡ vec_capacity share.parts)) }
     ensures err { IfErr result (λ whole. (whole.nodes.items ≡ share.nodes.items) × (whole.parts.items ≡ share.parts.items)
-        × (vec_capacity whole.nodes ≡ vec_capacity share.nodes)) }
+        × (vec_capacity whole.nodes ≡ vec_capacity share.nodes) × (vec_capacity share.parts ≤ vec_capacity whole.parts)) }
 {
     let Share {
         mut nodes,
@@ -196,50 +215,103 @@ fn joined<T: Drop, A: Allocator>(mut first: Vec<T, A>, mut second: Vec<T, A>) ->
 }
 
 /// Puts the second half behind the first, in which there is room for it.
-fn put_together<A: Allocator>(first: Landed<A>, second: Landed<A>) -> Landed<A>
-    requires { vec_len first.nodes + vec_len second.nodes ≤ vec_capacity first.nodes }
-    ensures nodes { result.nodes.items ≡ first.nodes.items ++ second.nodes.items }
+fn put_together<A: Allocator>(first: Done<A>, second: Done<A>) -> Done<A>
+    requires nodes { vec_len first.share.nodes + vec_len second.share.nodes ≤ vec_capacity first.share.nodes }
+    requires parts { vec_len first.share.parts + vec_len second.share.parts ≤ vec_capacity first.share.parts }
+    ensures nodes { result.share.nodes.items ≡ first.share.nodes.items ++ second.share.nodes.items }
+    ensures parts { result.share.parts.items ≡ first.share.parts.items ++ second.share.parts.items }
+    ensures complete { result.complete ≡ (first.complete && second.complete) }
     ensures no_worker { IsErrOf result.answer Refusal.NoWorker
         ↔ (IsErrOf first.answer Refusal.NoWorker ⊎ IsErrOf second.answer Refusal.NoWorker) }
-    ensures room { vec_capacity first.nodes ≤ vec_capacity result.nodes }
+    ensures node_room { vec_capacity first.share.nodes ≤ vec_capacity result.share.nodes }
+    ensures part_room { vec_capacity first.share.parts ≤ vec_capacity result.share.parts }
 {
-    let Landed { nodes, answer } = first;
-    let Landed {
-        nodes: others,
+    let Done {
+        share: here,
+        complete,
+        answer,
+    } = first;
+    let Done {
+        share: there,
+        complete: other_complete,
         answer: other_answer,
     } = second;
-    Landed {
-        nodes: joined(nodes, others),
+    Done {
+        share: Share {
+            nodes: joined(here.nodes, there.nodes),
+            parts: joined(here.parts, there.parts),
+        },
         answer: both(answer, other_answer),
+        complete: complete && other_complete,
     }
 }
 
-/// What comes of landings that were refused something: each part has landed all the same.
-fn refused<A: Allocator>(landed: Landed<A>, refusal: Refusal) -> Landed<A>
-    ensures nodes { result.nodes ≡ landed.nodes }
+/// What comes of a stage for which threads or room were refused: it was made all the same.
+fn refused<A: Allocator>(done: Done<A>, refusal: Refusal) -> Done<A>
+    ensures share { result.share ≡ done.share }
+    ensures complete { result.complete ≡ done.complete }
     ensures answer { result.answer ≡ Err refusal }
 {
-    let Landed { nodes, answer: _ } = landed;
-    Landed {
-        nodes,
+    let Done {
+        share,
+        complete,
+        answer: _,
+    } = done;
+    Done {
+        share,
+        complete,
         answer: Err(refusal),
     }
 }
 
-/// Lands each part in the node at its place, one after another, in this thread. No memory is taken.
-fn land_here<A: Allocator + Copy>(share: Share<A>) -> Landed<A>
-    requires { AllZip CanLand share.parts.items share.nodes.items }
-    ensures landed { HaveLanded share.parts.items share.nodes.items result.nodes.items }
+/// Makes a stage of each node and the part at its place, one after another, in this thread.
+fn make_here<A: Allocator + Copy>(stage: Stage, share: Share<A>) -> Done<A>
+    requires { IsReadyFor stage share.parts.items share.nodes.items }
+    ensures done { IsDone stage share.parts.items share.nodes.items result.share.parts.items result.share.nodes.items result.complete }
     ensures answer { result.answer ≡ Ok tt }
-    ensures room { vec_capacity result.nodes ≡ vec_capacity share.nodes }
+    ensures node_room { vec_capacity result.share.nodes ≡ vec_capacity share.nodes }
+    ensures part_room { vec_capacity result.share.parts ≡ vec_capacity share.parts }
+{
+    match stage {
+        Stage::Prepare => prepare_here(share),
+        Stage::Land => land_here(share),
+    }
+}
+
+/// Prepares each node for the part at its place, up to the first that is refused memory.
+fn prepare_here<A: Allocator + Copy>(share: Share<A>) -> Done<A>
+    requires { IsReadyFor Stage.Prepare share.parts.items share.nodes.items }
+    ensures done { IsDone Stage.Prepare share.parts.items share.nodes.items result.share.parts.items result.share.nodes.items result.complete }
+    ensures answer { result.answer ≡ Ok tt }
+    ensures node_room { vec_capacity result.share.nodes ≡ vec_capacity share.nodes }
+    ensures part_room { vec_capacity result.share.parts ≡ vec_capacity share.parts }
+{
+    let Share { mut nodes, parts } = share;
+    let complete = prepare_all(&mut nodes, &parts).is_ok();
+    Done {
+        share: Share { nodes, parts },
+        complete,
+        answer: Ok(()),
+    }
+}
+
+/// Lands each part in the node at its place. No memory is taken; what the parts hold is let go here, where it is in some thread's share.
+fn land_here<A: Allocator + Copy>(share: Share<A>) -> Done<A>
+    requires { IsReadyFor Stage.Land share.parts.items share.nodes.items }
+    ensures done { IsDone Stage.Land share.parts.items share.nodes.items result.share.parts.items result.share.nodes.items result.complete }
+    ensures answer { result.answer ≡ Ok tt }
+    ensures node_room { vec_capacity result.share.nodes ≡ vec_capacity share.nodes }
+    ensures part_room { vec_capacity result.share.parts ≡ vec_capacity share.parts }
 {
     let Share {
         mut nodes,
         mut parts,
     } = share;
     land_all(&mut nodes, &mut parts);
-    Landed {
-        nodes,
+    parts.clear();
+    Done {
+        share: Share { nodes, parts },
+        complete: true,
         answer: Ok(()),
     }
 }

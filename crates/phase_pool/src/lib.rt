@@ -4,8 +4,9 @@
 //! parts of the superstep. [`run_phase`] does so for one superstep, and [`run`] up to the machine's outcome. The machine lends its row
 //! of nodes meanwhile, and the nodes come to a table (`claim_table`), from which each worker takes one that runs, makes a slice of its
 //! steps and gives it back. When no worker is left, this thread takes the row out of the table and finishes each node that still
-//! runs. In a turn the parts of the exchange land in as many threads, by halves of the row. [`run_phase_sparing`] and [`run_sparing`]
-//! are the same for those who want no thread where its start would cost more than the work that it does.
+//! runs. In a turn the nodes are prepared for the parts of the exchange, and these land, in as many threads, by halves of the row.
+//! [`run_phase_sparing`] and [`run_sparing`] are the same for those who want no thread where its start would cost more than the work
+//! that it does.
 //!
 //! What callers may rely on:
 //!
@@ -14,8 +15,9 @@
 //! - Every thread that was started is joined before a call answers.
 //! - A refusal stops no node that did not need what was refused: afterwards each node has stopped, or its next step may be refused
 //!   memory, as a store into a page that is shared may. The nodes that a thread would have taken which cannot be started are left to
-//!   the others, and where there is no room for the table, all are left to this thread. A part whose thread cannot be started lands all
-//!   the same, so that no turn is left half made. No turn is made after a refusal. Then the machine is one that events lead to, and the
+//!   the others, and where there is no room for the table, all are left to this thread. A node whose thread cannot be started is prepared
+//!   all the same, and its part lands; where a node is refused the memory for which it is prepared, the turn is called off before a part
+//!   has landed. So no turn is left half made. No turn is made after a refusal. Then the machine is one that events lead to, and the
 //!   call made again leaves what it would have left: see [`laws`].
 //! - After the outcome these calls answer `Ok` and change nothing, as long as the numbers are within their ranges.
 //! - These calls may wait, for their own threads alone; a gate that waits is its writer's affair. No thread of the pool waits for

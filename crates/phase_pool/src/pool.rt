@@ -11,7 +11,7 @@ ghost use Rattle.phase_pool.specs.Phases.{LeadsTo, LeadsWithoutTurn, IsPhaseMade
 ghost use Rattle.phase_pool.specs.Work.{HaveCome};
 
 use crate::error::{PoolError, Refusal, both};
-use crate::landing::{Share, bytes_of, land_in_threads};
+use crate::landing::{Share, Stage, bytes_of, make_in_threads};
 use crate::numbers::check_numbers;
 use crate::part::{FirstShare, work_on};
 use bsp_exchange::Part;
@@ -28,7 +28,7 @@ const FIRST_SHARE: FirstShare = FirstShare {
     bytes: 1 << 20,
 };
 
-/// From how many bytes of an exchange on threads land its parts, by [`run_sparing`] (own rule).
+/// From how many bytes of an exchange on threads prepare its nodes and land its parts, by [`run_sparing`] (own rule).
 const LANDED_BYTES: u64 = 1 << 20;
 
 /// Who works on the nodes of a machine, and how.
@@ -38,7 +38,7 @@ struct Team<'g, G> {
     slice: u64,
     /// What the caller's thread makes first.
     first: FirstShare,
-    /// From how many bytes of an exchange on threads land its parts.
+    /// From how many bytes of an exchange on threads prepare its nodes and land its parts.
     landed_bytes: u64,
     gate: &'g G,
 }
@@ -139,13 +139,14 @@ pub fn run_phase_sparing<R: Threads + Wait + Sync, A: Allocator + Copy + Send + 
     run_phase_with(rt, machine, &Team::sparing(workers, slice))
 }
 
-/// Runs a machine to its outcome, superstep by superstep, with the numbers and the gate of [`run_phase`]. The parts of an exchange land
-/// in so many threads too, without calls of the gate. After the outcome nothing is left to run.
+/// Runs a machine to its outcome, superstep by superstep, with the numbers and the gate of [`run_phase`]. For an exchange nodes are
+/// prepared and parts land in so many threads too, without calls of the gate. After the outcome nothing is left to run.
 ///
 /// # Errors
-/// As [`run_phase`], and [`PoolError::NoMemory`] where memory was refused in a turn. Where a thread or room was refused for landings,
-/// the turn is whole, and the nodes make their next local parts before that is answered. No turn is made any more; the steps and turns
-/// before stand, and a call made again leaves what this one would have left.
+/// As [`run_phase`], and [`PoolError::NoMemory`] where memory was refused in a turn, also where a thread was refused in it besides; the
+/// turn is not made then. Where no more than a thread or room was refused for an exchange, the turn is whole, and the nodes make their
+/// next local parts before that is answered. No turn is made any more; the steps and turns before stand, and a call made again leaves
+/// what this one would have left.
 pub fn run<R: Threads + Wait + Sync, A: Allocator + Copy + Send + Sync, G: Gate<A> + Sync>(
     rt: &R,
     machine: &mut Machine<A>,
@@ -174,7 +175,7 @@ pub fn run<R: Threads + Wait + Sync, A: Allocator + Copy + Send + Sync, G: Gate<
 
 /// As [`run`], with an open gate, but starts threads only for the work that pays for them: first the caller's thread makes some
 /// steps of each node, or fewer where they ask for many bytes, and only where a node still runs then do the workers share out the nodes;
-/// and parts land in several threads only where there are bytes enough. One worker needs no table.
+/// and for an exchange several threads work only where there are bytes enough. One worker needs no table.
 ///
 /// # Errors
 /// As [`run`].
@@ -303,8 +304,8 @@ fn work_on_machine<R: Threads + Wait + Sync, A: Allocator + Copy + Send + Sync, 
     (lender.take_back(worked.nodes), worked.answer)
 }
 
-/// Makes a machine's turn, and answers what its landings were refused, in spite of which it is whole. The machine is out of its place
-/// meanwhile, as for [`make_local_parts`].
+/// Makes a machine's turn, and answers what threads and room it was refused, in spite of which it is whole. The machine is out of its
+/// place meanwhile, as for [`make_local_parts`].
 ///
 /// # Errors
 /// Where memory is refused before a part lands. Nothing has changed then.
@@ -328,7 +329,7 @@ fn make_turn<R: Threads + Wait + Sync, A: Allocator + Copy + Send + Sync, G: Syn
     )
 }
 
-/// A machine after its turn, the parts of whose exchange threads landed, and what they were refused.
+/// A machine after its turn, for whose exchange threads prepared the nodes and landed the parts, and what they were refused.
 fn turn_machine<R: Threads + Wait + Sync, A: Allocator + Copy + Send + Sync, G: Sync>(
     rt: &R,
     team: &Team<'_, G>,
@@ -349,13 +350,19 @@ fn turn_machine<R: Threads + Wait + Sync, A: Allocator + Copy + Send + Sync, G: 
             },
         ) => {
             let threads = landing_threads(team, &parts);
-            let landed = land_in_threads(rt, threads, Share { nodes, parts });
-            (lander.finish(landed.nodes), Ok(landed.answer))
+            let share = Share { nodes, parts };
+            let prepared = make_in_threads(rt, threads, Stage::Prepare, share);
+            if !prepared.complete {
+                return (lander.call_off(prepared.share.nodes), Err(AllocError));
+            }
+            let landed = make_in_threads(rt, threads, Stage::Land, prepared.share);
+            let answer = both(prepared.answer, landed.answer);
+            (lander.finish(landed.share.nodes), Ok(answer))
         }
     }
 }
 
-/// In how many threads these parts land: as many as there are workers and parts, or one, where the bytes do not pay for others.
+/// In how many threads nodes are prepared for these parts, and then the parts land: as many as there are workers and parts, or one, where the bytes do not pay for others.
 fn landing_threads<A: Allocator + Copy, G>(team: &Team<'_, G>, parts: &[Part<A>]) -> usize
     ensures workers { result ≤ team.now.workers }
     ensures parts { result ≤ length parts.now }

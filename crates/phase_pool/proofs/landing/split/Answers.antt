@@ -1,4 +1,4 @@
-use Rattle.std.proofs.Common.{◌++◌, refl, ap₂, ◌∙◌}
+use Rattle.std.proofs.Common.{◌++◌, refl, ap₂, ◌∙◌, arith}
 use Rattle.std.proofs.lemmas.List.{take-append-drop}
 use Rattle.phase_pool.proofs.landing.split.Goals as goal
 
@@ -15,4 +15,5 @@ returns-in-Err-clause-err g c = (
   rw c.in-Err.ensures.err refl,
   c.joined-parts.ensures.items ∙ ap₂ ◌++◌ c.in-Ok.ensures.items c.in-Ok.ensures.tail ∙ take-append-drop c.args.end c.args.share.parts.items,
   rw c.in-Err.ensures.err refl,
+  omega (arith, c.joined-parts.ensures.room, c.in-Ok.ensures.capacity),
 )

@@ -1,45 +1,62 @@
-use Rattle.std.proofs.Common.{◌≡◌, None, List, length, sym, ap, ap₂, ◌∙◌, arith}
+use Rattle.std.proofs.Common.{◌≡◌, ◌<◌, None, List, inl, inr, length, sym, ap, ap₂, ◌∙◌, arith}
 use Rattle.std.proofs.lemmas.List.{length-map}
 use Rattle.node_core.specs.Node.{NodeState, PreparedNode}
 use Rattle.bsp_exchange.specs.Parts.{PartState, landed}
-use Rattle.bsp_exchange.proofs.LandedRow.{as_many}
 use Rattle.machine_core.specs.declared.event.Event.TheVariants.{Turn}
 use Rattle.machine_core.specs.Events.{event}
 use Rattle.machine_core.specs.Landing.{row_landed}
 use Rattle.machine_core.specs.Machine.{MachineState}
-use Rattle.phase_pool.proofs.Landings.{on_err_from}
+use Rattle.phase_pool.specs.declared.landing.Stage.TheVariants.{Prepare}
+use Rattle.phase_pool.proofs.Landings.{IsDone-nodes, on_err_from, ready_as_many}
 use Rattle.phase_pool.proofs.pool.turn_machine.Goals as goal
 
-pub returns-in-Landing : goal.returns-in-Landing
-returns-in-Landing g c =
+pub make_in_threads-prepared-requires-clause-enough :
+    goal.make_in_threads-prepared-requires-clause-enough
+make_in_threads-prepared-requires-clause-enough g c κs within several =
+    let row = c.in-Landing.field-0.nodes in
+    let parts = c.in-Landing.field-0.parts in
+    let long = ready_as_many Prepare parts.items row.items c.in-Landing.ensures.ready in
+    let read = ap length c.deref.ensures.value in
+    omega (arith, c.landing_threads-threads.ensures.parts, read, long, row.ok.0)
+
+pub make_in_threads-landed-requires-clause-ready : goal.make_in_threads-landed-requires-clause-ready
+make_in_threads-landed-requires-clause-ready g c κs within = c.make_in_threads-prepared.ensures.done.2 c.if-not-prepared.false
+
+pub make_in_threads-landed-requires-clause-enough :
+    goal.make_in_threads-landed-requires-clause-enough
+make_in_threads-landed-requires-clause-enough g c κs within several =
+    let row = c.in-Landing.field-0.nodes in
+    let parts = c.in-Landing.field-0.parts in
+    let prepared = c.make_in_threads-prepared.result in
+    let long = ready_as_many Prepare parts.items row.items c.in-Landing.ensures.ready in
+    let same = IsDone-nodes Prepare parts.items row.items prepared.share.parts.items prepared.share.nodes.items prepared.complete c.make_in_threads-prepared.ensures.done in
+    let read = ap length c.deref.ensures.value in
+    omega (arith, c.landing_threads-threads.ensures.parts, read, long, same, prepared.share.nodes.ok.0)
+
+pub finish-requires : goal.finish-requires
+finish-requires g c =
+    let handed = c.in-Landing.ensures in
+    let prepared = c.make_in_threads-prepared.ensures.done in
+    c.make_in_threads-landed.ensures.done.1
+    ∙ ap₂ (λ (parts : List PartState) (nodes : List NodeState). landed parts nodes) (prepared.0 ∙ handed.gathered) (prepared.1 ∙ handed.row)
+    ∙ sym (ap (λ (x : MachineState). row_landed x.nodes) handed.rest)
+
+pub returns-else-not-prepared : goal.returns-else-not-prepared
+returns-else-not-prepared g c =
     let handed = c.in-Landing.ensures in
     let row = c.in-Landing.field-0.nodes in
     let parts = c.in-Landing.field-0.parts in
     record {
       ok = c.finish.ensures.turned ∙ ap (λ (x : MachineState). event x Turn) handed.rest;
       err = tt;
-      going = on_err_from {P = c.finish.result.outcome ≡ None} c.land_in_threads-landed.result.answer c.finish.ensures.going;
+      going = on_err_from {P = c.finish.result.outcome ≡ None} c.both-answer.result c.finish.ensures.going;
       no_worker = λ refused.
-          let several = c.land_in_threads-landed.ensures.no_worker refused in
-          let long = as_many parts.items row.items handed.ready in
+          let several : 1 < c.landing_threads-threads.result = elim (c.both-answer.ensures.no_worker.0 refused) [
+            | inl first ↦ c.make_in_threads-prepared.ensures.no_worker first
+            | inr second ↦ c.make_in_threads-landed.ensures.no_worker second
+          ] in
+          let long = ready_as_many Prepare parts.items row.items handed.ready in
           let nodes : length row.items ≡ length c.args.machine.nodes = sym (length-map row.items (λ (p : PreparedNode). p.node)) ∙ ap (λ (ns : List NodeState). length ns) handed.row in
           let read = ap length c.deref.ensures.value in
           (omega (arith, several, c.landing_threads-threads.ensures.workers), omega (arith, several, c.landing_threads-threads.ensures.parts, read, long, nodes));
     }
-
-pub land_in_threads-landed-requires-clause-enough :
-    goal.land_in_threads-landed-requires-clause-enough
-land_in_threads-landed-requires-clause-enough g c κs within several =
-    let handed = c.in-Landing.ensures in
-    let row = c.in-Landing.field-0.nodes in
-    let parts = c.in-Landing.field-0.parts in
-    let long = as_many parts.items row.items handed.ready in
-    let read = ap length c.deref.ensures.value in
-    omega (arith, c.landing_threads-threads.ensures.parts, read, long, row.ok.0)
-
-pub finish-requires : goal.finish-requires
-finish-requires g c =
-    let handed = c.in-Landing.ensures in
-    c.land_in_threads-landed.ensures.landed
-    ∙ ap₂ (λ (parts : List PartState) (nodes : List NodeState). landed parts nodes) handed.gathered handed.row
-    ∙ sym (ap (λ (x : MachineState). row_landed x.nodes) handed.rest)

@@ -2,7 +2,9 @@
 
 use crate::calls::{self, Calls, INPUT, LIMIT, MEMORY, MOST_NODES};
 use crate::nodes::are_same;
-use bsp_exchange::{ExchangeError, Part, Plan, Traffic, are_at_sync, exchange, plan};
+use bsp_exchange::{
+    ExchangeError, Part, Plan, Traffic, are_at_sync, draft, exchange, land_all, plan, prepare_all,
+};
 use node_core::Node;
 use refusing_allocator::{Called, RefusingAllocator, Trial, expect_requests};
 use std::alloc::{AllocError, Allocator, Global};
@@ -194,6 +196,30 @@ fn a_refused_exchange_can_be_made_again(rt: HostRuntime) -> Result<(), Fail> {
             };
             expect_requests(&rt, &heap, row.name, &call, row.requests)?;
         }
+    }
+    Ok(())
+}
+
+// Drafts an exchange, prepares the nodes for their parts and lands these.
+fn make_in_stages<A: Allocator + Copy>(alloc: A, nodes: &mut [Node<A>]) -> Result<Traffic, Fail> {
+    if !are_at_sync(nodes) {
+        return Err(Fail::new("a node does not wait"));
+    }
+    let Plan { traffic, mut parts } = draft(alloc, nodes)?;
+    prepare_all(nodes, &parts)?;
+    land_all(nodes, &mut parts);
+    Ok(traffic)
+}
+
+#[test]
+fn the_stages_of_an_exchange_make_it(rt: HostRuntime) -> Result<(), Fail> {
+    let alloc = rt.alloc();
+    for row in &ROWS {
+        let mut nodes = waiting(alloc, row.calls, row.exchanges)?;
+        let mut others = waiting(alloc, row.calls, row.exchanges)?;
+        let traffic = make_in_stages(alloc, &mut nodes)?;
+        assert!(rt; make(alloc, &mut others)? == Ok(traffic));
+        assert!(rt; are_same(&nodes, &others)?);
     }
     Ok(())
 }

@@ -119,7 +119,7 @@ fn ticks_of(machine: &Machine<&Heap>, rank: u32) -> u64 {
 }
 
 // How many requests for memory a program makes: in its first local parts, without a table of nodes and with one; in a run without a
-// table, in one with a table in each superstep, and in one of two workers, who land each exchange by halves too.
+// table, in one with a table in each superstep, and in one of two workers, who prepare nodes and land parts by halves too.
 struct Requests {
     phase: u64,
     shared: u64,
@@ -230,7 +230,7 @@ fn a_refused_run_of_a_put_can_be_made_again(rt: HostRuntime) -> Result<(), Fail>
         shared: 9,
         plain: 17,
         pool: 32,
-        pair: 36,
+        pair: 40,
     };
     expect_runs(&rt, &heap, Program::Calls(calls::A_PUT), expected)
 }
@@ -243,7 +243,7 @@ fn a_refused_run_of_a_swap_can_be_made_again(rt: HostRuntime) -> Result<(), Fail
         shared: 12,
         plain: 22,
         pool: 37,
-        pair: 41,
+        pair: 45,
     };
     expect_runs(&rt, &heap, Program::Calls(calls::A_SWAP), expected)
 }
@@ -256,7 +256,7 @@ fn a_refused_run_of_messages_can_be_made_again(rt: HostRuntime) -> Result<(), Fa
         shared: 9,
         plain: 13,
         pool: 23,
-        pair: 25,
+        pair: 27,
     };
     expect_runs(&rt, &heap, Program::Calls(calls::MESSAGES), expected)
 }

@@ -10,11 +10,12 @@ use std::sync::Wait;
 use std::test::Fail;
 use std::thread::Threads;
 
-// For what a superstep cannot start a thread: for its local parts, or, where these are made already, for its landings.
+// For what a superstep cannot start a thread: for its local parts, or, where these are made already, for its exchange, in which nodes are
+// to be prepared by a thread of their own, and then parts are to land in one.
 #[derive(Clone, Copy)]
 enum Stage {
     Parts,
-    Landings,
+    Exchange,
 }
 
 // The calls of the nodes, the superstep, from 0, and its stage; and the call that wants the thread.
@@ -35,23 +36,23 @@ const PARTS: Way = Way::RunPhase {
     slice: 1,
 };
 
-// Each start of a thread that these runs want, but for the second ones of three workers.
+// Each start of a thread that these runs want, but for the second ones of three workers. Both of an exchange are refused in one run.
 static STARTS: [Start; 12] = [
     (calls::A_SWAP, 0, Stage::Parts, TWO),
-    (calls::A_SWAP, 0, Stage::Landings, TWO),
+    (calls::A_SWAP, 0, Stage::Exchange, TWO),
     (calls::A_SWAP, 1, Stage::Parts, TWO),
-    (calls::A_SWAP, 1, Stage::Landings, TWO),
+    (calls::A_SWAP, 1, Stage::Exchange, TWO),
     (calls::A_SWAP, 2, Stage::Parts, TWO),
     (calls::MESSAGES, 0, Stage::Parts, TWO),
-    (calls::MESSAGES, 0, Stage::Landings, TWO),
+    (calls::MESSAGES, 0, Stage::Exchange, TWO),
     (calls::MESSAGES, 1, Stage::Parts, TWO),
     (calls::MESSAGES, 0, Stage::Parts, THREE),
-    (calls::MESSAGES, 0, Stage::Landings, THREE),
+    (calls::MESSAGES, 0, Stage::Exchange, THREE),
     (calls::MESSAGES, 1, Stage::Parts, THREE),
     (calls::A_PUT, 0, Stage::Parts, PARTS),
 ];
 
-// A machine at the start of a superstep, or at its landings.
+// A machine at the start of a superstep, or at its exchange.
 fn machine<'h>(heap: &'h Heap, start: &Start) -> Result<Machine<&'h Heap>, Fail> {
     let (calls, superstep, stage, _) = *start;
     let mut machine = calls::machine(heap, calls)?;
@@ -59,7 +60,7 @@ fn machine<'h>(heap: &'h Heap, start: &Start) -> Result<Machine<&'h Heap>, Fail>
         machine.run_phase_plain()?;
         machine.turn()?;
     }
-    if matches!(stage, Stage::Landings) {
+    if matches!(stage, Stage::Exchange) {
         machine.run_phase_plain()?;
     }
     Ok(machine)
@@ -121,11 +122,11 @@ fn refuse_all<R: Threads + Wait + Sync>(
     Ok(refused)
 }
 
-// A machine at the end of the local parts that come next: a run that is refused a thread for landings makes the turn whole, and then
+// A machine at the end of the local parts that come next: a run that is refused threads for an exchange makes the turn whole, and then
 // these, before it answers.
 fn run_on<'h>(heap: &'h Heap, start: &Start) -> Result<Machine<&'h Heap>, Fail> {
     let mut whole = machine(heap, start)?;
-    if matches!(start.2, Stage::Landings) {
+    if matches!(start.2, Stage::Exchange) {
         whole.turn()?;
     }
     whole.run_phase_plain()?;
@@ -163,6 +164,6 @@ fn a_run_that_is_refused_a_thread_can_be_made_again(rt: HostRuntime) -> Result<(
         assert!(rt; start.3.take_on(&rt, machine) == Ok(()));
         assert!(rt; has_ended(&heap, start, machine)?);
     }
-    println!(rt; "  12 starts of a thread refused: run and run_phase")?;
+    println!(rt; "  12 runs refused a thread: run and run_phase")?;
     Ok(())
 }

@@ -119,7 +119,7 @@ fn ticks_of(machine: &Machine<&Heap>, rank: u32) -> u64 {
 }
 
 // How many requests for memory a program makes: in its first local parts, without a table of nodes and with one; in a run without a
-// table, in one with a table in each superstep, and in one of two workers, who prepare nodes and land parts by halves too.
+// table, in one with a table in each superstep, and in one of two workers, who prepare nodes and land parts in two threads too.
 struct Requests {
     phase: u64,
     shared: u64,

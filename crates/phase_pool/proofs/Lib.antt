@@ -1,4 +1,4 @@
-pub mod Halves
+pub mod Runs
 pub mod Landings
 pub mod Phases
 pub mod Works

@@ -1,6 +1,6 @@
--- The stages of an exchange that are shared out by halves: nodes are prepared for their parts, and these land. A share is some nodes of a
--- row, with the part of each at the same place. BSPlib (Hill and others, 1998: `bsp_sync`) leaves open who moves the bytes.
-use Rattle.std.specs.Prelude.{◌≡◌, ℕ, ◌+◌, ◌-◌, ◌/◌, ◌<◌, ◌≤◌, Bool, List, [], length, IsTrue, Result, OnOk, OnErr, IfOk, IsErrOf, ⊤, None}
+-- The stages of an exchange that are shared out by runs of ranks: nodes are prepared for their parts, and these land. A share is some nodes
+-- of a row, with the part of each at the same place. BSPlib (Hill and others, 1998: `bsp_sync`) leaves open who moves the bytes.
+use Rattle.std.specs.Prelude.{◌≡◌, ℕ, ◌+◌, ◌-◌, ◌<◌, ◌≤◌, Bool, List, [], length, IsTrue, Result, OnOk, OnErr, IfOk, IsErrOf, ⊤, None}
 use Rattle.std.specs.declared.alloc.AllocError.{AllocError}
 use Rattle.std.specs.List.{AllZip}
 use Rattle.node_core.specs.Node.{PreparedNode}
@@ -29,16 +29,15 @@ abbrev pub IsDone : Stage → List PartState → List PreparedNode → List Part
 IsDone Prepare parts nodes parts' nodes' complete = (parts' ≡ parts) × (states nodes' ≡ states nodes) × (IsTrue complete → AllZip CanLand parts' nodes')
 IsDone Land parts nodes parts' nodes' complete = (parts' ≡ []) × HaveLanded parts nodes nodes'
 
--- two halves of a stage, for so many threads together: none of them is without a node, each is ready for the stage, and the second
--- halves of nodes and parts find room behind the first
-pub record AreHalves (stage : Stage) (threads node_room part_room : ℕ) (parts : List PartState) (nodes : List PreparedNode) (parts' : List PartState) (nodes' : List PreparedNode) : Type 0 where
-  pub some : 1 < threads
-  pub first_has : threads - threads / 2 ≤ length nodes
-  pub second_has : threads / 2 ≤ length nodes'
-  pub nodes_fit : length nodes + length nodes' ≤ node_room
-  pub parts_fit : length parts + length parts' ≤ part_room
-  pub first_ready : IsReadyFor stage parts nodes
-  pub second_ready : IsReadyFor stage parts' nodes'
+-- the nodes of a stage before the last of so many runs, and those of that run: no run before it is without a node, all are ready for the
+-- stage, and the last nodes and parts find room behind those before them
+pub record AreApart (stage : Stage) (runs node_room part_room : ℕ) (parts : List PartState) (nodes : List PreparedNode) (last_parts : List PartState) (last_nodes : List PreparedNode) : Type 0 where
+  pub some : 1 < runs
+  pub enough : runs - 1 ≤ length nodes
+  pub nodes_fit : length nodes + length last_nodes ≤ node_room
+  pub parts_fit : length parts + length last_parts ≤ part_room
+  pub ready : IsReadyFor stage parts nodes
+  pub last_ready : IsReadyFor stage last_parts last_nodes
 
 -- a machine after its turn was to be made, with an exchange in stages by so many workers. It is made whole, whatever threads and room
 -- these were refused, or it was refused memory and nothing has changed. Where a stage was refused something, there was an exchange, and

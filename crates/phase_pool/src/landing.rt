@@ -1,9 +1,9 @@
 //! The exchange of a turn, whose stages one thread makes for each node: nodes are prepared for their parts, and then these land.
 
-ghost use Rattle.std.specs.Prelude.{◌≡◌, ◌↔◌, ◌⊎◌, ◌+◌, ◌-◌, ◌++◌, ◌<◌, ◌≤◌, ◌/◌, ◌&&◌, Err, Ok, IsOk, IfOk, IfErr, IsErrOf, length, vec_len, vec_capacity};
+ghost use Rattle.std.specs.Prelude.{◌≡◌, ◌↔◌, ◌⊎◌, ◌+◌, ◌-◌, ◌++◌, ◌<◌, ◌≤◌, ◌&&◌, Err, Ok, IsOk, IfOk, IfErr, IsErrOf, length, vec_len, vec_capacity};
 ghost use Rattle.std.specs.Thread.{IsSend, IsSync};
 ghost use denote.Param.Send.{Frees};
-ghost use Rattle.phase_pool.specs.Landings.{AreHalves, IsDone, IsReadyFor};
+ghost use Rattle.phase_pool.specs.Landings.{AreApart, IsDone, IsReadyFor};
 
 use crate::error::{Refusal, both};
 use bsp_exchange::{Part, land_all, prepare_all};
@@ -11,7 +11,6 @@ use node_core::Node;
 use std::alloc::Allocator;
 use std::snapshot::Snapshot;
 use std::sync::Wait;
-use std::sync::atomic::{AtomicBool, Ordering};
 use std::thread;
 use std::thread::{Promise, Threads};
 
@@ -62,11 +61,11 @@ pub(crate) fn bytes_of<A: Allocator + Copy>(parts: &[Part<A>]) -> u64 {
     bytes
 }
 
-/// Makes a stage of each node and the part at its place, in so many threads, this one among them. The other half goes to a thread that
-/// does the same.
+/// Makes a stage of each node and the part at its place, in so many threads, this one among them. Each takes a run of the row, and this
+/// one starts all others, from the last run on: where two threads start others at once, these may be put on the same processor.
 ///
-/// A half whose thread cannot be started is made here as it is, and so is a share that there is no room to halve. So the stage is made
-/// of each node, whatever threads and room are refused.
+/// A run whose thread cannot be started is made here as it is, and so is a share for whose last run there is no room of its own. So the
+/// stage is made of each node, whatever threads and room are refused.
 #[cycle(threads)]
 pub(crate) fn make_in_threads<R: Threads + Wait + Sync, A: Allocator + Copy + Send + Sync>(
     rt: &R,
@@ -84,67 +83,56 @@ pub(crate) fn make_in_threads<R: Threads + Wait + Sync, A: Allocator + Copy + Se
     if threads < 2 {
         return make_here(stage, share);
     }
-    let end = end_of_first_half(share.nodes.len(), threads);
-    match split(share, end) {
-        Ok((here, there)) => make_in_halves(rt, threads, stage, here, there),
+    let start = start_of_last_run(share.nodes.len(), threads);
+    match split(share, start) {
+        Ok((here, last)) => make_beside(rt, threads, stage, here, last),
         Err(whole) => refused(make_here(stage, whole), Refusal::NoMemory),
     }
 }
 
-/// Makes a stage of both halves of a share, of the second in a thread of its own. Where that cannot be started, the second half is made
-/// here as it is, without memory for threads or room.
+/// Makes a stage of a share whose last run stands apart, of this run in a thread of its own and of the rest in so many threads together
+/// with that. Where it cannot be started, the run is made here as it is, when the rest is.
 #[cycle(threads)]
-fn make_in_halves<R: Threads + Wait + Sync, A: Allocator + Copy + Send + Sync>(
+fn make_beside<R: Threads + Wait + Sync, A: Allocator + Copy + Send + Sync>(
     rt: &R,
     threads: usize,
     stage: Stage,
     here: Share<A>,
-    there: Share<A>,
+    last: Share<A>,
 ) -> Done<A>
-    requires { AreHalves stage threads (vec_capacity here.nodes) (vec_capacity here.parts) here.parts.items here.nodes.items there.parts.items there.nodes.items }
-    ensures done { IsDone stage (here.parts.items ++ there.parts.items) (here.nodes.items ++ there.nodes.items)
+    requires { AreApart stage threads (vec_capacity here.nodes) (vec_capacity here.parts) here.parts.items here.nodes.items last.parts.items last.nodes.items }
+    ensures done { IsDone stage (here.parts.items ++ last.parts.items) (here.nodes.items ++ last.nodes.items)
         result.share.parts.items result.share.nodes.items result.complete }
     ensures node_room { vec_capacity here.nodes ≤ vec_capacity result.share.nodes }
     ensures part_room { vec_capacity here.parts ≤ vec_capacity result.share.parts }
 {
-    let has_no_thread = AtomicBool::new(false);
     thread::scope(
         thread::scope_env(),
         rt,
         |scope| -> Done<A>
             requires { IsSync R.row × IsSend A.row × IsSync A.row × Frees A.Allocator A.dealloc_token
-                × AreHalves stage threads (vec_capacity here.nodes) (vec_capacity here.parts) here.parts.items here.nodes.items there.parts.items there.nodes.items }
-            ensures { IsDone stage (here.parts.items ++ there.parts.items) (here.nodes.items ++ there.nodes.items)
+                × AreApart stage threads (vec_capacity here.nodes) (vec_capacity here.parts) here.parts.items here.nodes.items last.parts.items last.nodes.items }
+            ensures { IsDone stage (here.parts.items ++ last.parts.items) (here.nodes.items ++ last.nodes.items)
                 result.share.parts.items result.share.nodes.items result.complete
                 × (vec_capacity here.nodes ≤ vec_capacity result.share.nodes)
                 × (vec_capacity here.parts ≤ vec_capacity result.share.parts) }
         {
             let promise = MakeStage {
                 stage,
-                share: Snapshot::of(&there),
+                share: Snapshot::of(&last),
             };
-            let has_no_thread = &has_no_thread;
             let other = move || -> Done<A>
-                requires { IsSync R.row × IsSend A.row × IsSync A.row × Frees A.Allocator A.dealloc_token
-                    × (1 < threads) × (threads / 2 ≤ vec_len there.nodes)
-                    × IsReadyFor stage there.parts.items there.nodes.items }
-                ensures { IsDone stage there.parts.items there.nodes.items
+                requires { IsReadyFor stage last.parts.items last.nodes.items }
+                ensures { IsDone stage last.parts.items last.nodes.items
                     result.share.parts.items result.share.nodes.items result.complete }
-            {
-                if has_no_thread.load(Ordering::Relaxed) {
-                    make_here(stage, there)
-                } else {
-                    make_in_threads(rt, threads / 2, stage, there)
-                }
-            };
+            { make_here(stage, last) };
             match scope.spawn_with(promise, other) {
                 Ok(child) => {
-                    let first = make_in_threads(rt, threads - threads / 2, stage, here);
+                    let first = make_in_threads(rt, threads - 1, stage, here);
                     put_together(first, child.join(rt))
                 }
                 Err(not_started) => {
-                    let first = make_in_threads(rt, threads - threads / 2, stage, here);
-                    has_no_thread.store(true, Ordering::Relaxed);
+                    let first = make_in_threads(rt, threads - 1, stage, here);
                     let whole = put_together(first, (not_started.value)());
                     refused(whole, Refusal::NoWorker)
                 }
@@ -153,30 +141,28 @@ fn make_in_halves<R: Threads + Wait + Sync, A: Allocator + Copy + Send + Sync>(
     )
 }
 
-/// How many of so many nodes make the first half of so many shares, which is the larger one where one is. Shares differ by one
-/// node at most, and none is empty.
-fn end_of_first_half(nodes: usize, shares: usize) -> usize
-    requires some { 1 < shares }
-    requires enough { shares ≤ nodes }
-    ensures first { shares - shares / 2 ≤ result }
-    ensures second { result + shares / 2 ≤ nodes }
+/// How many of so many nodes stand before the last of so many runs. Runs differ by one node at most, and none is empty.
+fn start_of_last_run(nodes: usize, runs: usize) -> usize
+    requires some { 1 < runs }
+    requires enough { runs ≤ nodes }
+    ensures others { runs - 1 ≤ result }
+    ensures within { result ≤ nodes }
 {
-    let first = shares - shares / 2;
-    nodes / shares * first + (nodes % shares).min(first)
+    nodes - nodes / runs
 }
 
 /// Splits a share before the node at a place.
 ///
 /// # Errors
-/// Where there is no room for the second half. The share is whole then.
+/// Where there is no room for what stands from there on. The share is whole then.
 fn split<A: Allocator + Copy>(share: Share<A>, end: usize) -> Result<(Share<A>, Share<A>), Share<A>>
     requires nodes { end ≤ vec_len share.nodes }
     requires parts { end ≤ vec_len share.parts }
-    ensures nodes { IfOk result (λ halves. halves.0.nodes.items ++ halves.1.nodes.items ≡ share.nodes.items) }
-    ensures parts { IfOk result (λ halves. halves.0.parts.items ++ halves.1.parts.items ≡ share.parts.items) }
-    ensures end { IfOk result (λ halves. (length halves.0.nodes.items ≡ end) × (length halves.0.parts.items ≡ end)) }
-    ensures room { IfOk result (λ halves. (vec_capacity halves.0.nodes ≡ vec_capacity share.nodes)
-        × (vec_capacity halves.0.parts ≡ vec_capacity share.parts)) }
+    ensures nodes { IfOk result (λ both. both.0.nodes.items ++ both.1.nodes.items ≡ share.nodes.items) }
+    ensures parts { IfOk result (λ both. both.0.parts.items ++ both.1.parts.items ≡ share.parts.items) }
+    ensures end { IfOk result (λ both. (length both.0.nodes.items ≡ end) × (length both.0.parts.items ≡ end)) }
+    ensures room { IfOk result (λ both. (vec_capacity both.0.nodes ≡ vec_capacity share.nodes)
+        × (vec_capacity both.0.parts ≡ vec_capacity share.parts)) }
     ensures err { IfErr result (λ whole. (whole.nodes.items ≡ share.nodes.items) × (whole.parts.items ≡ share.parts.items)
         × (vec_capacity whole.nodes ≡ vec_capacity share.nodes) × (vec_capacity share.parts ≤ vec_capacity whole.parts)) }
 {
@@ -214,7 +200,7 @@ fn joined<T: Drop, A: Allocator>(mut first: Vec<T, A>, mut second: Vec<T, A>) ->
     first
 }
 
-/// Puts the second half behind the first, in which there is room for it.
+/// Puts what was made of the second share behind what was made of the first, in which there is room for it.
 fn put_together<A: Allocator>(first: Done<A>, second: Done<A>) -> Done<A>
     requires nodes { vec_len first.share.nodes + vec_len second.share.nodes ≤ vec_capacity first.share.nodes }
     requires parts { vec_len first.share.parts + vec_len second.share.parts ≤ vec_capacity first.share.parts }

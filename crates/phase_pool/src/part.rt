@@ -94,7 +94,7 @@ fn share_out<R: Threads + Wait + Sync, A: Allocator + Copy + Send + Sync, G: Gat
     match ClaimTable::open(input, nodes) {
         Ok((table, mut keeper)) => {
             let place = table.place(&mut keeper);
-            let answer = work_in_threads(rt, work, workers, 0, place);
+            let answer = work_in_threads(rt, work, workers, place);
             Worked {
                 nodes: table.close(rt, keeper),
                 answer,
@@ -107,35 +107,33 @@ fn share_out<R: Threads + Wait + Sync, A: Allocator + Copy + Send + Sync, G: Gat
     }
 }
 
-/// Works at the table in so many threads, this one among them. The other half of the workers goes to a thread that does the same.
-/// A worker's number says with which rank its passes begin.
+/// Works at the table in so many threads, this one among them, which starts all others. A worker's number says with which rank its passes
+/// begin; this one's is 0.
 #[cycle(workers)]
 fn work_in_threads<R: Threads + Wait + Sync, A: Allocator + Copy + Send + Sync, G: Gate<A> + Sync>(
     rt: &R,
     work: &Work<'_, G>,
     workers: usize,
-    number: usize,
     mut place: Place<'_, '_, A>,
 ) -> Result<(), Refusal>
     ensures no_worker { IsErrOf result Refusal.NoWorker → 1 < workers }
 {
     if workers < 2 {
-        return place.work(work, number).map_err(|_| Refusal::NoMemory);
+        return place.work(work, 0).map_err(|_| Refusal::NoMemory);
     }
     let other = place.another();
-    work_in_halves(rt, work, workers, number, place, other)
+    work_beside(rt, work, workers, place, other)
 }
 
-/// Works at the table in so many threads, half of which are begun in a thread of their own. Where it cannot be started, there are
+/// Works at the table in so many threads, the last of which has a place of its own there. Where it cannot be started, there are
 /// fewer workers, who take its nodes too.
 #[cycle(workers)]
-fn work_in_halves<R: Threads + Wait + Sync, A: Allocator + Copy + Send + Sync, G: Gate<A> + Sync>(
+fn work_beside<R: Threads + Wait + Sync, A: Allocator + Copy + Send + Sync, G: Gate<A> + Sync>(
     rt: &R,
     work: &Work<'_, G>,
     workers: usize,
-    number: usize,
     here: Place<'_, '_, A>,
-    there: Place<'_, '_, A>,
+    mut last: Place<'_, '_, A>,
 ) -> Result<(), Refusal>
     requires { 1 < workers }
 {
@@ -146,21 +144,11 @@ fn work_in_halves<R: Threads + Wait + Sync, A: Allocator + Copy + Send + Sync, G
             requires { IsSync R.row × IsSync G.row × IsSend A.row × IsSync A.row × Frees A.Allocator A.dealloc_token
                 × (1 < workers) }
         {
-            let half = workers / 2;
-            let others = move || -> Result<(), Refusal>
-                requires { IsSync R.row × IsSync G.row × IsSend A.row × IsSync A.row × Frees A.Allocator A.dealloc_token
-                    × (1 < workers) }
-            {
-                work_in_threads(
-                    rt,
-                    work,
-                    workers / 2,
-                    number.wrapping_add(workers - workers / 2),
-                    there,
-                )
-            };
-            let child = scope.spawn(others);
-            let answer = work_in_threads(rt, work, workers - half, number, here);
+            let other = move || -> Result<(), Refusal>
+                requires { 1 < workers }
+            { last.work(work, workers - 1).map_err(|_| Refusal::NoMemory) };
+            let child = scope.spawn(other);
+            let answer = work_in_threads(rt, work, workers - 1, here);
             match child {
                 Ok(child) => both(answer, child.join(rt)),
                 Err(_) => both(answer, Err(Refusal::NoWorker)),

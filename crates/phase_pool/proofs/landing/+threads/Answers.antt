@@ -3,120 +3,106 @@ use Rattle.phase_pool.specs.Landings.{IsReadyFor}
 use Rattle.phase_pool.proofs.Landings.{IsDone-halves, IsDone-nodes, IsDone-parts, ready_as_many, ready_first, ready_second}
 use Rattle.phase_pool.proofs.landing.+threads.Goals as goal
 
-pub fn::make_in_halves::fn::scope::other+FnOnce::call_once-other-requires :
-    goal.fn::make_in_halves::fn::scope::other+FnOnce::call_once-other-requires
-fn::make_in_halves::fn::scope::other+FnOnce::call_once-other-requires g t c κs within = search rules
-
-pub make_in_halves-scope-put_together-requires : goal.make_in_halves-scope-put_together-requires
-make_in_halves-scope-put_together-requires g t c =
+pub make_beside-scope-put_together-requires : goal.make_beside-scope-put_together-requires
+make_beside-scope-put_together-requires g t c =
     let here = c.captures.here in
-    let there = c.captures.there in
+    let last = c.captures.last in
     let made = rw (c.in-Ok.ensures.ok, c.of.ensures) at c.join.ensures in
     let before = c.make_in_threads-first in
     let first = IsDone-nodes c.captures.stage here.parts.items here.nodes.items before.result.share.parts.items before.result.share.nodes.items before.result.complete before.ensures.done in
-    let second = IsDone-nodes c.captures.stage there.parts.items there.nodes.items c.join.result.share.parts.items c.join.result.share.nodes.items c.join.result.complete made in
+    let second = IsDone-nodes c.captures.stage last.parts.items last.nodes.items c.join.result.share.parts.items c.join.result.share.nodes.items c.join.result.complete made in
     let first_parts = IsDone-parts c.captures.stage here.parts.items here.nodes.items before.result.share.parts.items before.result.share.nodes.items before.result.complete before.ensures.done in
-    let second_parts = IsDone-parts c.captures.stage there.parts.items there.nodes.items c.join.result.share.parts.items c.join.result.share.nodes.items c.join.result.complete made in
+    let second_parts = IsDone-parts c.captures.stage last.parts.items last.nodes.items c.join.result.share.parts.items c.join.result.share.nodes.items c.join.result.complete made in
     record {
       nodes = omega (arith, first, second, c.requires.4.nodes_fit, before.ensures.node_room, before.result.share.nodes.ok.0, c.join.result.share.nodes.ok.0);
       parts = omega (arith, first_parts, second_parts, c.requires.4.parts_fit, before.ensures.part_room, before.result.share.parts.ok.0, c.join.result.share.parts.ok.0);
     }
 
-pub make_in_halves-scope-put_together-whole-requires :
-    goal.make_in_halves-scope-put_together-whole-requires
-make_in_halves-scope-put_together-whole-requires g t c =
+pub make_beside-scope-put_together-whole-requires :
+    goal.make_beside-scope-put_together-whole-requires
+make_beside-scope-put_together-whole-requires g t c =
     let here = c.captures.here in
-    let there = c.captures.there in
+    let last = c.captures.last in
     let made = rw c.in-Err.ensures.err at c.other.ensures in
     let before = c.make_in_threads-first-in-Err in
     let first = IsDone-nodes c.captures.stage here.parts.items here.nodes.items before.result.share.parts.items before.result.share.nodes.items before.result.complete before.ensures.done in
-    let second = IsDone-nodes c.captures.stage there.parts.items there.nodes.items c.other.result.share.parts.items c.other.result.share.nodes.items c.other.result.complete made in
+    let second = IsDone-nodes c.captures.stage last.parts.items last.nodes.items c.other.result.share.parts.items c.other.result.share.nodes.items c.other.result.complete made in
     let first_parts = IsDone-parts c.captures.stage here.parts.items here.nodes.items before.result.share.parts.items before.result.share.nodes.items before.result.complete before.ensures.done in
-    let second_parts = IsDone-parts c.captures.stage there.parts.items there.nodes.items c.other.result.share.parts.items c.other.result.share.nodes.items c.other.result.complete made in
+    let second_parts = IsDone-parts c.captures.stage last.parts.items last.nodes.items c.other.result.share.parts.items c.other.result.share.nodes.items c.other.result.complete made in
     record {
       nodes = omega (arith, first, second, c.requires.4.nodes_fit, before.ensures.node_room, before.result.share.nodes.ok.0, c.other.result.share.nodes.ok.0);
       parts = omega (arith, first_parts, second_parts, c.requires.4.parts_fit, before.ensures.part_room, before.result.share.parts.ok.0, c.other.result.share.parts.ok.0);
     }
 
-pub make_in_halves-scope-returns-in-Ok : goal.make_in_halves-scope-returns-in-Ok
-make_in_halves-scope-returns-in-Ok g t c =
+pub make_beside-scope-returns-in-Ok : goal.make_beside-scope-returns-in-Ok
+make_beside-scope-returns-in-Ok g t c =
     let here = c.captures.here in
-    let there = c.captures.there in
+    let last = c.captures.last in
     let made = rw (c.in-Ok.ensures.ok, c.of.ensures) at c.join.ensures in
     let before = c.make_in_threads-first in
     let whole = c.put_together.ensures in (
-      IsDone-halves c.captures.stage here.parts.items there.parts.items here.nodes.items there.nodes.items
+      IsDone-halves c.captures.stage here.parts.items last.parts.items here.nodes.items last.nodes.items
           before.result.share.parts.items c.join.result.share.parts.items c.put_together.result.share.parts.items
           before.result.share.nodes.items c.join.result.share.nodes.items c.put_together.result.share.nodes.items
           before.result.complete c.join.result.complete c.put_together.result.complete
-          c.requires.4.first_ready whole.parts whole.nodes whole.complete before.ensures.done made,
+          c.requires.4.ready whole.parts whole.nodes whole.complete before.ensures.done made,
       omega (arith, before.ensures.node_room, whole.node_room),
       omega (arith, before.ensures.part_room, whole.part_room),
     )
 
-pub make_in_halves-scope-returns-in-Err : goal.make_in_halves-scope-returns-in-Err
-make_in_halves-scope-returns-in-Err g t c =
+pub make_beside-scope-returns-in-Err : goal.make_beside-scope-returns-in-Err
+make_beside-scope-returns-in-Err g t c =
     let here = c.captures.here in
-    let there = c.captures.there in
+    let last = c.captures.last in
     let made = rw c.in-Err.ensures.err at c.other.ensures in
     let before = c.make_in_threads-first-in-Err in
     let whole = c.put_together-whole.ensures in
-    let last = c.refused.ensures in (
-      rw (last.share, last.complete) (IsDone-halves c.captures.stage here.parts.items there.parts.items here.nodes.items there.nodes.items
+    let end = c.refused.ensures in (
+      rw (end.share, end.complete) (IsDone-halves c.captures.stage here.parts.items last.parts.items here.nodes.items last.nodes.items
           before.result.share.parts.items c.other.result.share.parts.items c.put_together-whole.result.share.parts.items
           before.result.share.nodes.items c.other.result.share.nodes.items c.put_together-whole.result.share.nodes.items
           before.result.complete c.other.result.complete c.put_together-whole.result.complete
-          c.requires.4.first_ready whole.parts whole.nodes whole.complete before.ensures.done made),
-      rw last.share (omega (arith, before.ensures.node_room, whole.node_room)),
-      rw last.share (omega (arith, before.ensures.part_room, whole.part_room)),
+          c.requires.4.ready whole.parts whole.nodes whole.complete before.ensures.done made),
+      rw end.share (omega (arith, before.ensures.node_room, whole.node_room)),
+      rw end.share (omega (arith, before.ensures.part_room, whole.part_room)),
     )
 
-pub fn::make_in_halves::scope+FnOnce::call_once-scope-requires :
-    goal.fn::make_in_halves::scope+FnOnce::call_once-scope-requires
-fn::make_in_halves::scope+FnOnce::call_once-scope-requires g t c κs within = search rules
+pub fn::make_beside::scope+FnOnce::call_once-scope-requires :
+    goal.fn::make_beside::scope+FnOnce::call_once-scope-requires
+fn::make_beside::scope+FnOnce::call_once-scope-requires g t c κs within = search rules
 
-pub make_in_halves-scoped-requires : goal.make_in_halves-scoped-requires
-make_in_halves-scoped-requires g t c = record { at = λ a. (search rules, ((λ x m. m), ((λ x m. m), ((search rules, search rules, search rules, search rules, c.requires), (search rules, search rules, search rules, search rules))))) }
+pub make_beside-scoped-requires : goal.make_beside-scoped-requires
+make_beside-scoped-requires g t c = record { at = λ a. (search rules, ((λ x m. m), ((λ x m. m), ((search rules, search rules, search rules, search rules, c.requires), (search rules, search rules, search rules, search rules))))) }
 
-pub make_in_threads-end_of_first_half-end-requires-clause-enough :
-    goal.make_in_threads-end_of_first_half-end-requires-clause-enough
-make_in_threads-end_of_first_half-end-requires-clause-enough g t c =
+pub make_in_threads-start_of_last_run-start-requires-clause-enough :
+    goal.make_in_threads-start_of_last_run-start-requires-clause-enough
+make_in_threads-start_of_last_run-start-requires-clause-enough g t c =
     omega (arith, c.len.ensures, c.requires.enough (omega (arith, c.if-threads-lt2.false)))
 
 pub make_in_threads-split-requires-clause-parts : goal.make_in_threads-split-requires-clause-parts
 make_in_threads-split-requires-clause-parts g t c =
     let long = ready_as_many c.args.stage c.args.share.parts.items c.args.share.nodes.items c.requires.ready in
-    omega (arith, c.end_of_first_half-end.ensures.second, c.len.ensures, long, c.args.share.nodes.ok.0, c.args.share.parts.ok.0)
+    omega (arith, c.start_of_last_run-start.ensures.within, c.len.ensures, long, c.args.share.nodes.ok.0, c.args.share.parts.ok.0)
 
-pub make_in_threads-make_in_halves-requires-after_bounds :
-    goal.make_in_threads-make_in_halves-requires-after_bounds
-make_in_threads-make_in_halves-requires-after_bounds g t c κs within =
+pub make_in_threads-make_beside-requires-after_bounds :
+    goal.make_in_threads-make_beside-requires-after_bounds
+make_in_threads-make_beside-requires-after_bounds g t c κs within =
     let here = c.in-Ok.here in
-    let there = c.in-Ok.there in
+    let last = c.in-Ok.last in
     let share = c.args.share in
     let stage = c.args.stage in
     let split = c.in-Ok.ensures in
     let nodes = ap length split.nodes in
     let parts = ap length split.parts in
-    let all_nodes = length-append here.nodes.items there.nodes.items in
-    let all_parts = length-append here.parts.items there.parts.items in
+    let all_nodes = length-append here.nodes.items last.nodes.items in
+    let all_parts = length-append here.parts.items last.parts.items in
     let same : length here.parts.items ≡ length here.nodes.items = split.end.1 ∙ sym split.end.0 in
-    let ready : IsReadyFor stage (here.parts.items ++ there.parts.items) (here.nodes.items ++ there.nodes.items) = rw (split.parts, split.nodes) c.requires.ready in
+    let ready : IsReadyFor stage (here.parts.items ++ last.parts.items) (here.nodes.items ++ last.nodes.items) = rw (split.parts, split.nodes) c.requires.ready in
     record {
       some = omega (arith, c.if-threads-lt2.false);
-      first_has = omega (arith, c.end_of_first_half-end.ensures.first, split.end.0);
-      second_has = omega (arith, c.end_of_first_half-end.ensures.second, c.len.ensures, all_nodes, nodes, split.end.0, share.nodes.ok.0);
+      enough = omega (arith, c.start_of_last_run-start.ensures.others, split.end.0);
       nodes_fit = omega (arith, all_nodes, nodes, split.room.0, share.nodes.ok.0, share.nodes.ok.1);
       parts_fit = omega (arith, all_parts, parts, split.room.1, share.parts.ok.0, share.parts.ok.1);
-      first_ready = ready_first stage here.parts.items there.parts.items here.nodes.items there.nodes.items same ready;
-      second_ready = ready_second stage here.parts.items there.parts.items here.nodes.items there.nodes.items same ready;
+      ready = ready_first stage here.parts.items last.parts.items here.nodes.items last.nodes.items same ready;
+      last_ready = ready_second stage here.parts.items last.parts.items here.nodes.items last.nodes.items same ready;
     }
-
-pub make_in_halves-scope-other-returns-then-load :
-    goal.make_in_halves-scope-other-returns-then-load
-make_in_halves-scope-other-returns-then-load g t c = c.make_here.ensures.done
-
-pub make_in_halves-scope-other-requires-after_bounds : goal.make_in_halves-scope-other-requires-after_bounds
-make_in_halves-scope-other-requires-after_bounds g t c κs within =
-    let halves = c.requires.4 in
-    rw c.in-Err.ensures.err (c.requires.0, c.requires.1, c.requires.2, c.requires.3, halves.some, omega (arith, halves.second_has, c.captures.there.nodes.ok.0), halves.second_ready)

@@ -1,6 +1,6 @@
 /* The copies that a run of total.s makes, and nothing else: 64 nodes, of which each puts 64 KiB into the area of every other one, ten
  * times. The bytes of a put are copied into a block of their own, which is taken once, and from there to where they land. As in the
- * run, threads are started for the puts and again for the landings, in halves, and joined after each.
+ * run, threads are started for the puts and again for the landings, by one thread, from the last nodes on, and joined after each.
  * Usage: copies THREADS */
 #include <pthread.h>
 #include <stdlib.h>
@@ -51,11 +51,11 @@ static void *work_on(void *argument)
             all->work(node);
         return NULL;
     }
-    int middle = (all->first + all->end) / 2;
-    struct share here = {all->first, middle, all->threads - all->threads / 2, all->work};
-    struct share there = {middle, all->end, all->threads / 2, all->work};
+    int start = all->end - (all->end - all->first) / all->threads;
+    struct share here = {all->first, start, all->threads - 1, all->work};
+    struct share last = {start, all->end, 1, all->work};
     pthread_t thread;
-    if (pthread_create(&thread, NULL, work_on, &there) != 0)
+    if (pthread_create(&thread, NULL, work_on, &last) != 0)
         exit(1);
     work_on(&here);
     pthread_join(thread, NULL);

@@ -1,6 +1,6 @@
--- Answers that are Ok.
-use Rattle.std.proofs.Common.{Ok, Err}
-use Rattle.std.specs.Prelude.{OnOk, OnErr, IsTrue, is_ok}
+-- Answers that are Ok, and those that are Some.
+use Rattle.std.proofs.Common.{◌≡◌, Ok, Err, Option, Some, None}
+use Rattle.std.specs.Prelude.{OnOk, OnErr, IfSome, IsSome, IsTrue, is_ok}
 use Rattle.std.specs.declared.result.Result.{Result}
 
 -- what holds at Ok holds, where the answer is Ok
@@ -17,3 +17,13 @@ not_err (Err e) P is = absurd (cc)
 pub on_err : {T E : Type 0} (answer : Result T E) (P : Type 0) → P → OnErr answer P
 on_err (Ok x) P holds = tt
 on_err (Err e) P holds = holds
+
+-- what is no claim holds of any answer
+pub any-some : {T : Type 0} (answer : Option T) → IfSome answer (λ x. Unit {0})
+any-some (Some x) = tt
+any-some None = tt
+
+-- an answer that is Some is not None
+pub not-none : {T P : Type 0} (answer : Option T) → IsSome answer → answer ≡ None → P
+not-none (Some x) some none = absurd (cc)
+not-none None some none = absurd (cc)

@@ -8,6 +8,8 @@ pub mod Effects
 pub mod Fetch
 pub mod Harts
 pub mod Messages
+pub mod Moves
+pub mod NotWritten
 pub mod OneStep
 pub mod OwnStores
 pub mod Ranks

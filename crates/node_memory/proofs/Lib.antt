@@ -5,3 +5,4 @@ pub mod Shown
 pub mod Table
 pub mod WordBytes
 pub mod Writes
+pub mod Zeros

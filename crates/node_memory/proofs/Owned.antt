@@ -11,7 +11,7 @@ slice_get-set_same [] i y h = absurd (omega arith)
 slice_get-set_same (x ∷ xs) zero y h = refl
 slice_get-set_same (x ∷ xs) (suc i) y h = slice_get-set_same xs i y (omega arith)
 
-slice_get-set_other : (xs : List Bool) (i k : ℕ) (y : Bool) → k ≢ i → slice_get (set xs i y) k ≡ slice_get xs k
+pub slice_get-set_other : (xs : List Bool) (i k : ℕ) (y : Bool) → k ≢ i → slice_get (set xs i y) k ≡ slice_get xs k
 slice_get-set_other [] i k y h = refl
 slice_get-set_other (x ∷ xs) zero zero y h = absurd (h refl)
 slice_get-set_other (x ∷ xs) zero (suc k) y h = refl

@@ -1,6 +1,7 @@
 -- Which pages of a memory are its own: the others it shares with other memories, and whoever writes to one of these first takes a
 -- copy of it (own rules). Bytes do not tell: of two memories of the same bytes one may own what the other shares.
 use Rattle.std.specs.Prelude.{◌≡◌, ℕ, ◌+◌, ◌*◌, ◌/◌, ◌<◌, ◌≤◌, Bool, true, false, List, length, replicate, slice_get, Some}
+use Rattle.node_memory.specs.Bytes.{byte_at}
 
 -- the bytes of a memory, and for each page of 4,096 of them whether it is the memory's own
 pub record PagedMemory : Type 0 where
@@ -40,3 +41,7 @@ pub record KeepsOwn (old new : List Bool) : Type 0 where
 pub record OwnsMore (addr len : ℕ) (old new : List Bool) : Type 0 where
   pub keeps : KeepsOwn old new
   pub others : (page : ℕ) → (HasOneOf addr len page → ⊥) → slice_get new page ≡ slice_get old page
+
+-- each byte of a page that is not the memory's own is 0
+abbrev pub SharesZeros : PagedMemory → Type 0
+SharesZeros m = (addr : ℕ) → IsShared m.own (addr / 4096) → byte_at m.bytes addr ≡ 0

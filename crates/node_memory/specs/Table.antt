@@ -1,5 +1,5 @@
 -- The table of pages behind a memory: what a page holds, and what the table shows as the memory's bytes.
-use Rattle.std.specs.Prelude.{◌≡◌, ℕ, ◌*◌, Bool, true, false, List, length, map, IsTrue}
+use Rattle.std.specs.Prelude.{◌≡◌, ℕ, ◌*◌, Bool, true, false, List, length, map, replicate, IsTrue}
 use Rattle.std.specs.List.{All, flat_map}
 use Rattle.std.specs.Arc.{arc_value}
 use Rattle.node_memory.specs.Bytes.{is_memory_size}
@@ -15,6 +15,11 @@ page_bytes (Shared s) = arc_value s
 abbrev pub is_own : {A : Type 0} → Page A → Bool
 is_own (Own b) = true
 is_own (Shared s) = false
+
+-- a page of zeros that memories share
+pub record IsPageOfZeros {A : Type 0} (page : Page A) : Type 0 where
+  pub zeros : page_bytes page ≡ replicate 4096 0
+  pub shared : is_own page ≡ false
 
 -- the pages' bytes one after another, and which pages are own
 abbrev pub table_view : {A : Type 0} → List (Page A) → PagedMemory

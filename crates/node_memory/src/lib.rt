@@ -6,7 +6,7 @@
 //! changes nothing; and the size never changes.
 //!
 //! A page that is not a memory's own is shared: other memories may read the same page, and nobody writes it. A new memory
-//! has no page of its own, and all pages that no segment reaches are one page of zeros; [`Memory::share`] gives another
+//! has no page of its own, and all pages in which no segment has bytes are one page of zeros; [`Memory::share`] gives another
 //! memory of the same bytes. Who writes to a shared page first takes a copy, which is its own from then on and stays so. So
 //! a store may be refused for want of memory, but only where a page of its range is not own: [`Memory::own`] takes the
 //! copies beforehand, and [`Memory::owns`] says whether that is done. A store that spans two pages owns both before a byte

@@ -1,7 +1,7 @@
 //! One page of a memory: its own, or shared with other memories.
 
 ghost use Rattle.std.specs.Prelude.{◌≡◌, true, false, IfOk};
-ghost use Rattle.node_memory.specs.Table.{page_bytes, is_own};
+ghost use Rattle.node_memory.specs.Table.{page_bytes, is_own, IsPageOfZeros};
 
 use std::alloc::{AllocError, Allocator};
 use std::sync::Arc;
@@ -26,6 +26,13 @@ pub(crate) enum Page<A: Allocator> {
 }
 
 impl<A: Allocator> Page<A> {
+    /// A page of zeros that others may share.
+    pub(crate) fn zeros(alloc: A) -> Result<Page<A>, AllocError>
+        ensures { IfOk result (λ p. IsPageOfZeros p) }
+    {
+        Ok(Page::Shared(Arc::new(alloc, [0; 0x1000])?))
+    }
+
     #[inline(always)]
     pub(crate) fn bytes(&self) -> &[u8; 0x1000]
         ensures { result.now ≡ page_bytes self.now }

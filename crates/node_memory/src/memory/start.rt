@@ -1,15 +1,15 @@
 //! How memories begin: from an image, or as another's share.
 
-ghost use Rattle.std.specs.Prelude.{◌≡◌, ◌*◌, ◌↔◌, false, IsTrue, length, replicate, OnOk, OnErr, IfOk, IfErr, IsErrOf};
+ghost use Rattle.std.specs.Prelude.{◌≡◌, ◌+◌, ◌*◌, ◌/◌, ◌%◌, ◌<◌, ◌≤◌, ◌↔◌, false, IsTrue, length, replicate, slice_set, OnOk, OnErr, IfOk, IfErr, IsErrOf};
 ghost use Rattle.node_memory.specs.Bytes.{is_memory_size, with_bytes};
 ghost use Rattle.node_memory.specs.Image.{image_bytes, with_segment, ends_past, is_segment_outside, IsSegment};
-ghost use Rattle.node_memory.specs.Pages.{none_own};
+ghost use Rattle.node_memory.specs.Pages.{none_own, IsOwn, SharesZeros};
+ghost use Rattle.node_memory.specs.Table.{IsPageOfZeros};
 
 use super::{Memory, MemoryError, is_memory_size};
 use crate::image::{Image, Segment};
 use crate::page::{PAGE, Page};
 use std::alloc::{AllocError, Allocator};
-use std::sync::Arc;
 
 impl<A: Allocator + Copy> Memory<A> {
     /// A memory of `size` bytes that holds `image`, and 0 where no segment reaches. No page is its own.
@@ -29,9 +29,10 @@ impl<A: Allocator + Copy> Memory<A> {
         if image.ends_past(size) {
             return Err(MemoryError::SegmentOutside);
         }
-        let mut laid = Memory::zeros(alloc, size as usize / PAGE)?;
+        let zeros = Page::zeros(alloc)?;
+        let mut laid = Memory::zeros(alloc, &zeros, size as usize / PAGE)?;
         for segment in image.segments.as_slice() {
-            laid.lay(segment)?;
+            laid.lay(segment, &zeros)?;
         }
         Ok(laid.share(alloc)?)
     }
@@ -47,12 +48,12 @@ impl<A: Allocator + Copy> Memory<A> {
         Ok(Memory { alloc, pages })
     }
 
-    /// A memory of so many pages, all of them one page of zeros.
-    fn zeros(alloc: A, count: usize) -> Result<Memory<A>, AllocError>
-        requires { IsTrue (is_memory_size (count * 4096)) }
+    /// A memory of so many pages, all of them the one page of zeros.
+    fn zeros(alloc: A, zeros: &Page<A>, count: usize) -> Result<Memory<A>, AllocError>
+        requires valid { IsTrue (is_memory_size (count * 4096)) }
+        requires zeros { IsPageOfZeros zeros.now }
         ensures { IfOk result (λ m. m ≡ record { bytes = replicate (count * 4096) 0; own = replicate count false }) }
     {
-        let zeros = Page::Shared(Arc::new(alloc, [0; 0x1000])?);
         let mut pages = Vec::with_capacity(alloc, count)?;
         for _ in 0..count {
             pages.push(zeros.share(alloc)?)?;
@@ -60,22 +61,84 @@ impl<A: Allocator + Copy> Memory<A> {
         Ok(Memory { alloc, pages })
     }
 
-    /// Lays a segment: its bytes, and zeros up to its size.
-    fn lay(&mut self, segment: &Segment<A>) -> Result<(), AllocError>
-        requires { ends_past (length self.old.bytes) segment.now ≡ false }
+    /// Lays a segment: its bytes, and zeros up to its size. Memory is written where there are bytes, now or of an earlier segment; so
+    /// the time does not go with the size.
+    fn lay(&mut self, segment: &Segment<A>, zeros: &Page<A>) -> Result<(), AllocError>
+        requires fits { ends_past (length self.old.bytes) segment.now ≡ false }
+        requires zeros { IsPageOfZeros zeros.now }
+        requires rest { SharesZeros self.old }
         ensures after { OnOk result (self.new.bytes ≡ with_segment self.old.bytes segment.now) }
+        ensures rest { OnOk result (SharesZeros self.new) }
         ensures valid { IsSegment segment.now }
     {
         if segment.size == 0 {
             return Ok(());
         }
         let bytes = segment.bytes.as_slice();
-        self.own(segment.addr, segment.size)?;
+        self.own(segment.addr, bytes.len() as u32)?;
         self.write_owned(segment.addr, bytes);
-        self.clear_owned(
+        self.clear(
             segment.addr as usize + bytes.len(),
             segment.size as usize - bytes.len(),
-        );
+            zeros,
+        )
+    }
+
+    /// Makes the `len` bytes from `addr` on zeros, page by page. In a shared page they are.
+    fn clear(&mut self, addr: usize, len: usize, zeros: &Page<A>) -> Result<(), AllocError>
+        requires within { addr + len ≤ length self.old.bytes }
+        requires zeros { IsPageOfZeros zeros.now }
+        requires rest { SharesZeros self.old }
+        ensures bytes { OnOk result (self.new.bytes ≡ with_bytes self.old.bytes addr (replicate len 0)) }
+        ensures rest { OnOk result (SharesZeros self.new) }
+    {
+        let _ = &self.pages;
+        if len == 0 {
+            return Ok(());
+        }
+        let end = addr + len;
+        for page in addr / PAGE..(end - 1) / PAGE + 1 {
+            if !self.shares(page) {
+                let from = addr.max(page * PAGE);
+                let to = end.min(page * PAGE + PAGE);
+                self.clear_window(from, to - from, zeros)?;
+            }
+        }
+        Ok(())
+    }
+
+    /// Makes the `len` bytes from `addr` on zeros, which lie within one page of the memory's own. A page that is cleared as a whole
+    /// is the page of zeros then.
+    // For speed: it stands out of line, so that `clear` passes over a shared page with one test.
+    #[cold]
+    #[inline(never)]
+    fn clear_window(&mut self, addr: usize, len: usize, zeros: &Page<A>) -> Result<(), AllocError>
+        requires within { addr + len ≤ length self.old.bytes }
+        requires one_page { addr % 4096 + len ≤ 4096 }
+        requires own { IsOwn self.old.own (addr / 4096) }
+        requires zeros { IsPageOfZeros zeros.now }
+        requires rest { SharesZeros self.old }
+        ensures bytes { OnOk result (self.new.bytes ≡ with_bytes self.old.bytes addr (replicate len 0)) }
+        ensures rest { OnOk result (SharesZeros self.new) }
+        ensures pages { OnOk result (length self.new.own ≡ length self.old.own) }
+    {
+        if len == PAGE {
+            self.clear_page(addr / PAGE, zeros)?;
+        } else {
+            self.write_window(addr, &zeros.bytes()[..len]);
+        }
+        Ok(())
+    }
+
+    /// Makes a page the one of zeros.
+    fn clear_page(&mut self, page: usize, zeros: &Page<A>) -> Result<(), AllocError>
+        requires within { page < length self.old.own }
+        requires zeros { IsPageOfZeros zeros.now }
+        ensures bytes { OnOk result
+            (self.new.bytes ≡ with_bytes self.old.bytes (page * 4096) (replicate 4096 0)) }
+        ensures own { OnOk result (self.new.own ≡ slice_set self.old.own page false) }
+    {
+        self.pages[page] = zeros.share(self.alloc)?;
         Ok(())
     }
 }

@@ -2,27 +2,35 @@ use Rattle.std.proofs.Common.{◌≡◌, ℕ, ◌*◌, ◌/◌, length, replicat
 use Rattle.node_memory.specs.Image.{Image, image_bytes}
 use Rattle.node_memory.specs.Pages.{PagedMemory, none_own}
 use Rattle.node_memory.proofs.ImageBytes.{length-image_bytes, image_bytes_none, lay_fits, image_bytes_more, all_laid, whole_pages}
+use Rattle.node_memory.proofs.Zeros.{SharesZeros-new}
 use Rattle.node_memory.proofs.memory.Memory.new.Goals as goal
 
 pub loop-segment-init : goal.loop-segment-init
 loop-segment-init g c =
     let whole : c.args.size / 4096 * 4096 ≡ c.args.size = whole_pages c.args.size (sym c.is_memory_size.ensures ∙ c.if-not-is_memory_size.false) in
-    ap (λ (m : PagedMemory). m.bytes) c.in_ok-laid.ensures ∙ ap (λ n. replicate n 0) whole ∙ image_bytes_none _ _
+    let zeros = ap (λ (m : PagedMemory). m.bytes) c.in_ok-laid.ensures in (
+      zeros ∙ ap (λ n. replicate n 0) whole ∙ image_bytes_none _ _,
+      SharesZeros-new _ _ zeros,
+      c.in_ok-zeros.ensures,
+    )
 
-pub lay-requires : goal.lay-requires
-lay-requires g c =
+pub lay-requires-clause-fits : goal.lay-requires-clause-fits
+lay-requires-clause-fits g c =
     let segments = c.as_slice-segment-items.ensures ∙ ap (λ (i : Image). i.segments) c.image.view_is in
-    lay_fits _ _ _ _ _ _ _ segments c.loop-segment-test.true c.segment-item.is c.if-ends_past.ensures c.loop-segment.invariant
+    lay_fits _ _ _ _ _ _ _ segments c.loop-segment-test.true c.segment-item.is c.if-ends_past.ensures c.loop-segment.invariant.0
 
 pub loop-segment-preserved : goal.loop-segment-preserved
 loop-segment-preserved g c =
-    let segments = c.as_slice-segment-items.ensures ∙ ap (λ (i : Image). i.segments) c.image.view_is in
-    image_bytes_more _ _ _ _ _ _ _ _ c.in_ok-lay.ensures.after segments c.loop-segment-test.true c.segment-item.is c.lay.ensures.valid c.if-ends_past.ensures c.loop-segment.invariant
+    let segments = c.as_slice-segment-items.ensures ∙ ap (λ (i : Image). i.segments) c.image.view_is in (
+      image_bytes_more _ _ _ _ _ _ _ _ c.in_ok-lay.ensures.after segments c.loop-segment-test.true c.segment-item.is c.lay.ensures.valid c.if-ends_past.ensures c.loop-segment.invariant.0,
+      c.in_ok-lay.ensures.rest,
+      c.loop-segment.invariant.2,
+    )
 
 pub returns-clause-ok : goal.returns-clause-ok
 returns-clause-ok g c =
     let segments = c.as_slice-segment-items.ensures ∙ ap (λ (i : Image). i.segments) c.image.view_is in
-    let laid : c.loop-segment.laid.bytes ≡ image_bytes c.args.image.now c.args.size = all_laid _ _ _ _ _ _ segments c.loop-segment-test.false c.loop-segment.invariant in
+    let laid : c.loop-segment.laid.bytes ≡ image_bytes c.args.image.now c.args.size = all_laid _ _ _ _ _ _ segments c.loop-segment-test.false c.loop-segment.invariant.0 in
     let size : length c.loop-segment.laid.bytes ≡ c.args.size = ap length laid ∙ length-image_bytes c.args.image.now c.args.size in
     c.in_ok-share.ensures
     ∙ ap (λ (bs : List ℕ). record { bytes = bs; own = none_own (length c.loop-segment.laid.bytes) }) laid
@@ -30,5 +38,5 @@ returns-clause-ok g c =
 
 pub returns-clause-len : goal.returns-clause-len
 returns-clause-len g c =
-    let laid = ap length c.loop-segment.invariant ∙ length-image_bytes _ _ in
+    let laid = ap length c.loop-segment.invariant.0 ∙ length-image_bytes _ _ in
     ap (λ (m : PagedMemory). length m.bytes) c.in_ok-share.ensures ∙ laid

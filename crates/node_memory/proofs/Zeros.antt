@@ -1,0 +1,131 @@
+-- Memories whose shared pages are all zeros.
+use Rattle.std.proofs.Common.{◌≡◌, ℕ, ◌+◌, ◌-◌, ◌*◌, ◌/◌, ◌%◌, min, max, ◌<◌, ◌≤◌, ◌⊎◌, ◌≢◌, ⊎_elim, inl, inr, Bool, true, false, List, length, get_or, set, replicate, refl, sym, ap, ◌∙◌, arith, Some}
+use Rattle.std.specs.Prelude.{slice_get}
+use Rattle.std.specs.List.{flat_map}
+use Rattle.std.proofs.lemmas.List.{places, length-replicate}
+use Rattle.std.proofs.lemmas.Option.{slice_get-get_or, slice_get_within, same_Some}
+use Rattle.std.proofs.lemmas.Bool.{cases_eq, cases_lt, false≢true}
+use Rattle.std.proofs.lemmas.Grind.{same_number_lists}
+use Rattle.node_memory.specs.Bytes.{with_bytes}
+use Rattle.node_memory.specs.Pages.{PagedMemory, IsOwn, IsShared, Owns, KeepsOwn, OwnsMore, SharesZeros}
+use Rattle.node_memory.proofs.Owned.{slice_get-set_other, IsOwn-at}
+use Rattle.node_memory.proofs.Shown.{Shows, write-shown, whole-at}
+use Rattle.node_memory.proofs.Writes.{clear_more, length-with_bytes}
+
+own_and_shared : (own : List Bool) (page : ℕ) → IsOwn own page → IsShared own page → ⊥
+own_and_shared own page is shared = false≢true (same_Some _ _ (sym shared ∙ is))
+
+own_by_flag : (own : List Bool) (page : ℕ) (b : Bool) → slice_get own page ≡ Some b → (IsShared own page → ⊥) → IsOwn own page
+own_by_flag own page true is unshared = is
+own_by_flag own page false is unshared = absurd (unshared is)
+
+-- a byte beside a range that was written
+beside : (m bytes : List ℕ) (addr k : ℕ) → addr + length bytes ≤ length m → (k < addr) ⊎ (addr + length bytes ≤ k) → get_or (with_bytes m addr bytes) k 0 ≡ get_or m k 0
+beside m bytes addr k within out = grind (arith, places)
+
+zero_in_zeros : (n k : ℕ) → ◌≡◌ {A = ℕ} (get_or (replicate n 0) k 0) 0
+zero_in_zeros n k = grind (arith, places)
+
+-- a byte of a range that was cleared
+zero_in_cleared : (m : List ℕ) (addr n k : ℕ) → addr + n ≤ length m → addr ≤ k → k < addr + n → get_or (with_bytes m addr (replicate n 0)) k 0 ≡ 0
+zero_in_cleared m addr n k within from to = grind (arith, places)
+
+-- a range that need not be cleared
+pub cleared_already : (m : List ℕ) (addr n : ℕ) → addr + n ≤ length m → ((k : ℕ) → addr ≤ k → k < addr + n → get_or m k 0 ≡ 0) → m ≡ with_bytes m addr (replicate n 0)
+cleared_already m addr n within zeros =
+    same_number_lists _ _ (grind (arith, places)) (λ k below. ⊎_elim
+    (λ (before : k < addr). grind (arith, places))
+    (λ (from : addr ≤ k). ⊎_elim
+    (λ (in' : k < addr + n). zeros k from in' ∙ sym (zero_in_cleared m addr n k within from in'))
+    (λ (past : addr + n ≤ k). grind (arith, places))
+    (cases_lt k (addr + n)))
+    (cases_lt k addr))
+
+-- how many of the `len` bytes from `addr` on lie below a page
+abbrev pub below_page : ℕ → ℕ → ℕ → ℕ
+below_page addr len page = min (page * 4096 - addr) len
+
+-- the bytes of a range below a page are cleared, and then those in it
+pub cleared_more : (m now after : List ℕ) (addr len page from to : ℕ) → now ≡ with_bytes m addr (replicate (below_page addr len page) 0) → from ≡ max addr (page * 4096) → to ≡ min (addr + len) (page * 4096 + 4096) → after ≡ with_bytes now from (replicate (to - from) 0) → addr / 4096 ≤ page → page < (addr + len - 1) / 4096 + 1 → 0 < len → addr + len ≤ length m
+    → after ≡ with_bytes m addr (replicate (below_page addr len (page + 1)) 0)
+cleared_more m now after addr len page from to was begins ends then low high some within =
+    let start : from ≡ addr + below_page addr len page = omega arith in
+    let both : below_page addr len page + (to - from) ≡ below_page addr len (page + 1) = omega arith in
+    clear_more m now after (replicate (to - from) 0) addr from (below_page addr len page) (to - from) was start refl then (omega arith)
+    ∙ ap (λ n. with_bytes m addr (replicate n 0)) both
+
+-- those in a shared page are zeros
+pub cleared_shared : (m now : PagedMemory) (addr len page : ℕ) → now.bytes ≡ with_bytes m.bytes addr (replicate (below_page addr len page) 0) → SharesZeros now → IsShared now.own page → addr / 4096 ≤ page → page < (addr + len - 1) / 4096 + 1 → 0 < len → addr + len ≤ length m.bytes
+    → now.bytes ≡ with_bytes m.bytes addr (replicate (below_page addr len (page + 1)) 0)
+cleared_shared m now addr len page was zeros shared low high some within =
+    let n : length (replicate {A = ℕ} (below_page addr len page) 0) ≡ below_page addr len page = length-replicate {A = ℕ} (below_page addr len page) 0 in
+    let size : length now.bytes ≡ length m.bytes = ap length was ∙ length-with_bytes m.bytes addr (replicate (below_page addr len page) 0) (omega arith) in
+    let already = cleared_already now.bytes (max addr (page * 4096)) (min (addr + len) (page * 4096 + 4096) - max addr (page * 4096)) (omega arith) (λ k above below.
+    let same : k / 4096 ≡ page = omega arith in
+    zeros k (rw same shared)) in
+    cleared_more m.bytes now.bytes now.bytes addr len page (max addr (page * 4096)) (min (addr + len) (page * 4096 + 4096)) was refl refl already low high some within
+
+pub own_or_shared : (own : List Bool) (page : ℕ) → page < length own → (IsShared own page → ⊥) → IsOwn own page
+own_or_shared own page in' unshared = own_by_flag own page _ (slice_get-get_or own page false in') unshared
+
+-- a new memory
+pub SharesZeros-new : (m : PagedMemory) (n : ℕ) → m.bytes ≡ replicate n 0 → SharesZeros m
+SharesZeros-new m n is = λ k shared. ap (λ bs. get_or bs k 0) is ∙ zero_in_zeros n k
+
+was_shared : (old new : List Bool) (page : ℕ) (b : Bool) → slice_get old page ≡ Some b → KeepsOwn old new → IsShared new page → IsShared old page
+was_shared old new page true is keeps shared = absurd (own_and_shared new page (keeps.kept page is) shared)
+was_shared old new page false is keeps shared = is
+
+-- pages have become own
+pub SharesZeros-owned : (old new : PagedMemory) (addr len : ℕ) → SharesZeros old → OwnsMore addr len old.own new.own → new.bytes ≡ old.bytes → SharesZeros new
+SharesZeros-owned old new addr len zeros more same = λ k shared.
+    let in' : k / 4096 < length new.own = slice_get_within new.own (k / 4096) false shared in
+    let count = more.keeps.pages in
+    let flag = slice_get-get_or old.own (k / 4096) false (omega arith) in
+    ap (λ bs. get_or bs k 0) same ∙ zeros k (was_shared old.own new.own (k / 4096) _ flag more.keeps shared)
+
+out_of_owned : (own : List Bool) (addr len k : ℕ) → Owns own addr len → IsShared own (k / 4096) → (k < addr) ⊎ (addr + len ≤ k)
+out_of_owned own addr len k owns shared = ⊎_elim
+    (λ (before : k < addr). inl before)
+    (λ (from : addr ≤ k). ⊎_elim
+    (λ (in' : k < addr + len). absurd (own_and_shared own (k / 4096) (IsOwn-at own addr len k owns from in') shared))
+    (λ (past : addr + len ≤ k). inr past)
+    (cases_lt k (addr + len)))
+    (cases_lt k addr)
+
+-- a range of own pages was written
+pub SharesZeros-written : (old new : PagedMemory) (addr : ℕ) (bytes : List ℕ) → SharesZeros old → Owns old.own addr (length bytes) → addr + length bytes ≤ length old.bytes → new.bytes ≡ with_bytes old.bytes addr bytes → new.own ≡ old.own → SharesZeros new
+SharesZeros-written old new addr bytes zeros owns within is same = λ k shared.
+    let was : IsShared old.own (k / 4096) = rw (← same) shared in
+    ap (λ bs. get_or bs k 0) is ∙ beside old.bytes bytes addr k within (out_of_owned old.own addr (length bytes) k owns was) ∙ zeros k was
+
+pub SharesZeros-zeroed : (old new : PagedMemory) (addr n : ℕ) → SharesZeros old → Owns old.own addr n → addr + n ≤ length old.bytes → new.bytes ≡ with_bytes old.bytes addr (replicate n 0) → new.own ≡ old.own → SharesZeros new
+SharesZeros-zeroed old new addr n zeros owns within is same =
+    let count : length (replicate {A = ℕ} n 0) ≡ n = length-replicate {A = ℕ} n 0 in
+    SharesZeros-written old new addr (replicate n 0) zeros (rw count owns) (rw count within) is same
+
+-- the page of zeros has come into the place of a page
+pub SharesZeros-cleared : (old new : PagedMemory) (page : ℕ) → SharesZeros old → page * 4096 + 4096 ≤ length old.bytes → new.bytes ≡ with_bytes old.bytes (page * 4096) (replicate 4096 0) → new.own ≡ set old.own page false → SharesZeros new
+SharesZeros-cleared old new page zeros within is flags = λ k shared.
+    let n : length (replicate {A = ℕ} 4096 0) ≡ 4096 = length-replicate {A = ℕ} 4096 0 in
+    ap (λ bs. get_or bs k 0) is ∙ ⊎_elim
+    (λ (same : k / 4096 ≡ page). zero_in_cleared old.bytes (page * 4096) 4096 k within (omega arith) (omega arith))
+    (λ (other : k / 4096 ≢ page).
+    let now : IsShared (set old.own page false) (k / 4096) = rw (← flags) shared in
+    let was : IsShared old.own (k / 4096) = sym (slice_get-set_other old.own page (k / 4096) false other) ∙ now in
+    beside old.bytes (replicate 4096 0) (page * 4096) k (omega arith) (⊎_elim (λ (below : k < page * 4096). inl below) (λ (above : page * 4096 ≤ k). inr (omega arith)) (cases_lt k (page * 4096))) ∙ zeros k was)
+    (cases_eq (k / 4096) page)
+
+-- a page of zeros in the place of another: as a list, and in a table
+zeros_over_page : (old new : List ℕ) (a n : ℕ) → length old ≡ n → new ≡ replicate n 0 → a ≡ 0 → new ≡ with_bytes old a (replicate n 0)
+zeros_over_page old new a n long is at =
+    is ∙ rw at (same_number_lists _ _ (grind (arith, places)) (λ k below. grind (arith, places)))
+
+pub page_cleared-shown : {X : Type 0} {f : X → List ℕ} {g : X → Bool} {xs : List X} {m : PagedMemory} → Shows f g xs m → (page : ℕ) (x p : X) → page < length xs → x ≡ get_or xs page x → f p ≡ replicate 4096 0 → flat_map f (set xs page p) ≡ with_bytes m.bytes (page * 4096) (replicate 4096 0)
+page_cleared-shown {X} {f} {g} {xs} {m} h page x p in' is zeros =
+    let at : page * 4096 / 4096 ≡ page = omega arith in
+    let start : page * 4096 % 4096 ≡ 0 = omega arith in
+    let n : length (replicate {A = ℕ} 4096 0) ≡ 4096 = length-replicate {A = ℕ} 4096 0 in
+    let long : length (f x) ≡ 4096 = whole-at f xs xs page x h.whole refl in' is in
+    ap (λ i. flat_map f (set xs i p)) (sym at)
+    ∙ write-shown h (page * 4096) (replicate 4096 0) x p (rw at in') (omega arith) (rw at is) (zeros_over_page (f x) (f p) (page * 4096 % 4096) 4096 long zeros start)

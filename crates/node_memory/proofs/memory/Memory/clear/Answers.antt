@@ -1,0 +1,62 @@
+use Rattle.std.proofs.Common.{◌≡◌, ◌/◌, ◌<◌, ℕ, length, replicate, sym, ap, ◌∙◌, arith}
+use Rattle.std.proofs.lemmas.List.{length-replicate}
+use Rattle.std.proofs.lemmas.Bool.{false≢true}
+use Rattle.node_memory.specs.Pages.{IsOwn, IsShared}
+use Rattle.node_memory.proofs.Shown.{size-shown, pages-shown, most-shown}
+use Rattle.node_memory.proofs.Table.{table}
+use Rattle.node_memory.proofs.Writes.{length-with_bytes}
+use Rattle.node_memory.proofs.Zeros.{below_page, cleared_more, cleared_shared, own_or_shared}
+use Rattle.node_memory.proofs.memory.Memory.clear.Goals.{then-not-shares+in_ok-clear_window, else-not-shares}
+use Rattle.node_memory.proofs.memory.Memory.clear.Goals as goal
+
+pub overflow_add-end : goal.overflow_add-end
+overflow_add-end g c =
+    let most = most-shown (table _ _ c.self.view_is c.self.invariant) in
+    omega (arith, c.requires.within)
+
+pub overflow_mul-page : goal.overflow_mul-page
+overflow_mul-page g c =
+    let most = most-shown (table _ _ c.self.view_is c.self.invariant) in
+    omega (arith, c.requires.within)
+
+pub overflow_add-page : goal.overflow_add-page
+overflow_add-page g c =
+    let most = most-shown (table _ _ c.self.view_is c.self.invariant) in
+    omega (arith, c.requires.within)
+
+pub clear_window-requires-clause-within : goal.clear_window-requires-clause-within
+clear_window-requires-clause-within g c =
+    let done = below_page c.args.addr c.args.len c.loop-page.page in
+    let n : length (replicate {A = ℕ} done 0) ≡ done = length-replicate {A = ℕ} done 0 in
+    let size = ap length c.loop-page.invariant.0 ∙ length-with_bytes c.args.self.now.bytes c.args.addr (replicate done 0) (omega (arith, c.requires.within)) in
+    omega (arith, size, c.requires.within)
+
+pub clear_window-requires-clause-own : goal.clear_window-requires-clause-own
+clear_window-requires-clause-own g c =
+    let t = table _ _ c.self.view_is c.self.invariant in
+    let size = size-shown t in
+    let pages = pages-shown t in
+    let count = c.loop-page.invariant.2 in
+    let page = c.loop-page.page in
+    let in' : page < length c.loop-page.self.own = omega (arith, size, pages, count, c.requires.within) in
+    let own : IsOwn c.loop-page.self.own page = own_or_shared c.loop-page.self.own page in' (λ shared. false≢true (sym c.if-not-shares.true ∙ c.shares.ensures.1 shared)) in
+    let at : c.max-from.result / 4096 ≡ page = omega arith in
+    rw at own
+
+pub loop-page-preserved : goal.loop-page-preserved
+loop-page-preserved g c =
+    let h = c.loop-page.invariant in
+    let page = c.loop-page.page in
+    elim c.if-not-shares.branch [
+      | then-not-shares+in_ok-clear_window w ↦ (
+        ap (λ m. m.bytes) w.self-is ∙ cleared_more c.args.self.now.bytes c.loop-page.self.bytes _ c.args.addr c.args.len page w.max-from.result w.min-to.result h.0 (omega arith) (omega arith) w.in_ok-clear_window.ensures.bytes (omega arith) (omega arith) (omega arith) c.requires.within,
+        rw w.self-is w.in_ok-clear_window.ensures.rest,
+        ap (λ m. length m.own) w.self-is ∙ w.in_ok-clear_window.ensures.pages ∙ h.2,
+      )
+      | else-not-shares w ↦
+          let shared : IsShared c.loop-page.self.own page = c.shares.ensures.0 w.if-not-shares.false in (
+            ap (λ m. m.bytes) w.self-is ∙ cleared_shared c.args.self.now c.loop-page.self c.args.addr c.args.len page h.0 h.1 shared (omega arith) (omega arith) (omega arith) c.requires.within,
+            rw w.self-is h.1,
+            ap (λ m. length m.own) w.self-is ∙ h.2,
+          )
+    ]

@@ -1,9 +1,8 @@
 -- What work on its row makes of a machine.
-use Rattle.std.proofs.Common.{◌≡◌, ◌≤◌, ℕ, false, List, [], ◌∷◌, ◌++◌, length, Result, Err, refl, sym, ap, subst, ◌∙◌, arith}
-use Rattle.std.specs.Prelude.{OnOk, IsSome, ⊤}
+use Rattle.std.proofs.Common.{◌≡◌, ◌≤◌, ℕ, false, List, [], ◌∷◌, ◌++◌, length, Bool, refl, sym, ap, subst, ◌∙◌, arith}
+use Rattle.std.specs.Prelude.{IsSome, IsFalse}
 use Rattle.std.proofs.lemmas.Bool.{false≢true}
 use Rattle.std.proofs.lemmas.List.Elements.{All-nil, All-cons, All-head, All-tail, length_all_zip}
-use Rattle.std.proofs.lemmas.Result.{on_ok_weaker}
 use Rattle.node_core.specs.Node.{NodeState, is_running}
 use Rattle.machine_core.specs.declared.event.Event.{Event}
 use Rattle.machine_core.specs.declared.event.Event.TheVariants.{Turn}
@@ -16,11 +15,6 @@ use Rattle.machine_core.proofs.Onward.{onward_after}
 use Rattle.machine_core.proofs.Phases.{map-phase-stopped}
 use Rattle.machine_core.proofs.Resume.{phases-after}
 use Rattle.machine_core.proofs.Steps.{after-nil, after-cons, after-others}
-use Rattle.phase_pool.specs.declared.error.Refusal.{Refusal}
-use Rattle.phase_pool.specs.declared.error.Refusal.TheVariants.{NoWorker, NoMemory}
-use Rattle.phase_pool.specs.declared.error.PoolError.{PoolError}
-use Rattle.phase_pool.specs.declared.error.PoolError.TheVariants as error
-use Rattle.phase_pool.specs.Numbers.{error_of}
 use Rattle.phase_pool.specs.Phases.{LeadsTo, LeadsWithoutTurn}
 use Rattle.phase_pool.specs.Work.{HasCome, HaveCome, HasStopped, HaveStopped, IsWorked}
 
@@ -33,7 +27,7 @@ none_runs (n ∷ rest) stopped =
     grind arith
 
 -- a machine whose row was worked on, `lender` being the machine meanwhile
-module _ (m lender new : MachineState) (input : List ℕ) (old row : List NodeState) (answer : Result ⊤ Refusal) (lent : lender ≡ m) (same : old ≡ m.nodes) (read : input ≡ lender.input) (back : new ≡ record lender { nodes = row }) (worked : IsWorked input old row answer) where
+module _ (m lender new : MachineState) (input : List ℕ) (old row : List NodeState) (lacks_memory : Bool) (lent : lender ≡ m) (same : old ≡ m.nodes) (read : input ≡ lender.input) (back : new ≡ record lender { nodes = row }) (worked : IsWorked input old row lacks_memory) where
   inputs : input ≡ m.input
   inputs = read ∙ ap (λ (x : MachineState). x.input) lent
 
@@ -47,15 +41,12 @@ module _ (m lender new : MachineState) (input : List ℕ) (old row : List NodeSt
       (events.0, events.1, backs ∙ sym events.2)
 
   -- nodes that have stopped on their way are at the end of their local parts
-  pub worked_phases : IsSoundMachine m → OnOk answer (new ≡ with_phases m)
-  worked_phases sound =
-      on_ok_weaker answer
-      (λ stopped.
+  pub worked_phases : IsSoundMachine m → IsFalse lacks_memory → new ≡ with_phases m
+  worked_phases sound fine =
       let reached = worked_events in
-      let none : some_runs new.nodes ≡ false = ap (λ (x : MachineState). some_runs x.nodes) backs ∙ none_runs row stopped in
+      let none : some_runs new.nodes ≡ false = ap (λ (x : MachineState). some_runs x.nodes) backs ∙ none_runs row (worked.ok fine) in
       let there : with_phases new ≡ new = ap (λ (ns : List NodeState). record new { nodes = ns }) (map-phase-stopped new.input new.nodes none) in
-      sym there ∙ ap with_phases reached.2 ∙ phases-after m reached.0 sound reached.1)
-      worked.ok
+      sym there ∙ ap with_phases reached.2 ∙ phases-after m reached.0 sound reached.1
 
   pub worked_come : HaveCome new.input new.nodes
   worked_come =
@@ -107,8 +98,3 @@ pub LeadsTo-length : (old new : MachineState) → LeadsTo old new → length new
 LeadsTo-length old new so_far =
     let onward = onward_after old so_far.0 in
     ap (λ (x : MachineState). length x.nodes) so_far.1 ∙ sym (length_all_zip (λ (o n : NodeState). o.ticks ≤ n.ticks) old.nodes (after old so_far.0).nodes onward.ticks)
-
--- a call answers NoWorker only where that was refused
-pub worker_refused : (e : PoolError) (refusal : Refusal) (result : Result ⊤ PoolError) → result ≡ Err e → e ≡ error_of refusal → result ≡ Err error.NoWorker → refusal ≡ NoWorker
-worker_refused e NoWorker result is of refused = refl
-worker_refused e NoMemory result is of refused = let same : Err error.NoMemory ≡ Err error.NoWorker = sym (is ∙ ap Err of) ∙ refused in absurd cc

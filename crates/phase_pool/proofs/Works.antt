@@ -1,6 +1,6 @@
 -- Work on the nodes of a row, one after another and again.
-use Rattle.std.proofs.Common.{◌≡◌, ℕ, ◌+◌, ◌<◌, ◌≤◌, List, [], ◌∷◌, ◌++◌, length, get_or, take, drop, set, add-zero, Result, Ok, Err, refl, sym, ap, ◌∙◌, arith}
-use Rattle.std.specs.Prelude.{IsOk, OnOk, OnErr, ⊤}
+use Rattle.std.proofs.Common.{◌≡◌, ℕ, ◌+◌, ◌<◌, ◌≤◌, List, [], ◌∷◌, ◌++◌, length, get_or, take, drop, set, add-zero, Bool, Result, Ok, Err, sym, ap, ◌∙◌, arith}
+use Rattle.std.specs.Prelude.{IsOk, IsFalse, OnOk, OnErr, ⊤}
 use Rattle.std.specs.List.{AllZip}
 use Rattle.std.proofs.lemmas.List.{map_push, drop-drop, get_or-drop, take_all, take_more_set}
 use Rattle.std.proofs.lemmas.Bool.{false≢true}
@@ -11,7 +11,6 @@ use Rattle.node_core.proofs.Steps.{local_steps-add, local_steps-zero}
 use Rattle.bsp_exchange.specs.Exchange.{states}
 use Rattle.machine_core.specs.Events.{HaveStepped}
 use Rattle.bsp_exchange.proofs.Tallies.{states-more}
-use Rattle.phase_pool.specs.declared.error.Refusal.{Refusal}
 use Rattle.phase_pool.specs.Work.{HasCome, HasStopped, IsWorked}
 
 HaveStepped-append : (input : List ℕ) (a a' b b' : List NodeState) → HaveStepped input a a' → HaveStepped input b b' → HaveStepped input (a ++ b) (a' ++ b')
@@ -24,19 +23,11 @@ pub of_ok : {E : Type 0} {P : Type 0} (r : Result ⊤ E) → IsOk r → OnOk r P
 of_ok (Ok x) ok holds = holds
 of_ok (Err e) ok holds = absurd cc
 
-on_ok : {E : Type 0} {P : Type 0} (r : Result ⊤ E) → (IsOk r → P) → OnOk r P
-on_ok (Ok x) holds = holds refl
-on_ok (Err e) holds = tt
-
--- what holds at one Ok holds at another that comes of it
-pub on_ok_as : {E F : Type 0} (P : Type 0) (r : Result ⊤ E) (s : Result ⊤ F) → (IsOk s → IsOk r) → OnOk r P → OnOk s P
-on_ok_as P r s from holds = on_ok s (λ fine. of_ok r (from fine) holds)
-
 -- two parts, one behind the other
-pub IsWorked-append : (input : List ℕ) (a a' b b' : List NodeState) (r s both : Result ⊤ Refusal) → (IsOk both → IsOk r × IsOk s) → IsWorked input a a' r → IsWorked input b b' s → IsWorked input (a ++ b) (a' ++ b') both
+pub IsWorked-append : (input : List ℕ) (a a' b b' : List NodeState) (r s both : Bool) → (IsFalse both → IsFalse r × IsFalse s) → IsWorked input a a' r → IsWorked input b b' s → IsWorked input (a ++ b) (a' ++ b') both
 IsWorked-append input a a' b b' r s both ok first second = record {
   stepped = HaveStepped-append input a a' b b' first.stepped second.stepped;
-  ok = on_ok both (λ fine. let each = ok fine in All-append HasStopped a' b' (of_ok r each.0 first.ok) (of_ok s each.1 second.ok));
+  ok = λ fine. let each = ok fine in All-append HasStopped a' b' (first.ok each.0) (second.ok each.1);
   come = All-append (HasCome input) a' b' first.come second.come;
 }
 
@@ -56,7 +47,7 @@ pub drop_one_more : {X : Type 0} (xs ys : List X) (i : ℕ) → drop i xs ≡ dr
 drop_one_more xs ys i same = sym (drop-drop 1 i xs) ∙ ap (drop 1) same ∙ drop-drop 1 i ys
 
 -- one node more, at the place i of a row of which the nodes before it have been worked on
-pub IsWorked-next : (input : List ℕ) (old present : List PreparedNode) (i : ℕ) (before after : PreparedNode) (r s both : Result ⊤ Refusal) → (IsOk both → IsOk r × IsOk s) → i < length old → length present ≡ length old → drop i present ≡ drop i old → before ≡ get_or present i before → (k : ℕ) × (after.node ≡ local_steps input k before.node) → OnOk s (HasStopped after.node) → HasCome input after.node → IsWorked input (states (take i old)) (states (take i present)) r → IsWorked input (states (take (i + 1) old)) (states (take (i + 1) (set present i after))) both
+pub IsWorked-next : (input : List ℕ) (old present : List PreparedNode) (i : ℕ) (before after : PreparedNode) (r s both : Bool) → (IsFalse both → IsFalse r × IsFalse s) → i < length old → length present ≡ length old → drop i present ≡ drop i old → before ≡ get_or present i before → (k : ℕ) × (after.node ≡ local_steps input k before.node) → (IsFalse s → HasStopped after.node) → HasCome input after.node → IsWorked input (states (take i old)) (states (take i present)) r → IsWorked input (states (take (i + 1) old)) (states (take (i + 1) (set present i after))) both
 IsWorked-next input old present i before after r s both ok within long rest is stepped done come so_far =
     let same : before ≡ get_or old i before =
     is ∙ ap (λ j. get_or present j before) (sym (add-zero i)) ∙ sym (get_or-drop i present 0 before) ∙ ap (λ ps. get_or ps 0 before) rest ∙ get_or-drop i old 0 before ∙ ap (λ j. get_or old j before) (add-zero i) in
@@ -66,12 +57,12 @@ IsWorked-next input old present i before after r s both ok within long rest is s
     rw (first, second) (IsWorked-append input (states (take i old)) (states (take i present)) (before.node ∷ []) (after.node ∷ []) r s both ok so_far
     record {
       stepped = (stepped, tt);
-      ok = on_ok s (λ fine. All-cons HasStopped after.node [] (of_ok s fine done) (All-nil HasStopped));
+      ok = λ fine. All-cons HasStopped after.node [] (done fine) (All-nil HasStopped);
       come = All-cons (HasCome input) after.node [] come (All-nil (HasCome input));
     })
 
 -- all nodes, once each place is done
-pub IsWorked-all : (input : List ℕ) (old present : List PreparedNode) (i : ℕ) (r : Result ⊤ Refusal) → length present ≡ length old → length old ≤ i → IsWorked input (states (take i old)) (states (take i present)) r → IsWorked input (states old) (states present) r
+pub IsWorked-all : (input : List ℕ) (old present : List PreparedNode) (i : ℕ) (r : Bool) → length present ≡ length old → length old ≤ i → IsWorked input (states (take i old)) (states (take i present)) r → IsWorked input (states old) (states present) r
 IsWorked-all input old present i r long past worked =
     let first : take i old ≡ old = take_all i old past in
     let second : take i present ≡ present = take_all i present (omega (arith, long, past)) in
@@ -103,10 +94,10 @@ HaveStepped-states input (o ∷ old) [] each = absurd each
 HaveStepped-states input (o ∷ old) (n ∷ new) each = (each.0, HaveStepped-states input old new each.1)
 
 -- work on nodes that had stepped before
-pub IsWorked-on : (input : List ℕ) (old mid new : List NodeState) (answer whole : Result ⊤ Refusal) → (IsOk whole → IsOk answer) → HaveStepped input old mid → IsWorked input mid new answer → IsWorked input old new whole
-IsWorked-on input old mid new answer whole ok first worked = record {
+pub IsWorked-on : (input : List ℕ) (old mid new : List NodeState) (last whole : Bool) → (IsFalse whole → IsFalse last) → HaveStepped input old mid → IsWorked input mid new last → IsWorked input old new whole
+IsWorked-on input old mid new last whole ok first worked = record {
   stepped = HaveStepped-on input old mid new first worked.stepped;
-  ok = on_ok_as _ answer whole ok worked.ok;
+  ok = λ fine. worked.ok (ok fine);
   come = worked.come;
 }
 

@@ -1,7 +1,6 @@
 -- The stages of an exchange that are shared out by runs of ranks: nodes are prepared for their parts, and these land. A share is some nodes
 -- of a row, with the part of each at the same place. BSPlib (Hill and others, 1998: `bsp_sync`) leaves open who moves the bytes.
-use Rattle.std.specs.Prelude.{◌≡◌, ℕ, ◌+◌, ◌-◌, ◌<◌, ◌≤◌, Bool, List, [], length, IsTrue, Result, OnOk, OnErr, IfOk, IsErrOf, ⊤, None}
-use Rattle.std.specs.declared.alloc.AllocError.{AllocError}
+use Rattle.std.specs.Prelude.{◌≡◌, ℕ, ◌+◌, ◌-◌, ◌<◌, ◌≤◌, ◌⊎◌, Bool, List, [], length, IsTrue, IsFalse, None}
 use Rattle.std.specs.List.{AllZip}
 use Rattle.node_core.specs.Node.{PreparedNode}
 use Rattle.bsp_exchange.specs.Exchange.{states}
@@ -9,10 +8,9 @@ use Rattle.bsp_exchange.specs.Parts.{PartState, CanLand, CanPrepare, landed}
 use Rattle.machine_core.specs.declared.event.Event.TheVariants.{Turn}
 use Rattle.machine_core.specs.Events.{event}
 use Rattle.machine_core.specs.Machine.{MachineState}
-use Rattle.phase_pool.specs.declared.error.Refusal.{Refusal}
-use Rattle.phase_pool.specs.declared.error.Refusal.TheVariants.{NoWorker}
 use Rattle.phase_pool.specs.declared.landing.Stage.{Stage}
 use Rattle.phase_pool.specs.declared.landing.Stage.TheVariants.{Prepare, Land}
+use Rattle.phase_pool.specs.declared.pool.Turned.{Turned}
 
 -- each part has landed in the node at its place
 abbrev pub HaveLanded : List PartState → List PreparedNode → List PreparedNode → Type 0
@@ -40,10 +38,10 @@ pub record AreApart (stage : Stage) (runs node_room part_room : ℕ) (parts : Li
   pub last_ready : IsReadyFor stage last_parts last_nodes
 
 -- a machine after its turn was to be made, with an exchange in stages by so many workers. It is made whole, whatever threads and room
--- these were refused, or it was refused memory and nothing has changed. Where a stage was refused something, there was an exchange, and
+-- these were refused, or memory was refused and nothing has changed. Where a stage was refused something, there was an exchange, and
 -- so there is no outcome; a thread is wanted only where there are several workers and several nodes
-pub record IsTurnMade (workers : ℕ) (old new : MachineState) (answer : Result (Result ⊤ Refusal) AllocError) : Type 0 where
-  pub ok : OnOk answer (new ≡ event old Turn)
-  pub err : OnErr answer (new ≡ old)
-  pub going : IfOk answer (λ stages. OnErr stages (new.outcome ≡ None))
-  pub no_worker : IfOk answer (λ stages. IsErrOf stages NoWorker → (1 < workers) × (1 < length old.nodes))
+pub record IsTurnMade (workers : ℕ) (old new : MachineState) (turned : Turned) : Type 0 where
+  pub ok : IsTrue turned.is_made → new ≡ event old Turn
+  pub err : IsFalse turned.is_made → (new ≡ old) × IsTrue turned.refused.memory
+  pub going : IsTrue turned.is_made → IsTrue turned.refused.thread ⊎ IsTrue turned.refused.memory → new.outcome ≡ None
+  pub no_worker : IsTrue turned.refused.thread → (1 < workers) × (1 < length old.nodes)

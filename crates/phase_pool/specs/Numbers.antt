@@ -2,9 +2,6 @@
 use Rattle.std.specs.Prelude.{ℕ, ◌^◌, ◌&&◌, nat_le, Option, Some, None, if◌then◌else◌}
 use Rattle.phase_pool.specs.declared.error.PoolError.{PoolError}
 use Rattle.phase_pool.specs.declared.error.PoolError.TheVariants.{BadWorkers, BadSlice}
-use Rattle.phase_pool.specs.declared.error.PoolError.TheVariants as error
-use Rattle.phase_pool.specs.declared.error.Refusal.{Refusal}
-use Rattle.phase_pool.specs.declared.error.Refusal.TheVariants.{NoWorker, NoMemory}
 
 -- the first number that is out of its range: workers, 1 to 64, or the steps of a slice, 1 to 2^20
 abbrev pub numbers_fault : ℕ → ℕ → Option PoolError
@@ -12,8 +9,3 @@ numbers_fault workers slice =
     if nat_le 1 workers && nat_le workers 64 then
     (if nat_le 1 slice && nat_le slice (2 ^ 20) then None else Some BadSlice)
     else Some BadWorkers
-
--- what a call answers where workers were refused something
-abbrev pub error_of : Refusal → PoolError
-error_of NoWorker = error.NoWorker
-error_of NoMemory = error.NoMemory

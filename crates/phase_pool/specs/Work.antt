@@ -1,8 +1,7 @@
 -- The work of threads on lent nodes.
-use Rattle.std.specs.Prelude.{◌≡◌, ℕ, List, All, Result, OnOk, true, false, ⊤}
+use Rattle.std.specs.Prelude.{◌≡◌, ℕ, Bool, List, All, IsFalse, true, false}
 use Rattle.node_core.specs.Node.{NodeState, MayRefuseStep, is_running}
 use Rattle.machine_core.specs.Events.{HaveStepped}
-use Rattle.phase_pool.specs.declared.error.Refusal.{Refusal}
 
 -- a node has come as far as memory allowed: it has stopped, or its next step may be refused memory
 abbrev pub HasCome : List ℕ → NodeState → Type 0
@@ -20,8 +19,8 @@ HasStopped n = is_running n.state ≡ false
 abbrev pub HaveStopped : List NodeState → Type 0
 HaveStopped nodes = All HasStopped nodes
 
--- nodes after work on them: each has made some steps of its own, as far as memory allowed, and at Ok all have stopped
-pub record IsWorked (input : List ℕ) (old new : List NodeState) (answer : Result ⊤ Refusal) : Type 0 where
+-- nodes after work on them: each has made some steps of its own, as far as memory allowed, and all have stopped where none was refused
+pub record IsWorked (input : List ℕ) (old new : List NodeState) (lacks_memory : Bool) : Type 0 where
   pub stepped : HaveStepped input old new
-  pub ok : OnOk answer (HaveStopped new)
+  pub ok : IsFalse lacks_memory → HaveStopped new
   pub come : HaveCome input new

@@ -1,6 +1,6 @@
 //! Why local parts or a run did not come to their end.
 
-ghost use Rattle.std.specs.Prelude.{◌≡◌, ◌↔◌, ◌⊎◌, IsOk, IsErrOf};
+ghost use Rattle.std.specs.Prelude.{◌≡◌, ◌↔◌, ◌||◌, IsOk, IsErrOf, IsTrue, IsFalse, is_err};
 
 use std::alloc::AllocError;
 
@@ -17,20 +17,6 @@ pub enum PoolError {
     NoMemory,
 }
 
-impl From<Refusal> for PoolError {
-    ghost use Rattle.std.specs.Prelude.{◌≡◌};
-    ghost use Rattle.phase_pool.specs.Numbers.{error_of};
-
-    ghost from_gives = { λ refusal e. e ≡ error_of refusal };
-
-    fn from(refusal: Refusal) -> PoolError {
-        match refusal {
-            Refusal::NoWorker => PoolError::NoWorker,
-            Refusal::NoMemory => PoolError::NoMemory,
-        }
-    }
-}
-
 impl From<AllocError> for PoolError {
     ghost use Rattle.std.specs.Prelude.{◌≡◌};
     ghost use Rattle.phase_pool.specs.declared.error.PoolError.TheVariants.{NoMemory};
@@ -44,22 +30,67 @@ impl From<AllocError> for PoolError {
 
 /// What was refused to some workers. Their nodes have been run all the same, each as far as memory allowed.
 #[derive(Clone, Copy, Debug, PartialEq, Eq)]
-pub(crate) enum Refusal {
+pub(crate) struct Refused {
     /// A thread could not be started.
-    NoWorker,
+    pub(crate) thread: bool,
     /// A request for memory was refused.
-    NoMemory,
+    pub(crate) memory: bool,
 }
 
-/// The answer of two parts together. Where both kinds of refusal came, it is `NoWorker`.
-pub(crate) fn both(first: Result<(), Refusal>, second: Result<(), Refusal>) -> Result<(), Refusal>
-    ensures ok { IsOk result ↔ (IsOk first × IsOk second) }
-    ensures no_worker { IsErrOf result Refusal.NoWorker
-        ↔ (IsErrOf first Refusal.NoWorker ⊎ IsErrOf second Refusal.NoWorker) }
-{
-    match (first, second) {
-        (Ok(()), answer) | (answer, Ok(())) => answer,
-        (Err(Refusal::NoMemory), Err(Refusal::NoMemory)) => Err(Refusal::NoMemory),
-        (Err(_), Err(_)) => Err(Refusal::NoWorker),
+impl Refused {
+    pub(crate) const NOTHING: Refused = Refused {
+        thread: false,
+        memory: false,
+    };
+
+    pub(crate) const A_THREAD: Refused = Refused {
+        thread: true,
+        memory: false,
+    };
+
+    pub(crate) const MEMORY: Refused = Refused {
+        thread: false,
+        memory: true,
+    };
+
+    /// What a call was refused that asks for memory alone.
+    pub(crate) fn by(answer: Result<(), AllocError>) -> Refused
+        ensures thread { IsFalse result.thread }
+        ensures memory { result.memory ≡ is_err answer }
+    {
+        Refused {
+            thread: false,
+            memory: answer.is_err(),
+        }
+    }
+
+    /// What was refused in two parts together.
+    pub(crate) fn and(self, other: Refused) -> Refused
+        ensures thread { result.thread ≡ (self.thread || other.thread) }
+        ensures memory { result.memory ≡ (self.memory || other.memory) }
+    {
+        Refused {
+            thread: self.thread || other.thread,
+            memory: self.memory || other.memory,
+        }
+    }
+
+    /// What a call answers to which this was refused.
+    ///
+    /// # Errors
+    /// [`PoolError::NoWorker`] wherever a thread could not be started, be memory refused besides or not, and [`PoolError::NoMemory`]
+    /// where memory alone was refused.
+    pub(crate) fn answer(self) -> Result<(), PoolError>
+        ensures ok { IsOk result ↔ (IsFalse self.thread × IsFalse self.memory) }
+        ensures no_worker { IsErrOf result PoolError.NoWorker ↔ IsTrue self.thread }
+        ensures no_memory { IsErrOf result PoolError.NoMemory ↔ (IsFalse self.thread × IsTrue self.memory) }
+    {
+        if self.thread {
+            return Err(PoolError::NoWorker);
+        }
+        if self.memory {
+            return Err(PoolError::NoMemory);
+        }
+        Ok(())
     }
 }

@@ -1,11 +1,11 @@
 //! The exchange of a turn, whose stages one thread makes for each node: nodes are prepared for their parts, and then these land.
 
-ghost use Rattle.std.specs.Prelude.{◌≡◌, ◌↔◌, ◌⊎◌, ◌+◌, ◌-◌, ◌++◌, ◌<◌, ◌≤◌, ◌&&◌, Err, Ok, IsOk, IfOk, IfErr, IsErrOf, length, vec_len, vec_capacity};
+ghost use Rattle.std.specs.Prelude.{◌≡◌, ◌+◌, ◌-◌, ◌++◌, ◌<◌, ◌≤◌, ◌&&◌, ◌||◌, IfOk, IfErr, IsTrue, IsFalse, length, vec_len, vec_capacity};
 ghost use Rattle.std.specs.Thread.{IsSend, IsSync};
 ghost use denote.Param.Send.{Frees};
 ghost use Rattle.phase_pool.specs.Landings.{AreApart, IsDone, IsReadyFor};
 
-use crate::error::{Refusal, both};
+use crate::error::Refused;
 use bsp_exchange::{Part, land_all, prepare_all};
 use node_core::Node;
 use std::alloc::Allocator;
@@ -37,7 +37,7 @@ pub(crate) struct Done<A: Allocator> {
     /// Whether no node was refused the memory for which it was prepared. Landings are always complete.
     pub(crate) complete: bool,
     /// What threads and room were refused. The stage was made all the same.
-    pub(crate) answer: Result<(), Refusal>,
+    pub(crate) refused: Refused,
 }
 
 /// The promise of a thread that it makes a stage of the share that it is handed.
@@ -76,7 +76,7 @@ pub(crate) fn make_in_threads<R: Threads + Wait + Sync, A: Allocator + Copy + Se
     requires ready { IsReadyFor stage share.parts.items share.nodes.items }
     requires enough { 1 < threads → threads ≤ vec_len share.nodes }
     ensures done { IsDone stage share.parts.items share.nodes.items result.share.parts.items result.share.nodes.items result.complete }
-    ensures no_worker { IsErrOf result.answer Refusal.NoWorker → 1 < threads }
+    ensures no_worker { IsTrue result.refused.thread → 1 < threads }
     ensures node_room { vec_capacity share.nodes ≤ vec_capacity result.share.nodes }
     ensures part_room { vec_capacity share.parts ≤ vec_capacity result.share.parts }
 {
@@ -86,7 +86,7 @@ pub(crate) fn make_in_threads<R: Threads + Wait + Sync, A: Allocator + Copy + Se
     let start = start_of_last_run(share.nodes.len(), threads);
     match split(share, start) {
         Ok((here, last)) => make_beside(rt, threads, stage, here, last),
-        Err(whole) => refused(make_here(stage, whole), Refusal::NoMemory),
+        Err(whole) => in_spite_of(make_here(stage, whole), Refused::MEMORY),
     }
 }
 
@@ -134,7 +134,7 @@ fn make_beside<R: Threads + Wait + Sync, A: Allocator + Copy + Send + Sync>(
                 Err(not_started) => {
                     let first = make_in_threads(rt, threads - 1, stage, here);
                     let whole = put_together(first, (not_started.value)());
-                    refused(whole, Refusal::NoWorker)
+                    in_spite_of(whole, Refused::A_THREAD)
                 }
             }
         },
@@ -207,46 +207,47 @@ fn put_together<A: Allocator>(first: Done<A>, second: Done<A>) -> Done<A>
     ensures nodes { result.share.nodes.items ≡ first.share.nodes.items ++ second.share.nodes.items }
     ensures parts { result.share.parts.items ≡ first.share.parts.items ++ second.share.parts.items }
     ensures complete { result.complete ≡ (first.complete && second.complete) }
-    ensures no_worker { IsErrOf result.answer Refusal.NoWorker
-        ↔ (IsErrOf first.answer Refusal.NoWorker ⊎ IsErrOf second.answer Refusal.NoWorker) }
+    ensures thread { result.refused.thread ≡ (first.refused.thread || second.refused.thread) }
+    ensures memory { result.refused.memory ≡ (first.refused.memory || second.refused.memory) }
     ensures node_room { vec_capacity first.share.nodes ≤ vec_capacity result.share.nodes }
     ensures part_room { vec_capacity first.share.parts ≤ vec_capacity result.share.parts }
 {
     let Done {
         share: here,
         complete,
-        answer,
+        refused,
     } = first;
     let Done {
         share: there,
         complete: other_complete,
-        answer: other_answer,
+        refused: others_refused,
     } = second;
     Done {
         share: Share {
             nodes: joined(here.nodes, there.nodes),
             parts: joined(here.parts, there.parts),
         },
-        answer: both(answer, other_answer),
+        refused: refused.and(others_refused),
         complete: complete && other_complete,
     }
 }
 
-/// What comes of a stage for which threads or room were refused: it was made all the same.
-fn refused<A: Allocator>(done: Done<A>, refusal: Refusal) -> Done<A>
+/// What comes of a stage for which more was refused, a thread or room: it was made all the same.
+fn in_spite_of<A: Allocator>(done: Done<A>, more: Refused) -> Done<A>
     ensures share { result.share ≡ done.share }
     ensures complete { result.complete ≡ done.complete }
-    ensures answer { result.answer ≡ Err refusal }
+    ensures thread { result.refused.thread ≡ (done.refused.thread || more.thread) }
+    ensures memory { result.refused.memory ≡ (done.refused.memory || more.memory) }
 {
     let Done {
         share,
         complete,
-        answer: _,
+        refused,
     } = done;
     Done {
         share,
         complete,
-        answer: Err(refusal),
+        refused: refused.and(more),
     }
 }
 
@@ -254,7 +255,8 @@ fn refused<A: Allocator>(done: Done<A>, refusal: Refusal) -> Done<A>
 fn make_here<A: Allocator + Copy>(stage: Stage, share: Share<A>) -> Done<A>
     requires { IsReadyFor stage share.parts.items share.nodes.items }
     ensures done { IsDone stage share.parts.items share.nodes.items result.share.parts.items result.share.nodes.items result.complete }
-    ensures answer { result.answer ≡ Ok tt }
+    ensures thread { IsFalse result.refused.thread }
+    ensures memory { IsFalse result.refused.memory }
     ensures node_room { vec_capacity result.share.nodes ≡ vec_capacity share.nodes }
     ensures part_room { vec_capacity result.share.parts ≡ vec_capacity share.parts }
 {
@@ -268,7 +270,8 @@ fn make_here<A: Allocator + Copy>(stage: Stage, share: Share<A>) -> Done<A>
 fn prepare_here<A: Allocator + Copy>(share: Share<A>) -> Done<A>
     requires { IsReadyFor Stage.Prepare share.parts.items share.nodes.items }
     ensures done { IsDone Stage.Prepare share.parts.items share.nodes.items result.share.parts.items result.share.nodes.items result.complete }
-    ensures answer { result.answer ≡ Ok tt }
+    ensures thread { IsFalse result.refused.thread }
+    ensures memory { IsFalse result.refused.memory }
     ensures node_room { vec_capacity result.share.nodes ≡ vec_capacity share.nodes }
     ensures part_room { vec_capacity result.share.parts ≡ vec_capacity share.parts }
 {
@@ -277,7 +280,7 @@ fn prepare_here<A: Allocator + Copy>(share: Share<A>) -> Done<A>
     Done {
         share: Share { nodes, parts },
         complete,
-        answer: Ok(()),
+        refused: Refused::NOTHING,
     }
 }
 
@@ -285,7 +288,8 @@ fn prepare_here<A: Allocator + Copy>(share: Share<A>) -> Done<A>
 fn land_here<A: Allocator + Copy>(share: Share<A>) -> Done<A>
     requires { IsReadyFor Stage.Land share.parts.items share.nodes.items }
     ensures done { IsDone Stage.Land share.parts.items share.nodes.items result.share.parts.items result.share.nodes.items result.complete }
-    ensures answer { result.answer ≡ Ok tt }
+    ensures thread { IsFalse result.refused.thread }
+    ensures memory { IsFalse result.refused.memory }
     ensures node_room { vec_capacity result.share.nodes ≡ vec_capacity share.nodes }
     ensures part_room { vec_capacity result.share.parts ≡ vec_capacity share.parts }
 {
@@ -298,6 +302,6 @@ fn land_here<A: Allocator + Copy>(share: Share<A>) -> Done<A>
     Done {
         share: Share { nodes, parts },
         complete: true,
-        answer: Ok(()),
+        refused: Refused::NOTHING,
     }
 }

@@ -19,6 +19,7 @@
 //!   all the same, and its part lands; where a node is refused the memory for which it is prepared, the turn is called off before a part
 //!   has landed. So no turn is left half made. No turn is made after a refusal. Then the machine is one that events lead to, and the
 //!   call made again leaves what it would have left: see [`laws`].
+//! - Where a thread and memory were refused, [`PoolError::NoWorker`] is answered, whichever came first.
 //! - After the outcome these calls answer `Ok` and change nothing, as long as the numbers are within their ranges.
 //! - These calls may wait, for their own threads alone; a gate that waits is its writer's affair. No thread of the pool waits for
 //!   another but to join it, and until no worker is counted.

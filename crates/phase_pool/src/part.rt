@@ -1,6 +1,6 @@
 //! Work on the nodes of a row, each of which is taken through its local part of the superstep.
 
-ghost use Rattle.std.specs.Prelude.{◌≡◌, ◌≢◌, ◌<◌, ℕ, Err, OnOk, IsErrOf, false};
+ghost use Rattle.std.specs.Prelude.{◌≡◌, ◌<◌, ℕ, OnOk, IsTrue, IsFalse, false};
 ghost use Rattle.std.specs.Thread.{IsSend, IsSync};
 ghost use denote.Param.Send.{Frees};
 ghost use Rattle.node_core.specs.Node.{is_running, local_steps};
@@ -8,10 +8,10 @@ ghost use Rattle.machine_core.specs.Events.{HaveStepped};
 ghost use Rattle.bsp_exchange.specs.Exchange.{states};
 ghost use Rattle.phase_pool.specs.Work.{HasCome, IsWorked};
 
-use crate::error::{Refusal, both};
+use crate::error::Refused;
 use claim_table::{ClaimTable, Gate, Place, Work};
 use node_core::Node;
-use std::alloc::Allocator;
+use std::alloc::{AllocError, Allocator};
 use std::sync::Wait;
 use std::thread;
 use std::thread::Threads;
@@ -37,7 +37,7 @@ pub(crate) struct FirstShare {
 #[derive(Drop)]
 pub(crate) struct Worked<A: Allocator> {
     pub(crate) nodes: Vec<Node<A>, A>,
-    pub(crate) answer: Result<(), Refusal>,
+    pub(crate) refused: Refused,
 }
 
 /// Takes nodes through their local parts of the superstep. This thread makes a first share of their steps. Where a node runs then,
@@ -56,15 +56,15 @@ pub(crate) fn work_on<
     input: &[u8],
     nodes: Vec<Node<A>, A>,
 ) -> Worked<A>
-    ensures work { IsWorked input.now (states nodes.items) (states result.nodes.items) result.answer }
-    ensures no_worker { IsErrOf result.answer Refusal.NoWorker → 1 < workers }
+    ensures work { IsWorked input.now (states nodes.items) (states result.nodes.items) result.refused.memory }
+    ensures no_worker { IsTrue result.refused.thread → 1 < workers }
 {
     let begun = begin(input, share, nodes);
     let shared = share_out(rt, work, workers, input, begun.nodes);
     let finished = finish(input, shared.nodes);
     Worked {
         nodes: finished.nodes,
-        answer: both(begun.answer, both(shared.answer, finished.answer)),
+        refused: begun.refused.and(shared.refused).and(finished.refused),
     }
 }
 
@@ -83,26 +83,26 @@ fn share_out<R: Threads + Wait + Sync, A: Allocator + Copy + Send + Sync, G: Gat
     nodes: Vec<Node<A>, A>,
 ) -> Worked<A>
     ensures stepped { HaveStepped input.now (states nodes.items) (states result.nodes.items) }
-    ensures no_worker { IsErrOf result.answer Refusal.NoWorker → 1 < workers }
+    ensures no_worker { IsTrue result.refused.thread → 1 < workers }
 {
     if !some_run(&nodes) {
         return Worked {
             nodes,
-            answer: Ok(()),
+            refused: Refused::NOTHING,
         };
     }
     match ClaimTable::open(input, nodes) {
         Ok((table, mut keeper)) => {
             let place = table.place(&mut keeper);
-            let answer = work_in_threads(rt, work, workers, place);
+            let refused = work_in_threads(rt, work, workers, place);
             Worked {
                 nodes: table.close(rt, keeper),
-                answer,
+                refused,
             }
         }
         Err(nodes) => Worked {
             nodes,
-            answer: Err(Refusal::NoMemory),
+            refused: Refused::MEMORY,
         },
     }
 }
@@ -115,11 +115,11 @@ fn work_in_threads<R: Threads + Wait + Sync, A: Allocator + Copy + Send + Sync, 
     work: &Work<'_, G>,
     workers: usize,
     mut place: Place<'_, '_, A>,
-) -> Result<(), Refusal>
-    ensures no_worker { IsErrOf result Refusal.NoWorker → 1 < workers }
+) -> Refused
+    ensures no_worker { IsTrue result.thread → 1 < workers }
 {
     if workers < 2 {
-        return place.work(work, 0).map_err(|_| Refusal::NoMemory);
+        return Refused::by(place.work(work, 0));
     }
     let other = place.another();
     work_beside(rt, work, workers, place, other)
@@ -134,24 +134,24 @@ fn work_beside<R: Threads + Wait + Sync, A: Allocator + Copy + Send + Sync, G: G
     workers: usize,
     here: Place<'_, '_, A>,
     mut last: Place<'_, '_, A>,
-) -> Result<(), Refusal>
+) -> Refused
     requires { 1 < workers }
 {
     thread::scope(
         thread::scope_env(),
         rt,
-        |scope| -> Result<(), Refusal>
+        |scope| -> Refused
             requires { IsSync R.row × IsSync G.row × IsSend A.row × IsSync A.row × Frees A.Allocator A.dealloc_token
                 × (1 < workers) }
         {
-            let other = move || -> Result<(), Refusal>
+            let other = move || -> Refused
                 requires { 1 < workers }
-            { last.work(work, workers - 1).map_err(|_| Refusal::NoMemory) };
+            { Refused::by(last.work(work, workers - 1)) };
             let child = scope.spawn(other);
-            let answer = work_in_threads(rt, work, workers - 1, here);
+            let refused = work_in_threads(rt, work, workers - 1, here);
             match child {
-                Ok(child) => both(answer, child.join(rt)),
-                Err(_) => both(answer, Err(Refusal::NoWorker)),
+                Ok(child) => refused.and(child.join(rt)),
+                Err(_) => refused.and(Refused::A_THREAD),
             }
         },
     )
@@ -165,35 +165,34 @@ fn begin<A: Allocator + Copy>(
     mut nodes: Vec<Node<A>, A>,
 ) -> Worked<A>
     ensures stepped { HaveStepped input.now (states nodes.items) (states result.nodes.items) }
-    ensures no_worker { result.answer ≢ Err Refusal.NoWorker }
+    ensures no_worker { IsFalse result.refused.thread }
 {
     let steps = share.steps / nodes.len().max(1) as u64;
     let mut bytes = share.bytes;
-    let mut answer = Ok(());
+    let mut refused = Refused::NOTHING;
     for place in 0..nodes.len() {
         let begun = begin_node(input, FirstShare { steps, bytes }, &mut nodes[place]);
-        answer = both(answer, begun);
+        refused = refused.and(Refused::by(begun));
         bytes = bytes.saturating_sub(nodes[place].requests().bytes());
     }
-    Worked { nodes, answer }
+    Worked { nodes, refused }
 }
 
 /// Makes a share of a node's steps. How many bytes it has asked for is looked at now and then, so that it ends near those of the share.
 ///
 /// # Errors
-/// [`Refusal::NoMemory`] in a step. The steps before it are made.
+/// Where memory is refused in a step. The steps before it are made.
 fn begin_node<A: Allocator + Copy>(
     input: &[u8],
     share: FirstShare,
     node: &mut Node<A>,
-) -> Result<(), Refusal>
+) -> Result<(), AllocError>
     ensures stepped { (k : ℕ) × (node.new.node ≡ local_steps input.now k node.old.node) }
-    ensures no_worker { result ≢ Err Refusal.NoWorker }
 {
     let mut made = 0;
     while made < share.steps && node.requests().bytes() < share.bytes && node.state().is_running() {
         let more = made.max(FIRST_LOOK).min(share.steps - made);
-        node.run(input, more).map_err(|_| Refusal::NoMemory)?;
+        node.run(input, more)?;
         made += more;
     }
     Ok(())
@@ -201,29 +200,28 @@ fn begin_node<A: Allocator + Copy>(
 
 /// Takes nodes to the end of their local parts one after another, in this thread. One that is refused memory stops no other.
 fn finish<A: Allocator + Copy>(input: &[u8], mut nodes: Vec<Node<A>, A>) -> Worked<A>
-    ensures work { IsWorked input.now (states nodes.items) (states result.nodes.items) result.answer }
-    ensures no_worker { result.answer ≢ Err Refusal.NoWorker }
+    ensures work { IsWorked input.now (states nodes.items) (states result.nodes.items) result.refused.memory }
+    ensures no_worker { IsFalse result.refused.thread }
 {
-    let mut answer = Ok(());
+    let mut refused = Refused::NOTHING;
     for place in 0..nodes.len() {
-        answer = both(answer, finish_node(input, &mut nodes[place]));
+        refused = refused.and(Refused::by(finish_node(input, &mut nodes[place])));
     }
-    Worked { nodes, answer }
+    Worked { nodes, refused }
 }
 
 /// Takes a node to the end of its local part.
 ///
 /// # Errors
-/// [`Refusal::NoMemory`] in a step. The steps before it are made.
-fn finish_node<A: Allocator + Copy>(input: &[u8], node: &mut Node<A>) -> Result<(), Refusal>
+/// Where memory is refused in a step. The steps before it are made.
+fn finish_node<A: Allocator + Copy>(input: &[u8], node: &mut Node<A>) -> Result<(), AllocError>
     ensures ok { OnOk result (is_running node.new.node.state ≡ false) }
     ensures stepped { (k : ℕ) × (node.new.node ≡ local_steps input.now k node.old.node) }
     ensures come { HasCome input.now node.new.node }
-    ensures no_worker { result ≢ Err Refusal.NoWorker }
 {
     if !node.state().is_running() {
         return Ok(());
     }
     prove!(node.ticks() < MOST_STEPS);
-    node.run(input, MOST_STEPS).map_err(|_| Refusal::NoMemory)
+    node.run(input, MOST_STEPS)
 }

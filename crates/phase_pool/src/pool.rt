@@ -1,6 +1,6 @@
 //! The calls of the pool: one phase of a machine, and its whole run.
 
-ghost use Rattle.std.specs.Prelude.{◌≡◌, ◌↔◌, ◌<◌, ◌≤◌, Some, None, IsSome, IsOk, OnOk, OnErr, IsErrOf, length};
+ghost use Rattle.std.specs.Prelude.{◌≡◌, ◌↔◌, ◌<◌, ◌≤◌, Some, None, IsSome, IsOk, OnOk, OnErr, IsErrOf, IsTrue, IsFalse, length};
 ghost use Rattle.std.specs.Thread.{IsSend, IsSync};
 ghost use denote.Param.Send.{Frees};
 ghost use Rattle.machine_core.specs.Sound.{AreInRange};
@@ -10,14 +10,14 @@ ghost use Rattle.phase_pool.specs.Numbers.{numbers_fault};
 ghost use Rattle.phase_pool.specs.Phases.{LeadsTo, LeadsWithoutTurn, IsPhaseMade};
 ghost use Rattle.phase_pool.specs.Work.{HaveCome};
 
-use crate::error::{PoolError, Refusal, both};
+use crate::error::{PoolError, Refused};
 use crate::landing::{Share, Stage, bytes_of, make_in_threads};
 use crate::numbers::check_numbers;
 use crate::part::{FirstShare, work_on};
 use bsp_exchange::Part;
 use claim_table::{Gate, OpenGate, Work};
 use machine_core::{Begun, Landing, Machine, Settings};
-use std::alloc::{AllocError, Allocator};
+use std::alloc::Allocator;
 use std::sync::Wait;
 use std::thread::Threads;
 
@@ -77,6 +77,40 @@ impl Team<'static, OpenGate> {
     }
 }
 
+/// What came of a machine's turn.
+#[derive(Clone, Copy)]
+struct Turned {
+    /// Whether it was made, and whole. It was not where memory was refused before a part landed, and then nothing has changed.
+    is_made: bool,
+    /// What was refused. A turn is made in spite of threads and room that are refused for its exchange.
+    refused: Refused,
+}
+
+impl Turned {
+    /// A turn that was made, in spite of what was refused.
+    fn made(refused: Refused) -> Turned
+        ensures made { IsTrue result.is_made }
+        ensures refused { result.refused ≡ refused }
+    {
+        Turned {
+            is_made: true,
+            refused,
+        }
+    }
+
+    /// A turn that was not made, since memory was refused, with what was refused before that.
+    fn called_off(before: Refused) -> Turned
+        ensures made { IsFalse result.is_made }
+        ensures thread { result.refused.thread ≡ before.thread }
+        ensures memory { IsTrue result.refused.memory }
+    {
+        Turned {
+            is_made: false,
+            refused: before.and(Refused::MEMORY),
+        }
+    }
+}
+
 /// Takes each node of a machine through its local part of the superstep (BSP, Valiant 1990), in `workers` threads, this one among
 /// them, and no more than there are nodes. A worker takes a node that runs, makes at most `slice` steps of it, and gives it back;
 /// around these steps the calls of `gate` are made. After the outcome nothing is left to do.
@@ -86,8 +120,9 @@ impl Team<'static, OpenGate> {
 ///
 /// # Errors
 /// The first that applies of [`PoolError::BadWorkers`] and [`PoolError::BadSlice`], at which nothing has changed. Then
-/// [`PoolError::NoWorker`] where a thread could not be started, else [`PoolError::NoMemory`] where memory was refused, for the
-/// table or in a step. At both the nodes keep the steps that they made, and a call made again leaves what this one would have left.
+/// [`PoolError::NoWorker`] where a thread could not be started, be memory refused besides or not, else [`PoolError::NoMemory`] where
+/// memory was refused, for the table or in a step. At both the nodes keep the steps that they made, and a call made again leaves what
+/// this one would have left.
 pub fn run_phase<R: Threads + Wait + Sync, A: Allocator + Copy + Send + Sync, G: Gate<A> + Sync>(
     rt: &R,
     machine: &mut Machine<A>,
@@ -143,10 +178,11 @@ pub fn run_phase_sparing<R: Threads + Wait + Sync, A: Allocator + Copy + Send + 
 /// prepared and parts land in so many threads too, without calls of the gate. After the outcome nothing is left to run.
 ///
 /// # Errors
-/// As [`run_phase`], and [`PoolError::NoMemory`] where memory was refused in a turn, also where a thread was refused in it besides; the
-/// turn is not made then. Where no more than a thread or room was refused for an exchange, the turn is whole, and the nodes make their
-/// next local parts before that is answered. No turn is made any more; the steps and turns before stand, and a call made again leaves
-/// what this one would have left.
+/// As [`run_phase`]. [`PoolError::NoWorker`] is also answered where a thread could not be started for an exchange, be memory refused in
+/// the turn besides or not, and else [`PoolError::NoMemory`] where memory was refused in it. A turn for which a node was refused memory is
+/// not made. Where no more than a thread or room was refused for an exchange, the turn is whole, and the nodes make their next local parts
+/// before that is answered. No turn is made any more; the steps and turns before stand, and a call made again leaves what this one would
+/// have left.
 pub fn run<R: Threads + Wait + Sync, A: Allocator + Copy + Send + Sync, G: Gate<A> + Sync>(
     rt: &R,
     machine: &mut Machine<A>,
@@ -228,7 +264,7 @@ fn run_phase_with<R: Threads + Wait + Sync, A: Allocator + Copy + Send + Sync, G
     if machine.outcome().is_some() {
         return Ok(());
     }
-    Ok(make_local_parts(rt, machine, team)?)
+    make_local_parts(rt, machine, team).answer()
 }
 
 /// Runs a machine to its outcome with a team.
@@ -254,11 +290,15 @@ fn run_with<R: Threads + Wait + Sync, A: Allocator + Copy + Send + Sync, G: Gate
     ensures going { numbers_fault team.now.workers team.now.slice ≡ None → OnErr result (machine.new.outcome ≡ None) }
 {
     check_numbers(team.workers, team.slice)?;
-    let mut landings = Ok(());
+    let mut landings = Refused::NOTHING;
     while machine.outcome().is_none() {
         let parts = make_local_parts(rt, machine, team);
-        both(landings, parts)?;
-        landings = make_turn(rt, machine, team)?;
+        landings.and(parts).answer()?;
+        let turned = make_turn(rt, machine, team);
+        if !turned.is_made {
+            return turned.refused.answer();
+        }
+        landings = turned.refused;
     }
     Ok(())
 }
@@ -269,14 +309,14 @@ fn make_local_parts<R: Threads + Wait + Sync, A: Allocator + Copy + Send + Sync,
     rt: &R,
     machine: &mut Machine<A>,
     team: &Team<'_, G>,
-) -> Result<(), Refusal>
+) -> Refused
     requires { 0 < team.now.slice }
     ensures { IsPhaseMade team.now.workers machine.old machine.new result }
 {
     core::mem::replace_with(
         machine,
         team,
-        |machine: Machine<A>, team: &Team<'_, G>| -> (Machine<A>, Result<(), Refusal>)
+        |machine: Machine<A>, team: &Team<'_, G>| -> (Machine<A>, Refused)
             requires { IsSync R.row × IsSync G.row × IsSend A.row × IsSync A.row × Frees A.Allocator A.dealloc_token × (0 < team.now.slice) }
             ensures { IsPhaseMade team.now.workers machine result.0 result.1 }
         { work_on_machine(rt, team, machine) },
@@ -288,7 +328,7 @@ fn work_on_machine<R: Threads + Wait + Sync, A: Allocator + Copy + Send + Sync, 
     rt: &R,
     team: &Team<'_, G>,
     machine: Machine<A>,
-) -> (Machine<A>, Result<(), Refusal>)
+) -> (Machine<A>, Refused)
     requires { 0 < team.now.slice }
     ensures { IsPhaseMade team.now.workers machine result.0 result.1 }
 {
@@ -301,46 +341,39 @@ fn work_on_machine<R: Threads + Wait + Sync, A: Allocator + Copy + Send + Sync, 
     let (lender, row) = machine.lend();
     let workers = row.len().min(team.workers as usize);
     let worked = work_on(rt, &work, team.first, workers, lender.input(), row);
-    (lender.take_back(worked.nodes), worked.answer)
+    (lender.take_back(worked.nodes), worked.refused)
 }
 
-/// Makes a machine's turn, and answers what threads and room it was refused, in spite of which it is whole. The machine is out of its
-/// place meanwhile, as for [`make_local_parts`].
-///
-/// # Errors
-/// Where memory is refused before a part lands. Nothing has changed then.
+/// Makes a machine's turn, or nothing of it. The machine is out of its place meanwhile, as for [`make_local_parts`].
 fn make_turn<R: Threads + Wait + Sync, A: Allocator + Copy + Send + Sync, G: Sync>(
     rt: &R,
     machine: &mut Machine<A>,
     team: &Team<'_, G>,
-) -> Result<Result<(), Refusal>, AllocError>
+) -> Turned
     ensures { IsTurnMade team.now.workers machine.old machine.new result }
 {
     core::mem::replace_with(
         machine,
         team,
-        |machine: Machine<A>, team: &Team<'_, G>| -> (
-            Machine<A>,
-            Result<Result<(), Refusal>, AllocError>,
-        )
+        |machine: Machine<A>, team: &Team<'_, G>| -> (Machine<A>, Turned)
             requires { IsSync R.row × IsSync G.row × IsSend A.row × IsSync A.row × Frees A.Allocator A.dealloc_token }
             ensures { IsTurnMade team.now.workers machine result.0 result.1 }
         { turn_machine(rt, team, machine) },
     )
 }
 
-/// A machine after its turn, for whose exchange threads prepared the nodes and landed the parts, and what they were refused.
+/// A machine for whose exchange threads prepared the nodes and landed the parts, and what came of its turn.
 fn turn_machine<R: Threads + Wait + Sync, A: Allocator + Copy + Send + Sync, G: Sync>(
     rt: &R,
     team: &Team<'_, G>,
     machine: Machine<A>,
-) -> (Machine<A>, Result<Result<(), Refusal>, AllocError>)
+) -> (Machine<A>, Turned)
     ensures { IsTurnMade team.now.workers machine result.0 result.1 }
 {
     match machine.begin_turn() {
         Begun::Whole(machine, answer) => match answer {
-            Ok(_) => (machine, Ok(Ok(()))),
-            Err(refused) => (machine, Err(refused)),
+            Ok(_) => (machine, Turned::made(Refused::NOTHING)),
+            Err(_) => (machine, Turned::called_off(Refused::NOTHING)),
         },
         Begun::Landing(
             Landing {
@@ -353,11 +386,12 @@ fn turn_machine<R: Threads + Wait + Sync, A: Allocator + Copy + Send + Sync, G: 
             let share = Share { nodes, parts };
             let prepared = make_in_threads(rt, threads, Stage::Prepare, share);
             if !prepared.complete {
-                return (lander.call_off(prepared.share.nodes), Err(AllocError));
+                let turned = Turned::called_off(prepared.refused);
+                return (lander.call_off(prepared.share.nodes), turned);
             }
             let landed = make_in_threads(rt, threads, Stage::Land, prepared.share);
-            let answer = both(prepared.answer, landed.answer);
-            (lander.finish(landed.share.nodes), Ok(answer))
+            let turned = Turned::made(prepared.refused.and(landed.refused));
+            (lander.finish(landed.share.nodes), turned)
         }
     }
 }

@@ -57,7 +57,7 @@ make_beside-scope-returns-in-Err g t c =
     let made = rw c.in-Err.ensures.err at c.other.ensures in
     let before = c.make_in_threads-first-in-Err in
     let whole = c.put_together-whole.ensures in
-    let end = c.refused.ensures in (
+    let end = c.in_spite_of.ensures in (
       rw (end.share, end.complete) (IsDone-halves c.captures.stage here.parts.items last.parts.items here.nodes.items last.nodes.items
           before.result.share.parts.items c.other.result.share.parts.items c.put_together-whole.result.share.parts.items
           before.result.share.nodes.items c.other.result.share.nodes.items c.put_together-whole.result.share.nodes.items

@@ -1,4 +1,4 @@
-use Rattle.std.proofs.Common.{◌+◌, ◌∙◌, inl, inr, arith}
+use Rattle.std.proofs.Common.{◌+◌, ◌||◌, ap₂, ◌∙◌, arith}
 use Rattle.std.proofs.lemmas.List.{drop-set-lt, length-set}
 use Rattle.phase_pool.proofs.Works.{HaveStepped-next, HaveStepped-all, drop_one_more}
 use Rattle.phase_pool.proofs.part.begin.Goals as goal
@@ -14,10 +14,7 @@ loop-place-preserved g c =
       stepped = HaveStepped-next c.args.input.now old row i c.index_mut.result.now after (omega (arith, c.loop-place-test.true, c.len-place-end.ensures, c.args.nodes.ok.0)) so_far.length so_far.rest c.index_mut.ensures.value c.begin_node-begun.ensures.stepped so_far.stepped;
       rest = drop-set-lt (i + 1) row i after (omega arith) ∙ drop_one_more row old i so_far.rest;
       length = length-set row i after ∙ so_far.length;
-      no_worker = λ refused. elim (c.both-answer.ensures.no_worker.0 refused) [
-        | inl before ↦ so_far.no_worker before
-        | inr now ↦ c.begin_node-begun.ensures.no_worker now
-      ];
+      no_worker = c.and-refused.ensures.thread ∙ ap₂ ◌||◌ so_far.no_worker c.by.ensures.thread;
     }
 
 pub returns-clause-stepped : goal.returns-clause-stepped

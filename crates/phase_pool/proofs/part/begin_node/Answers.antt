@@ -1,4 +1,4 @@
-use Rattle.std.proofs.Common.{◌+◌, sym, ap, ◌∙◌, arith, zero-le}
+use Rattle.std.proofs.Common.{◌+◌, sym, ap, arith, zero-le}
 use Rattle.std.specs.Prelude.{is_ok}
 use Rattle.node_core.proofs.Steps.{local_steps-zero}
 use Rattle.phase_pool.proofs.Works.{of_ok, some_steps, steps_then}
@@ -12,11 +12,11 @@ loop-made-preserved g c =
     let so_far = c.loop-made.invariant in
     record {
       few = omega (arith, c.min-more.ensures, so_far.few);
-      node = steps_then c.args.input.now c.loop-made.made c.min-more.result c.args.node.now.node c.loop-made.node.node c.run.new.self.node so_far.node (of_ok c.run.result (sym c.map_err.ensures.variant ∙ ap is_ok c.in_ok-map_err.was) c.run.ensures.ok);
+      node = steps_then c.args.input.now c.loop-made.made c.min-more.result c.args.node.now.node c.loop-made.node.node c.run.new.self.node so_far.node (of_ok c.run.result (ap is_ok c.in_ok-run.was) c.run.ensures.ok);
     }
 
-pub returns-in_err-map_err-clause-stepped : goal.returns-in_err-map_err-clause-stepped
-returns-in_err-map_err-clause-stepped g c =
+pub returns-in_err-run : goal.returns-in_err-run
+returns-in_err-run g c =
     let before = c.loop-made.node.node in
     let more = some_steps c.args.input.now c.min-more.result before c.run.new.self.node c.run.result c.run.ensures.ok c.run.ensures.err in
-    (c.loop-made.made + more.0, steps_then c.args.input.now c.loop-made.made more.0 c.args.node.now.node before c.run.new.self.node c.loop-made.invariant.node more.1)
+    record { stepped = (c.loop-made.made + more.0, steps_then c.args.input.now c.loop-made.made more.0 c.args.node.now.node before c.run.new.self.node c.loop-made.invariant.node more.1) }

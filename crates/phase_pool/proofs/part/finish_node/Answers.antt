@@ -3,7 +3,7 @@ use Rattle.std.proofs.lemmas.Result.{on_ok_weaker}
 use Rattle.node_core.specs.Node.{NodeState, is_running}
 use Rattle.node_core.proofs.Sound.{local_steps-end}
 use Rattle.node_core.proofs.Steps.{local_steps-zero}
-use Rattle.phase_pool.proofs.Works.{on_ok_as, some_steps, HasCome-run}
+use Rattle.phase_pool.proofs.Works.{some_steps, HasCome-run}
 use Rattle.phase_pool.proofs.part.finish_node.Goals as goal
 
 pub returns-then-not-is_running-clause-ok : goal.returns-then-not-is_running-clause-ok
@@ -16,8 +16,7 @@ pub returns-clause-ok : goal.returns-clause-ok
 returns-clause-ok g c =
     let sound = c.ticks.ensures.sound in
     let n = c.args.node.now.node in
-    on_ok_as _ c.run.result c.map_err.result (λ ok. sym c.map_err.ensures.variant ∙ ok)
-    (on_ok_weaker c.run.result (λ made. ap (λ (m : NodeState). is_running m.state) made ∙ local_steps-end c.args.input.now _ n sound (omega (arith, sound.limited))) c.run.ensures.ok)
+    on_ok_weaker c.run.result (λ made. ap (λ (m : NodeState). is_running m.state) made ∙ local_steps-end c.args.input.now _ n sound (omega (arith, sound.limited))) c.run.ensures.ok
 
 pub returns-clause-stepped : goal.returns-clause-stepped
 returns-clause-stepped g c = some_steps c.args.input.now _ c.args.node.now.node c.run.new.self.node c.run.result c.run.ensures.ok c.run.ensures.err

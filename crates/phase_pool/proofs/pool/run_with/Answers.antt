@@ -10,8 +10,10 @@ use Rattle.machine_core.proofs.Ends.{end_of-superstep, end_of-there}
 use Rattle.machine_core.proofs.Options.{none_from}
 use Rattle.machine_core.proofs.Steps.{after-nil}
 use Rattle.machine_core.proofs.Supersteps.{superstep-made, rows_left}
-use Rattle.phase_pool.proofs.Phases.{worker_refused, LeadsTo-on, LeadsTo-turn, LeadsTo-length, LeadsWithoutTurn-outcome, HaveCome-over}
-use Rattle.phase_pool.proofs.Works.{of_ok}
+use Rattle.phase_pool.specs.declared.error.PoolError.TheVariants.{NoWorker}
+use Rattle.phase_pool.proofs.Phases.{LeadsTo-on, LeadsTo-turn, LeadsTo-length, LeadsWithoutTurn-outcome, HaveCome-over}
+use Rattle.phase_pool.proofs.Landings.{on_err_from}
+use Rattle.phase_pool.proofs.Refusals.{none_of, one_of, is_so, is_not}
 use Rattle.phase_pool.proofs.pool.run_with.Goals as goal
 
 pub returns-in_err-check_numbers-clause-err : goal.returns-in_err-check_numbers-clause-err
@@ -22,60 +24,68 @@ returns-in_err-check_numbers-clause-err g c =
 pub loop-landings-init : goal.loop-landings-init
 loop-landings-init g c = record { so_far = ([], sym (after-nil c.args.machine.now)); same_end = refl; over = λ over. refl; no_worker = λ refused. absurd cc }
 
-pub returns-in_err-both-clause-no_worker : goal.returns-in_err-both-clause-no_worker
-returns-in_err-both-clause-no_worker g c refused =
-    let p = err_from_is_err_and c.from_residual-in_err-both.result c.from_residual-in_err-both.ensures.1 in
+pub returns-in_err-answer-clause-no_worker : goal.returns-in_err-answer-clause-no_worker
+returns-in_err-answer-clause-no_worker g c refused =
+    let p = err_from_is_err_and c.from_residual-in_err-answer.result c.from_residual-in_err-answer.ensures.1 in
     let same = LeadsTo-length c.args.machine.now c.loop-landings.machine c.loop-landings.invariant.so_far in
-    let worker = ap Err (worker_refused p.0 c.in_err-both.field-0.0 c.from_residual-in_err-both.result p.1 p.2 refused) in
-    elim (c.in_err-both.ensures.no_worker.0 worker) [
+    let worker : c.in_err-answer.field-0.0 ≡ NoWorker = cc (p.1, p.2, refused) in
+    let lacks = c.in_err-answer.ensures.no_worker.0 (ap Err worker) in
+    elim (one_of _ _ (sym c.and.ensures.thread ∙ lacks)) [
       | inl before ↦ c.loop-landings.invariant.no_worker before
       | inr now ↦ let wanted = c.make_local_parts-parts.ensures.no_worker now in (wanted.0, omega (arith, wanted.1, same))
     ]
 
-pub returns-in_err-both-clause-err : goal.returns-in_err-both-clause-err
-returns-in_err-both-clause-err g c =
-    let p = err_from_is_err_and c.from_residual-in_err-both.result c.from_residual-in_err-both.ensures.1 in
+pub returns-in_err-answer-clause-err : goal.returns-in_err-answer-clause-err
+returns-in_err-answer-clause-err g c =
+    let p = err_from_is_err_and c.from_residual-in_err-answer.result c.from_residual-in_err-answer.ensures.1 in
     rw p.1 (LeadsTo-on c.args.machine.now c.loop-landings.machine c.make_local_parts-parts.new.machine c.loop-landings.invariant.so_far c.make_local_parts-parts.ensures.stepped)
 
-pub returns-in_err-both-clause-going :
-    goal.returns-in_err-both-clause-going
-returns-in_err-both-clause-going g c within =
-    let p = err_from_is_err_and c.from_residual-in_err-both.result c.from_residual-in_err-both.ensures.1 in
+pub returns-in_err-answer-clause-going :
+    goal.returns-in_err-answer-clause-going
+returns-in_err-answer-clause-going g c within =
+    let p = err_from_is_err_and c.from_residual-in_err-answer.result c.from_residual-in_err-answer.ensures.1 in
     let open_yet = ap is_some (sym c.outcome.ensures.value) ∙ c.is_none.ensures ∙ ap not c.loop-landings-test.true in
     rw p.1 (LeadsWithoutTurn-outcome c.loop-landings.machine c.make_local_parts-parts.new.machine c.make_local_parts-parts.ensures.stepped ∙ none_from c.loop-landings.machine.outcome (λ x is. false≢true (sym open_yet ∙ ap is_some is)))
 
 pub loop-landings-smaller : goal.loop-landings-smaller
 loop-landings-smaller g c =
     let m = c.loop-landings.machine in
-    let phases : c.make_local_parts-parts.new.machine ≡ with_phases m = of_ok c.make_local_parts-parts.result (c.in_ok-both.ensures.ok.0 refl).1 c.make_local_parts-parts.ensures.ok in
+    let phases : c.make_local_parts-parts.new.machine ≡ with_phases m = c.make_local_parts-parts.ensures.ok (none_of _ _ (sym c.and.ensures.memory ∙ (c.in_ok-answer.ensures.ok.0 refl).1)).1 in
     let open_yet = ap is_some (sym c.outcome.ensures.value) ∙ c.is_none.ensures ∙ ap not c.loop-landings-test.true in
-    let turned : c.make_turn.new.machine ≡ event (with_phases m) Turn = c.in_ok-landings.ensures.ok ∙ ap (λ (x : MachineState). event x Turn) phases in
-    rows_left m c.outcome.ensures.sound open_yet c.make_turn.new.machine (superstep-made m c.outcome.ensures.sound open_yet c.make_turn.new.machine turned)
+    let turned : c.make_turn-turned.new.machine ≡ event (with_phases m) Turn = c.make_turn-turned.ensures.ok (is_so _ c.if-not-turned.false) ∙ ap (λ (x : MachineState). event x Turn) phases in
+    rows_left m c.outcome.ensures.sound open_yet c.make_turn-turned.new.machine (superstep-made m c.outcome.ensures.sound open_yet c.make_turn-turned.new.machine turned)
 
 pub loop-landings-preserved : goal.loop-landings-preserved
 loop-landings-preserved g c =
     let m = c.loop-landings.machine in
-    let phases : c.make_local_parts-parts.new.machine ≡ with_phases m = of_ok c.make_local_parts-parts.result (c.in_ok-both.ensures.ok.0 refl).1 c.make_local_parts-parts.ensures.ok in
+    let phases : c.make_local_parts-parts.new.machine ≡ with_phases m = c.make_local_parts-parts.ensures.ok (none_of _ _ (sym c.and.ensures.memory ∙ (c.in_ok-answer.ensures.ok.0 refl).1)).1 in
     let so_far = c.loop-landings.invariant in
     let sound = c.outcome.ensures.sound in
     let open_yet = ap is_some (sym c.outcome.ensures.value) ∙ c.is_none.ensures ∙ ap not c.loop-landings-test.true in
-    let turned : c.make_turn.new.machine ≡ event (with_phases m) Turn = c.in_ok-landings.ensures.ok ∙ ap (λ (x : MachineState). event x Turn) phases in
+    let turned : c.make_turn-turned.new.machine ≡ event (with_phases m) Turn = c.make_turn-turned.ensures.ok (is_so _ c.if-not-turned.false) ∙ ap (λ (x : MachineState). event x Turn) phases in
     let before = LeadsTo-on c.args.machine.now m c.make_local_parts-parts.new.machine so_far.so_far c.make_local_parts-parts.ensures.stepped in
     record {
-      so_far = LeadsTo-turn c.args.machine.now c.make_local_parts-parts.new.machine c.make_turn.new.machine before c.in_ok-landings.ensures.ok;
-      same_end = ap end_of (superstep-made m sound open_yet c.make_turn.new.machine turned) ∙ end_of-superstep m sound ∙ so_far.same_end;
+      so_far = LeadsTo-turn c.args.machine.now c.make_local_parts-parts.new.machine c.make_turn-turned.new.machine before (c.make_turn-turned.ensures.ok (is_so _ c.if-not-turned.false));
+      same_end = ap end_of (superstep-made m sound open_yet c.make_turn-turned.new.machine turned) ∙ end_of-superstep m sound ∙ so_far.same_end;
       over = λ over. absurd (false≢true (sym open_yet ∙ ap (λ (x : MachineState). is_some x.outcome) (so_far.over over) ∙ over));
       no_worker = λ refused.
-          let wanted = c.in_ok-landings.ensures.no_worker refused in
+          let wanted = c.make_turn-turned.ensures.no_worker refused in
           let same = LeadsTo-length c.args.machine.now c.make_local_parts-parts.new.machine before in
           (wanted.0, omega (arith, wanted.1, same));
     }
 
-pub returns-in_err-landings-clause-err : goal.returns-in_err-landings-clause-err
-returns-in_err-landings-clause-err g c =
-    let p = err_from_is_err_and c.from_residual-in_err-landings.result c.from_residual-in_err-landings.ensures.1 in
+pub returns-then-not-turned-clause-no_worker : goal.returns-then-not-turned-clause-no_worker
+returns-then-not-turned-clause-no_worker g c refused =
     let phases = LeadsTo-on c.args.machine.now c.loop-landings.machine c.make_local_parts-parts.new.machine c.loop-landings.invariant.so_far c.make_local_parts-parts.ensures.stepped in
-    rw p.1 (phases.0, c.in_err-landings.ensures.err ∙ phases.1)
+    let same = LeadsTo-length c.args.machine.now c.make_local_parts-parts.new.machine phases in
+    let wanted = c.make_turn-turned.ensures.no_worker (c.answer-then-not-turned.ensures.no_worker.0 refused) in
+    (wanted.0, omega (arith, wanted.1, same))
+
+pub returns-then-not-turned-clause-err : goal.returns-then-not-turned-clause-err
+returns-then-not-turned-clause-err g c =
+    let phases = LeadsTo-on c.args.machine.now c.loop-landings.machine c.make_local_parts-parts.new.machine c.loop-landings.invariant.so_far c.make_local_parts-parts.ensures.stepped in
+    let off = c.make_turn-turned.ensures.err (is_not _ c.if-not-turned.true) in
+    on_err_from c.answer-then-not-turned.result (phases.0, off.0 ∙ phases.1)
 
 pub returns-clause-ok : goal.returns-clause-ok
 returns-clause-ok g c =

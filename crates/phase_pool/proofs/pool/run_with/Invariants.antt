@@ -1,7 +1,6 @@
 use Rattle.std.proofs.Common.{◌≡◌, ◌+◌, ◌-◌, ◌<◌, length}
-use Rattle.std.specs.Prelude.{IsErrOf, IsSome}
+use Rattle.std.specs.Prelude.{IsTrue, IsSome}
 use Rattle.machine_core.specs.Turn.{end_of}
-use Rattle.phase_pool.specs.declared.error.Refusal.TheVariants.{NoWorker}
 use Rattle.phase_pool.specs.Phases.{LeadsTo}
 use Rattle.phase_pool.proofs.pool.run_with.Given as goal
 
@@ -10,7 +9,7 @@ invariant-loop-landings g l = record {
   so_far : LeadsTo l.initial.machine l.machine;
   same_end : end_of l.machine ≡ end_of l.initial.machine;
   over : IsSome l.initial.machine.outcome → l.machine ≡ l.initial.machine;
-  no_worker : IsErrOf l.landings NoWorker → (1 < l.team.workers) × (1 < length l.initial.machine.nodes);
+  no_worker : IsTrue l.landings.thread → (1 < l.team.workers) × (1 < length l.initial.machine.nodes);
 }
 
 abbrev pub decreases-loop-landings : goal.decreases-loop-landings

@@ -12,13 +12,13 @@ returns g c =
     let old = c.lend-lender.result.1 in
     let input = c.input.result.now in
     let row = states c.work_on-worked.result.nodes.items in
-    let answer = c.work_on-worked.result.answer in
+    let lacks_memory = c.work_on-worked.result.refused.memory in
     let lent = c.lend-lender.ensures in
     let work = c.work_on-worked.ensures.work in
     record {
-      ok = worked_phases m lender c.take_back.result input (states old.items) row answer lent.rest lent.row c.input.ensures c.take_back.ensures work c.settings-settings.ensures.sound;
-      stepped = worked_events m lender c.take_back.result input (states old.items) row answer lent.rest lent.row c.input.ensures c.take_back.ensures work;
-      come = worked_come m lender c.take_back.result input (states old.items) row answer lent.rest lent.row c.input.ensures c.take_back.ensures work;
+      ok = worked_phases m lender c.take_back.result input (states old.items) row lacks_memory lent.rest lent.row c.input.ensures c.take_back.ensures work c.settings-settings.ensures.sound;
+      stepped = worked_events m lender c.take_back.result input (states old.items) row lacks_memory lent.rest lent.row c.input.ensures c.take_back.ensures work;
+      come = worked_come m lender c.take_back.result input (states old.items) row lacks_memory lent.rest lent.row c.input.ensures c.take_back.ensures work;
       no_worker = λ refused.
           let nodes : length old.items ≡ length m.nodes = sym (length-map old.items (λ (p : PreparedNode). p.node)) ∙ ap (λ (ns : List NodeState). length ns) lent.row in
           let several = c.work_on-worked.ensures.no_worker refused in

@@ -1,5 +1,6 @@
 pub mod Answering
 pub mod Costs
 pub mod Errors
+pub mod Manners
 pub mod Scripts
 pub mod Talking

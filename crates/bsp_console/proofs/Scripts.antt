@@ -2,16 +2,17 @@
 use Rattle.std.proofs.Common.{not, ◌≡◌, ◌∙◌, ℕ, suc, ◌+◌, ◌-◌, ◌<◌, ◌≤◌, ◌⊎◌, inl, inr, Bool, true, false, cond, eqb, List, [], ◌∷◌, ◌++◌, length, take, drop, get_or, refl, sym, ap, subst, arith, append-nil, append_assoc, length-append, take-append-drop}
 use Rattle.std.proofs.lemmas.List.{drop_more}
 use Rattle.std.proofs.Math.Seq.{take-append-add}
-use Rattle.std.specs.List.{onto_first, take_while, prefix_len}
+use lib.Seq.{drop-append-add}
+use Rattle.std.specs.List.{filter, onto_first, take_while, prefix_len}
 use Rattle.std.proofs.lemmas.Bool.{ne_eqb}
-use Rattle.cost_ledger.specs.declared.LedgerText.{LedgerText}
 use Rattle.counted_io.specs.Counted.{HasRisen}
 use Rattle.counted_io.specs.Lines.{LacksFeed}
 use Rattle.bsp_debug.specs.Debugger.{DebuggerState}
 use Rattle.debug_lines.specs.declared.line.Line.{Line}
-use Rattle.debug_lines.specs.declared.line.Line.TheVariants.{Break, Clear, Command, Output, Quit, Empty, Unknown}
+use Rattle.debug_lines.specs.declared.line.Line.TheVariants.{Break, Clear, Command, Output, Nodes, Place, Places, OutputFrom, CostsFrom, Quit, Empty, Unknown}
 use Rattle.debug_lines.specs.Lines.{line_of}
-use Rattle.bsp_console.specs.Talk.{Answered, LacksQuit, Talks, is_quit, lines_of, goes_on, until_quit}
+use Rattle.debug_lines.specs.Words.{has_bytes}
+use Rattle.bsp_console.specs.Talk.{LacksQuit, Says, Talks, given_lines, is_quit, lines_of, goes_on, until_quit}
 
 LacksFeed-rest : (b : ℕ) (bs : List ℕ) → LacksFeed (b ∷ bs) → LacksFeed bs
 LacksFeed-rest b bs lacks = λ k d within. lacks (suc k) d (omega arith)
@@ -77,6 +78,11 @@ is_quit-other (Break p) other = refl
 is_quit-other (Clear p) other = refl
 is_quit-other (Command c) other = refl
 is_quit-other Output other = refl
+is_quit-other Nodes other = refl
+is_quit-other (Place rank) other = refl
+is_quit-other Places other = refl
+is_quit-other (OutputFrom from) other = refl
+is_quit-other (CostsFrom from) other = refl
 is_quit-other Empty other = refl
 is_quit-other Unknown other = refl
 
@@ -99,6 +105,11 @@ is_quit-true (Break p) is = absurd cc
 is_quit-true (Clear p) is = absurd cc
 is_quit-true (Command c) is = absurd cc
 is_quit-true Output is = absurd cc
+is_quit-true Nodes is = absurd cc
+is_quit-true (Place rank) is = absurd cc
+is_quit-true Places is = absurd cc
+is_quit-true (OutputFrom from) is = absurd cc
+is_quit-true (CostsFrom from) is = absurd cc
 is_quit-true Empty is = absurd cc
 is_quit-true Unknown is = absurd cc
 
@@ -115,14 +126,64 @@ init-append lines more some =
     let size : length (lines ++ more) - 1 ≡ length lines + (length more - 1) = omega (arith, length-append lines more) in
     ap (λ n. take n (lines ++ more)) size ∙ take-append-add lines more (length more - 1)
 
+-- ---- the lines of a script as they are given one by one
+
+-- those of all its lines
+abbrev pub given_of : List (List ℕ) → List (List ℕ)
+given_of lines = take (length lines - 1) lines ++ filter has_bytes (drop (length lines - 1) lines)
+
+-- lines of which the last are known
+pub given-append : (lines more : List (List ℕ)) → 0 < length more → given_of (lines ++ more) ≡ lines ++ given_of more
+given-append lines more some =
+    let size : length (lines ++ more) - 1 ≡ length lines + (length more - 1) = omega (arith, length-append lines more) in
+    let behind : drop (length (lines ++ more) - 1) (lines ++ more) ≡ drop (length more - 1) more =
+    ap (λ n. drop n (lines ++ more)) size ∙ drop-append-add lines more (length more - 1) in
+    ap (λ ls. ls ++ filter has_bytes (drop (length (lines ++ more) - 1) (lines ++ more))) (init-append lines more some)
+    ∙ ap (λ ls. (lines ++ take (length more - 1) more) ++ filter has_bytes ls) behind
+    ∙ append_assoc lines (take (length more - 1) more) (filter has_bytes (drop (length more - 1) more))
+
+-- a last line of some bytes
+pub given-last : (line : List ℕ) → 0 < length line → given_of (line ∷ []) ≡ line ∷ []
+given-last [] some = absurd (omega arith)
+given-last (b ∷ bs) some =
+    let is : has_bytes (b ∷ bs) ≡ true = grind arith in
+    rw is refl
+
+-- a line of some bytes, and others behind it
+pub given-first : (line : List ℕ) (more : List (List ℕ)) → 0 < length line → (others : List (List ℕ)) × (given_of (line ∷ more) ≡ line ∷ others)
+given-first line [] some = ([], given-last line some)
+given-first line (next ∷ more) some = (given_of (next ∷ more), given-append (line ∷ []) (next ∷ more) (omega arith))
+
+-- all lines of a script were given, and behind them stands nothing
+pub given-cut : (script : List ℕ) (asked : List (List ℕ)) → lines_of script ≡ asked ++ [] ∷ [] → given_lines script ≡ asked
+given-cut script asked is = ap given_of is ∙ given-append asked ([] ∷ []) (omega arith) ∙ append-nil asked
+
+-- and the last of them has bytes
+pub given-all : (script : List ℕ) (asked : List (List ℕ)) (line : List ℕ) → 0 < length line → lines_of script ≡ asked ++ line ∷ [] → given_lines script ≡ asked ++ line ∷ []
+given-all script asked line some is = ap given_of is ∙ given-append asked (line ∷ []) (omega arith) ∙ ap (λ ls. asked ++ ls) (given-last line some)
+
+-- a line of some bytes is given, and others behind it
+pub given-on : (script : List ℕ) (asked more : List (List ℕ)) (line : List ℕ) → 0 < length line → lines_of script ≡ asked ++ line ∷ more
+    → (others : List (List ℕ)) × (given_lines script ≡ asked ++ line ∷ others)
+given-on script asked more line some is =
+    let first = given-first line more some in
+    (first.0, ap given_of is ∙ given-append asked (line ∷ more) (omega arith) ∙ ap (λ ls. asked ++ ls) first.1)
+
+-- `quit` has bytes
+pub quit-some : (line : List ℕ) → line_of line ≡ Quit → 0 < length line
+quit-some [] quits = absurd (empty (sym line_of-nil ∙ quits)) where
+  empty : Empty ≡ Quit → ⊥
+  empty e = cc
+quit-some (b ∷ bs) quits = omega arith
+
 -- one more line is answered
-pub Talks-push : (version : LedgerText) (g l : ℕ) (lines : List (List ℕ)) (line : List ℕ) (start d next : DebuggerState) (text first : List ℕ)
-    → Talks version g l lines start text d → Answered version g l (line_of line) d first next → Talks version g l (lines ++ line ∷ []) start (text ++ first) next
-Talks-push version g l [] line start d next text first talks answered =
-    (first, [], next, subst (λ s. Answered version g l (line_of line) s first next) talks.1 answered, (refl, refl), ap (λ t. t ++ first) talks.0 ∙ sym (append-nil first))
-Talks-push version g l (line' ∷ lines) line start d next text first talks answered =
+pub Talks-push : (says : Says) (lines : List (List ℕ)) (line : List ℕ) (start d next : DebuggerState) (text first : List ℕ)
+    → Talks says lines start text d → says line d first next → Talks says (lines ++ line ∷ []) start (text ++ first) next
+Talks-push says [] line start d next text first talks answered =
+    (first, [], next, subst (λ s. says line s first next) talks.1 answered, (refl, refl), ap (λ t. t ++ first) talks.0 ∙ sym (append-nil first))
+Talks-push says (line' ∷ lines) line start d next text first talks answered =
     let (one, rest, then, was, more, is) = talks in
-    (one, rest ++ first, then, was, Talks-push version g l lines line then d next rest first more answered, ap (λ t. t ++ first) is ∙ append_assoc one rest first)
+    (one, rest ++ first, then, was, Talks-push says lines line then d next rest first more answered, ap (λ t. t ++ first) is ∙ append_assoc one rest first)
 
 -- a count that has risen, above one that is no greater
 pub HasRisen-above : (a b c : ℕ) → a ≤ b → HasRisen b c → HasRisen a c

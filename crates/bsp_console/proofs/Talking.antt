@@ -3,24 +3,21 @@ use Rattle.std.proofs.Common.{◌≡◌, ℕ, ◌+◌, ◌-◌, ◌<◌, ◌≤�
 use Rattle.std.proofs.lemmas.List.{take-append-le, take_at, length-take-le, get_or_at, get_or-take}
 use Rattle.std.specs.Io.KnownBytes.{Appends, Consumes, IsAtEnd}
 use Rattle.std.proofs.KnownBytes.{Appends-trans, Appends-nil, Consumes-nil, Consumes-trans}
-use Rattle.std.specs.List.{take_while}
-use Rattle.cost_ledger.specs.declared.LedgerText.{LedgerText}
 use Rattle.counted_io.specs.Counted.{HasRisen}
 use Rattle.counted_io.specs.declared.ReadError.{ReadError}
 use Rattle.counted_io.specs.declared.ReadError.TheVariants as read
 use Rattle.counted_io.specs.Lines.{LineReaderState, GivesLine, GivesLast, GivesNone, LacksFeed, ReadsOn, IsOver, PassesLimit}
 use Rattle.bsp_session.specs.Outcome.{error_of_read}
 use Rattle.bsp_debug.specs.Debugger.{DebuggerState}
-use Rattle.debug_lines.specs.declared.line.Line.{Line}
 use Rattle.debug_lines.specs.declared.line.Line.TheVariants.{Quit}
 use Rattle.debug_lines.specs.Lines.{line_of}
 use Rattle.bsp_session.specs.declared.errors.SessionError.{SessionError}
 use Rattle.bsp_session.specs.declared.errors.SessionError.TheVariants.{WriteFault, NoMemory}
 use Rattle.bsp_session.specs.Streams.{Stream}
-use Rattle.bsp_console.specs.Talk.{Answered, Talks, lines_of, goes_on, answered_lines, until_quit, HasQuit}
+use Rattle.bsp_console.specs.Talk.{Says, Talks, answered_one_by_one, given_lines, lines_of, until_quit, HasQuit}
 use Rattle.bsp_console.specs.Console.{most_script, WritesReplies}
 use Rattle.bsp_console.specs.Dialogue.{AreWholeLines, EndsAtLine, HasTalked, IsErrorOfTalk, IsUnreadable, PassesScript, ReadsLines}
-use Rattle.bsp_console.proofs.Scripts.{AllGoOn, AllGoOn-push, LacksQuit-all, Talks-push, HasRisen-above, init-append, lines_of-line, lines_of-last, take_while-through, take_while-quit, length-lines_of, line_of-nil, quit-ends, other-goes_on}
+use Rattle.bsp_console.proofs.Scripts.{AllGoOn, AllGoOn-push, LacksQuit-all, Talks-push, HasRisen-above, given-all, given-cut, given-on, init-append, lines_of-line, lines_of-last, take_while-through, take_while-quit, length-lines_of, quit-ends, quit-some, other-goes_on}
 
 -- the bytes that were given are lines of the script, whatever comes behind them
 abbrev pub HasCutOff : List (List ℕ) → LineReaderState → Type 0
@@ -30,13 +27,13 @@ HasCutOff asked lines = (rest : List ℕ) → lines_of (take lines.given lines.r
 pub record HasCutAll (asked : List (List ℕ)) (lines : LineReaderState) : Type 0 where
   pub ended : lines.ended ≡ true
   pub all : lines.given ≡ length lines.read
-  pub is : lines_of lines.read ≡ asked
+  pub is : given_lines lines.read ≡ asked
 
-pub record IsTalking (version : LedgerText) (g l : ℕ) (start : DebuggerState) (rest_before rest_after out_before out_after : Option (List ℕ))
+pub record IsTalking (says : Says) (start : DebuggerState) (rest_before rest_after out_before out_after : Option (List ℕ))
     (lines : LineReaderState) (now : DebuggerState) : Type 0 where
   pub asked : List (List ℕ)
   pub text : List ℕ
-  pub talks : Talks version g l asked start text now
+  pub talks : Talks says asked start text now
   pub go_on : AllGoOn asked
   pub written : Appends out_before out_after text
   pub consumed : Consumes rest_before rest_after lines.read
@@ -47,9 +44,9 @@ pub record IsTalking (version : LedgerText) (g l : ℕ) (start : DebuggerState) 
   pub cut : HasCutOff asked lines ⊎ HasCutAll asked lines
 
 -- at first nothing was read
-pub is_talking-first : (version : LedgerText) (g l : ℕ) (start : DebuggerState) (rest out : Option (List ℕ))
-    → IsTalking version g l start rest rest out out (record { read = []; given = 0; line = []; most = most_script; ended = false }) start
-is_talking-first version g l start rest out = record {
+pub is_talking-first : (says : Says) (start : DebuggerState) (rest out : Option (List ℕ))
+    → IsTalking says start rest rest out out (record { read = []; given = 0; line = []; most = most_script; ended = false }) start
+is_talking-first says start rest out = record {
   asked = [];
   text = [];
   talks = (refl, refl);
@@ -97,8 +94,8 @@ pub HasCutAll-last : (asked : List (List ℕ)) (old new : LineReaderState) (byte
 HasCutAll-last asked old new bytes grown within cut gives ended = record {
   ended = ended;
   all = gives.given;
-  is = lines_of-waiting asked old new bytes grown within cut ∙ ap (λ t. asked ++ lines_of t) (sym gives.last)
-      ∙ ap (λ t. asked ++ t) (lines_of-last new.line gives.one_line);
+  is = given-all new.read asked new.line gives.some (lines_of-waiting asked old new bytes grown within cut ∙ ap (λ t. asked ++ lines_of t) (sym gives.last)
+      ∙ ap (λ t. asked ++ t) (lines_of-last new.line gives.one_line));
 }
 
 -- ---- between two lines
@@ -132,38 +129,31 @@ lines_of-given asked old new bytes P grown within cut (inr last) = (
 -- ---- the ends of a session
 
 -- nothing more is given: all lines were answered
-pub talked-end : (version : LedgerText) (g l : ℕ) (start d : DebuggerState) (script out : Stream) (mid : Option (List ℕ)) (old new : LineReaderState)
-    → IsTalking version g l start script.before mid out.before out.after old d → ReadsOn mid script.after old.read new.read → GivesNone old new → IsOver script.after old new
-    → (old.ended ≡ true → (new.read ≡ old.read) × (script.after ≡ mid)) → length new.read ≤ most_script → HasTalked version g l script out start
-talked-end version g l start d script out mid old new t (bytes, consumed, grown) none over still few = record {
+pub talked-end : (says : Says) (start d : DebuggerState) (script out : Stream) (mid : Option (List ℕ)) (old new : LineReaderState)
+    → IsTalking says start script.before mid out.before out.after old d → ReadsOn mid script.after old.read new.read → GivesNone old new → IsOver script.after old new
+    → (old.ended ≡ true → (new.read ≡ old.read) × (script.after ≡ mid)) → length new.read ≤ most_script → HasTalked says script out start
+talked-end says start d script out mid old new t (bytes, consumed, grown) none over still few = record {
   bytes = new.read;
   limited = few;
   consumed = subst (Consumes script.before script.after) (sym grown) (Consumes-trans _ _ _ old.read bytes t.consumed consumed);
   whole = inl (at_end over.at_end);
   written = record {
-    text = t.text ++ [];
+    text = t.text;
     now = d;
-    talks = all_lines t.cut;
-    written = subst (Appends out.before out.after) (sym (append-nil t.text)) t.written;
+    talks = subst (λ ls. Talks says ls start t.text d) (sym answered) t.talks;
+    written = t.written;
   };
 } where
   at_end : (old.ended ≡ true) ⊎ IsAtEnd script.after → IsAtEnd script.after
   at_end (inl ended) = subst IsAtEnd (sym (still ended).1) (t.over ended)
   at_end (inr is) = is
 
-  nothing : answered_lines [] ≡ [] ∷ []
-  nothing = take_while-through ([] ∷ []) [] (other-goes_on [] (λ e. cc (line_of-nil)), tt)
+  given : HasCutOff t.asked old ⊎ HasCutAll t.asked old → given_lines new.read ≡ t.asked
+  given (inl cut) = given-cut new.read t.asked (lines_of-waiting t.asked old new bytes grown t.within cut ∙ ap (λ r. t.asked ++ lines_of r) none.none)
+  given (inr all) = ap given_lines (still all.ended).0 ∙ all.is
 
-  all_lines : HasCutOff t.asked old ⊎ HasCutAll t.asked old → Talks version g l (answered_lines new.read) start (t.text ++ []) d
-  all_lines (inl cut) =
-      let is : lines_of new.read ≡ t.asked ++ lines_of [] = lines_of-waiting t.asked old new bytes grown t.within cut ∙ ap (λ r. t.asked ++ lines_of r) none.none in
-      let answered : answered_lines new.read ≡ t.asked ++ [] ∷ [] = ap (take_while goes_on) is ∙ take_while-through t.asked (lines_of []) t.go_on ∙ ap (λ r. t.asked ++ r) nothing in
-      subst (λ ls. Talks version g l ls start (t.text ++ []) d) (sym answered)
-      (Talks-push version g l t.asked [] start d d t.text [] t.talks (subst (λ line. Answered version g l line d [] d) (sym line_of-nil) (refl, refl)))
-  all_lines (inr all) =
-      let is : lines_of new.read ≡ t.asked ++ [] = ap lines_of (still all.ended).0 ∙ all.is ∙ sym (append-nil t.asked) in
-      let answered : answered_lines new.read ≡ t.asked = ap (take_while goes_on) is ∙ take_while-through t.asked [] t.go_on ∙ append-nil t.asked in
-      subst (λ ls. Talks version g l ls start (t.text ++ []) d) (sym answered) (subst (λ text. Talks version g l t.asked start text d) (sym (append-nil t.text)) t.talks)
+  answered : answered_one_by_one new.read ≡ t.asked
+  answered = ap until_quit (given t.cut) ∙ LacksQuit-all t.asked t.go_on
 
 -- a script with a line among its whole ones
 has_quit : (script : List ℕ) (asked more : List (List ℕ)) (line : List ℕ) → lines_of script ≡ asked ++ line ∷ more → 0 < length more → line_of line ≡ Quit → HasQuit script
@@ -178,11 +168,11 @@ has_quit script asked more line is some quits =
     )
 
 -- a line `quit` is given
-pub talked-quit : (version : LedgerText) (g l : ℕ) (start d : DebuggerState) (script out : Stream) (mid : Option (List ℕ)) (old new : LineReaderState)
-    → IsTalking version g l start script.before mid out.before out.after old d → ReadsOn mid script.after old.read new.read
+pub talked-quit : (says : Says) (start d : DebuggerState) (script out : Stream) (mid : Option (List ℕ)) (old new : LineReaderState)
+    → IsTalking says start script.before mid out.before out.after old d → ReadsOn mid script.after old.read new.read
     → GivesLine old new ⊎ (GivesLast old new × IsOver script.after old new)
-    → (old.ended ≡ true → (new.read ≡ old.read) × (script.after ≡ mid)) → length new.read ≤ most_script → line_of new.line ≡ Quit → HasTalked version g l script out start
-talked-quit version g l start d script out mid old new t (bytes, consumed, grown) gives still few quits = record {
+    → (old.ended ≡ true → (new.read ≡ old.read) × (script.after ≡ mid)) → length new.read ≤ most_script → line_of new.line ≡ Quit → HasTalked says script out start
+talked-quit says start d script out mid old new t (bytes, consumed, grown) gives still few quits = record {
   bytes = new.read;
   limited = few;
   consumed = subst (Consumes script.before script.after) (sym grown) (Consumes-trans _ _ _ old.read bytes t.consumed consumed);
@@ -190,7 +180,7 @@ talked-quit version g l start d script out mid old new t (bytes, consumed, grown
   written = record {
     text = t.text;
     now = d;
-    talks = subst (λ ls. Talks version g l ls start t.text d) (sym answered) t.talks;
+    talks = subst (λ ls. Talks says ls start t.text d) (sym answered) t.talks;
     written = t.written;
   };
 } where
@@ -200,10 +190,13 @@ talked-quit version g l start d script out mid old new t (bytes, consumed, grown
   given : (more : List (List ℕ)) × (lines_of new.read ≡ t.asked ++ new.line ∷ more)
   given = lines_of-given t.asked old new bytes (IsOver script.after old new) grown t.within cut gives
 
-  answered : answered_lines new.read ≡ t.asked
+  on : (others : List (List ℕ)) × (given_lines new.read ≡ t.asked ++ new.line ∷ others)
+  on = given-on new.read t.asked given.0 new.line (quit-some new.line quits) given.1
+
+  answered : answered_one_by_one new.read ≡ t.asked
   answered =
-      ap (take_while goes_on) given.1 ∙ take_while-through t.asked (new.line ∷ given.0) t.go_on
-      ∙ ap (λ r. t.asked ++ r) (take_while-quit new.line given.0 (quit-ends new.line quits)) ∙ append-nil t.asked
+      ap until_quit on.1 ∙ take_while-through t.asked (new.line ∷ on.0) t.go_on
+      ∙ ap (λ r. t.asked ++ r) (take_while-quit new.line on.0 (quit-ends new.line quits)) ∙ append-nil t.asked
 
   at_end : (old.ended ≡ true) ⊎ IsAtEnd script.after → IsAtEnd script.after
   at_end (inl ended) = subst IsAtEnd (sym (still ended).1) (t.over ended)
@@ -218,15 +211,15 @@ talked-quit version g l start d script out mid old new t (bytes, consumed, grown
 
 -- ---- one line more
 
-pub talking-step : (version : LedgerText) (g l : ℕ) (start d next : DebuggerState) (rb ra rn ob oa on : Option (List ℕ)) (old new : LineReaderState) (first : List ℕ)
-    → IsTalking version g l start rb ra ob oa old d → ReadsOn ra rn old.read new.read → GivesLine old new ⊎ (GivesLast old new × IsOver rn old new)
+pub talking-step : (says : Says) (start d next : DebuggerState) (rb ra rn ob oa on : Option (List ℕ)) (old new : LineReaderState) (first : List ℕ)
+    → IsTalking says start rb ra ob oa old d → ReadsOn ra rn old.read new.read → GivesLine old new ⊎ (GivesLast old new × IsOver rn old new)
     → (old.ended ≡ true → (new.read ≡ old.read) × (rn ≡ ra)) → (new.ended ≡ true → (old.ended ≡ true) ⊎ IsAtEnd rn)
     → new.most ≡ old.most → length new.read ≤ new.most → new.given ≤ length new.read → (line_of new.line ≡ Quit → ⊥)
-    → Answered version g l (line_of new.line) d first next → Appends oa on first → IsTalking version g l start rb rn ob on new next
-talking-step version g l start d next rb ra rn ob oa on old new first t (bytes, consumed, grown) gives still ends most limit within other answered appended = record {
+    → says new.line d first next → Appends oa on first → IsTalking says start rb rn ob on new next
+talking-step says start d next rb ra rn ob oa on old new first t (bytes, consumed, grown) gives still ends most limit within other answered appended = record {
   asked = t.asked ++ new.line ∷ [];
   text = t.text ++ first;
-  talks = Talks-push version g l t.asked new.line start d next t.text first t.talks answered;
+  talks = Talks-push says t.asked new.line start d next t.text first t.talks answered;
   go_on = AllGoOn-push t.asked new.line t.go_on (other-goes_on new.line other);
   written = Appends-trans ob oa on t.text first t.written appended;
   consumed = subst (Consumes rb rn) (sym grown) (Consumes-trans _ _ _ old.read bytes t.consumed consumed);
@@ -250,9 +243,9 @@ talking-step version g l start d next rb ra rn ob oa on old new first t (bytes, 
 -- ---- errors
 
 -- what stands written between two lines
-replies : (version : LedgerText) (g l : ℕ) (start d : DebuggerState) (rb ra : Option (List ℕ)) (out : Stream) (lines : LineReaderState)
-    → (t : IsTalking version g l start rb ra out.before out.after lines d) → WritesReplies version g l t.asked start out
-replies version g l start d rb ra out lines t = record { text = t.text; now = d; talks = t.talks; written = t.written }
+replies : (says : Says) (start d : DebuggerState) (rb ra : Option (List ℕ)) (out : Stream) (lines : LineReaderState)
+    → (t : IsTalking says start rb ra out.before out.after lines d) → WritesReplies says t.asked start out
+replies says start d rb ra out lines t = record { text = t.text; now = d; talks = t.talks; written = t.written }
 
 -- the lines that were given are all whole ones, where no line feed is left
 whole_at_error : (asked : List (List ℕ)) (old new : LineReaderState) (bytes : List ℕ) (rest : Option (List ℕ))
@@ -265,7 +258,7 @@ whole_at_error asked old new bytes rest (inl cut) grown within given lacks still
     inl (sym (ap (λ ls. take (length ls - 1) ls) is ∙ init-append asked (left ∷ []) (omega arith) ∙ append-nil asked))
 whole_at_error asked old new bytes rest (inr all) grown within given lacks still =
     let over = still all.ended in
-    inr (over.1, sym (ap lines_of over.0 ∙ all.is))
+    inr (over.1, sym (ap given_lines over.0 ∙ all.is))
 
 -- a reader before it lost its last byte of some
 abbrev before_byte : Option (List ℕ) → Option (List ℕ) → ℕ → Option (List ℕ)
@@ -300,14 +293,14 @@ passes before mid after old new consumed over =
     (old ++ (bytes ++ byte ∷ []), omega (arith, size, over.full), Consumes-trans before mid after old (bytes ++ byte ∷ []) consumed lost)
 
 -- the next line could not be read
-pub talk-error : (version : LedgerText) (g l : ℕ) (start d : DebuggerState) (script out : Stream) (mid : Option (List ℕ)) (old new : LineReaderState) (failures : ℕ) (r : ReadError)
-    → IsTalking version g l start script.before mid out.before out.after old d → (old.ended ≡ true → (new.read ≡ old.read) × (script.after ≡ mid))
+pub talk-error : (says : Says) (start d : DebuggerState) (script out : Stream) (mid : Option (List ℕ)) (old new : LineReaderState) (failures : ℕ) (r : ReadError)
+    → IsTalking says start script.before mid out.before out.after old d → (old.ended ≡ true → (new.read ≡ old.read) × (script.after ≡ mid))
     → length new.read ≤ most_script → new.given ≡ old.given → LacksFeed (drop new.given new.read) → script.failures_before ≤ failures
     → (r ≡ read.TooLong → PassesLimit mid script.after old.read new.read old.most)
     → (r ≡ read.ReadFault → HasRisen failures script.failures_after × ReadsOn mid script.after old.read new.read)
     → (r ≡ read.NoMemory → ReadsOn mid script.after old.read new.read)
-    → IsErrorOfTalk version g l script out start (error_of_read r)
-talk-error version g l start d script out mid old new failures r t still few given lacks before long fault memory = cases r long fault memory where
+    → IsErrorOfTalk says script out start (error_of_read r)
+talk-error says start d script out mid old new failures r t still few given lacks before long fault memory = cases r long fault memory where
   read_lines : ReadsOn mid script.after old.read new.read → ReadsLines script.before script.after t.asked
   read_lines (bytes, consumed, grown) = record {
     bytes = new.read;
@@ -337,12 +330,12 @@ talk-error version g l start d script out mid old new failures r t still few giv
             (subst (PassesLimit mid script.after old.read new.read) t.most over);
       }
 
-  ends : (cause : Stream → List (List ℕ) → Type 0) → cause script t.asked → EndsAtLine version g l cause script out start
-  ends cause why = record { lines = t.asked; cause = why; no_quit = LacksQuit-all t.asked t.go_on; written = replies version g l start d script.before mid out old t }
+  ends : (cause : Stream → List (List ℕ) → Type 0) → cause script t.asked → EndsAtLine says cause script out start
+  ends cause why = record { lines = t.asked; cause = why; no_quit = LacksQuit-all t.asked t.go_on; written = replies says start d script.before mid out old t }
 
   cases : (r : ReadError) → (r ≡ read.TooLong → PassesLimit mid script.after old.read new.read old.most)
       → (r ≡ read.ReadFault → HasRisen failures script.failures_after × ReadsOn mid script.after old.read new.read)
-      → (r ≡ read.NoMemory → ReadsOn mid script.after old.read new.read) → IsErrorOfTalk version g l script out start (error_of_read r)
+      → (r ≡ read.NoMemory → ReadsOn mid script.after old.read new.read) → IsErrorOfTalk says script out start (error_of_read r)
   cases read.TooLong long fault memory = ends PassesScript (too_long (long refl))
   cases read.ReadFault long fault memory =
       let failed = fault refl in
@@ -367,8 +360,8 @@ lines_with asked old new mid after bytes grown within cut (inr last) still = (
   [],
   inr (
     at_end last.1.at_end,
-    sym (lines_of-waiting asked old new bytes grown within cut ∙ ap (λ ls. asked ++ lines_of ls) (sym last.0.last)
-        ∙ ap (λ ls. asked ++ ls) (lines_of-last new.line last.0.one_line)),
+    sym (given-all new.read asked new.line last.0.some (lines_of-waiting asked old new bytes grown within cut ∙ ap (λ ls. asked ++ lines_of ls) (sym last.0.last)
+        ∙ ap (λ ls. asked ++ ls) (lines_of-last new.line last.0.one_line))),
   ),
 ) where
   at_end : (old.ended ≡ true) ⊎ IsAtEnd after → IsAtEnd after
@@ -376,15 +369,15 @@ lines_with asked old new mid after bytes grown within cut (inr last) still = (
   at_end (inr is) = is
 
 -- a line was not answered: memory was refused, and nothing more was written, or its answer could not be written whole, or not be flushed
-pub talk-stops : (version : LedgerText) (g l : ℕ) (start d next : DebuggerState) (script out : Stream) (mid held : Option (List ℕ)) (old new : LineReaderState) (line : Line) (failures : ℕ) (e : SessionError)
-    → IsTalking version g l start script.before mid out.before held old d → ReadsOn mid script.after old.read new.read
+pub talk-stops : (says : Says) (start d next : DebuggerState) (script out : Stream) (mid held : Option (List ℕ)) (old new : LineReaderState) (failures : ℕ) (e : SessionError) (asks : List ℕ → Type 0)
+    → ((reply : List ℕ) → asks reply → says new.line d reply next) → IsTalking says start script.before mid out.before held old d → ReadsOn mid script.after old.read new.read
     → GivesLine old new ⊎ (GivesLast old new × IsOver script.after old new) → (old.ended ≡ true → (new.read ≡ old.read) × (script.after ≡ mid))
-    → length new.read ≤ most_script → line ≡ line_of new.line → (line_of new.line ≡ Quit → ⊥) → out.failures_before ≤ failures
+    → length new.read ≤ most_script → (line_of new.line ≡ Quit → ⊥) → out.failures_before ≤ failures
     → ((e ≡ NoMemory) × (out.after ≡ held))
     ⊎ ((e ≡ WriteFault) × HasRisen failures out.failures_after
-    × (text : List ℕ) × (count : ℕ) × (count ≤ length text) × Answered version g l line d text next × Appends held out.after (take count text))
-    → IsErrorOfTalk version g l script out start e
-talk-stops version g l start d next script out mid held old new line failures e t (bytes, consumed, grown) gives still few is other before why = cases why where
+    × (text : List ℕ) × (count : ℕ) × (count ≤ length text) × asks text × Appends held out.after (take count text))
+    → IsErrorOfTalk says script out start e
+talk-stops says start d next script out mid held old new failures e asks told t (bytes, consumed, grown) gives still few other before why = cases why where
   cut : HasCutOff t.asked old
   cut = cut-before t.asked old new t.cut (λ ended. (still ended).0) (some-waiting old new (IsOver script.after old new) gives)
 
@@ -412,7 +405,7 @@ talk-stops version g l start d next script out mid held old new line failures e 
 
   cases : ((e ≡ NoMemory) × (out.after ≡ held))
       ⊎ ((e ≡ WriteFault) × HasRisen failures out.failures_after
-      × (text : List ℕ) × (count : ℕ) × (count ≤ length text) × Answered version g l line d text next × Appends held out.after (take count text)) → IsErrorOfTalk version g l script out start e
+      × (text : List ℕ) × (count : ℕ) × (count ≤ length text) × asks text × Appends held out.after (take count text)) → IsErrorOfTalk says script out start e
   cases (inl (cause, unwritten)) = rw cause (inr (record {
     lines = lines;
     read = read_lines;
@@ -437,7 +430,7 @@ talk-stops version g l start d next script out mid held old new line failures e 
       talks = t.talks;
       reply = text;
       after = next;
-      answered = subst (λ asked. Answered version g l asked d text next) is answered;
+      answered = told text answered;
       count = count;
       within = within;
       written = Appends-trans out.before held out.after t.text (take count text) t.written appended;

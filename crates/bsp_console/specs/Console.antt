@@ -1,20 +1,18 @@
--- What the two sessions with the debugger share: what they read and write, the debugger with which the lines begin, and the replies that
+-- What the sessions with the debugger share: what they read and write, the debugger with which the lines begin, and the replies that
 -- stand written. All over the bytes of readers and of a writer, where they are known.
 use Rattle.std.specs.Prelude.{◌≡◌, ℕ, ◌^◌, ◌≤◌, List, [], ◌∷◌, ◌++◌, length, take, Option, option_map}
 use Rattle.std.specs.Io.KnownBytes.{Appends}
-use Rattle.cost_ledger.specs.declared.LedgerText.{LedgerText}
 use Rattle.node_memory.specs.Image.{Image}
 use Rattle.machine_core.specs.declared.settings.Settings.{Settings}
 use Rattle.machine_core.specs.Machine.{fresh, settings_fault}
 use Rattle.bsp_debug.specs.Debugger.{DebuggerState}
-use Rattle.debug_lines.specs.Lines.{line_of}
 use Rattle.bsp_session.specs.declared.errors.SessionError.{SessionError}
 use Rattle.bsp_session.specs.declared.errors.SessionError.TheVariants.{Text, BadImage, SegmentOutside}
 use Rattle.bsp_session.specs.declared.job.Job.{Job}
 use Rattle.bsp_session.specs.Outcome.{error_of_machine}
 use Rattle.bsp_session.specs.Streams.{Stream, IsUntouched, HasFailed}
 use Rattle.bsp_session.specs.Session.{HasImage, IsErrorOfFiles, IsErrorOfImage, ReadsFiles}
-use Rattle.bsp_console.specs.Talk.{Answered, Talks}
+use Rattle.bsp_console.specs.Talk.{Says, Talks}
 
 -- what a session reads, what it writes to, and what it is asked. The bytes of the writer are those that it holds
 pub record Console : Type 0 where
@@ -84,32 +82,32 @@ pub record HasNoDebugger (c : Console) (e : SessionError) : Type 0 where
 -- ---- replies
 
 -- the replies to these lines were written, and nothing else. The debugger begins as `start`
-pub record WritesReplies (version : LedgerText) (g l : ℕ) (lines : List (List ℕ)) (start : DebuggerState) (out : Stream) : Type 0 where
+pub record WritesReplies (says : Says) (lines : List (List ℕ)) (start : DebuggerState) (out : Stream) : Type 0 where
   pub text : List ℕ
   pub now : DebuggerState
-  pub talks : Talks version g l lines start text now
+  pub talks : Talks says lines start text now
   pub written : Appends out.before out.after text
 
 -- the replies to some first ones of these lines were written, whole, and nothing of the reply to the next one
-pub record StopsBefore (version : LedgerText) (g l : ℕ) (lines : List (List ℕ)) (start : DebuggerState) (out : Stream) : Type 0 where
+pub record StopsBefore (says : Says) (lines : List (List ℕ)) (start : DebuggerState) (out : Stream) : Type 0 where
   pub done : List (List ℕ)
   pub next : List ℕ
   pub rest : List (List ℕ)
   pub are : lines ≡ done ++ next ∷ rest
-  pub written : WritesReplies version g l done start out
+  pub written : WritesReplies says done start out
 
 -- the writer failed: the replies to the first lines `done` were written whole, and of the reply to `next` the first `count` bytes
-pub record CutsReply (version : LedgerText) (g l : ℕ) (lines : List (List ℕ)) (start : DebuggerState) (out : Stream) : Type 0 where
+pub record CutsReply (says : Says) (lines : List (List ℕ)) (start : DebuggerState) (out : Stream) : Type 0 where
   pub done : List (List ℕ)
   pub next : List ℕ
   pub rest : List (List ℕ)
   pub are : lines ≡ done ++ next ∷ rest
   pub text : List ℕ
   pub before : DebuggerState
-  pub talks : Talks version g l done start text before
+  pub talks : Talks says done start text before
   pub reply : List ℕ
   pub after : DebuggerState
-  pub answered : Answered version g l (line_of next) before reply after
+  pub answered : says next before reply after
   pub count : ℕ
   pub within : count ≤ length reply
   pub written : Appends out.before out.after (text ++ take count reply)

@@ -1,7 +1,6 @@
 -- The session whose script is read whole before anything is made of it. The order of work is an own rule: settings, image read, input
 -- read, script read, image understood, machine made, and then the lines, one after another.
 use Rattle.std.specs.Prelude.{ℕ, ◌<◌, ◌⊎◌, List, length}
-use Rattle.cost_ledger.specs.declared.LedgerText.{LedgerText}
 use Rattle.bsp_debug.specs.Debugger.{DebuggerState}
 use Rattle.counted_io.specs.declared.ReadError.{ReadError}
 use Rattle.counted_io.specs.declared.ReadError.TheVariants as read
@@ -9,7 +8,7 @@ use Rattle.bsp_session.specs.declared.errors.SessionError.{SessionError}
 use Rattle.bsp_session.specs.declared.errors.SessionError.TheVariants.{BadSettings, TooLong, Text, BadImage, SegmentOutside, ReadFault, WriteFault, NoWorker, NoMemory}
 use Rattle.bsp_session.specs.Session.{ReadsFiles}
 use Rattle.bsp_session.specs.Streams.{Stream, IsReadErrorOf, IsUntouched, ReadsWhole}
-use Rattle.bsp_console.specs.Talk.{answered_lines}
+use Rattle.bsp_console.specs.Talk.{Says, answered_lines, plain}
 use Rattle.bsp_console.specs.Console.{Console, BeginsTo, CutsReply, StopsAtFiles, HasNoDebugger, StopsBefore, WritesReplies, console_fault, most_script}
 
 -- the script was read
@@ -36,21 +35,21 @@ pub record TakesScript (what : List (List ℕ) → DebuggerState → Type 0) (c 
 
 -- an answer: the replies to all lines up to the first `quit`, or to the last line, were written
 abbrev pub AnswersScript : Console → Type 0
-AnswersScript c = BeginsTo (TakesScript (λ lines start. WritesReplies c.job.ledger c.job.g c.job.l lines start c.out) c) c
+AnswersScript c = BeginsTo (TakesScript (λ lines start. WritesReplies (plain c.job) lines start c.out) c) c
 
 -- the writer failed at a reply, of which not all was written
-abbrev pub CutsShort : (version : LedgerText) (g l : ℕ) → List (List ℕ) → DebuggerState → (out : Stream) → Type 0
-CutsShort version g l lines start out = (cut : CutsReply version g l lines start out) × (cut.count < length cut.reply)
+abbrev pub CutsShort : Says → List (List ℕ) → DebuggerState → (out : Stream) → Type 0
+CutsShort says lines start out = (cut : CutsReply says lines start out) × (cut.count < length cut.reply)
 
 -- what is known where the lines ended by an error
-abbrev pub IsErrorOfReplies : (version : LedgerText) (g l : ℕ) → List (List ℕ) → DebuggerState → (out : Stream) → SessionError → Type 0
-IsErrorOfReplies version g l lines start out WriteFault = CutsShort version g l lines start out
-IsErrorOfReplies version g l lines start out NoMemory = StopsBefore version g l lines start out
-IsErrorOfReplies version g l lines start out _ = ⊥
+abbrev pub IsErrorOfReplies : Says → List (List ℕ) → DebuggerState → (out : Stream) → SessionError → Type 0
+IsErrorOfReplies says lines start out WriteFault = CutsShort says lines start out
+IsErrorOfReplies says lines start out NoMemory = StopsBefore says lines start out
+IsErrorOfReplies says lines start out _ = ⊥
 
 -- the lines ended by this error
 abbrev pub EndsAnswering : Console → SessionError → Type 0
-EndsAnswering c e = BeginsTo (TakesScript (λ lines start. IsErrorOfReplies c.job.ledger c.job.g c.job.l lines start c.out e) c) c
+EndsAnswering c e = BeginsTo (TakesScript (λ lines start. IsErrorOfReplies (plain c.job) lines start c.out e) c) c
 
 -- what is known where the session ended by an error
 abbrev pub IsErrorOfScript : Console → SessionError → Type 0

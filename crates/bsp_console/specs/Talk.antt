@@ -1,21 +1,28 @@
--- What the lines of a script are answered, and what they make of a debugger (own rules).
-use Rattle.std.specs.Prelude.{◌≡◌, ℕ, ◌+◌, ◌-◌, ◌==◌, Bool, true, false, not, List, [], ◌∷◌, ◌++◌, length, take, codes, if◌then◌else◌, Option, Some, None}
-use Rattle.std.specs.List.{slice_split, take_while, Any}
+-- What the lines of a session are answered, and what they make of a debugger (own rules).
+use Rattle.std.specs.Prelude.{◌≡◌, ℕ, ◌+◌, ◌-◌, ◌==◌, Bool, true, false, not, List, [], ◌∷◌, ◌++◌, length, take, drop, slice_get, nat_lt, codes, if◌then◌else◌, Option, Some, None, is_some}
+use Rattle.std.specs.List.{slice_split, take_while, filter, flat_map, Any}
+use Rattle.std.specs.Option.{option_map_or}
 use Rattle.cost_ledger.specs.declared.LedgerText.{LedgerText}
+use Rattle.node_core.specs.Node.{NodeState}
 use Rattle.machine_core.specs.Events.{after}
+use Rattle.machine_core.specs.Machine.{MachineState}
 use Rattle.bsp_debug.specs.declared.command.Command.{Command as Asked}
 use Rattle.bsp_debug.specs.declared.error.DebugError.{DebugError}
+use Rattle.bsp_debug.specs.declared.error.DebugError.TheVariants.{BadRange, BadRank}
 use Rattle.bsp_debug.specs.declared.point.Point.{Point}
-use Rattle.bsp_debug.specs.Debugger.{DebuggerState, add_fault, remove_fault, command_fault, Makes}
+use Rattle.bsp_debug.specs.Debugger.{DebuggerState, has_rank, add_fault, remove_fault, command_fault, Makes}
 use Rattle.bsp_debug.specs.Made.{events_of}
 use Rattle.bsp_debug.specs.Points.{is_set, HasAlso, HasNoMore}
 use Rattle.bsp_debug.specs.Reply.{Answer}
 use Rattle.debug_lines.specs.declared.line.Line.{Line}
-use Rattle.debug_lines.specs.declared.line.Line.TheVariants.{Break, Clear, Command, Output, Quit, Empty, Unknown}
+use Rattle.debug_lines.specs.declared.line.Line.TheVariants.{Break, Clear, Command, Output, Nodes, Place, Places, OutputFrom, CostsFrom, Quit, Empty, Unknown}
 use Rattle.debug_lines.specs.declared.verdict.Verdict.TheVariants.{Done, Refused, BadCommand}
-use Rattle.debug_lines.specs.Lines.{line_of}
+use Rattle.debug_lines.specs.Framed.{cost_lines_from, framed_text, place_text, setup_text}
+use Rattle.debug_lines.specs.Lines.{line_of, framed_line_of}
 use Rattle.debug_lines.specs.Replies.{reply_text}
 use Rattle.debug_lines.specs.Verdicts.{verdict_text}
+use Rattle.debug_lines.specs.Words.{has_bytes}
+use Rattle.bsp_session.specs.declared.job.Job.{Job}
 
 -- a debugger with a point more, if it was not set yet
 pub record HasPoint (p : Point) (old new : DebuggerState) : Type 0 where
@@ -42,25 +49,79 @@ abbrev pub DoesOrRefuses : Option DebugError → (done : Type 0) → (refused ne
 DoesOrRefuses None done refused new text = done
 DoesOrRefuses (Some e) done refused new text = (new ≡ refused) × (text ≡ verdict_text (Refused e))
 
+-- where a node of a machine is
+abbrev pub place_line : MachineState → NodeState → List ℕ
+place_line m n = place_text n.hart.rank n.hart.pc m.exchanges n.state
+
+-- where the node of a rank is, if there is one
+abbrev pub place_or_refusal : MachineState → (rank : ℕ) → List ℕ
+place_or_refusal m rank = option_map_or (place_line m) (slice_get m.nodes rank) (verdict_text (Refused BadRank))
+
+-- what was written, from the byte of a number on, and a line feed, if there are so many bytes
+abbrev pub output_or_refusal : MachineState → (from : ℕ) → List ℕ
+output_or_refusal m from = if nat_lt (length m.output) from then verdict_text (Refused BadRange) else (drop from m.output ++ codes "\n")
+
+-- what the supersteps cost, from that of a number on, and their total, if there are so many
+abbrev pub costs_or_refusal : Job → MachineState → (from : ℕ) → List ℕ
+costs_or_refusal job m from =
+    if nat_lt (length m.ledger) from then verdict_text (Refused BadRange) else cost_lines_from job.ledger job.g job.l from m.ledger
+
 -- what a line is answered: a text, and the debugger after it. A command that is refused has made no event
-abbrev pub Answered : (version : LedgerText) (g l : ℕ) → Line → (old : DebuggerState) → (text : List ℕ) → (new : DebuggerState) → Type 0
-Answered version g l (Break p) old text new =
+abbrev pub Answered : Job → Line → (old : DebuggerState) → (text : List ℕ) → (new : DebuggerState) → Type 0
+Answered job (Break p) old text new =
     DoesOrRefuses (add_fault old.points old.machine p) (HasPoint p old new × (text ≡ verdict_text Done)) old new text
-Answered version g l (Clear p) old text new =
+Answered job (Clear p) old text new =
     DoesOrRefuses (remove_fault old.points p) (LacksPoint p old new × (text ≡ verdict_text Done)) old new text
-Answered version g l (Command c) old text new =
-    DoesOrRefuses (command_fault old.machine c) (Replies version g l c old new text) (record old { last = [] }) new text
-Answered version g l Output old text new = (new ≡ old) × (text ≡ old.machine.output ++ codes "\n")
-Answered version g l Quit old text new = (new ≡ old) × (text ≡ [])
-Answered version g l Empty old text new = (new ≡ old) × (text ≡ [])
-Answered version g l Unknown old text new = (new ≡ old) × (text ≡ verdict_text BadCommand)
+Answered job (Command c) old text new =
+    DoesOrRefuses (command_fault old.machine c) (Replies job.ledger job.g job.l c old new text) (record old { last = [] }) new text
+Answered job Output old text new = (new ≡ old) × (text ≡ old.machine.output ++ codes "\n")
+Answered job Nodes old text new = (new ≡ old) × (text ≡ setup_text old.machine.settings job.ledger job.g job.l)
+Answered job (Place rank) old text new = (new ≡ old) × (text ≡ place_or_refusal old.machine rank)
+Answered job Places old text new = (new ≡ old) × (text ≡ flat_map (place_line old.machine) old.machine.nodes)
+Answered job (OutputFrom from) old text new = (new ≡ old) × (text ≡ output_or_refusal old.machine from)
+Answered job (CostsFrom from) old text new = (new ≡ old) × (text ≡ costs_or_refusal job old.machine from)
+Answered job Quit old text new = (new ≡ old) × (text ≡ [])
+Answered job Empty old text new = (new ≡ old) × (text ≡ [])
+Answered job Unknown old text new = (new ≡ old) × (text ≡ verdict_text BadCommand)
+
+-- a line is refused
+abbrev pub is_refused : Line → DebuggerState → Bool
+is_refused (Break p) d = is_some (add_fault d.points d.machine p)
+is_refused (Clear p) d = is_some (remove_fault d.points p)
+is_refused (Command c) d = is_some (command_fault d.machine c)
+is_refused Output d = false
+is_refused Nodes d = false
+is_refused (Place rank) d = not (has_rank d.machine rank)
+is_refused Places d = false
+is_refused (OutputFrom from) d = nat_lt (length d.machine.output) from
+is_refused (CostsFrom from) d = nat_lt (length d.machine.ledger) from
+is_refused Quit d = false
+is_refused Empty d = false
+is_refused Unknown d = true
+
+-- what a line is answered in a framed session: its reply behind a header
+abbrev pub AnsweredFramed : Job → Line → (old : DebuggerState) → (text : List ℕ) → (new : DebuggerState) → Type 0
+AnsweredFramed job line old text new =
+    (reply : List ℕ) × Answered job line old reply new × (text ≡ framed_text (is_refused line old) reply)
+
+-- what the bytes of a line may be answered in a session, by the debugger before it and the one after it
+abbrev pub Says : Type 1
+Says = (line : List ℕ) → (old : DebuggerState) → (text : List ℕ) → (new : DebuggerState) → Type 0
+
+-- in a script and in a dialogue
+abbrev pub plain : Job → Says
+plain job line old text new = Answered job (line_of line) old text new
+
+-- in a framed session
+abbrev pub framed : Job → Says
+framed job line old text new = AnsweredFramed job (framed_line_of line) old text new
 
 -- lines are answered one after another: their texts together, and the debugger after the last of them
-abbrev pub Talks : (version : LedgerText) (g l : ℕ) → List (List ℕ) → (old : DebuggerState) → (text : List ℕ) → (new : DebuggerState) → Type 0
-Talks version g l [] old text new = (text ≡ []) × (new ≡ old)
-Talks version g l (line ∷ lines) old text new =
+abbrev pub Talks : Says → List (List ℕ) → (old : DebuggerState) → (text : List ℕ) → (new : DebuggerState) → Type 0
+Talks says [] old text new = (text ≡ []) × (new ≡ old)
+Talks says (line ∷ lines) old text new =
     (first rest : List ℕ) × (next : DebuggerState)
-    × Answered version g l (line_of line) old first next × Talks version g l lines next rest new × (text ≡ first ++ rest)
+    × says line old first next × Talks says lines next rest new × (text ≡ first ++ rest)
 
 -- a line feed
 abbrev pub is_line_feed : ℕ → Bool
@@ -75,7 +136,7 @@ abbrev pub is_quit : Line → Bool
 is_quit Quit = true
 is_quit _ = false
 
--- it does not
+-- it does not. `quit` is the same in every session
 abbrev pub goes_on : List ℕ → Bool
 goes_on line = not (is_quit (line_of line))
 
@@ -94,6 +155,14 @@ answered_lines script = until_quit (lines_of script)
 -- the lines of a script that a line feed ended
 abbrev pub ended_lines : List ℕ → List (List ℕ)
 ended_lines script = take (length (lines_of script) - 1) (lines_of script)
+
+-- the lines of a script as they are given one by one: those that a line feed ended, and what stands behind the last one, if anything does
+abbrev pub given_lines : List ℕ → List (List ℕ)
+given_lines script = ended_lines script ++ filter has_bytes (drop (length (lines_of script) - 1) (lines_of script))
+
+-- those of them that are answered
+abbrev pub answered_one_by_one : List ℕ → List (List ℕ)
+answered_one_by_one script = until_quit (given_lines script)
 
 -- a line that a line feed ended is `quit`
 abbrev pub HasQuit : List ℕ → Type 0

@@ -1,21 +1,36 @@
 //! What one line is answered.
 
-ghost use Rattle.std.specs.Prelude.{◌≡◌, ◌≢◌, ◌≤◌, ◌⊎◌, ◌++◌, ℕ, List, [], codes, IfErr, IfOk, MatchResult, OnOk, string_bytes};
+ghost use Rattle.std.specs.Prelude.{◌≡◌, ◌≢◌, ◌≤◌, ◌⊎◌, ◌++◌, ℕ, List, [], codes, true, false, not, is_some, length, map, nat_lt, IfErr, IfOk, MatchResult, OnOk, string_bytes};
 ghost use Rattle.std.specs.Io.KnownBytes.{Appends};
-ghost use Rattle.bsp_debug.specs.Debugger.{add_fault, remove_fault, command_fault, Makes};
+ghost use Rattle.std.specs.List.{flat_map};
+ghost use Rattle.node_core.specs.Node.{PreparedNode};
+ghost use Rattle.bsp_debug.specs.Debugger.{add_fault, has_rank, remove_fault, command_fault};
 ghost use Rattle.debug_lines.specs.declared.verdict.Verdict.TheVariants.{Done as done_verdict, Refused as refused_verdict};
+ghost use Rattle.debug_lines.specs.Framed.{setup_text};
 ghost use Rattle.debug_lines.specs.Verdicts.{verdict_text};
 ghost use Rattle.counted_io.specs.Counted.{HasRisen};
 ghost use Rattle.counted_io.specs.Transfers.{AppendsPrefix};
-ghost use Rattle.bsp_console.specs.Talk.{Answered, DoesOrRefuses, HasPoint, LacksPoint, Replies, is_quit as is_quit_line};
+ghost use Rattle.bsp_console.specs.Dialogue.{AnsweredIn};
+ghost use Rattle.bsp_console.specs.Talk.{Answered, DoesOrRefuses, HasPoint, LacksPoint, Replies, is_quit as is_quit_line, costs_or_refusal, is_refused, output_or_refusal, place_line, place_or_refusal};
 
+use crate::manner::Manner;
 use bsp_debug::{Command, DebugError, Debugger, Point};
 use bsp_session::{Job, SessionError};
-use cost_ledger::LedgerText;
 use counted_io::{Counted, write_whole};
-use debug_lines::{Line, Verdict, reply_text};
+use debug_lines::{Line, Verdict, add_place, costs_from, framed_text, reply_text, setup_line};
+use machine_core::Machine;
+use node_core::Node;
 use std::alloc::{AllocError, Allocator};
 use std::io::Write;
+
+/// What a line is answered.
+#[derive(Drop)]
+struct Answer<A: Allocator> {
+    /// Whether the line was refused.
+    refused: bool,
+    /// The lines of the reply.
+    text: Vec<u8, A>,
+}
 
 /// Whether a line ends the session.
 pub(crate) fn is_quit(line: Line) -> bool
@@ -30,41 +45,74 @@ pub(crate) fn answer_to<A: Allocator + Copy, W: Write>(
     debugger: &mut Debugger<A>,
     line: Line,
     job: &Job,
+    manner: Manner,
     out: &mut Counted<W>,
 ) -> Result<(), SessionError>
     ensures ok { OnOk result ((text : List ℕ)
-        × Answered job.now.ledger job.now.g job.now.l line debugger.old text debugger.new
+        × AnsweredIn manner job.now line debugger.old text debugger.new
         × Appends (W.contents out.old.inner) (W.contents out.new.inner) text) }
     ensures err { IfErr result (λ e. ((e ≡ SessionError.NoMemory) × (out.new ≡ out.old))
         ⊎ ((e ≡ SessionError.WriteFault) × HasRisen out.old.failures out.new.failures
         × (text : List ℕ)
-        × Answered job.now.ledger job.now.g job.now.l line debugger.old text debugger.new
+        × AnsweredIn manner job.now line debugger.old text debugger.new
         × AppendsPrefix (W.contents out.old.inner) (W.contents out.new.inner) text)) }
     ensures never_falls { out.old.failures ≤ out.new.failures }
 {
-    let text = answer_line(alloc, debugger, line, job.ledger, job.g, job.l)?;
+    let text = text_for(alloc, debugger, line, job, manner)?;
     write_whole(out, text.as_slice())?;
     Ok(())
 }
 
-/// Does what a line asks for, and gives the text that answers it. It is an error only where memory is refused.
+/// Does what a line asks for, and gives what a session writes for it. It is an error only where memory is refused.
+fn text_for<A: Allocator + Copy>(
+    alloc: A,
+    debugger: &mut Debugger<A>,
+    line: Line,
+    job: &Job,
+    manner: Manner,
+) -> Result<Vec<u8, A>, AllocError>
+    ensures { IfOk result (λ text. AnsweredIn manner job.now line debugger.old text.items debugger.new) }
+{
+    let answer = answer_line(alloc, debugger, line, job)?;
+    match manner {
+        Manner::Plain => Ok(answer.text),
+        Manner::Framed => framed_text(alloc, answer.refused, answer.text.as_slice()),
+    }
+}
+
+/// Does what a line asks for, and gives what answers it. It is an error only where memory is refused.
 fn answer_line<A: Allocator + Copy>(
     alloc: A,
     debugger: &mut Debugger<A>,
     line: Line,
-    version: LedgerText,
-    g: u32,
-    l: u32,
-) -> Result<Vec<u8, A>, AllocError>
-    ensures { IfOk result (λ text. Answered version g l line debugger.old text.items debugger.new) }
+    job: &Job,
+) -> Result<Answer<A>, AllocError>
+    ensures told { IfOk result (λ a. Answered job.now line debugger.old a.text.items debugger.new) }
+    ensures refused { IfOk result (λ a. a.refused ≡ is_refused line debugger.old) }
 {
     match line {
         Line::Break(point) => set_point(alloc, debugger, point),
         Line::Clear(point) => clear_point(alloc, debugger, point),
-        Line::Command(command) => answer_command(alloc, debugger, command, version, g, l),
+        Line::Command(command) => answer_command(alloc, debugger, command, job),
         Line::Output => output_line(alloc, debugger.machine().output()),
-        Line::Unknown => verdict_line(alloc, Verdict::BadCommand),
-        Line::Empty | Line::Quit => Ok(Vec::new(alloc)),
+        Line::Nodes => nodes_line(alloc, debugger.machine(), job),
+        Line::Place(rank) => place_of(alloc, debugger.machine(), rank),
+        Line::Places => places(alloc, debugger.machine()),
+        Line::OutputFrom(from) => output_from(alloc, debugger.machine(), from),
+        Line::CostsFrom(from) => rows_from(alloc, debugger.machine(), from, job),
+        Line::Unknown => refusal(alloc, Verdict::BadCommand),
+        Line::Empty | Line::Quit => Ok(done(Vec::new(alloc))),
+    }
+}
+
+/// An answer to a line that was not refused.
+fn done<A: Allocator>(text: Vec<u8, A>) -> Answer<A>
+    ensures told { result.text ≡ text }
+    ensures refused { result.refused ≡ false }
+{
+    Answer {
+        refused: false,
+        text,
     }
 }
 
@@ -73,10 +121,12 @@ fn set_point<A: Allocator + Copy>(
     alloc: A,
     debugger: &mut Debugger<A>,
     point: Point,
-) -> Result<Vec<u8, A>, AllocError>
-    ensures { IfOk result (λ text. DoesOrRefuses (add_fault debugger.old.points debugger.old.machine point)
-        (HasPoint point debugger.old debugger.new × (text.items ≡ verdict_text done_verdict))
-        debugger.old debugger.new text.items) }
+) -> Result<Answer<A>, AllocError>
+    ensures told { IfOk result (λ a. DoesOrRefuses (add_fault debugger.old.points debugger.old.machine point)
+        (HasPoint point debugger.old debugger.new × (a.text.items ≡ verdict_text done_verdict))
+        debugger.old debugger.new a.text.items) }
+    ensures refused { IfOk result (λ a. a.refused
+        ≡ is_some (add_fault debugger.old.points debugger.old.machine point)) }
 {
     let outcome = debugger.add(point);
     verdict_of(alloc, outcome)
@@ -87,10 +137,11 @@ fn clear_point<A: Allocator + Copy>(
     alloc: A,
     debugger: &mut Debugger<A>,
     point: Point,
-) -> Result<Vec<u8, A>, AllocError>
-    ensures { IfOk result (λ text. DoesOrRefuses (remove_fault debugger.old.points point)
-        (LacksPoint point debugger.old debugger.new × (text.items ≡ verdict_text done_verdict))
-        debugger.old debugger.new text.items) }
+) -> Result<Answer<A>, AllocError>
+    ensures told { IfOk result (λ a. DoesOrRefuses (remove_fault debugger.old.points point)
+        (LacksPoint point debugger.old debugger.new × (a.text.items ≡ verdict_text done_verdict))
+        debugger.old debugger.new a.text.items) }
+    ensures refused { IfOk result (λ a. a.refused ≡ is_some (remove_fault debugger.old.points point)) }
 {
     let outcome = debugger.remove(point);
     verdict_of(alloc, outcome)
@@ -100,16 +151,27 @@ fn clear_point<A: Allocator + Copy>(
 fn verdict_of<A: Allocator>(
     alloc: A,
     outcome: Result<(), DebugError>,
-) -> Result<Vec<u8, A>, AllocError>
-    ensures { IfOk result (λ text. MatchResult outcome
-        (λ _. text.items ≡ verdict_text done_verdict)
-        (λ e. (e ≢ DebugError.NoMemory) × (text.items ≡ verdict_text (refused_verdict e)))) }
+) -> Result<Answer<A>, AllocError>
+    ensures { IfOk result (λ a. MatchResult outcome
+        (λ _. (a.text.items ≡ verdict_text done_verdict) × (a.refused ≡ false))
+        (λ e. (e ≢ DebugError.NoMemory) × (a.text.items ≡ verdict_text (refused_verdict e)) × (a.refused ≡ true))) }
 {
     match outcome {
-        Ok(()) => verdict_line(alloc, Verdict::Done),
+        Ok(()) => Ok(done(verdict_line(alloc, Verdict::Done)?)),
         Err(DebugError::NoMemory) => Err(AllocError),
-        Err(error) => verdict_line(alloc, Verdict::Refused(error)),
+        Err(error) => refusal(alloc, Verdict::Refused(error)),
     }
+}
+
+/// An answer that refuses a line.
+fn refusal<A: Allocator>(alloc: A, verdict: Verdict) -> Result<Answer<A>, AllocError>
+    ensures { IfOk result (λ a. (a.text.items ≡ verdict_text verdict) × (a.refused ≡ true)) }
+{
+    let text = verdict_line(alloc, verdict)?;
+    Ok(Answer {
+        refused: true,
+        text,
+    })
 }
 
 /// The line of a verdict.
@@ -121,14 +183,136 @@ fn verdict_line<A: Allocator>(alloc: A, verdict: Verdict) -> Result<Vec<u8, A>, 
 }
 
 /// An output, and a line feed.
-fn output_line<A: Allocator>(alloc: A, output: &[u8]) -> Result<Vec<u8, A>, AllocError>
-    ensures { IfOk result (λ text. text.items ≡ output.now ++ codes "\n") }
+fn output_line<A: Allocator>(alloc: A, output: &[u8]) -> Result<Answer<A>, AllocError>
+    ensures { IfOk result (λ a. (a.text.items ≡ output.now ++ codes "\n") × (a.refused ≡ false)) }
 {
     let mut text = Vec::new(alloc);
     text.reserve(output.len().saturating_add(1))?;
     text.extend_from_slice(output)?;
     text.extend_from_slice(b"\n")?;
-    Ok(text)
+    Ok(done(text))
+}
+
+/// What the machine is made of, and how its costs are told.
+fn nodes_line<A: Allocator>(
+    alloc: A,
+    machine: &Machine<A>,
+    job: &Job,
+) -> Result<Answer<A>, AllocError>
+    ensures { IfOk result (λ a. (a.text.items ≡ setup_text machine.now.settings job.now.ledger job.now.g job.now.l)
+        × (a.refused ≡ false)) }
+{
+    let text = setup_line(alloc, machine.settings(), job.ledger, job.g, job.l)?;
+    Ok(done(text.into_bytes()))
+}
+
+/// Where the node of a rank is, if there is one.
+fn place_of<A: Allocator>(
+    alloc: A,
+    machine: &Machine<A>,
+    rank: u32,
+) -> Result<Answer<A>, AllocError>
+    ensures { IfOk result (λ a. (a.text.items ≡ place_or_refusal machine.now rank)
+        × (a.refused ≡ not (has_rank machine.now rank))) }
+{
+    match machine.node(rank) {
+        Some(node) => {
+            let mut text = String::new(alloc);
+            add_place_of(&mut text, machine, node)?;
+            Ok(done(text.into_bytes()))
+        }
+        None => refusal(alloc, Verdict::Refused(DebugError::BadRank)),
+    }
+}
+
+/// Where each node is.
+fn places<A: Allocator>(alloc: A, machine: &Machine<A>) -> Result<Answer<A>, AllocError>
+    ensures { IfOk result (λ a. (a.text.items ≡ flat_map (place_line machine.now) machine.now.nodes)
+        × (a.refused ≡ false)) }
+{
+    let mut text = String::new(alloc);
+    add_places(&mut text, machine, machine.nodes())?;
+    Ok(done(text.into_bytes()))
+}
+
+/// Adds to a text where each of some nodes of a machine is.
+fn add_places<A: Allocator>(
+    text: &mut String<A>,
+    machine: &Machine<A>,
+    nodes: &[Node<A>],
+) -> Result<(), AllocError>
+    ensures { IfOk result (λ _. string_bytes text.new
+        ≡ string_bytes text.old ++ flat_map (place_line machine.now) (map (λ (p : PreparedNode). p.node) nodes.now)) }
+{
+    add_each_place(text, machine, nodes)
+}
+
+/// Adds to a text where each of some nodes of a machine is, one after another.
+fn add_each_place<A: Allocator>(
+    text: &mut String<A>,
+    machine: &Machine<A>,
+    nodes: &[Node<A>],
+) -> Result<(), AllocError>
+    ensures { IfOk result (λ _. string_bytes text.new
+        ≡ string_bytes text.old ++ flat_map (λ (p : PreparedNode). place_line machine.now p.node) nodes.now) }
+{
+    for node in nodes {
+        add_place_of(text, machine, node)?;
+    }
+    Ok(())
+}
+
+/// Adds to a text where a node of a machine is.
+fn add_place_of<A: Allocator>(
+    text: &mut String<A>,
+    machine: &Machine<A>,
+    node: &Node<A>,
+) -> Result<(), AllocError>
+    ensures { IfOk result (λ _. string_bytes text.new
+        ≡ string_bytes text.old ++ place_line machine.now node.now.node) }
+{
+    add_place(
+        text,
+        node.rank(),
+        node.pc(),
+        machine.superstep(),
+        node.state(),
+    )
+}
+
+/// What was written from the byte of a number on, if there are so many.
+fn output_from<A: Allocator>(
+    alloc: A,
+    machine: &Machine<A>,
+    from: u64,
+) -> Result<Answer<A>, AllocError>
+    ensures { IfOk result (λ a. (a.text.items ≡ output_or_refusal machine.now from)
+        × (a.refused ≡ nat_lt (length machine.now.output) from)) }
+{
+    let output = machine.output();
+    if from > output.len() as u64 {
+        refusal(alloc, Verdict::Refused(DebugError::BadRange))
+    } else {
+        output_line(alloc, &output[from as usize..])
+    }
+}
+
+/// What the supersteps cost from that of a number on, if there are so many.
+fn rows_from<A: Allocator>(
+    alloc: A,
+    machine: &Machine<A>,
+    from: u64,
+    job: &Job,
+) -> Result<Answer<A>, AllocError>
+    ensures { IfOk result (λ a. (a.text.items ≡ costs_or_refusal job.now machine.now from)
+        × (a.refused ≡ nat_lt (length machine.now.ledger) from)) }
+{
+    let ledger = machine.ledger();
+    if from > ledger.rows().len() as u64 {
+        return refusal(alloc, Verdict::Refused(DebugError::BadRange));
+    }
+    let text = costs_from(alloc, ledger, from as usize, job.ledger, job.g, job.l)?;
+    Ok(done(text.into_bytes()))
 }
 
 /// Does what a command says.
@@ -136,18 +320,18 @@ fn answer_command<A: Allocator + Copy>(
     alloc: A,
     debugger: &mut Debugger<A>,
     command: Command,
-    version: LedgerText,
-    g: u32,
-    l: u32,
-) -> Result<Vec<u8, A>, AllocError>
-    ensures { IfOk result (λ text. DoesOrRefuses (command_fault debugger.old.machine command)
-        (Replies version g l command debugger.old debugger.new text.items)
-        (record debugger.old { last = [] }) debugger.new text.items) }
+    job: &Job,
+) -> Result<Answer<A>, AllocError>
+    ensures told { IfOk result (λ a. DoesOrRefuses (command_fault debugger.old.machine command)
+        (Replies job.now.ledger job.now.g job.now.l command debugger.old debugger.new a.text.items)
+        (record debugger.old { last = [] }) debugger.new a.text.items) }
+    ensures refused { IfOk result (λ a. a.refused ≡ is_some (command_fault debugger.old.machine command)) }
 {
     match debugger.command(command) {
         Ok(reply) => {
             let ledger = debugger.machine().ledger();
-            Ok(reply_text(alloc, &reply, ledger, version, g, l)?.into_bytes())
+            let text = reply_text(alloc, &reply, ledger, job.ledger, job.g, job.l)?;
+            Ok(done(text.into_bytes()))
         }
         Err(error) => verdict_of(alloc, Err(error)),
     }

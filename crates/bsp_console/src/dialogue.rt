@@ -1,21 +1,21 @@
-//! The session that is a dialogue: a line is read when it is wanted.
+//! The sessions whose lines are read when they are wanted: the dialogue and the framed session.
 
 ghost use Rattle.std.specs.Prelude.{◌≡◌, ◌≢◌, ◌≤◌, ◌⊎◌, ◌↔◌, ℕ, List, length, take, Some, None, IfErr, OnOk, IsErrOf};
 ghost use Rattle.std.specs.Io.KnownBytes.{Appends};
 ghost use Rattle.counted_io.specs.Counted.{HasRisen};
 ghost use Rattle.bsp_session.specs.declared.errors.BadSetting.{BadSetting as BadSettingCause};
 ghost use Rattle.bsp_session.specs.Streams.{stream};
-ghost use Rattle.bsp_console.specs.Talk.{Answered};
 ghost use Rattle.bsp_console.specs.Console.{RefusesImage, console_fault, console_of};
-ghost use Rattle.bsp_console.specs.Dialogue.{AnswersDialogue, HasTalked, IsErrorOfDialogue, IsErrorOfTalk};
+ghost use Rattle.bsp_console.specs.Dialogue.{AnsweredIn, AnswersDialogue, AnswersFramed, AnswersTalk, HasTalked, IsErrorOfDialogue, IsErrorOfFramed, IsErrorOfTalk, IsErrorOfTalking, says_in};
 
 use crate::answer::{answer_to, is_quit};
+use crate::manner::{Manner, parse_in};
 use crate::script::SCRIPT_BYTES;
 use crate::start::{debugger_of, read_files};
 use bsp_debug::Debugger;
 use bsp_session::{Job, SessionError};
 use counted_io::{Counted, LineReader, flush_whole};
-use debug_lines::{Line, parse_line};
+use debug_lines::Line;
 use std::alloc::Allocator;
 use std::io::{Read, Write};
 
@@ -61,9 +61,67 @@ pub fn debug_dialogue<A: Allocator + Copy, I: Read, R: Read, C: Read, W: Write>(
     ensures no_lines { IfErr result (λ e. RefusesImage e
         → (commands.new ≡ commands.old) × (out.new ≡ out.old)) }
 {
+    talk(alloc, image, input, job, Manner::Plain, commands, out)
+}
+
+/// Does what [`debug_dialogue`] does, in frames: a header comes before each reply, and says whether the line was refused and how many
+/// lines the reply has. It has some lines more: `nodes`, `where` with a rank or without, `output FROM` and `costs FROM`.
+///
+/// # Errors
+/// Those of [`debug_dialogue`], in the same order. The header is part of the reply.
+pub fn debug_framed<A: Allocator + Copy, I: Read, R: Read, C: Read, W: Write>(
+    alloc: A,
+    image: &mut Counted<I>,
+    input: &mut Counted<R>,
+    job: &Job,
+    commands: &mut Counted<C>,
+    out: &mut Counted<W>,
+) -> Result<(), SessionError>
+    ensures ok { OnOk result (AnswersFramed (console_of (stream I.remaining image.old image.new)
+        (stream R.remaining input.old input.new) (stream C.remaining commands.old commands.new)
+        (stream W.contents out.old out.new) job.now)) }
+    ensures err { IfErr result (IsErrorOfFramed (console_of (stream I.remaining image.old image.new)
+        (stream R.remaining input.old input.new) (stream C.remaining commands.old commands.new)
+        (stream W.contents out.old out.new) job.now)) }
+    ensures bad_settings { (cause : BadSettingCause)
+        → IsErrOf result (SessionError.BadSettings cause)
+        ↔ (console_fault job.now ≡ Some (SessionError.BadSettings cause)) }
+    // Where nothing was read or written by the clauses above, the whole reader or writer is as it was.
+    ensures settings_first { console_fault job.now ≢ None → (image.new ≡ image.old)
+        × (input.new ≡ input.old) × (commands.new ≡ commands.old) × (out.new ≡ out.old) }
+    ensures no_lines { IfErr result (λ e. RefusesImage e
+        → (commands.new ≡ commands.old) × (out.new ≡ out.old)) }
+{
+    talk(alloc, image, input, job, Manner::Framed, commands, out)
+}
+
+/// Makes the debugger of an image and an input, and answers lines with it one by one.
+fn talk<A: Allocator + Copy, I: Read, R: Read, C: Read, W: Write>(
+    alloc: A,
+    image: &mut Counted<I>,
+    input: &mut Counted<R>,
+    job: &Job,
+    manner: Manner,
+    commands: &mut Counted<C>,
+    out: &mut Counted<W>,
+) -> Result<(), SessionError>
+    ensures ok { OnOk result (AnswersTalk (says_in manner) (console_of (stream I.remaining image.old image.new)
+        (stream R.remaining input.old input.new) (stream C.remaining commands.old commands.new)
+        (stream W.contents out.old out.new) job.now)) }
+    ensures err { IfErr result (IsErrorOfTalking (says_in manner) (console_of (stream I.remaining image.old image.new)
+        (stream R.remaining input.old input.new) (stream C.remaining commands.old commands.new)
+        (stream W.contents out.old out.new) job.now)) }
+    ensures bad_settings { (cause : BadSettingCause)
+        → IsErrOf result (SessionError.BadSettings cause)
+        ↔ (console_fault job.now ≡ Some (SessionError.BadSettings cause)) }
+    ensures settings_first { console_fault job.now ≢ None → (image.new ≡ image.old)
+        × (input.new ≡ input.old) × (commands.new ≡ commands.old) × (out.new ≡ out.old) }
+    ensures no_lines { IfErr result (λ e. RefusesImage e
+        → (commands.new ≡ commands.old) × (out.new ≡ out.old)) }
+{
     let (file, input) = read_files(alloc, image, input, job)?;
     let mut debugger = debugger_of(alloc, job, file.as_slice(), input.as_slice())?;
-    answer_lines(alloc, &mut debugger, job, commands, out)
+    answer_lines(alloc, &mut debugger, job, manner, commands, out)
 }
 
 /// Answers lines one by one as they are read, up to the first that is `quit`, or to the last.
@@ -71,21 +129,22 @@ fn answer_lines<A: Allocator + Copy, C: Read, W: Write>(
     alloc: A,
     debugger: &mut Debugger<A>,
     job: &Job,
+    manner: Manner,
     commands: &mut Counted<C>,
     out: &mut Counted<W>,
 ) -> Result<(), SessionError>
-    ensures ok { OnOk result (HasTalked job.now.ledger job.now.g job.now.l
+    ensures ok { OnOk result (HasTalked (says_in manner job.now)
         (stream C.remaining commands.old commands.new) (stream W.contents out.old out.new) debugger.old) }
-    ensures err { IfErr result (IsErrorOfTalk job.now.ledger job.now.g job.now.l
+    ensures err { IfErr result (IsErrorOfTalk (says_in manner job.now)
         (stream C.remaining commands.old commands.new) (stream W.contents out.old out.new) debugger.old) }
 {
     let mut lines = LineReader::new(alloc, SCRIPT_BYTES);
     while lines.next_line(commands)? {
-        let line = parse_line(lines.line());
+        let line = parse_in(manner, lines.line());
         if is_quit(line) {
             return Ok(());
         }
-        answer_at_once(alloc, debugger, line, job, out)?;
+        answer_at_once(alloc, debugger, line, job, manner, out)?;
     }
     Ok(())
 }
@@ -96,19 +155,20 @@ fn answer_at_once<A: Allocator + Copy, W: Write>(
     debugger: &mut Debugger<A>,
     line: Line,
     job: &Job,
+    manner: Manner,
     out: &mut Counted<W>,
 ) -> Result<(), SessionError>
     ensures ok { OnOk result ((text : List ℕ)
-        × Answered job.now.ledger job.now.g job.now.l line debugger.old text debugger.new
+        × AnsweredIn manner job.now line debugger.old text debugger.new
         × Appends (W.contents out.old.inner) (W.contents out.new.inner) text) }
     ensures err { IfErr result (λ e. ((e ≡ SessionError.NoMemory) × (out.new ≡ out.old))
         ⊎ ((e ≡ SessionError.WriteFault) × HasRisen out.old.failures out.new.failures
         × (text : List ℕ) × (count : ℕ) × (count ≤ length text)
-        × Answered job.now.ledger job.now.g job.now.l line debugger.old text debugger.new
+        × AnsweredIn manner job.now line debugger.old text debugger.new
         × Appends (W.contents out.old.inner) (W.contents out.new.inner) (take count text))) }
     ensures never_falls { out.old.failures ≤ out.new.failures }
 {
-    answer_to(alloc, debugger, line, job, out)?;
+    answer_to(alloc, debugger, line, job, manner, out)?;
     flush_whole(out)?;
     Ok(())
 }

@@ -4,11 +4,12 @@ ghost use Rattle.std.specs.Prelude.{◌≡◌, ◌≢◌, ◌<◌, ◌↔◌, �
 ghost use Rattle.std.specs.Option.{option_map_or};
 ghost use Rattle.bsp_session.specs.declared.errors.BadSetting.{BadSetting as BadSettingCause};
 ghost use Rattle.bsp_session.specs.Streams.{stream};
-ghost use Rattle.bsp_console.specs.Talk.{answered_lines, lines_of};
+ghost use Rattle.bsp_console.specs.Talk.{answered_lines, lines_of, plain};
 ghost use Rattle.bsp_console.specs.Console.{WritesReplies, console_fault, console_of};
 ghost use Rattle.bsp_console.specs.Script.{AnswersScript, IsErrorOfReplies, IsErrorOfScript};
 
 use crate::answer::{answer_to, is_quit};
+use crate::manner::Manner;
 use crate::start::{debugger_of, read_files};
 use bsp_debug::Debugger;
 use bsp_session::{Job, SessionError};
@@ -73,9 +74,9 @@ fn answer_script<A: Allocator + Copy, W: Write>(
     script: &[u8],
     out: &mut Counted<W>,
 ) -> Result<(), SessionError>
-    ensures ok { OnOk result (WritesReplies job.now.ledger job.now.g job.now.l (answered_lines script.now)
+    ensures ok { OnOk result (WritesReplies (plain job.now) (answered_lines script.now)
         debugger.old (stream W.contents out.old out.new)) }
-    ensures err { IfErr result (IsErrorOfReplies job.now.ledger job.now.g job.now.l (answered_lines script.now)
+    ensures err { IfErr result (IsErrorOfReplies (plain job.now) (answered_lines script.now)
         debugger.old (stream W.contents out.old out.new)) }
 {
     let mut rest = Some(script);
@@ -85,7 +86,7 @@ fn answer_script<A: Allocator + Copy, W: Write>(
         if is_quit(line) {
             return Ok(());
         }
-        answer_to(alloc, debugger, line, job, out)?;
+        answer_to(alloc, debugger, line, job, Manner::Plain, out)?;
         rest = after;
     }
     Ok(())

@@ -1,12 +1,12 @@
 -- What the lines of a debugger ask for (own language).
 use Rattle.std.specs.Prelude.{ℕ, if◌then◌else◌, List, [], ◌∷◌, bytes_eq, codes, Option, Some, None, option_map}
-use Rattle.std.specs.Option.{option_and_then, option_map_or}
+use Rattle.std.specs.Option.{option_and_then, option_map_or, option_or}
 use Rattle.bsp_debug.specs.declared.command.Command.{Command as Asked}
 use Rattle.bsp_debug.specs.declared.command.Command.TheVariants.{Step, Phase, Turn, Go, Regs, Bytes, Queue, Costs}
 use Rattle.bsp_debug.specs.declared.point.Point.{Point}
 use Rattle.bsp_debug.specs.declared.point.Point.TheVariants.{Address, Superstep}
 use Rattle.debug_lines.specs.declared.line.Line.{Line}
-use Rattle.debug_lines.specs.declared.line.Line.TheVariants.{Break, Clear, Command, Output, Quit, Empty, Unknown}
+use Rattle.debug_lines.specs.declared.line.Line.TheVariants.{Break, Clear, Command, Output, Nodes, Place, Places, OutputFrom, CostsFrom, Quit, Empty, Unknown}
 use Rattle.debug_lines.specs.Numbers.{number_in}
 use Rattle.debug_lines.specs.Words.{words}
 
@@ -69,3 +69,29 @@ line_of_words (word ∷ a ∷ b ∷ c ∷ d ∷ more) = None
 -- what a line asks for
 unfoldable pub line_of : List ℕ → Line
 line_of line = option_map_or (λ known. known) (line_of_words (words line)) Unknown
+
+-- ---- framed sessions
+
+-- a line of one word that only framed sessions have
+abbrev pub framed_of_one : List ℕ → Option Line
+framed_of_one word =
+    if bytes_eq word (codes "nodes") then Some Nodes else
+    (if bytes_eq word (codes "where") then Some Places else None)
+
+-- a line of two: `where RANK`, `output FROM`, `costs FROM`
+abbrev pub framed_of_two : (word number : List ℕ) → Option Line
+framed_of_two word number =
+    if bytes_eq word (codes "where") then option_map Place (number_in 32 number) else
+    (if bytes_eq word (codes "output") then option_map OutputFrom (number_in 64 number) else
+    (if bytes_eq word (codes "costs") then option_map CostsFrom (number_in 64 number) else None))
+
+-- a line of these words that only framed sessions have; none for words of no such line
+abbrev pub framed_of_words : List (List ℕ) → Option Line
+framed_of_words [] = None
+framed_of_words (word ∷ []) = framed_of_one word
+framed_of_words (word ∷ a ∷ []) = framed_of_two word a
+framed_of_words (word ∷ a ∷ b ∷ more) = None
+
+-- what a line of a framed session asks for: that of any session, or else what only framed ones have
+unfoldable pub framed_line_of : List ℕ → Line
+framed_line_of line = option_map_or (λ known. known) (option_or (line_of_words (words line)) (framed_of_words (words line))) Unknown

@@ -2,6 +2,7 @@
 
 ghost use Rattle.std.specs.Prelude.{◌≡◌};
 ghost use Rattle.debug_lines.specs.Lines.{line_of, line_of_words, line_of_one, command_of_one, line_of_two, line_of_three, line_of_four, point_of, step_of, bytes_of};
+ghost use Rattle.debug_lines.specs.Lines.{framed_line_of, framed_of_words, framed_of_one, framed_of_two};
 ghost use Rattle.debug_lines.specs.Words.{words};
 
 use crate::number::{u32_of, u64_of};
@@ -20,6 +21,16 @@ pub enum Line {
     Command(Command),
     /// What the nodes wrote: `output`.
     Output,
+    /// How many nodes there are, and what else the machine and its costs are set to: `nodes`. Only framed sessions have it.
+    Nodes,
+    /// Where the node of a rank is: `where RANK`. Only framed sessions have it.
+    Place(u32),
+    /// Where each node is: `where`. Only framed sessions have it.
+    Places,
+    /// What the nodes wrote, from the byte of a number on: `output FROM`. Only framed sessions have it.
+    OutputFrom(u64),
+    /// What the supersteps that are over cost, from that of a number on: `costs FROM`. Only framed sessions have it.
+    CostsFrom(u64),
     /// To end: `quit`.
     Quit,
     /// Nothing: spaces at most.
@@ -36,6 +47,64 @@ pub fn parse_line(line: &[u8]) -> Line
     match known_line(line) {
         Some(known) => known,
         None => Line::Unknown,
+    }
+}
+
+/// What a line of a framed session asks for: that of any session, and two commands more. It is given without the line feed that ends it.
+#[tactic(auto, unfolding(crate::specs::Lines::framed_line_of))]
+pub fn parse_framed_line(line: &[u8]) -> Line
+    ensures { result ≡ framed_line_of line.now }
+{
+    match known_line(line) {
+        Some(known) => known,
+        None => match framed_line(line) {
+            Some(framed) => framed,
+            None => Line::Unknown,
+        },
+    }
+}
+
+/// What a line asks for that only framed sessions have, if its words are those of one.
+fn framed_line(line: &[u8]) -> Option<Line>
+    ensures { result ≡ framed_of_words (words line.now) }
+{
+    let Some((word, rest)) = split_word(line) else {
+        return None;
+    };
+    let Some((number, rest)) = split_word(rest) else {
+        return framed_of_one(word);
+    };
+    match split_word(rest) {
+        Some(_) => None,
+        None => framed_of_two(word, number),
+    }
+}
+
+/// A line of one word that only framed sessions have.
+fn framed_of_one(word: &[u8]) -> Option<Line>
+    ensures { result ≡ framed_of_one word.now }
+{
+    if word == b"nodes".as_slice() {
+        Some(Line::Nodes)
+    } else if word == b"where".as_slice() {
+        Some(Line::Places)
+    } else {
+        None
+    }
+}
+
+/// A line of two words that only framed sessions have.
+fn framed_of_two(word: &[u8], number: &[u8]) -> Option<Line>
+    ensures { result ≡ framed_of_two word.now number.now }
+{
+    if word == b"where".as_slice() {
+        Some(Line::Place(u32_of(number)?))
+    } else if word == b"output".as_slice() {
+        Some(Line::OutputFrom(u64_of(number)?))
+    } else if word == b"costs".as_slice() {
+        Some(Line::CostsFrom(u64_of(number)?))
+    } else {
+        None
     }
 }
 

@@ -56,7 +56,7 @@ pub fn reply_text<A: Allocator, L: Allocator, B: Allocator>(
 
 /// Where a node or a machine is, without a line feed.
 #[derive(Clone, Copy)]
-struct PointText(Point);
+pub(crate) struct PointText(pub Point);
 
 impl fmt::Display for PointText {
     ghost use Rattle.std.specs.Prelude.{Some};

@@ -1,5 +1,6 @@
 -- Costs are answered of the machine as it is, and a refusal is told of a machine that is as it was.
-use Rattle.std.proofs.Common.{◌≡◌, ◌∙◌, ◌⊎◌, inl, inr, ℕ, List, [], Option, Some, IsSome, ap, refl, sym, subst}
+use Rattle.std.proofs.Common.{◌≡◌, ◌∙◌, ◌⊎◌, inl, inr, ℕ, Bool, true, List, [], Option, Some, IsSome, ap, refl, sym, subst}
+use Rattle.std.specs.Prelude.{is_some}
 use Rattle.std.proofs.lemmas.Result.{IfOk-weaker}
 use Rattle.bsp_debug.specs.declared.error.DebugError.{DebugError}
 use Rattle.bsp_debug.specs.declared.error.DebugError.TheVariants.{NoMemory}
@@ -34,7 +35,16 @@ told fault done old new text e (inr refused) other is machine points unmade =
     let as_it_was : new ≡ record old { last = [] } = λ i. record { machine = same i; points = points i; last = none i } in
     rw refused (as_it_was, is)
 
-pub returns-in-Err : goal.returns-in-Err
-returns-in-Err g c =
-    IfOk-weaker c.verdict_of.result _ _ (λ text verdict. told _ _ c.args.debugger.now c.command.new.self text.items c.in-Err.error c.in-Err.ensures.refused verdict.0 verdict.1
+pub returns-in-Err-clause-told : goal.returns-in-Err-clause-told
+returns-in-Err-clause-told g c =
+    IfOk-weaker c.verdict_of.result _ _ (λ a verdict. told _ _ c.args.debugger.now c.command.new.self a.text.items c.in-Err.error c.in-Err.ensures.refused verdict.0 verdict.1
     c.command.ensures.machine c.command.ensures.points c.command.ensures.unmade) c.verdict_of.ensures
+
+-- and it is one
+is_refusal : (fault : Option DebugError) (e : DebugError) (refused : Bool) → ((e ≡ NoMemory) ⊎ (fault ≡ Some e)) → (e ≡ NoMemory → ⊥) → refused ≡ true → refused ≡ is_some fault
+is_refusal fault e refused (inl memory) other is = absurd (other memory)
+is_refusal fault e refused (inr due) other is = rw due is
+
+pub returns-in-Err-clause-refused : goal.returns-in-Err-clause-refused
+returns-in-Err-clause-refused g c =
+    IfOk-weaker c.verdict_of.result _ _ (λ a verdict. is_refusal _ c.in-Err.error a.refused c.in-Err.ensures.refused verdict.0 verdict.2) c.verdict_of.ensures

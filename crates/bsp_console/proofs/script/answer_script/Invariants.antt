@@ -1,13 +1,13 @@
 -- How far the lines were answered.
 use Rattle.std.proofs.Common.{◌≤◌, ◌+◌, [], length}
 use Rattle.std.specs.Option.{option_map_or}
-use Rattle.bsp_console.specs.Talk.{answered_lines, lines_of}
+use Rattle.bsp_console.specs.Talk.{answered_lines, lines_of, plain}
 use Rattle.bsp_console.proofs.Answering.{IsAnswering}
 use Rattle.bsp_console.proofs.script.answer_script.Given as goal
 
 abbrev pub invariant-lines : goal.invariant-lines
 invariant-lines g l = record {
-  answering : IsAnswering l.job.ledger l.job.g l.job.l (answered_lines l.script) (option_map_or (λ text. lines_of text.now) l.rest []) l.initial.debugger l.debugger (g.W.Write.contents l.initial.out.inner) (g.W.Write.contents l.out.inner);
+  answering : IsAnswering (plain l.job) (answered_lines l.script) (option_map_or (λ text. lines_of text.now) l.rest []) l.initial.debugger l.debugger (g.W.Write.contents l.initial.out.inner) (g.W.Write.contents l.out.inner);
   out : l.initial.out.failures ≤ l.out.failures;
 }
 

@@ -1,0 +1,14 @@
+-- The reply that a header announces is that of the line, and so is whether it refuses.
+use Rattle.std.proofs.Common.{ap₂, ◌∙◌}
+use Rattle.std.proofs.lemmas.Result.{IfOk-weaker}
+use Rattle.debug_lines.specs.Framed.{framed_text}
+use Rattle.bsp_console.proofs.answer.text_for.Goals as goal
+
+pub returns-in-Plain : goal.returns-in-Plain
+returns-in-Plain g c = rw c.in-Plain.is c.in_ok-answer.ensures.told
+
+pub returns-in-Framed : goal.returns-in-Framed
+returns-in-Framed g c =
+    let answer = c.in_ok-answer.answer in
+    rw c.in-Framed.is (IfOk-weaker c.framed_text.result _ _
+    (λ text is. (answer.text.items, c.in_ok-answer.ensures.told, is ∙ ap₂ framed_text c.in_ok-answer.ensures.refused c.as_slice.ensures.value)) c.framed_text.ensures)

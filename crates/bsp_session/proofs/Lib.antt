@@ -1,7 +1,10 @@
 pub mod Conversions
+pub mod CountedErrors
 pub mod Jobs
+pub mod LiveErrors
 pub mod Outputs
 pub mod ProfiledErrors
 pub mod Refusals
 pub mod Reports
 pub mod SessionErrors
+pub mod Supersteps

@@ -1,5 +1,7 @@
 pub mod Conversion
+pub mod Counts
 pub mod Images
+pub mod Live
 pub mod Outcome
 pub mod Profiles
 pub mod Streams

@@ -24,6 +24,11 @@
 //!   listing may be refused memory after something was written: it ends after a whole line then.
 //! - A run with a profile ([`profile_session`]) has the same report and the same errors. The profile is that of the run from its start,
 //!   whole before anything is written; it is written after the report. Only a fault of its own writer leaves a part of it.
+//! - So has a run with counts ([`counts_session`]), which makes all steps in one thread.
+//! - A run that is told live ([`live_session`]) has the same report, and writes it while it goes on: once a superstep is over, what the
+//!   nodes wrote in it. Errors that come before its run leave the writer as it was. Where the run is refused memory or a thread, what
+//!   stands written is the output of the supersteps that were over, whole; [`laws`] tie it to the output at the end. After a fault of the
+//!   writer some first bytes of the report are written, and perhaps all of them.
 //! - Workers have no part in what is written: the report is that of the definitions, which know none.
 //!
 //! A session waits for its own threads alone. It ends if these and the calls of its readers and its writer do: a node makes at
@@ -34,19 +39,24 @@
 //! a thread's stack and of a list of its nodes.
 #![tactic(auto)]
 
+mod counts;
 mod errors;
 mod images;
 mod job;
+pub mod laws;
 mod listing;
+mod live;
 mod profiles;
 mod report;
 mod sessions;
 
 pub use cost_ledger::LedgerText;
+pub use counts::counts_session;
 pub use errors::{BadSetting, SessionError, status};
 pub use images::image_of;
 pub use job::{Format, Job};
 pub use listing::{asm_session, list_session};
+pub use live::live_session;
 pub use machine_core::{Outcome, Settings};
 pub use profiles::profile_session;
 pub use sessions::{INPUT_BYTES, session};

@@ -1,6 +1,6 @@
 //! What a session writes of a machine at its end.
 
-ghost use Rattle.std.specs.Prelude.{◌≡◌, ◌++◌, ◌≤◌, IfOk, OnOk, OnErr, string_bytes};
+ghost use Rattle.std.specs.Prelude.{◌≡◌, ◌++◌, ◌≤◌, IfOk, OnOk, OnErr, string_bytes, true};
 ghost use Rattle.std.specs.Io.KnownBytes.{Appends};
 ghost use Rattle.counted_io.specs.Counted.{HasRisen};
 ghost use Rattle.counted_io.specs.Transfers.{AppendsPrefix};
@@ -19,7 +19,8 @@ pub(crate) fn report_lines<A: Allocator + Copy>(
     machine: &Machine<A>,
     job: &Job,
 ) -> Result<String<A>, AllocError>
-    ensures { IfOk result (λ text. string_bytes text ≡ report_lines_of job.now machine.now) }
+    ensures text { IfOk result (λ text. string_bytes text ≡ report_lines_of job.now machine.now) }
+    ensures asked { OnErr result (job.now.report ≡ true) }
 {
     if job.report {
         costs_and_outcome(alloc, machine, job.ledger, job.g, job.l)

@@ -40,8 +40,8 @@ pub const INPUT_BYTES: usize = 1 << 24;
 /// 5. [`SessionError::SegmentOutside`], where the image reaches past the memory of a node.
 /// 6. [`SessionError::WriteFault`], after some first bytes of the report, and not all, were written.
 ///
-/// [`SessionError::NoWorker`] is answered where a thread could not be started, and else [`SessionError::NoMemory`] where a request
-/// for memory was refused. Nothing is written then.
+/// [`SessionError::NoWorker`] is answered where a thread could not be started, be memory refused in the run besides or not, and else
+/// [`SessionError::NoMemory`] where a request for memory was refused. Nothing is written then.
 pub fn session<
     T: Threads + Wait + Sync,
     A: Allocator + Copy + Send + Sync,

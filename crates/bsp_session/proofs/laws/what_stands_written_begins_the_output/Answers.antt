@@ -1,0 +1,5 @@
+use Rattle.bsp_session.proofs.Supersteps.{begins}
+use Rattle.bsp_session.proofs.laws.what_stands_written_begins_the_output.Goals as goal
+
+pub returns : goal.returns
+returns c start m out sound up_to = begins start m out sound up_to

@@ -1,0 +1,21 @@
+//! Where the work of a run is: how many instructions each rank made at each address in each superstep.
+//!
+//! [`run`] is one more scheduler over single events of a machine: it makes a step of a rank, and counts it at the address where it was made.
+//! The text that it answers is the lines of a table of comma-separated values. No other run knows of counts.
+//!
+//! What callers may rely on:
+//!
+//! - [`run`] leaves the machine as [`Machine::run_plain`](machine_core::Machine::run_plain) does, at its end, and the text has the lines of
+//!   the supersteps that were made, and no others.
+//! - Where memory is refused there is no text, and the machine is one that events lead to: any run can go on with it.
+//! - The counts of a rank in a superstep add up to its ticks in that superstep ([`laws`]).
+//! - A run takes eight bytes for each byte of one node's memory, beside the text.
+#![tactic(auto)]
+
+pub mod laws;
+mod line;
+mod parts;
+mod runs;
+mod table;
+
+pub use runs::run;

@@ -1,0 +1,33 @@
+//! A run whose steps are counted.
+
+ghost use Rattle.std.specs.Prelude.{◌≡◌, ℕ, IfOk, IsSome, OnErr, OnOk, string_bytes};
+ghost use Rattle.machine_core.specs.Turn.{end_of};
+ghost use Rattle.machine_core.specs.Walk.{walked};
+ghost use Rattle.step_counts.specs.Counts.{counts_of};
+
+use crate::parts::count_parts;
+use crate::table::Table;
+use machine_core::Machine;
+use std::alloc::{AllocError, Allocator};
+
+/// The names of the columns.
+const HEADER: &str = "superstep,rank,address,count\n";
+
+/// Runs a machine to its outcome, in one thread, and answers how many steps each rank made at each address in each superstep.
+///
+/// # Errors
+/// Where memory is refused. What was made before it stands, and any run can go on with the machine.
+pub fn run<A: Allocator + Copy>(alloc: A, machine: &mut Machine<A>) -> Result<String<A>, AllocError>
+    ensures ok { OnOk result (machine.new ≡ end_of machine.old) }
+    ensures over { OnOk result (IsSome machine.new.outcome) }
+    ensures counts { IfOk result (λ text. string_bytes text ≡ counts_of machine.old) }
+    ensures err { OnErr result ((k : ℕ) × (machine.new ≡ walked k machine.old)) }
+{
+    let mut table = Table::new(alloc, machine.settings().memory)?;
+    let mut text = String::from_str(alloc, HEADER)?;
+    while machine.outcome().is_none() {
+        count_parts(machine, &mut table, &mut text)?;
+        machine.turn()?;
+    }
+    Ok(text)
+}

@@ -80,7 +80,7 @@ run_app formats =
 
 -- `debug IMAGE` with its options
 abbrev pub debug_app : NameList → App
-debug_app formats = with_rule (machine_app (codes "debug") formats) (flag_rule (codes "interactive"))
+debug_app formats = with_rule (with_rule (machine_app (codes "debug") formats) (flag_rule (codes "interactive"))) (flag_rule (codes "framed"))
 
 -- `list IMAGE` with its option
 abbrev pub list_app : NameList → App

@@ -80,6 +80,7 @@ pub record GivesDebugOptions (rows : List Row) (o : DebugOptions) : Type 0 where
   pub slice : o.machine.job.slice ≡ 2 ^ 16
   pub report : o.machine.job.report ≡ false
   pub interactive : GivesFlag (one_of (codes "interactive") rows) o.interactive
+  pub framed : GivesFlag (one_of (codes "framed") rows) o.framed
 
 -- the matches of `list` give these options
 pub record GivesListOptions (rows : List Row) (o : ListOptions) : Type 0 where

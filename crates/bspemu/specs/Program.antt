@@ -1,12 +1,12 @@
 -- How the program ends (own rules).
-use Rattle.std.specs.Prelude.{◌≡◌, ◌≢◌, ◌⊎◌, ◌++◌, ℕ, Option, None, List, Some, MatchOption, Result, Ok, Err, codes}
+use Rattle.std.specs.Prelude.{◌≡◌, ◌≢◌, ◌⊎◌, ◌++◌, ℕ, Bool, true, false, Option, None, List, Some, MatchOption, Result, Ok, Err, codes}
 use Rattle.std.specs.Borrow.{Bor}
 use Rattle.clap.specs.Words.{Text, kind_of}
 use Rattle.clap.specs.declared.error.Error.{Error}
 use Rattle.clap.specs.declared.error.kind.ErrorKind.{ErrorKind}
 use Rattle.clap.specs.declared.error.kind.ErrorKind.TheVariants.{DisplayHelp, DisplayVersion, OutOfMemory}
 use Rattle.bsp_console.specs.Console.{Console}
-use Rattle.bsp_console.specs.Dialogue.{AnswersDialogue, IsErrorOfDialogue}
+use Rattle.bsp_console.specs.Dialogue.{AnswersDialogue, AnswersFramed, IsErrorOfDialogue, IsErrorOfFramed}
 use Rattle.bsp_console.specs.Script.{AnswersScript, IsErrorOfScript}
 use Rattle.bsp_session.specs.declared.errors.SessionError.{SessionError}
 use Rattle.bsp_session.specs.declared.job.Format.{Format}
@@ -21,6 +21,7 @@ use Rattle.bsp_session.specs.Session.{IsErrorOf, Reports, Session as BatchSessio
 use Rattle.bsp_session.specs.Streams.{Stream}
 use Rattle.bspemu.specs.declared.options.MachineOptions.{MachineOptions}
 use Rattle.bspemu.specs.declared.options.RunOptions.{RunOptions}
+use Rattle.bspemu.specs.declared.options.DebugOptions.{DebugOptions}
 use Rattle.bspemu.specs.declared.options.ListOptions.{ListOptions}
 use Rattle.bspemu.specs.declared.options.AsmOptions.{AsmOptions}
 use Rattle.bspemu.specs.declared.options.Action.{Action}
@@ -68,18 +69,20 @@ IsAnswerProfiled o file (Err (Session error)) = IsProfiledError o.job error
 abbrev pub IsAnswerOfRun : RunOptions → Result Outcome RunError → Type 0
 IsAnswerOfRun o answer = MatchOption o.profile (IsAnswerUnprofiled o.machine answer) (λ file. IsAnswerProfiled o.machine file answer)
 
--- lines were all answered with a debugger of such a job, and an error that this can have, whatever is read and written
-abbrev pub AnswersLines : Job → Type 0
-AnswersLines job = (c : Console) × (c.job ≡ job) × (AnswersScript c ⊎ AnswersDialogue c)
+-- lines were all answered with a debugger of such a job, in frames or not, and an error that this can have, whatever is read and written
+abbrev pub AnswersLines : (framed : Bool) → Job → Type 0
+AnswersLines true job = (c : Console) × (c.job ≡ job) × AnswersFramed c
+AnswersLines false job = (c : Console) × (c.job ≡ job) × (AnswersScript c ⊎ AnswersDialogue c)
 
-abbrev pub IsDebugError : Job → SessionError → Type 0
-IsDebugError job error = (c : Console) × (c.job ≡ job) × (IsErrorOfScript c error ⊎ IsErrorOfDialogue c error)
+abbrev pub IsDebugError : (framed : Bool) → Job → SessionError → Type 0
+IsDebugError true job error = (c : Console) × (c.job ≡ job) × IsErrorOfFramed c error
+IsDebugError false job error = (c : Console) × (c.job ≡ job) × (IsErrorOfScript c error ⊎ IsErrorOfDialogue c error)
 
 -- an answer that a debugger with these options can have
-abbrev pub IsAnswerOfDebug : MachineOptions → Result Outcome RunError → Type 0
-IsAnswerOfDebug o (Ok outcome) = (outcome ≡ Ended) × AnswersLines o.job
-IsAnswerOfDebug o (Err (CannotOpen path)) = NamesFile o path
-IsAnswerOfDebug o (Err (Session error)) = IsDebugError o.job error
+abbrev pub IsAnswerOfDebug : DebugOptions → Result Outcome RunError → Type 0
+IsAnswerOfDebug o (Ok outcome) = (outcome ≡ Ended) × AnswersLines o.framed o.machine.job
+IsAnswerOfDebug o (Err (CannotOpen path)) = NamesFile o.machine path
+IsAnswerOfDebug o (Err (Session error)) = IsDebugError o.framed o.machine.job error
 
 -- a file in this format was listed, and an error that this can have
 abbrev pub IsListed : Format → Type 0
@@ -110,7 +113,7 @@ IsAnswerOfAsm o (Err (Session error)) = IsAsmError error
 -- an answer that an action can have
 abbrev pub IsAnswer : Action → Result Outcome RunError → Type 0
 IsAnswer (action.Run o) answer = IsAnswerOfRun o answer
-IsAnswer (action.Debug o) answer = IsAnswerOfDebug o.machine answer
+IsAnswer (action.Debug o) answer = IsAnswerOfDebug o answer
 IsAnswer (action.List o) answer = IsAnswerOfList o answer
 IsAnswer (action.Asm o) answer = IsAnswerOfAsm o answer
 

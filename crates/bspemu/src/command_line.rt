@@ -37,11 +37,11 @@ const ASM_AFTER_HELP: &str = "A text that is refused has a line `line N: NAME` o
   DuplicateLabel   the label stands in this line or an earlier one already
   UndefinedLabel   no line has the label that is used
   TooLarge         the statement ends past 16777216 bytes
-docs/ASSEMBLY.md has the whole language.";
+docs/manual/assembly.md has the whole language.";
 
 const DEBUG_AFTER_HELP: &str =
     "Lines of standard input. They are read to their end, and then answered one after another. At a terminal, and with
---interactive, each is answered before the next one is read:
+--interactive or --framed, each is answered before the next one is read:
   break RANK ADDR      set a point: go stops before this rank makes a step at this address
   break superstep K    set a point: go stops where superstep K begins
   clear RANK ADDR      take away the point at this address
@@ -56,6 +56,12 @@ const DEBUG_AFTER_HELP: &str =
   costs                show the costs of the supersteps so far, and their total
   output               show what was written in the supersteps so far
   quit                 end
+With --framed a line comes before each reply: `done N`, or `refused N` if the line is refused, where N is how many lines
+the reply has. And there are more lines:
+  nodes                show how many ranks there are, and the other settings
+  where [RANK]         show where this rank, or each rank, is: its address, superstep and state
+  output FROM          show what was written, from byte FROM on
+  costs FROM           show the costs from superstep FROM on, and the total of all
 Numbers are decimal, or hexadecimal as in 0x1f. All lines together may have 1048576 bytes. Where IMAGE is -, there are
 no lines.
 
@@ -67,7 +73,7 @@ A line that is refused changes nothing, and is answered `refused: NAME`:
   NoSuchBreak  the point is not set
   Over         the run has ended
 The exit status is 0 whatever was refused and however the run ended; only an error ends it with 1, 5 or 6.
-docs/DEBUGGER.md has an example of each line.";
+docs/manual/debugger.md has an example of each line.";
 
 /// The command line of the program.
 pub fn command<'a>(alloc: Global) -> Result<Command<'a>, AllocError>
@@ -109,7 +115,8 @@ fn debug_command<'a>(alloc: Global, formats: &'a [&'a str]) -> Result<Command<'a
             "Run a program piece by piece: do what each line of standard input says, and write the answer",
         )
         .after_help(DEBUG_AFTER_HELP)
-        .arg(interactive(alloc))
+        .arg(interactive(alloc))?
+        .arg(framed(alloc))
 }
 
 /// A subcommand over a machine: the program, what the machine is made of, and the prices of its costs.
@@ -286,6 +293,17 @@ fn interactive<'a>(alloc: Global) -> Arg<'a>
         .long("interactive")
         .action(ArgAction::SetTrue)
         .help("Answer each line before the next one is read, as at a terminal")
+}
+
+fn framed<'a>(alloc: Global) -> Arg<'a>
+    ensures { HasRule result (flag_rule (codes "framed")) }
+{
+    Arg::new(alloc, "framed")
+        .long("framed")
+        .action(ArgAction::SetTrue)
+        .help(
+            "For programs: write a line before each reply, which says how many lines the reply has and whether it is a refusal",
+        )
 }
 
 fn byte_price<'a>(alloc: Global) -> Arg<'a>

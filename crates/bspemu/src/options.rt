@@ -39,6 +39,8 @@ pub struct DebugOptions<'a> {
     pub machine: MachineOptions<'a>,
     /// Whether each line is answered before the next one is read, wherever the lines come from.
     pub interactive: bool,
+    /// Whether each reply stands behind a header.
+    pub framed: bool,
 }
 
 /// What `bspemu list` was asked to do.
@@ -135,9 +137,11 @@ fn options_of_debug<'a>(debug: &ArgMatches<'a>) -> Option<DebugOptions<'a>>
     ensures none { IfNone result (IsNeverMet (GivesDebugOptions (rows_of (found_of debug.now)))) }
 {
     let interactive = debug.get_one("interactive")?;
+    let framed = debug.get_one("framed")?;
     Some(DebugOptions {
         machine: options_of_machine(debug, 1, SLICE, false)?,
         interactive,
+        framed,
     })
 }
 

@@ -11,9 +11,9 @@ use crate::files::{
 use crate::options::{
     Action, AsmOptions, DebugOptions, ListOptions, MachineOptions, RunOptions, action_of, refusal,
 };
-use bsp_console::{debug_dialogue, debug_session};
+use bsp_console::{debug_dialogue, debug_framed, debug_session};
 use bsp_session::{
-    Job, Outcome, SessionError, asm_session, list_session, profile_session, session, status,
+    Outcome, SessionError, asm_session, list_session, profile_session, session, status,
 };
 use clap::Error;
 use clap::error::ErrorKind;
@@ -203,11 +203,11 @@ fn debug<'a, R: AllocGlobal + Files + Input<Reader: IsTerminal> + Print>(
     rt: &R,
     options: &DebugOptions<'a>,
 ) -> Result<Outcome, RunError<'a>>
-    ensures { IsAnswerOfDebug options.now.machine result }
+    ensures { IsAnswerOfDebug options.now result }
 {
     let machine = &options.machine;
     let lines = open_lines(rt, machine.image);
-    let is_dialogue = options.interactive || lines.is_terminal();
+    let at_terminal = lines.is_terminal();
     let mut lines = Counted::new(lines);
     let mut image = Counted::new(open_image(rt, machine.image)?);
     let mut input = Counted::new(open_input(rt, machine.input)?);
@@ -216,28 +216,33 @@ fn debug<'a, R: AllocGlobal + Files + Input<Reader: IsTerminal> + Print>(
         rt.alloc(),
         &mut image,
         &mut input,
-        &machine.job,
+        options,
         &mut lines,
         &mut out,
-        is_dialogue,
+        at_terminal,
     )?;
     Ok(Outcome::Ended)
 }
 
-/// Answers lines with a debugger, as they come or as a script.
+/// Answers lines with a debugger: in frames, as they come, or as a script.
 fn answer_lines<I: Read, R: Read, C: Read, W: Write>(
     alloc: Global,
     image: &mut Counted<I>,
     input: &mut Counted<R>,
-    job: &Job,
+    options: &DebugOptions<'_>,
     lines: &mut Counted<C>,
     out: &mut Counted<W>,
-    is_dialogue: bool,
+    at_terminal: bool,
 ) -> Result<(), SessionError>
-    ensures ok { OnOk result (AnswersLines job.now) }
-    ensures err { IfErr result (IsDebugError job.now) }
+    ensures ok { OnOk result (AnswersLines options.now.framed options.now.machine.job) }
+    ensures err { IfErr result (IsDebugError options.now.framed options.now.machine.job) }
 {
-    if is_dialogue {
+    let job = &options.machine.job;
+    let is_framed = options.framed;
+    let is_dialogue = options.interactive || at_terminal;
+    if is_framed {
+        debug_framed(alloc, image, input, job, lines, out)
+    } else if is_dialogue {
         debug_dialogue(alloc, image, input, job, lines, out)
     } else {
         debug_session(alloc, image, input, job, lines, out)

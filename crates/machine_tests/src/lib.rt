@@ -1,24 +1,16 @@
-//! Tests of the crates above `node_core`: exchanges, machines, pools, the debugger and sessions. They stand outside of the crates
-//! that they test, as users of what these export, since a crate that has tests is proved twice.
+//! Tests of the crates above `node_core`: of what no contract says of exchanges, pools and sessions, and no run of the program shows. They
+//! stand outside of the crates that they test, as users of what these export, since a crate that has tests is proved twice.
 #![tactic(auto)]
 
 #[cfg(test)]
-mod calls;
-#[cfg(test)]
-mod console;
-#[cfg(test)]
-mod debugger;
-#[cfg(test)]
 mod exchange;
 #[cfg(test)]
-mod nodes;
+mod gates;
 #[cfg(test)]
-mod pool;
+mod program;
 #[cfg(test)]
-mod programs;
-#[cfg(test)]
-mod replies;
+mod readers;
 #[cfg(test)]
 mod runs;
 #[cfg(test)]
-mod session;
+mod sessions;

@@ -49,53 +49,6 @@ impl Write for Sink {
     }
 }
 
-// Counts the calls that it is given; it gives and takes one byte at a time.
-#[derive(Drop)]
-struct Witness {
-    reads: u32,
-    writes: u32,
-    flushes: u32,
-}
-
-impl Read for Witness {
-    fn read(&mut self, buf: &mut [u8]) -> io::Result<usize> {
-        self.reads = self.reads.saturating_add(1);
-        Ok(buf.len().min(1))
-    }
-}
-
-impl Write for Witness {
-    fn write(&mut self, buf: &[u8]) -> io::Result<usize> {
-        self.writes = self.writes.saturating_add(1);
-        Ok(buf.len().min(1))
-    }
-
-    fn flush(&mut self) -> io::Result<()> {
-        self.flushes = self.flushes.saturating_add(1);
-        Ok(())
-    }
-}
-
-// Whether a witness was given so many calls of each kind.
-fn has_seen(witness: &Witness, calls: u32) -> bool {
-    witness.reads == calls && witness.writes == calls && witness.flushes == calls
-}
-
-#[test]
-fn each_call_is_passed_on_with_its_answer(rt: HostRuntime) {
-    let mut counted = Counted::new(Witness {
-        reads: 0,
-        writes: 0,
-        flushes: 0,
-    });
-    for calls in 1..4 {
-        assert!(rt; matches!(counted.read(&mut [0; 2]), Ok(1)));
-        assert!(rt; matches!(counted.write(b"ab"), Ok(1)));
-        assert!(rt; counted.flush().is_ok());
-        assert!(rt; has_seen(counted.inner(), calls) && counted.failures() == 0);
-    }
-}
-
 #[test]
 fn only_interrupted_reads_are_tried_again_65_536_times(rt: HostRuntime) {
     for (kind, faults, fault) in [

@@ -1,0 +1,389 @@
+//! The sessions, each of which is refused each of its requests for memory.
+
+use crate::program::{Heap, INPUT, SETTINGS, TEXT};
+use bsp_console::{debug_dialogue, debug_framed, debug_session};
+use bsp_session::{
+    Format, Job, LedgerText, SessionError, asm_session, list_session, profile_session, session,
+};
+use counted_io::Counted;
+use std::alloc::{Allocator, Global};
+use std::io::Read;
+use std::sync::Wait;
+use std::test::Fail;
+use std::thread::Threads;
+
+/// One of the sessions.
+#[derive(Clone, Copy, PartialEq, Eq)]
+pub enum Kind {
+    Runs,
+    Profiles,
+    Lists,
+    Saves,
+    /// The debugger, over a script.
+    Debugs,
+    /// The debugger, in a dialogue.
+    Talks,
+    /// The debugger, in a framed session.
+    Frames,
+}
+
+use Kind::{Debugs, Frames, Lists, Profiles, Runs, Saves, Talks};
+
+/// What a session reads.
+#[derive(Drop)]
+pub struct Readers<I, J, L> {
+    pub image: I,
+    pub input: J,
+    pub lines: L,
+}
+
+/// What a session answered and wrote. Its profile stands by itself.
+#[derive(Drop)]
+pub struct Done {
+    pub answer: Result<(), SessionError>,
+    pub out: Vec<u8>,
+    pub profile: Vec<u8>,
+}
+
+// What a session reads and writes.
+#[derive(Drop)]
+struct Streams<I, J, L> {
+    image: Counted<I>,
+    input: Counted<J>,
+    lines: Counted<L>,
+    out: Counted<Vec<u8>>,
+    profile: Counted<Vec<u8>>,
+}
+
+/// Makes a session, with memory of `alloc`. What it writes is held by `holder`.
+pub fn make<T, A, I, J, L>(
+    rt: &T,
+    alloc: A,
+    holder: Global,
+    kind: Kind,
+    format: Format,
+    readers: Readers<I, J, L>,
+) -> Done
+where
+    T: Threads + Wait + Sync,
+    A: Allocator + Copy + Send + Sync,
+    I: Read + Drop,
+    J: Read + Drop,
+    L: Read + Drop,
+{
+    let job = Job {
+        format,
+        settings: SETTINGS,
+        workers: 2,
+        slice: 1 << 16,
+        report: true,
+        ledger: LedgerText::V2,
+        g: 2,
+        l: 10,
+    };
+    let mut streams = Streams {
+        image: Counted::new(readers.image),
+        input: Counted::new(readers.input),
+        lines: Counted::new(readers.lines),
+        out: Counted::new(Vec::new(holder)),
+        profile: Counted::new(Vec::new(holder)),
+    };
+    let answer = match kind {
+        Runs | Profiles => run(rt, alloc, kind, &job, &mut streams),
+        Lists | Saves => convert(alloc, kind, format, &mut streams),
+        Debugs | Talks | Frames => debug(alloc, kind, &job, &mut streams),
+    };
+    Done {
+        answer,
+        out: streams.out.into_inner(),
+        profile: streams.profile.into_inner(),
+    }
+}
+
+fn run<T, A, I, J, L>(
+    rt: &T,
+    alloc: A,
+    kind: Kind,
+    job: &Job,
+    streams: &mut Streams<I, J, L>,
+) -> Result<(), SessionError>
+where
+    T: Threads + Wait + Sync,
+    A: Allocator + Copy + Send + Sync,
+    I: Read,
+    J: Read,
+{
+    let Streams {
+        image,
+        input,
+        out,
+        profile,
+        ..
+    } = streams;
+    if kind == Profiles {
+        profile_session(rt, alloc, image, input, job, out, profile).map(|_| ())
+    } else {
+        session(rt, alloc, image, input, job, out).map(|_| ())
+    }
+}
+
+fn convert<A: Allocator + Copy, I: Read, J, L>(
+    alloc: A,
+    kind: Kind,
+    format: Format,
+    streams: &mut Streams<I, J, L>,
+) -> Result<(), SessionError> {
+    if kind == Lists {
+        list_session(alloc, format, &mut streams.image, &mut streams.out)
+    } else {
+        asm_session(alloc, &mut streams.image, &mut streams.out)
+    }
+}
+
+fn debug<A: Allocator + Copy, I: Read, J: Read, L: Read>(
+    alloc: A,
+    kind: Kind,
+    job: &Job,
+    streams: &mut Streams<I, J, L>,
+) -> Result<(), SessionError> {
+    let Streams {
+        image,
+        input,
+        lines,
+        out,
+        ..
+    } = streams;
+    match kind {
+        Talks => debug_dialogue(alloc, image, input, job, lines, out),
+        Frames => debug_framed(alloc, image, input, job, lines, out),
+        _ => debug_session(alloc, image, input, job, lines, out),
+    }
+}
+
+// Lines of every kind.
+const LINES: &str = "\
+break 1 8
+break superstep 2
+go
+clear 1 8
+clear 1 8
+go
+queue 1
+regs 1
+bytes 1 0x3000 4
+step 1 1
+step 3 1
+phase
+turn
+costs
+output
+
+what
+go
+quit
+step
+";
+
+// Lines of a framed session: those that it alone has, and one that has no reply.
+const FRAMED_LINES: &str = "\
+break superstep 1
+go
+nodes
+where
+where 1
+where 3
+go
+output 1
+output 3
+costs 3
+costs 5
+
+quit
+";
+
+// What they are answered.
+const FRAMED_REPLIES: &str = "\
+done 1
+ok
+done 1
+stopped at superstep 1
+done 1
+nodes 2 memory 20480 limit 10000 g 2 l 10 ledger 2
+done 2
+rank 0 pc 00000038 superstep 1 state running
+rank 1 pc 00000038 superstep 1 state running
+done 1
+rank 1 pc 00000038 superstep 1 state running
+refused 1
+refused: BadRank
+done 1
+ended
+done 1
+1
+refused 1
+refused: BadRange
+done 2
+superstep 3: w 9 h 0 m 0 last
+total 341
+refused 1
+refused: BadRange
+done 0
+";
+
+// What the program writes in a run, and what is told of its costs.
+const REPORT: &str = "\
+01superstep 0: w 50 h 3 m 1 turned
+superstep 1: w 90 h 42 m 1 turned
+superstep 2: w 54 h 4 m 0 turned
+superstep 3: w 9 h 0 m 0 last
+total 341
+ended
+";
+
+// A session, in which format it reads the program, and how many requests for memory it makes.
+struct Row {
+    name: &'static str,
+    kind: Kind,
+    format: Format,
+    requests: u64,
+}
+
+static ROWS: [Row; 7] = [
+    Row {
+        name: "asm_session",
+        kind: Saves,
+        format: Format::Asm,
+        requests: 426,
+    },
+    Row {
+        name: "list_session",
+        kind: Lists,
+        format: Format::Elf,
+        requests: 15,
+    },
+    Row {
+        name: "session",
+        kind: Runs,
+        format: Format::Elf,
+        requests: 68,
+    },
+    Row {
+        name: "profile_session",
+        kind: Profiles,
+        format: Format::Raw,
+        requests: 95,
+    },
+    Row {
+        name: "debug_session",
+        kind: Debugs,
+        format: Format::Raw,
+        requests: 111,
+    },
+    Row {
+        name: "debug_dialogue",
+        kind: Talks,
+        format: Format::Raw,
+        requests: 111,
+    },
+    Row {
+        name: "debug_framed",
+        kind: Frames,
+        format: Format::Raw,
+        requests: 122,
+    },
+];
+
+// The program in a format. In its file, which has one segment, the bytes stand behind 84 of headers.
+fn program_in(format: Format, file: &[u8]) -> &[u8] {
+    match format {
+        Format::Asm => TEXT.as_bytes(),
+        Format::Elf => file,
+        Format::Raw => file.get(84..).unwrap_or(b""),
+    }
+}
+
+// The lines that a session is asked.
+fn lines_of(kind: Kind) -> &'static str {
+    match kind {
+        Frames => FRAMED_LINES,
+        _ => LINES,
+    }
+}
+
+// Makes the session of a row over the program and the lines.
+fn make_row<T: Threads + Wait + Sync>(
+    rt: &T,
+    heap: &Heap,
+    holder: Global,
+    row: &Row,
+    file: &[u8],
+) -> Done {
+    let readers = Readers {
+        image: program_in(row.format, file),
+        input: INPUT,
+        lines: lines_of(row.kind).as_bytes(),
+    };
+    make(rt, heap, holder, row.kind, row.format, readers)
+}
+
+impl Done {
+    // Whether this is what may come of a session that is refused memory, and else comes to `whole`: all of it, nothing, or some whole
+    // first lines of a listing or of replies.
+    fn may_come_before(&self, whole: &Done, kind: Kind) -> bool {
+        let may_begin = matches!(kind, Lists | Debugs | Talks | Frames);
+        match self.answer {
+            Ok(()) => self.out == whole.out && self.profile == whole.profile,
+            Err(SessionError::NoMemory) => {
+                let are_lines = may_begin
+                    && whole.out.starts_with(&self.out)
+                    && self.out.ends_with(b"\n");
+                self.profile.is_empty() && (self.out.is_empty() || are_lines)
+            }
+            Err(_) => false,
+        }
+    }
+}
+
+// The first request for memory of a session which, refused alone or with all from it on, brings what may not come.
+fn first_wrong<T: Threads + Wait + Sync>(
+    rt: &T,
+    heap: &Heap,
+    holder: Global,
+    row: &Row,
+    file: &[u8],
+    whole: &Done,
+) -> Option<u64> {
+    for nth in 1..=row.requests {
+        for from_there in [false, true] {
+            if from_there {
+                heap.refuse_from_nth(nth);
+            } else {
+                heap.refuse_nth(nth);
+            }
+            let done = make_row(rt, heap, holder, row, file);
+            if heap.refusals() == 0 || !done.may_come_before(whole, row.kind) {
+                return Some(nth);
+            }
+        }
+    }
+    None
+}
+
+#[test]
+fn each_session_may_be_refused_memory(rt: HostRuntime) -> Result<(), Fail> {
+    let heap = Heap::new(rt.alloc());
+    let saved = make_row(&rt, &heap, rt.alloc(), &ROWS[0], b"").out;
+    for row in &ROWS {
+        heap.refuse_nth(0);
+        let whole = make_row(&rt, &heap, rt.alloc(), row, &saved);
+        let requests = heap.requests();
+        println!(rt; "{requests:4} refused: {}", row.name)?;
+        let is_whole = whole.answer == Ok(())
+            && (row.kind != Runs || whole.out.as_slice() == REPORT.as_bytes())
+            && (row.kind != Frames || whole.out.as_slice() == FRAMED_REPLIES.as_bytes());
+        assert!(rt; is_whole && requests == row.requests);
+        let wrong = first_wrong(&rt, &heap, rt.alloc(), row, &saved, &whole);
+        assert!(rt; wrong == None, "request {wrong:?}");
+    }
+    Ok(())
+}

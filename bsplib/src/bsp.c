@@ -37,7 +37,7 @@ __attribute__((noreturn)) static void refuse_nodes(int maxprocs)
         bsp_stop_with("bsp_begin is called with ", maxprocs,
                       " processes, and takes 1 or more: call bsp_init first where rank 0 alone has the number");
     if (bsp_pid() == 0)
-        bsp_stop_with("there are more nodes than the program takes in bsp_begin: give --nodes ", maxprocs, "");
+        bsp_stop_with("there are more nodes than the program takes in bsp_begin: bsprun -n ", maxprocs, " gives as many");
     for (;;)
         machine_call_2(CALL_ABORT, 0, 0);
 }
@@ -81,6 +81,8 @@ static struct {
     char *next; /* NULL where this superstep has not used it */
 } room;
 
+int bsp_superstep = 0;
+
 void bsp_sync(void)
 {
     MUST_BE_WITHIN("bsp_sync");
@@ -88,6 +90,9 @@ void bsp_sync(void)
     /* What was printed belongs to this superstep. */
     bsp_stdio_flush();
     machine_call_0(CALL_SYNC);
+#ifdef BSP_CHECK
+    bsp_superstep++;
+#endif
     received_tag_size = tag_size;
     tag_size = next_tag_size;
     room.next = NULL;
@@ -103,6 +108,16 @@ void bsp_pop_reg(const void *ident)
 {
     MUST_BE_WITHIN("bsp_pop_reg");
     machine_call_2(CALL_POP_REG, (long)ident, 0);
+}
+
+void bsp_pushregister(const void *ident, int size)
+{
+    bsp_push_reg(ident, size);
+}
+
+void bsp_popregister(const void *ident)
+{
+    bsp_pop_reg(ident);
 }
 
 void bsp_put(int pid, const void *src, void *dst, int offset, int nbytes)
@@ -129,12 +144,12 @@ void bsp_hpget(int pid, const void *src, int offset, void *dst, int nbytes)
     machine_call(CALL_HPGET, pid, (long)src, offset, (long)dst, nbytes);
 }
 
-void bsp_set_tagsize(int *tag_nbytes)
+void bsp_set_tagsize(bsp_number tag_nbytes)
 {
     int wanted;
     MUST_BE_WITHIN("bsp_set_tagsize");
-    wanted = *tag_nbytes;
-    machine_call_2(CALL_SET_TAGSIZE, (long)tag_nbytes, 0);
+    wanted = *tag_nbytes.with_sign;
+    machine_call_2(CALL_SET_TAGSIZE, (long)tag_nbytes.with_sign, 0);
     next_tag_size = wanted;
 }
 
@@ -144,17 +159,24 @@ void bsp_send(int pid, const void *tag, const void *payload, int payload_nbytes)
     machine_call(CALL_SEND, pid, (long)tag, (long)payload, payload_nbytes, 0);
 }
 
-void bsp_qsize(int *nmessages, int *accum_nbytes)
+void bsp_hpsend(int pid, const void *tag, const void *payload, int payload_nbytes)
 {
-    int messages, bytes;
-    MUST_BE_WITHIN("bsp_qsize");
-    machine_call_2(CALL_QSIZE, (long)(nmessages ? nmessages : &messages), (long)(accum_nbytes ? accum_nbytes : &bytes));
+    bsp_send(pid, tag, payload, payload_nbytes);
 }
 
-void bsp_get_tag(int *status, void *tag)
+void bsp_qsize(bsp_number nmessages, bsp_number accum_nbytes)
+{
+    int messages, bytes;
+    int *to_messages = nmessages.with_sign ? nmessages.with_sign : &messages;
+    int *to_bytes = accum_nbytes.with_sign ? accum_nbytes.with_sign : &bytes;
+    MUST_BE_WITHIN("bsp_qsize");
+    machine_call_2(CALL_QSIZE, (long)to_messages, (long)to_bytes);
+}
+
+void bsp_get_tag(bsp_number status, void *tag)
 {
     MUST_BE_WITHIN("bsp_get_tag");
-    machine_call_2(CALL_GET_TAG, (long)status, (long)tag);
+    machine_call_2(CALL_GET_TAG, (long)status.with_sign, (long)tag);
 }
 
 void bsp_move(void *payload, int reception_nbytes)
@@ -201,6 +223,11 @@ int bsp_hpmove(void **tag_ptr, void **payload_ptr)
 }
 
 double bsp_time(void)
+{
+    return 0.0;
+}
+
+double bsp_dtime(void)
 {
     return 0.0;
 }

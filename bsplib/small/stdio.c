@@ -3,7 +3,7 @@
 #include <stdio.h>
 #include <string.h>
 
-#include "../machine.h"
+#include "../src/machine.h"
 
 /* Below the streams, as POSIX has them. Weak, since a program may have functions of these names. */
 __attribute__((weak)) int write(int file, const void *bytes, size_t count)

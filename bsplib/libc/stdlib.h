@@ -2,6 +2,8 @@
 #ifndef BSP_LIBC_STDLIB_H
 #define BSP_LIBC_STDLIB_H
 
+#pragma GCC system_header
+
 #include_next <stdlib.h>
 
 #ifdef __cplusplus

@@ -1,4 +1,4 @@
-/* The machine's environment calls, and what the files of this library share. docs/MACHINE.md has the calls' rules. */
+/* The machine's environment calls, and what the files of this library share. docs/manual/machine.md has the calls' rules. */
 #ifndef BSP_MACHINE_H
 #define BSP_MACHINE_H
 
@@ -74,7 +74,16 @@ struct bsp_file {
 extern struct bsp_file *bsp_files;
 extern int bsp_file_count;
 
+/* The file of this name, or NULL. */
+const struct bsp_file *bsp_file_named(const char *name);
+
+/* The bytes of the memory. */
+extern int bsp_memory_size;
+
 /* Where the program is: before bsp_begin, between it and bsp_end, or after that. */
 extern enum bsp_part { BSP_BEFORE, BSP_WITHIN, BSP_AFTER } bsp_part;
+
+/* The superstep, from 0 on. It is counted where BSP_CHECK is defined, as for a program of bspcc --check. */
+extern int bsp_superstep;
 
 #endif

@@ -2,6 +2,8 @@
 #ifndef BSP_LIBC_STDIO_H
 #define BSP_LIBC_STDIO_H
 
+#pragma GCC system_header
+
 #include_next <stdio.h>
 #include <sys/types.h>
 
@@ -10,6 +12,7 @@ extern "C" {
 #endif
 
 ssize_t getline(char **__restrict line, size_t *__restrict size, FILE *__restrict file);
+int dprintf(int file, const char *__restrict format, ...) __attribute__((format(printf, 2, 3)));
 
 __attribute__((error("a node has no files to write: popen, tmpfile, remove and rename are missing"))) FILE *tmpfile(void);
 __attribute__((error("a node has no files to write: popen, tmpfile, remove and rename are missing"))) int remove(const char *);

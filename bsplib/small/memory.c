@@ -2,7 +2,7 @@
 #include <stdlib.h>
 #include <string.h>
 
-#include "../machine.h"
+#include "../src/machine.h"
 
 void *memcpy(void *restrict to, const void *restrict from, size_t count)
 {

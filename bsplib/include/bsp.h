@@ -3,8 +3,8 @@
  * Names, types and meanings are BSPlib's. What differs, and what BSPlib leaves open:
  *
  * - Each of the p nodes that --nodes gives starts the program by itself. So bsp_begin starts no processes: all p nodes
- *   take part, and where p is above maxprocs the run is aborted with a line that says which --nodes to give. After
- *   bsp_init the maxprocs of rank 0 alone is looked at. bsp_nprocs and bsp_pid can be called anywhere.
+ *   take part, and where p is above maxprocs the run is aborted with a line that says which -n to give; bsprun then
+ *   gives as many by itself. After bsp_init the maxprocs of rank 0 alone is looked at. bsp_nprocs and bsp_pid can be called anywhere.
  * - What stands before bsp_begin and after bsp_end is run by every node, unless bsp_init was called: then rank 0 alone
  *   returns from it, and every other rank calls spmd and ends.
  * - bsp_end does not end the node; main has to return 0, or call exit(0). What was asked for after the last bsp_sync
@@ -17,6 +17,8 @@
  * - bsp_abort stops its own node; the others run on to the end of the superstep, in which the run is then stopped.
  * - bsp_time answers 0, and the compiler warns of each call, since the machine has no clock: the report gives the cost of
  *   each superstep.
+ * - bsp_hpsend copies as bsp_send does. bsp_pushregister, bsp_popregister and bsp_dtime are the Oxford toolset's names.
+ * - Counts and sizes may be size_t where BSPlib has int: bsp_qsize, bsp_get_tag and bsp_set_tagsize take pointers to both.
  * - A negative size is refused: bsp_move aborts, bsp_set_tagsize stops the node with fault BadSize, and every other
  *   call with fault RangeOutside. A rank that there is not is fault BadRank, and an area that was not registered when
  *   the superstep began is fault NotRegistered. A put or a get that passes the end of its area, or whose offset is
@@ -29,6 +31,10 @@
  */
 #ifndef BSP_H
 #define BSP_H
+
+#pragma GCC system_header
+
+#include <stdarg.h>
 
 /* What other headers of BSPlib call the types of ranks, of their number and of sizes. */
 typedef int bsp_pid_t;
@@ -44,6 +50,7 @@ void bsp_init(void (*spmd)(void), int argc, char **argv);
 void bsp_begin(int maxprocs);
 void bsp_end(void);
 __attribute__((noreturn, format(printf, 1, 2))) void bsp_abort(const char *format, ...);
+__attribute__((noreturn, format(printf, 1, 0))) void bsp_vabort(const char *format, va_list arguments);
 
 /* Where am I? */
 int bsp_nprocs(void);
@@ -55,27 +62,63 @@ void bsp_sync(void);
 /* Registration, in effect from the next superstep on. */
 void bsp_push_reg(const void *ident, int size);
 void bsp_pop_reg(const void *ident);
+void bsp_pushregister(const void *ident, int size);
+void bsp_popregister(const void *ident);
 
 /* Direct remote memory access. */
 void bsp_put(int pid, const void *src, void *dst, int offset, int nbytes);
 void bsp_hpput(int pid, const void *src, void *dst, int offset, int nbytes);
 void bsp_get(int pid, const void *src, int offset, void *dst, int nbytes);
 void bsp_hpget(int pid, const void *src, int offset, void *dst, int nbytes);
+__attribute__((error("memories meet at bsp_sync alone: write bsp_get, and use what it got after the next bsp_sync")))
+void bsp_direct_get(int pid, const void *src, int offset, void *dst, int nbytes);
+
+/* A pointer to a whole number of 32 bits, of whichever type. */
+#ifdef __cplusplus
+typedef int *bsp_number;
+#else
+typedef union {
+    int *with_sign;
+    unsigned *without_sign;
+    long *long_with_sign;
+    unsigned long *long_without_sign;
+} bsp_number __attribute__((transparent_union));
+#endif
 
 /* Messages. bsp_set_tagsize leaves the size in effect in *tag_nbytes. Either pointer of bsp_qsize may be NULL. */
-void bsp_set_tagsize(int *tag_nbytes);
+void bsp_set_tagsize(bsp_number tag_nbytes);
 void bsp_send(int pid, const void *tag, const void *payload, int payload_nbytes);
-void bsp_qsize(int *nmessages, int *accum_nbytes);
-void bsp_get_tag(int *status, void *tag);
+void bsp_hpsend(int pid, const void *tag, const void *payload, int payload_nbytes);
+void bsp_qsize(bsp_number nmessages, bsp_number accum_nbytes);
+void bsp_get_tag(bsp_number status, void *tag);
 void bsp_move(void *payload, int reception_nbytes);
 int bsp_hpmove(void **tag_ptr, void **payload_ptr);
 
 /* Always 0. */
 __attribute__((warning("the machine has no clock, so this answers 0: the report gives the cost of each superstep")))
 double bsp_time(void);
+__attribute__((warning("the machine has no clock, so this answers 0: the report gives the cost of each superstep")))
+double bsp_dtime(void);
 
 #ifdef __cplusplus
 }
+
+#if __cplusplus >= 201103L
+/* The same with pointers to other whole numbers of 32 bits. */
+template <class Number> inline int *bsp_number_at(Number *at)
+{
+    static_assert(sizeof(Number) == sizeof(int) && Number(1) / 2 == 0, "this has to point to a whole number of 32 bits");
+    return reinterpret_cast<int *>(at);
+}
+template <class Number> inline void bsp_set_tagsize(Number *tag_nbytes) { bsp_set_tagsize(bsp_number_at(tag_nbytes)); }
+template <class Number> inline void bsp_get_tag(Number *status, void *tag) { bsp_get_tag(bsp_number_at(status), tag); }
+template <class Number> inline void bsp_qsize(Number *nmessages, decltype(nullptr)) { bsp_qsize(bsp_number_at(nmessages), (int *)0); }
+template <class Number> inline void bsp_qsize(decltype(nullptr), Number *accum_nbytes) { bsp_qsize((int *)0, bsp_number_at(accum_nbytes)); }
+template <class Number, class Other> inline void bsp_qsize(Number *nmessages, Other *accum_nbytes)
+{
+    bsp_qsize(bsp_number_at(nmessages), bsp_number_at(accum_nbytes));
+}
+#endif
 #endif
 
 #endif

@@ -19,6 +19,8 @@
 #ifndef BSP_LEVEL1_H
 #define BSP_LEVEL1_H
 
+#pragma GCC system_header
+
 #include "bsp.h"
 
 #ifdef __cplusplus

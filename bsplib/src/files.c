@@ -33,8 +33,10 @@ static int refuse(int reason)
 }
 
 /* A file has the name that it was given by, or what stands behind its last slash. */
-static const struct bsp_file *find(const char *name)
+const struct bsp_file *bsp_file_named(const char *name)
 {
+    if (strncmp(name, "./", 2) == 0)
+        name += 2;
     for (int i = 0; i < bsp_file_count; i++) {
         const char *whole = bsp_files[i].name;
         const char *slash = strrchr(whole, '/');
@@ -51,7 +53,7 @@ WEAK int open(const char *name, int flags, ...)
         fprintf(stderr, "bsp: %s is to be opened for writing: a node has no files to write, but its output\n", name);
         bsp_stop("a file was opened for writing");
     }
-    file = find(strncmp(name, "./", 2) == 0 ? name + 2 : name);
+    file = bsp_file_named(name);
     if (file == NULL)
         return refuse(ENOENT);
     for (int i = 0; i < MOST_FILES; i++)

@@ -1,0 +1,4 @@
+/* GCC's settings of its standard library, which are those of the host, for a node: it has one thread. */
+#pragma GCC system_header
+#include_next <bits/c++config.h>
+#undef _GLIBCXX_HAS_GTHREADS

@@ -1,0 +1,2 @@
+/* MulticoreBSP's older name for bsp.h. */
+#include "bsp.h"

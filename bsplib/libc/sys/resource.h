@@ -1,0 +1,20 @@
+/* picolibc's sys/resource.h, and a warning of what a machine without a clock answers. */
+#ifndef BSP_LIBC_SYS_RESOURCE_H
+#define BSP_LIBC_SYS_RESOURCE_H
+
+#pragma GCC system_header
+
+#include_next <sys/resource.h>
+
+#ifdef __cplusplus
+extern "C" {
+#endif
+
+__attribute__((warning("the machine has no clock, so this answers time 0: the report gives the cost of each superstep")))
+int getrusage(int, struct rusage *);
+
+#ifdef __cplusplus
+}
+#endif
+
+#endif

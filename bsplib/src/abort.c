@@ -1,0 +1,21 @@
+/* bsp_abort and bsp_vabort, apart from the rest since they need printf. */
+#include <stdarg.h>
+#include <stdio.h>
+
+#include "bsp.h"
+#include "machine.h"
+
+void bsp_vabort(const char *format, va_list arguments)
+{
+    vprintf(format, arguments);
+    bsp_stdio_flush();
+    for (;;)
+        machine_call_2(CALL_ABORT, 0, 0);
+}
+
+void bsp_abort(const char *format, ...)
+{
+    va_list arguments;
+    va_start(arguments, format);
+    bsp_vabort(format, arguments);
+}

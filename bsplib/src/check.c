@@ -1,0 +1,260 @@
+/* What a program of bspcc --check calls where C leaves open what it does: a line with the superstep, the place and the operands, and the
+   node stops. The compiler makes these calls, and lays out what they are given. */
+#include <stdint.h>
+
+#include "machine.h"
+
+struct place {
+    const char *file;
+    uint32_t line, column;
+};
+
+enum { WHOLE = 0, FLOATING = 1, WITH_SIGN = 1 };
+
+/* Of a whole number `info` tells whether it has a sign, and above that how many bits it has, as a power of 2; of a number with a point
+   it is how many bits it has. The name stands between quotes. */
+struct type {
+    uint16_t kind, info;
+    char name[];
+};
+
+/* A value that fits a word stands by itself, and any other where it points to. */
+typedef uintptr_t value;
+
+/* The line that is being made. */
+static struct {
+    char text[400];
+    unsigned count;
+} line;
+
+static void add(const char *text)
+{
+    while (*text != '\0' && line.count < sizeof line.text - 1)
+        line.text[line.count++] = *text++;
+}
+
+static void add_number(uint64_t number, unsigned base)
+{
+    char digits[24];
+    unsigned at = sizeof digits - 1;
+    digits[at] = '\0';
+    do {
+        digits[--at] = "0123456789abcdef"[number % base];
+        number /= base;
+    } while (number > 0);
+    add(digits + at);
+}
+
+static unsigned bits_of(const struct type *type)
+{
+    return type->kind == WHOLE ? 1u << (type->info >> 1) : type->info;
+}
+
+static int64_t whole_of(const struct type *type, value it)
+{
+    unsigned bits = bits_of(type);
+    uint64_t number = bits > 32 ? *(const uint64_t *)it : it;
+    unsigned above = 64 - (bits < 64 ? bits : 64);
+    return type->info & WITH_SIGN ? (int64_t)(number << above) >> above : (int64_t)(number << above >> above);
+}
+
+static void add_value(const struct type *type, value it)
+{
+    int64_t number = whole_of(type, it);
+    int is_negative = (type->info & WITH_SIGN) && number < 0;
+    add(is_negative ? "-" : "");
+    add_number(is_negative ? 0 - (uint64_t)number : (uint64_t)number, 10);
+}
+
+static void add_type(const struct type *type)
+{
+    add(type->name);
+    if (type->kind == WHOLE) {
+        add(", which has ");
+        add_number(bits_of(type), 10);
+        add(" bits here");
+    }
+}
+
+static void begin(const struct place *place)
+{
+    line.count = 0;
+    add("superstep ");
+    add_number((unsigned)bsp_superstep, 10);
+    add(", ");
+    if (place->file != NULL) {
+        add(place->file);
+        add(":");
+        add_number(place->line, 10);
+        add(": ");
+    }
+}
+
+__attribute__((noreturn)) static void end(void)
+{
+    line.text[line.count] = '\0';
+    bsp_stop(line.text);
+}
+
+struct typed {
+    struct place place;
+    const struct type *type;
+};
+
+__attribute__((noreturn)) static void does_not_fit(const struct typed *at, const char *sign, value left, value right)
+{
+    begin(&at->place);
+    add_value(at->type, left);
+    add(sign);
+    add_value(at->type, right);
+    add(" does not fit into ");
+    add_type(at->type);
+    end();
+}
+
+void __ubsan_handle_add_overflow_abort(const struct typed *at, value left, value right)
+{
+    does_not_fit(at, " + ", left, right);
+}
+
+void __ubsan_handle_sub_overflow_abort(const struct typed *at, value left, value right)
+{
+    does_not_fit(at, " - ", left, right);
+}
+
+void __ubsan_handle_mul_overflow_abort(const struct typed *at, value left, value right)
+{
+    does_not_fit(at, " * ", left, right);
+}
+
+void __ubsan_handle_negate_overflow_abort(const struct typed *at, value of)
+{
+    begin(&at->place);
+    add("-(");
+    add_value(at->type, of);
+    add(") does not fit into ");
+    add_type(at->type);
+    end();
+}
+
+void __ubsan_handle_divrem_overflow_abort(const struct typed *at, value left, value right)
+{
+    if (at->type->kind == WHOLE && whole_of(at->type, right) != 0)
+        does_not_fit(at, " / ", left, right);
+    begin(&at->place);
+    if (at->type->kind == WHOLE)
+        add_value(at->type, left);
+    else
+        add("a number");
+    add(" is divided by 0");
+    end();
+}
+
+struct shift {
+    struct place place;
+    const struct type *left, *right;
+};
+
+void __ubsan_handle_shift_out_of_bounds_abort(const struct shift *at, value left, value right)
+{
+    int64_t count = whole_of(at->right, right);
+    begin(&at->place);
+    add_value(at->left, left);
+    add(" is shifted by ");
+    add_value(at->right, right);
+    if (count >= 0 && count < (int64_t)bits_of(at->left) && whole_of(at->left, left) >= 0)
+        add(", which does not fit into ");
+    else
+        add(", as ");
+    add_type(at->left);
+    end();
+}
+
+struct index {
+    struct place place;
+    const struct type *array, *index;
+};
+
+void __ubsan_handle_out_of_bounds_abort(const struct index *at, value index)
+{
+    begin(&at->place);
+    add("index ");
+    add_value(at->index, index);
+    add(" lies outside of ");
+    add(at->array->name);
+    end();
+}
+
+struct pointed {
+    struct place place;
+    const struct type *type;
+    unsigned char alignment, use;
+};
+
+void __ubsan_handle_type_mismatch_v1_abort(const struct pointed *at, value address)
+{
+    begin(&at->place);
+    if (address == 0)
+        add("NULL is used as the address of ");
+    else {
+        add("address 0x");
+        add_number(address, 16);
+        add(" is used, and is no multiple of ");
+        add_number(1u << at->alignment, 10);
+        add(" as that of ");
+    }
+    add(at->type->name);
+    add(address == 0 ? "" : " has to be");
+    end();
+}
+
+void __ubsan_handle_vla_bound_not_positive_abort(const struct typed *at, value bound)
+{
+    begin(&at->place);
+    add("an array has a length of ");
+    add_value(at->type, bound);
+    end();
+}
+
+void __ubsan_handle_builtin_unreachable(const struct typed *at)
+{
+    begin(&at->place);
+    add("the program comes to where it says that it never does");
+    end();
+}
+
+void __ubsan_handle_missing_return(const struct typed *at)
+{
+    begin(&at->place);
+    add("a function ends without a value");
+    end();
+}
+
+struct cast {
+    struct place place;
+    const struct type *from, *to;
+};
+
+void __ubsan_handle_float_cast_overflow_abort(const struct cast *at, value from)
+{
+    double number = 0.0;
+    begin(&at->place);
+    if (bits_of(at->from) == 64)
+        number = *(const double *)from;
+    else if (bits_of(at->from) == 32) {
+        union {
+            uint32_t bits;
+            float number;
+        } as = {(uint32_t)from};
+        number = as.number;
+    }
+    add(number != number ? "no number" : number < 0 ? "a number below 0" : "a number");
+    if (number > -1e18 && number < 1e18) {
+        add(" near ");
+        add(number < 0 ? "-" : "");
+        add_number((uint64_t)(number < 0 ? -number : number), 10);
+    }
+    add(" does not fit into ");
+    add_type(at->to);
+    end();
+}

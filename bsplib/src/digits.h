@@ -1,0 +1,46 @@
+/* Numbers of the kind double as decimal digits, and back, both exact. */
+#ifndef BSP_DIGITS_H
+#define BSP_DIGITS_H
+
+#include <stdint.h>
+
+/* 0.d1d2d3.. * 10^point, without a zero in front; 0 has no digits. What is behind the last digit is told by is_more alone. All digits of a
+   double fit: 309 of them before the point, or 767 behind the zeros that follow it. */
+enum { MOST_DIGITS = 1100 };
+struct digits {
+    int count, point, is_more;
+    unsigned char digit[MOST_DIGITS];
+};
+
+/* A kind of floating point: how many bits are stored of what stands behind the first 1, and the exponents of that 1. */
+struct floating {
+    int bits, least, most;
+};
+extern const struct floating bsp_float, bsp_double;
+
+/* The digits of a number that is not below 0, up to `places` of them; or with is_fixed up to `places` behind the point. The last is rounded
+   to the nearest, and to the even one of two. */
+void bsp_digits_of(struct digits *to, double number, int places, int is_fixed);
+
+/* The bits of the number of this kind that is nearest to these digits, without a sign; the digits are used up. */
+uint64_t bsp_nearest(struct digits *from, const struct floating *kind);
+
+static inline uint64_t bsp_bits_of(double number)
+{
+    union {
+        double number;
+        uint64_t bits;
+    } as = {number};
+    return as.bits;
+}
+
+static inline double bsp_double_of(uint64_t bits)
+{
+    union {
+        uint64_t bits;
+        double number;
+    } as = {bits};
+    return as.number;
+}
+
+#endif

@@ -1,0 +1,434 @@
+/* vfprintf, below printf and all that are like it, in the place of picolibc's: every digit of a double is as the number has it, and a
+   long double is printed as the double that is nearest to it. */
+#include <errno.h>
+#include <stdarg.h>
+#include <stddef.h>
+#include <stdint.h>
+#include <stdio.h>
+#include <string.h>
+#include <wchar.h>
+
+#include "digits.h"
+
+/* Where a conversion goes to, and how many bytes went there. */
+struct sink {
+    FILE *file;
+    int count, is_bad;
+};
+
+/* What stands between % and the letter of a conversion. */
+struct format {
+    int is_left, is_zero, is_other, width, precision;
+    char sign, letter;
+    /* The bytes of a whole number, or 16 for a long double. */
+    int size;
+};
+
+static void put(struct sink *to, char byte)
+{
+    if (to->file->put(byte, to->file) < 0)
+        to->is_bad = 1;
+    to->count++;
+}
+
+static void put_many(struct sink *to, char byte, int count)
+{
+    while (count-- > 0)
+        put(to, byte);
+}
+
+static void put_bytes(struct sink *to, const char *bytes, int count)
+{
+    while (count-- > 0)
+        put(to, *bytes++);
+}
+
+/* What stands in front of a number: blanks, a sign and a prefix, and zeros where they fill the width. Answers the blanks behind it. */
+static int put_front(struct sink *to, const struct format *how, const char *prefix, int count)
+{
+    int prefixed = (int)strlen(prefix), room = how->width - count - prefixed - (how->sign != '\0');
+    if (!how->is_left && !how->is_zero)
+        put_many(to, ' ', room);
+    if (how->sign != '\0')
+        put(to, how->sign);
+    put_bytes(to, prefix, prefixed);
+    if (!how->is_left && how->is_zero)
+        put_many(to, '0', room);
+    return how->is_left ? room : 0;
+}
+
+static void put_text(struct sink *to, struct format *how, const char *text, int count)
+{
+    int behind;
+    how->sign = '\0';
+    how->is_zero = 0;
+    behind = put_front(to, how, "", count);
+    put_bytes(to, text, count);
+    put_many(to, ' ', behind);
+}
+
+/* Whole numbers. */
+
+static void put_whole(struct sink *to, struct format *how, uint64_t number)
+{
+    unsigned base = how->letter == 'o' ? 8 : how->letter == 'x' || how->letter == 'X' || how->letter == 'p' ? 16 : 10;
+    const char *figures = how->letter == 'X' ? "0123456789ABCDEF" : "0123456789abcdef", *prefix = "";
+    char digits[24], *digit = digits + sizeof digits;
+    int count, zeros, behind;
+    if (base == 16 && (how->letter == 'p' || (how->is_other && number > 0)))
+        prefix = how->letter == 'X' ? "0X" : "0x";
+    /* Most numbers fit a word, whose division is one instruction. */
+    for (; number > 0xffffffff; number /= base)
+        *--digit = figures[number % base];
+    for (uint32_t rest = (uint32_t)number; rest > 0; rest /= base)
+        *--digit = figures[rest % base];
+    count = (int)(digits + sizeof digits - digit);
+    if (how->precision >= 0)
+        how->is_zero = 0;
+    zeros = (how->precision >= 0 ? how->precision : 1) - count;
+    if (base == 8 && how->is_other && zeros <= 0)
+        zeros = 1;
+    zeros = zeros > 0 ? zeros : 0;
+    behind = put_front(to, how, prefix, zeros + count);
+    put_many(to, '0', zeros);
+    put_bytes(to, digit, count);
+    put_many(to, ' ', behind);
+}
+
+static void put_signed(struct sink *to, struct format *how, va_list *arguments)
+{
+    int64_t number = how->size == 8 ? va_arg(*arguments, int64_t) : va_arg(*arguments, int32_t);
+    number = how->size == 1 ? (int8_t)number : how->size == 2 ? (int16_t)number : number;
+    how->sign = number < 0 ? '-' : how->sign;
+    put_whole(to, how, number < 0 ? 0 - (uint64_t)number : (uint64_t)number);
+}
+
+static void put_unsigned(struct sink *to, struct format *how, va_list *arguments)
+{
+    uint64_t number = how->size == 8 ? va_arg(*arguments, uint64_t) : va_arg(*arguments, uint32_t);
+    number = how->size == 1 ? (uint8_t)number : how->size == 2 ? (uint16_t)number : number;
+    how->sign = '\0';
+    put_whole(to, how, number);
+}
+
+/* Numbers with a point. */
+
+/* The digits from one place on, and zeros where there are none. */
+static void put_digits(struct sink *to, const struct digits *from, int first, int count)
+{
+    for (; count > 0; first++, count--)
+        put(to, (char)('0' + (first >= 0 && first < from->count ? from->digit[first] : 0)));
+}
+
+static void put_exponent(struct sink *to, char letter, int exponent, int least)
+{
+    char digits[6];
+    int at = sizeof digits;
+    put(to, letter);
+    put(to, exponent < 0 ? '-' : '+');
+    for (int rest = exponent < 0 ? -exponent : exponent; rest > 0 || at > (int)sizeof digits - least; rest /= 10)
+        digits[--at] = (char)('0' + rest % 10);
+    put_bytes(to, digits + at, (int)sizeof digits - at);
+}
+
+static void put_fixed(struct sink *to, const struct format *how, const struct digits *from, int places)
+{
+    int whole = from->point > 0 ? from->point : 1, has_point = places > 0 || how->is_other;
+    int behind = put_front(to, how, "", whole + has_point + places);
+    put_digits(to, from, from->point > 0 ? 0 : from->point - 1, whole);
+    if (has_point)
+        put(to, '.');
+    put_digits(to, from, from->point, places);
+    put_many(to, ' ', behind);
+}
+
+static void put_scientific(struct sink *to, const struct format *how, const struct digits *from, int places)
+{
+    int exponent = from->count > 0 ? from->point - 1 : 0, has_point = places > 0 || how->is_other;
+    int behind = put_front(to, how, "", 1 + has_point + places + (exponent > -100 && exponent < 100 ? 4 : 5));
+    put_digits(to, from, 0, 1);
+    if (has_point)
+        put(to, '.');
+    put_digits(to, from, 1, places);
+    put_exponent(to, how->letter < 'a' ? 'E' : 'e', exponent, 2);
+    put_many(to, ' ', behind);
+}
+
+/* The shorter of the two, by the rule of %g. */
+static void put_general(struct sink *to, const struct format *how, struct digits *from, int places)
+{
+    int exponent = from->count > 0 ? from->point - 1 : 0, wanted = places;
+    if (!how->is_other) {
+        for (wanted = from->count; wanted > 1 && from->digit[wanted - 1] == 0;)
+            wanted--;
+        wanted = wanted > 0 ? wanted : 1;
+    }
+    if (exponent < -4 || exponent >= places)
+        put_scientific(to, how, from, wanted - 1);
+    else
+        put_fixed(to, how, from, wanted - 1 > exponent ? wanted - 1 - exponent : 0);
+}
+
+/* The bits themselves, in figures of four. */
+static void put_hexadecimal(struct sink *to, const struct format *how, double number)
+{
+    uint64_t bits = bsp_bits_of(number), part = bits & 0xfffffffffffffu;
+    int exponent = (int)(bits >> 52) & 0x7ff, places = how->precision, behind, has_point, size = 0;
+    const char *figures = how->letter == 'A' ? "0123456789ABCDEF" : "0123456789abcdef";
+    if (exponent > 0)
+        part |= (uint64_t)1 << 52;
+    exponent = exponent > 0 ? exponent - 1023 : part > 0 ? -1022 : 0;
+    if (places >= 0 && places < 13) {
+        int dropped = 4 * (13 - places);
+        uint64_t half = (uint64_t)1 << (dropped - 1), rest = part & (2 * half - 1);
+        part -= rest;
+        if (rest > half || (rest == half && (part >> dropped & 1) != 0))
+            part += 2 * half;
+    } else if (places < 0)
+        for (places = 13; places > 0 && (part >> (4 * (13 - places)) & 15) == 0;)
+            places--;
+    has_point = places > 0 || how->is_other;
+    for (int rest = exponent < 0 ? -exponent : exponent; rest > 0 || size == 0; rest /= 10)
+        size++;
+    behind = put_front(to, how, how->letter == 'A' ? "0X" : "0x", 1 + has_point + places + 2 + size);
+    put(to, figures[part >> 52]);
+    if (has_point)
+        put(to, '.');
+    for (int i = 1; i <= places; i++)
+        put(to, i <= 13 ? figures[part >> (52 - 4 * i) & 15] : '0');
+    put_exponent(to, how->letter == 'A' ? 'P' : 'p', exponent, 1);
+    put_many(to, ' ', behind);
+}
+
+static void put_double(struct sink *to, struct format *how, double number)
+{
+    struct digits digits;
+    int is_large = how->letter < 'a', places = how->precision < 0 ? 6 : how->precision;
+    if (bsp_bits_of(number) >> 63 != 0) {
+        how->sign = '-';
+        number = bsp_double_of(bsp_bits_of(number) & ~((uint64_t)1 << 63));
+    }
+    if (bsp_bits_of(number) >> 52 == 0x7ff) {
+        int is_number = bsp_bits_of(number) << 12 == 0, behind;
+        how->is_zero = 0;
+        behind = put_front(to, how, "", 3);
+        put_bytes(to, is_number ? (is_large ? "INF" : "inf") : is_large ? "NAN" : "nan", 3);
+        put_many(to, ' ', behind);
+        return;
+    }
+    switch (how->letter | 32) {
+    case 'a':
+        put_hexadecimal(to, how, number);
+        return;
+    case 'f':
+        bsp_digits_of(&digits, number, places, 1);
+        put_fixed(to, how, &digits, places);
+        return;
+    case 'e':
+        bsp_digits_of(&digits, number, places + 1, 0);
+        put_scientific(to, how, &digits, places);
+        return;
+    default:
+        places = places > 0 ? places : 1;
+        bsp_digits_of(&digits, number, places, 0);
+        put_general(to, how, &digits, places);
+    }
+}
+
+/* Texts. */
+
+static void put_string(struct sink *to, struct format *how, const char *text)
+{
+    int count = 0;
+    if (text == NULL)
+        text = "(null)";
+    while ((how->precision < 0 || count < how->precision) && text[count] != '\0')
+        count++;
+    put_text(to, how, text, count);
+}
+
+/* A text of wide characters, of which the locale C has those below 128. */
+static void put_wide(struct sink *to, struct format *how, const wchar_t *text, int most)
+{
+    int count = 0, behind;
+    for (; (most < 0 || count < most) && text[count] != L'\0'; count++)
+        if ((uint32_t)text[count] > 127) {
+            errno = EILSEQ;
+            to->is_bad = 1;
+            return;
+        }
+    how->sign = '\0';
+    how->is_zero = 0;
+    behind = put_front(to, how, "", count);
+    for (int i = 0; i < count; i++)
+        put(to, (char)text[i]);
+    put_many(to, ' ', behind);
+}
+
+static void store_count(void *to, int size, int count)
+{
+    switch (size) {
+    case 1:
+        *(int8_t *)to = (int8_t)count;
+        break;
+    case 2:
+        *(int16_t *)to = (int16_t)count;
+        break;
+    case 8:
+        *(int64_t *)to = count;
+        break;
+    default:
+        *(int32_t *)to = count;
+    }
+}
+
+/* What stands between % and the letter. Answers where the letter is. */
+static const char *read_number(const char *at, int *number, va_list *arguments)
+{
+    if (*at == '*') {
+        *number = va_arg(*arguments, int);
+        return at + 1;
+    }
+    for (*number = 0; *at >= '0' && *at <= '9'; at++)
+        *number = *number * 10 + *at - '0';
+    return at;
+}
+
+static const char *read_flags(struct format *how, const char *at)
+{
+    for (;; at++)
+        switch (*at) {
+        case '-':
+            how->is_left = 1;
+            break;
+        case '0':
+            how->is_zero = 1;
+            break;
+        case '+':
+            how->sign = '+';
+            break;
+        case ' ':
+            how->sign = how->sign == '+' ? '+' : ' ';
+            break;
+        case '#':
+            how->is_other = 1;
+            break;
+        case '\'':
+            /* The locale C has nothing between thousands. */
+            break;
+        default:
+            return at;
+        }
+}
+
+static const char *read_size(struct format *how, const char *at)
+{
+    switch (*at++) {
+    case 'h':
+        how->size = *at == 'h' ? 1 : 2;
+        return *at == 'h' ? at + 1 : at;
+    case 'l':
+        how->size = *at == 'l' ? 8 : 4;
+        return *at == 'l' ? at + 1 : at;
+    case 'j':
+    case 'q':
+        how->size = 8;
+        return at;
+    case 'z':
+    case 't':
+        how->size = 4;
+        return at;
+    case 'L':
+        how->size = 16;
+        return at;
+    default:
+        return at - 1;
+    }
+}
+
+static const char *read_format(struct format *how, const char *at, va_list *arguments)
+{
+    memset(how, 0, sizeof *how);
+    at = read_flags(how, at);
+    at = read_number(at, &how->width, arguments);
+    if (how->width < 0) {
+        how->is_left = 1;
+        how->width = -how->width;
+    }
+    how->precision = -1;
+    if (*at == '.') {
+        at = read_number(at + 1, &how->precision, arguments);
+        how->precision = how->precision < 0 ? -1 : how->precision;
+    }
+    return read_size(how, at);
+}
+
+static void put_converted(struct sink *to, struct format *how, va_list *arguments)
+{
+    char byte = '%';
+    wchar_t wide;
+    switch (how->letter) {
+    case 'd':
+    case 'i':
+        put_signed(to, how, arguments);
+        return;
+    case 'u':
+    case 'x':
+    case 'X':
+    case 'o':
+    case 'p':
+        put_unsigned(to, how, arguments);
+        return;
+    case 's':
+        if (how->size == 4)
+            put_wide(to, how, va_arg(*arguments, const wchar_t *), how->precision);
+        else
+            put_string(to, how, va_arg(*arguments, const char *));
+        return;
+    case 'c':
+        wide = va_arg(*arguments, int);
+        byte = (char)wide;
+        if (how->size == 4 && byte != '\0')
+            put_wide(to, how, &wide, 1);
+        else
+            put_text(to, how, &byte, 1);
+        return;
+    case '%':
+        put(to, byte);
+        return;
+    case 'n':
+        store_count(va_arg(*arguments, void *), how->size, to->count);
+        return;
+    default:
+        put_double(to, how, how->size == 16 ? (double)va_arg(*arguments, long double) : va_arg(*arguments, double));
+    }
+}
+
+int vfprintf(FILE *file, const char *format, va_list arguments)
+{
+    struct sink to = {file, 0, 0};
+    va_list rest;
+    if (file->put == NULL)
+        return EOF;
+    va_copy(rest, arguments);
+    while (*format != '\0' && !to.is_bad) {
+        struct format how;
+        const char *begin = format;
+        if (*format != '%') {
+            put(&to, *format++);
+            continue;
+        }
+        format = read_format(&how, format + 1, &rest);
+        how.letter = *format;
+        if (how.letter == '\0' || strchr("diuxXopscn%aefgAEFG", how.letter) == NULL) {
+            /* No conversion: it stands as it is. */
+            put(&to, '%');
+            format = begin + 1;
+            continue;
+        }
+        put_converted(&to, &how, &rest);
+        format++;
+    }
+    va_end(rest);
+    return to.is_bad ? EOF : to.count;
+}

@@ -1,0 +1,29 @@
+/* What the headers of C++'s standard library want linked: texts, the standard streams, and a line in the place of each exception. */
+#include <iostream>
+#include <string>
+
+extern "C" __attribute__((noreturn)) void bsp_stop(const char *text);
+
+namespace std {
+
+void __throw_bad_alloc() { bsp_stop("std::bad_alloc"); }
+void __throw_bad_array_new_length() { bsp_stop("std::bad_array_new_length"); }
+void __throw_bad_cast() { bsp_stop("std::bad_cast"); }
+void __throw_bad_function_call() { bsp_stop("std::bad_function_call: a std::function is called that has no function"); }
+void __throw_logic_error(const char *text) { bsp_stop(text); }
+void __throw_domain_error(const char *text) { bsp_stop(text); }
+void __throw_invalid_argument(const char *text) { bsp_stop(text); }
+void __throw_length_error(const char *text) { bsp_stop(text); }
+void __throw_out_of_range(const char *text) { bsp_stop(text); }
+void __throw_out_of_range_fmt(const char *text, ...) { bsp_stop(text); }
+void __throw_runtime_error(const char *text) { bsp_stop(text); }
+void __throw_range_error(const char *text) { bsp_stop(text); }
+void __throw_overflow_error(const char *text) { bsp_stop(text); }
+void __throw_underflow_error(const char *text) { bsp_stop(text); }
+
+template class basic_string<char>;
+
+ostream cout(stdout), cerr(stderr), clog(stderr);
+istream cin;
+
+} // namespace std

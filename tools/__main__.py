@@ -1,0 +1,20 @@
+"""Starts a tool of the package beside this file: `python3 -I -B tools NAME ARGUMENTS..`, which the starters at the top do."""
+
+import os
+import signal
+import sys
+
+
+def _end(*_: object) -> None:
+    """Ends this process at Ctrl-C without a word, as long as nothing is there that has to be cleared away."""
+    os._exit(128 + signal.SIGINT)
+
+
+if signal.getsignal(signal.SIGINT) != signal.SIG_IGN:
+    signal.signal(signal.SIGINT, _end)
+if sys.version_info < (3, 8):
+    sys.exit("%s: Python 3.8 or later is wanted, and this is %s" % (sys.argv[1], sys.version.split()[0]))
+
+from bsptools import start  # noqa: E402
+
+sys.exit(start.process(sys.argv[1], sys.argv[2:]))

@@ -1,0 +1,250 @@
+"""The answers to gdb's packets."""
+
+from __future__ import annotations
+
+import re
+from typing import Callable, Dict, List, Optional, Tuple
+
+from . import monitor, numbers, words
+from .machine import Machine
+from .packets import INTERRUPT, PACKET_SIZE, Closed, Connection, escape, hexadecimal
+from .runner import MOST_BREAKPOINTS, Exit, Halt, Runner, Stop
+
+OK = b"OK"
+# What the protocol has for a packet that is not known.
+UNKNOWN = b""
+BAD = b"E01"
+READ_ONLY = b"E.memory and registers are read only"
+FEATURES = f"PacketSize={PACKET_SIZE:x};QStartNoAckMode+;qXfer:features:read+;qXfer:threads:read+;swbreak+;hwbreak+;vContSupported+"
+# Bytes of output that one packet shows.
+CHUNK = 4096
+
+_ACTION = re.compile(r"[cs]|[CS][0-9a-fA-F]{2}|r[0-9a-fA-F]+,[0-9a-fA-F]+")
+
+Answer = Callable[[str], bytes]
+
+
+class Stub:
+    """Answers gdb's packets over a connection, until one ends the session."""
+
+    def __init__(self, connection: Connection, machine: Machine) -> None:
+        self._connection = connection
+        self._machine = machine
+        self._runner = Runner(machine, self._show, connection.is_interrupted)
+        self._current = 0
+        self._resumed: Optional[int] = None
+        self._halt: Halt = Stop(0, words.TRAP)
+        self._is_hardware: Dict[int, bool] = {}
+        self._is_over = False
+        self._exact = self._answers_to_words()
+        self._beginning = self._answers_to_beginnings()
+
+    def _answers_to_words(self) -> Dict[str, Answer]:
+        """The answers to packets that are just these words."""
+        return {
+            "QStartNoAckMode": self._stop_acknowledging,
+            "qfThreadInfo": lambda _: b"m" + b",".join(b"%x" % (rank + 1) for rank in range(self._machine.ranks)),
+            "qsThreadInfo": lambda _: b"l",
+            "qC": lambda _: b"QC%x" % (self._current + 1),
+            "D": self._end,
+            "vCont?": lambda _: b"vCont;c;C;s;S;r",
+            "?": lambda _: self._told(self._halt),
+            "g": lambda _: b"".join(map(_register, self._registers())),
+        }
+
+    def _answers_to_beginnings(self) -> Dict[str, Answer]:
+        """The answers to packets that begin so, by what comes behind."""
+        return {
+            "qSupported": lambda _: FEATURES.encode(),
+            "qAttached": lambda _: b"0",
+            "qThreadExtraInfo,": lambda text: hexadecimal(self._state(self._rank(text))),
+            "qXfer:": self._transfer,
+            "qRcmd,": self._monitor,
+            "vCont;": self._resume,
+            "vKill;": self._end,
+            "D;": self._end,
+            "Hg": self._choose,
+            "Hc": self._choose_resumed,
+            "T": self._tell_of_thread,
+            "p": self._read_register,
+            "m": self._read_memory,
+            "Z0,": lambda text: self._add_breakpoint(text, is_hardware=False),
+            "Z1,": lambda text: self._add_breakpoint(text, is_hardware=True),
+            "z0,": self._remove_breakpoint,
+            "z1,": self._remove_breakpoint,
+            "c": lambda text: self._resume_chosen("c", text),
+            "C": lambda text: self._resume_chosen("c", text.partition(";")[2]),
+            "s": lambda text: self._resume_chosen("s", text),
+            "S": lambda text: self._resume_chosen("s", text.partition(";")[2]),
+            **{name: lambda _: READ_ONLY for name in "GPMX"},
+        }
+
+    def serve(self) -> None:
+        """Answers packets until gdb ends the session, or closes the connection once the run is over."""
+        while not self._is_over:
+            try:
+                packet = self._connection.receive()
+            except Closed:
+                if isinstance(self._halt, Exit):
+                    return
+                raise
+            if packet == b"k":
+                return
+            if packet == INTERRUPT:
+                # Nothing goes on that it could interrupt.
+                continue
+            self._connection.send(self._answer(packet.decode("latin-1")))
+
+    def _answer(self, packet: str) -> bytes:
+        try:
+            if packet in self._exact:
+                return self._exact[packet]("")
+            for beginning, answer in self._beginning.items():
+                if packet.startswith(beginning):
+                    return answer(packet[len(beginning) :])
+        except (ValueError, IndexError):
+            return BAD
+        return UNKNOWN
+
+    # The session.
+
+    def _stop_acknowledging(self, _: str) -> bytes:
+        self._connection.stop_acknowledging()
+        return OK
+
+    def _end(self, _: str) -> bytes:
+        self._is_over = True
+        return OK
+
+    def _show(self, output: bytes) -> None:
+        """Shows output on gdb's console, while it waits for a stop."""
+        for start in range(0, len(output), CHUNK):
+            self._connection.send(b"O" + hexadecimal(output[start : start + CHUNK]))
+
+    def _monitor(self, text: str) -> bytes:
+        self._show(monitor.answer(self._runner, bytes.fromhex(text).decode("utf-8", "replace")))
+        return OK
+
+    def _transfer(self, text: str) -> bytes:
+        """A part of a text: `OBJECT:read:ANNEX:OFFSET,LENGTH`."""
+        kind, operation, annex, place = text.split(":")
+        offset, length = numbers.pair(place)
+        if (kind, operation, annex) == ("features", "read", "target.xml"):
+            whole = words.target_description()
+        elif (kind, operation, annex) == ("threads", "read", ""):
+            whole = words.thread_list(self._state(rank) for rank in range(self._machine.ranks))
+        else:
+            return UNKNOWN if operation != "read" else BAD
+        data = whole.encode()
+        return (b"m" if offset + length < len(data) else b"l") + escape(data[offset : offset + length])
+
+    # What there is.
+
+    def _state(self, rank: int) -> str:
+        return f"{self._machine.node(rank).state}, superstep {self._machine.superstep}"
+
+    def _rank(self, text: str) -> int:
+        return numbers.rank(text, self._machine.ranks)
+
+    def _rank_or_all(self, text: str) -> Optional[int]:
+        return numbers.rank_or_all(text, self._machine.ranks)
+
+    def _tell_of_thread(self, text: str) -> bytes:
+        """Whether there is a thread."""
+        self._rank(text)
+        return OK
+
+    def _choose(self, text: str) -> bytes:
+        """Chooses the rank that is read."""
+        chosen = self._rank_or_all(text)
+        self._current = self._current if chosen is None else chosen
+        return OK
+
+    def _choose_resumed(self, text: str) -> bytes:
+        """Chooses those that an old `c` or `s` resumes: one rank, or all of them."""
+        self._resumed = self._rank_or_all(text)
+        return OK
+
+    def _registers(self) -> List[int]:
+        node = self._machine.node(self._current)
+        return [*node.x, node.pc]
+
+    def _read_register(self, text: str) -> bytes:
+        return _register(self._registers()[numbers.number(text)])
+
+    def _read_memory(self, text: str) -> bytes:
+        addr, length = numbers.pair(text)
+        data = self._machine.memory(self._current, addr, min(length, PACKET_SIZE // 2))
+        return hexadecimal(data) if data or length == 0 else BAD
+
+    # Going on.
+
+    def _add_breakpoint(self, text: str, is_hardware: bool) -> bytes:
+        addr = numbers.address(text.split(",")[0])
+        if len(self._runner.breakpoints | {addr}) > MOST_BREAKPOINTS:
+            return b"E.too many breakpoints"
+        self._runner.breakpoints.add(addr)
+        self._is_hardware[addr] = is_hardware
+        return OK
+
+    def _remove_breakpoint(self, text: str) -> bytes:
+        self._runner.breakpoints.discard(numbers.address(text.split(",")[0]))
+        return OK
+
+    def _resume(self, text: str) -> bytes:
+        """The actions of `vCont`, of which the first for a rank counts.
+
+        A rank that is to step steps alone, whatever the others are told. One that alone is told to go on goes alone.
+        """
+        actions = [self._action(word) for word in text.split(";")]
+        steps = [(kind, rank) for kind, rank in actions if kind[0] in "sSr"]
+        kind, rank = (steps or actions)[0]
+        if steps:
+            return self._go_on(kind, self._current if rank is None else rank)
+        return self._go_on(kind, rank if all(other is not None for _, other in actions) else None)
+
+    def _action(self, word: str) -> Tuple[str, Optional[int]]:
+        """An action of `vCont`, and the rank that it is for, if it is for one."""
+        kind, _, thread = word.partition(":")
+        if not _ACTION.fullmatch(kind):
+            raise ValueError(word)
+        return kind, self._rank_or_all(thread or "0")
+
+    def _resume_chosen(self, action: str, addr: str) -> bytes:
+        """An old `c` or `s`, which might name an address to go on at."""
+        if addr:
+            return READ_ONLY
+        if action == "s":
+            return self._go_on("s", self._current if self._resumed is None else self._resumed)
+        return self._go_on("c", self._resumed)
+
+    def _go_on(self, action: str, rank: Optional[int]) -> bytes:
+        if rank is None:
+            halt = self._runner.go(self._current)
+        elif action[0] in "cC":
+            halt = self._runner.go_alone(rank)
+        elif action[0] == "r":
+            halt = self._runner.step_range(rank, *numbers.pair(action[1:]))
+        else:
+            halt = self._runner.step(rank)
+        self._halt = halt
+        if isinstance(halt, Stop):
+            self._current = halt.rank
+        return self._told(halt)
+
+    def _told(self, halt: Halt) -> bytes:
+        """The reply that tells gdb of a stop, with the registers that it would ask for."""
+        if isinstance(halt, Exit):
+            return b"W%02x" % halt.status
+        node = self._machine.node(halt.rank)
+        values = [*node.x, node.pc]
+        parts = [b"%02x:%s" % (number, _register(values[number])) for number in words.TOLD]
+        parts.append(b"thread:%x" % (halt.rank + 1))
+        if halt.is_breakpoint:
+            parts.append(b"hwbreak:" if self._is_hardware.get(node.pc) else b"swbreak:")
+        return b"T%02x" % halt.signal + b"".join(part + b";" for part in parts)
+
+
+def _register(value: int) -> bytes:
+    """A register as the protocol spells it: in the target's order of bytes."""
+    return hexadecimal(value.to_bytes(4, "little"))

@@ -1,0 +1,73 @@
+"""The words and numbers of both sides: signals, threads, the registers of a node."""
+
+from __future__ import annotations
+
+from typing import Iterable
+from xml.sax.saxutils import quoteattr
+
+# gdb's numbers of signals.
+NONE, INTERRUPTED, ILLEGAL, TRAP, ABORTED, BUS, SEGMENT, SYSTEM_CALL, LIMIT = 0, 2, 4, 5, 6, 10, 11, 12, 24
+
+# Which signal a state is to gdb. A range that does not lie in the memory is a bad address; the other faults of calls are bad calls.
+SIGNALS = {
+    "aborted": ABORTED,
+    "exhausted": LIMIT,
+    "fault Misaligned": BUS,
+    "fault FetchOutside": SEGMENT,
+    "fault LoadOutside": SEGMENT,
+    "fault StoreOutside": SEGMENT,
+    "fault RangeOutside": SEGMENT,
+    "fault IllegalInstruction": ILLEGAL,
+    "fault Break": TRAP,
+}
+
+# The exit status of a run with this outcome: that of `bspemu run`.
+ENDED, STOPPED, EXHAUSTED, REFUSED = 0, 2, 3, 4
+
+REGISTERS = """zero ra sp gp tp t0 t1 t2 s0 s1 a0 a1 a2 a3 a4 a5 a6 a7 s2 s3 s4 s5 s6 s7 s8 s9 s10 s11 t3 t4 t5 t6""".split()
+PC = 32
+# The registers that a stop tells by itself, since gdb asks for them at each one: ra, sp, fp and pc.
+TOLD = [1, 2, 8, PC]
+
+_TYPES = {"ra": "code_ptr", "sp": "data_ptr", "gp": "data_ptr", "tp": "data_ptr", "s0": "data_ptr", "pc": "code_ptr"}
+
+
+def signal_of(state: str) -> int:
+    """The signal that gdb is told where a node is in this state. Faults that are not in the table are those of calls."""
+    if state in SIGNALS:
+        return SIGNALS[state]
+    return SYSTEM_CALL if state.startswith("fault ") else TRAP
+
+
+def status_of(outcome: str) -> int:
+    """The exit status of a run with this outcome."""
+    if outcome == "ended":
+        return ENDED
+    if outcome.startswith("rank "):
+        return EXHAUSTED if outcome.endswith(" exhausted") else STOPPED
+    return REFUSED
+
+
+def rank_of(outcome: str, otherwise: int) -> int:
+    """The rank that an outcome is to be shown at: the one that stopped, that waits in vain, or whose request was refused."""
+    words = outcome.replace(",", "").split()
+    ranks = [int(number) for word, number in zip(words, words[1:]) if word == "rank"]
+    return ranks[-1] if ranks else otherwise
+
+
+def target_description() -> str:
+    """What gdb is told of the registers. Without an operating system, gdb has the target make its single steps."""
+    rows = "".join(
+        f'<reg name="{name}" bitsize="32" type="{_TYPES.get(name, "int")}" regnum="{number}"/>'
+        for number, name in enumerate(REGISTERS + ["pc"])
+    )
+    return (
+        '<?xml version="1.0"?><!DOCTYPE target SYSTEM "gdb-target.dtd"><target version="1.0">'
+        f'<architecture>riscv:rv32</architecture><osabi>none</osabi><feature name="org.gnu.gdb.riscv.cpu">{rows}</feature></target>'
+    )
+
+
+def thread_list(states: Iterable[str]) -> str:
+    """What gdb is told of the ranks in these states: thread R + 1 is rank R."""
+    rows = "".join(f'<thread id="{rank + 1:x}" name={quoteattr(f"rank {rank}")}>{state}</thread>' for rank, state in enumerate(states))
+    return f'<?xml version="1.0"?><threads>{rows}</threads>'

@@ -1,0 +1,158 @@
+"""The debugger as a process: a line goes in, and its reply comes out, behind a header that says how long it is."""
+
+from __future__ import annotations
+
+import re
+import select
+import subprocess
+from collections.abc import Sequence
+from typing import NamedTuple
+
+from . import children, limits
+from .refusals import Refused
+
+# As many steps as a node can make.
+ALL = (1 << 64) - 1
+# Of how many lines there may be replies in the pipes at once, so that neither side waits for the other one.
+BATCH = 64
+
+_HEADER = re.compile(rb"(done|refused) (\d+)\n")
+_NODE = re.compile(r"rank (\d+) pc ([0-9a-f]{8}) ticks (\d+) state (.+)")
+_REGISTER = re.compile(r"=([0-9a-f]{8})")
+
+
+class DebuggerEnded(Refused):
+    """The debugger has ended, though it was not told to, or answers nothing that it could. What it had to say of that stands on standard
+    error."""
+
+    def __init__(self) -> None:
+        super().__init__("the debugger has ended")
+
+
+class Node(NamedTuple):
+    """A node as the debugger shows it: its rank, pc, ticks, state, registers, and its memory from x2 on where it was asked for."""
+
+    rank: int
+    pc: int
+    ticks: int
+    state: str
+    x: tuple[int, ...]
+    stack: bytes = b""
+
+    @property
+    def runs(self) -> bool:
+        """Whether it can make a step."""
+        return self.state == "running"
+
+    def at(self, address: int) -> int | None:
+        """The word of the stack at an address."""
+        place = address - (self.x[2] if self.x[2] < 1 << 31 else 0)
+        return int.from_bytes(self.stack[place : place + 4], "little") if 0 <= place <= len(self.stack) - 4 else None
+
+
+def signed(word: int) -> int:
+    """A word as a C program sees an int."""
+    return word - (1 << 32) if word >= 1 << 31 else word
+
+
+def node_of(reply: Sequence[str], stack: bytes = b"") -> Node | None:
+    """The node that a reply to `regs` shows."""
+    head = _NODE.fullmatch(reply[0]) if len(reply) == 9 else None
+    if head is None:
+        return None
+    x = tuple(int(value, 16) for line in reply[1:] for value in _REGISTER.findall(line))
+    return Node(int(head[1]), int(head[2], 16), int(head[3]), head[4], x, stack)
+
+
+class Reply(NamedTuple):
+    """A reply: whether the line was done and not refused, and what came. Each line of it is bytes with a line feed at the end."""
+
+    is_done: bool
+    data: bytes
+
+    @property
+    def lines(self) -> list[str]:
+        """The lines of a reply that is text."""
+        return self.data.decode(errors="replace").split("\n")[:-1]
+
+    def accepted(self) -> list[str]:
+        """The lines of a reply to what cannot be refused."""
+        if not self.is_done:
+            raise Refused(f"the debugger answered {self.lines[0]}")
+        return self.lines
+
+
+class Session:
+    """A session with the debugger. `room` is how many bytes of lines it still reads."""
+
+    def __init__(self, command: Sequence[str], is_quiet: bool = False) -> None:
+        told = subprocess.DEVNULL if is_quiet else None
+        self._process = children.start([*command, "--framed"], stdin=subprocess.PIPE, stdout=subprocess.PIPE, stderr=told)
+        assert self._process.stdin is not None and self._process.stdout is not None
+        self._lines, self._replies = self._process.stdin, self._process.stdout
+        self.room = limits.MOST_LINES
+
+    def close(self) -> None:
+        """Ends the process, also in the midst of a long `go`."""
+        children.end(self._process)
+
+    def send(self, *lines: str) -> None:
+        """Sends lines, whose replies are still to be received."""
+        data = "".join(line + "\n" for line in lines).encode()
+        self.room -= len(data)
+        try:
+            self._lines.write(data)
+            self._lines.flush()
+        except BrokenPipeError as fault:
+            raise DebuggerEnded from fault
+
+    def reply(self) -> Reply:
+        """The reply to the first line that has none yet. A header says how many lines it has."""
+        header = _HEADER.fullmatch(self._line())
+        if header is None:
+            raise DebuggerEnded
+        return Reply(header[1] == b"done", b"".join(self._line() for _ in range(int(header[2]))))
+
+    def is_answered(self, seconds: float) -> bool:
+        """Whether the only line that is not answered yet is answered within this time."""
+        return bool(select.select([self._replies], [], [], seconds)[0])
+
+    def ask(self, line: str) -> Reply:
+        """The reply to a line."""
+        self.send(line)
+        return self.reply()
+
+    def ask_all(self, lines: Sequence[str]) -> list[Reply]:
+        """The replies to lines, which are as many where the debugger does not end before."""
+        replies = []
+        for start in range(0, len(lines), BATCH):
+            part = lines[start : start + BATCH]
+            self.send(*part)
+            replies += [self.reply() for _ in part]
+        return replies
+
+    def settings(self) -> dict[str, int]:
+        """The number of nodes and the other settings, by the names of their options."""
+        words = self.ask("nodes").accepted()[0].split()
+        return {name: int(value) for name, value in zip(words[::2], words[1::2])}
+
+    def node(self, rank: int) -> Node | None:
+        """A node as it is, if there is one of this rank."""
+        return node_of(self.ask(f"regs {rank}").lines)
+
+    def superstep(self) -> int:
+        """The superstep that has begun last."""
+        return int(self.ask("where 0").accepted()[0].split()[5])
+
+    def output(self, start: int = 0) -> bytes:
+        """What was written in the supersteps that are over, from this byte on. A line feed follows it."""
+        reply = self.ask(f"output {start}")
+        reply.accepted()
+        return reply.data[:-1]
+
+    def _line(self) -> bytes:
+        """The next line, with its line feed."""
+        line: bytes = self._replies.readline()
+        if not line.endswith(b"\n"):
+            raise DebuggerEnded
+        return line

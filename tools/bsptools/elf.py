@@ -1,0 +1,122 @@
+"""ELF files: their segments; and their symbols and the lines of their code, which pyelftools reads, where it is installed."""
+
+from __future__ import annotations
+
+import contextlib
+import io
+import posixpath
+import struct
+from collections.abc import Iterator
+from typing import Any
+
+from . import bounds, limits
+from .packages import ELFTOOLS, missing
+
+LOAD = 1
+FUNCTION, OBJECT = "STT_FUNC", "STT_OBJECT"
+# What makes a scope of a function's debug information, with the blocks in it.
+CALLED, PUT_IN, BLOCK = "DW_TAG_subprogram", "DW_TAG_inlined_subroutine", "DW_TAG_lexical_block"
+# What is read for debuggers takes no more bytes than these, and is none of a file with more sections than compilers make.
+MOST_MEMORY, MOST_SECTIONS = 1 << 29, 256
+OTHERS = ("DW_AT_abstract_origin", "DW_AT_specification")
+# From a function to where it is declared, in a file that is not broken.
+MOST_STEPS = 8
+
+
+def segments(content: bytes) -> Iterator[tuple[int, memoryview, int]]:
+    """Address, bytes and end of each segment that is loaded, as far as they can be read: a broken file is the emulator's to refuse. So
+    is one whose segments have more bytes than a node's memory, and what is beyond is left out here."""
+    room = limits.MOST_MEMORY
+    with contextlib.suppress(struct.error):
+        (start,) = struct.unpack_from("<I", content, 28)
+        size, count = struct.unpack_from("<HH", content, 42)
+        for i in range(count):
+            kind, offset, address, _, filesize, memsize = struct.unpack_from("<6I", content, start + i * size)
+            if kind == LOAD:
+                stored = memoryview(content)[offset : offset + filesize][:room]
+                room -= len(stored)
+                yield address, stored, address + memsize
+
+
+class Debug:
+    """What a file has for debuggers. What cannot be read, as in a file that is broken, is left out: pyelftools raises errors of all kinds."""
+
+    def __init__(self, content: bytes) -> None:
+        self.symbols: list[Any] = []
+        self.info: Any = None
+        if not missing(ELFTOOLS):
+            from elftools.elf.elffile import ELFFile
+
+            with contextlib.suppress(Exception), bounds.at_most(MOST_MEMORY):
+                if struct.unpack_from("<H", content, 48)[0] > MOST_SECTIONS:
+                    return
+                file = ELFFile(io.BytesIO(content))
+                table = file.get_section_by_name(".symtab")
+                self.symbols = list(table.iter_symbols()) if table else []
+                self.info = file.get_dwarf_info()
+
+    def lines(self, address: int) -> list[tuple[str, str]]:
+        """Function and line, such as `a/b.c:12`, of an address, innermost first where functions were put into others."""
+        with contextlib.suppress(Exception), bounds.at_most(MOST_MEMORY):
+            unit = next(it for it in self.info.iter_CUs() if self._has(it.get_top_DIE(), address))
+            return list(self._lines(unit, self.info.line_program_for_CU(unit), address))
+        return []
+
+    def _lines(self, unit: Any, program: Any, address: int) -> Iterator[tuple[str, str]]:
+        number, line = row(program, address)
+        for scope in reversed(list(self._scopes(unit.get_top_DIE(), address))):
+            if scope.tag == BLOCK:
+                continue
+            if line:
+                yield name(scope), f"{path(unit, program, number)}:{line}"
+            if scope.tag == CALLED:
+                return
+            number, line = (scope.attributes[it].value for it in ("DW_AT_call_file", "DW_AT_call_line"))
+        if line:
+            yield "", f"{path(unit, program, number)}:{line}"
+
+    def _scopes(self, parent: Any, address: int) -> Iterator[Any]:
+        """The functions and blocks that an address lies in, outermost first."""
+        for child in parent.iter_children():
+            if child.tag in (CALLED, PUT_IN, BLOCK) and self._has(child, address):
+                yield child
+                yield from self._scopes(child, address)
+                return
+
+    def _has(self, scope: Any, address: int) -> bool:
+        """Whether an address lies in the code of a unit, a function or a block."""
+        low, high, ranges = (scope.attributes.get(f"DW_AT_{it}") for it in ("low_pc", "high_pc", "ranges"))
+        if low and high:
+            return bool(low.value <= address < (high.value if high.form == "DW_FORM_addr" else low.value + high.value))
+        base = scope.cu.get_top_DIE().attributes["DW_AT_low_pc"].value if ranges else 0
+        for it in self.info.range_lists().get_range_list_at_offset(ranges.value, scope.cu) if ranges else ():
+            base = getattr(it, "base_address", base)
+            if hasattr(it, "end_offset") and it.begin_offset <= address - (0 if it.is_absolute else base) < it.end_offset:
+                return True
+        return False
+
+
+def row(program: Any, address: int) -> tuple[int, int]:
+    """File and line of an address in a table of lines; line 0 where there is none."""
+    states = [entry.state for entry in program.get_entries() if entry.state]
+    for now, then in zip(states, states[1:]):
+        if not now.end_sequence and now.address <= address < then.address:
+            return now.file, now.line
+    return 0, 0
+
+
+def path(unit: Any, program: Any, number: int) -> str:
+    """The path of a file of a table of lines. Files and folders are counted from 1 before version 5."""
+    first = 0 if program.header["version"] >= 5 else 1
+    file = program.header["file_entry"][number - first]
+    folder = program.header["include_directory"][file.dir_index - first] if file.dir_index >= first else b""
+    return str(posixpath.join(unit.get_top_DIE().attributes["DW_AT_comp_dir"].value, folder, file.name).decode(errors="replace"))
+
+
+def name(scope: Any) -> str:
+    """The name of a function, which may stand where it is declared, and that again elsewhere."""
+    for _ in range(MOST_STEPS):
+        if "DW_AT_name" in scope.attributes:
+            return str(scope.attributes["DW_AT_name"].value.decode(errors="replace"))
+        scope = scope.get_DIE_from_attribute(next(it for it in OTHERS if it in scope.attributes))
+    return ""

@@ -1,0 +1,111 @@
+"""Command lines: one parser for all tools, and readers of the values of options."""
+
+from __future__ import annotations
+
+import argparse
+from collections.abc import Callable
+from typing import Any, NoReturn
+
+from . import emulator, limits
+from .refusals import Refused, printable
+
+# Of a range of numbers.
+MOST_LISTED = 10_000
+UNITS = {"K": 1 << 10, "M": 1 << 20}
+
+
+class Version(argparse.Action):
+    """Says what this is, and ends the program."""
+
+    def __call__(self, parser: argparse.ArgumentParser, *_: Any) -> None:
+        print(*map(printable, emulator.version(parser.prog)), sep="\n")
+        parser.exit()
+
+
+class Parser(argparse.ArgumentParser):
+    """A reader of a tool's command line, which refuses a wrong one."""
+
+    def __init__(self, name: str, **given: Any) -> None:
+        super().__init__(prog=name, allow_abbrev=False, **given)
+        self.add_argument("--version", action=Version, nargs=0, help="versions, the commit if it is known, and what was proved")
+
+    def error(self, message: str) -> NoReturn:
+        """Says what is wrong."""
+        raise Refused(f"{message}; {self.prog} --help tells the options")
+
+    def own(self, words: list[str], rest: list[str]) -> list[str]:
+        """What looks like options of this parser in the rest of a command line, which is another's. One that stands in front of that too is
+        no mistake."""
+        options, front, found = self._option_string_actions, words[: len(words) - len(rest)], []
+        for word, value in zip(rest, [*rest[1:], ""]):
+            name = word.partition("=")[0]
+            action = options.get(name) if name.startswith("-") else None
+            if action and not set(action.option_strings).intersection(it.partition("=")[0] for it in front):
+                found.append(word if action.nargs == 0 or name != word else f"{word} {value}".rstrip())
+        return found
+
+    def add_number(self, *names: str, what: str, least: int, most: int, unit: int = 1, **given: Any) -> None:
+        """An option with a whole number of this range, which is a number of bytes where it is said to be BYTES."""
+        reader = number(what, least, most, unit, given["metavar"] == "BYTES")
+        self.add_argument(*names, type=reader, **given)
+
+    def add_machine(self) -> None:
+        """The settings of nodes that all runs have."""
+        self.add_number("--limit", what="the limit of instructions", least=1, most=limits.MOST_TICKS, default=limits.MOST_TICKS,
+            metavar="COUNT", help="instructions of a node, at most; 2^40 by default")  # fmt: skip
+        self.add_number("--memory", what="the memory of a node in bytes", least=limits.PAGE, most=limits.MOST_MEMORY, unit=limits.PAGE,
+            default=limits.MEMORY, metavar="BYTES", help="of a node, 1M by default")  # fmt: skip
+        self.add_number("--stack", what="the room of the stack in bytes", least=limits.LEAST_STACK, most=limits.MOST_STACK,
+            metavar="BYTES", help="of a .c program")  # fmt: skip
+
+    def add_prices(self) -> None:
+        """g and l, where each is one number."""
+        self.add_argument("--g", type=G, default=limits.G, metavar="TICKS", help="the price of a byte of h, 1 by default")
+        self.add_argument("--l", type=L, default=limits.L, metavar="TICKS", help="the price of a superstep's end, 0 by default")
+
+
+def number(what: str, least: int, most: int, unit: int = 1, is_size: bool = False) -> Callable[[str], int]:
+    """A reader of whole numbers of this range, multiples of a unit, which says the range where it refuses. A size may end with K or M."""
+    kind = "a whole number" if unit == 1 else f"a multiple of {unit}"
+    also = ", as 64K or 1M too" if is_size else ""
+
+    def read(text: str) -> int:
+        times = UNITS.get(text[-1:].upper(), 1) if is_size else 1
+        try:
+            value = int(text[:-1] if times > 1 else text, 0) * times
+        except ValueError:
+            value = least - 1
+        if not least <= value <= most or value % unit:
+            raise argparse.ArgumentTypeError(f"{text!r}: {what} is {kind} from {least} to {most}{also}")
+        return value
+
+    return read
+
+
+G = number("the price of a byte", 0, limits.MOST_PRICE)
+L = number("the price of a superstep's end", 0, limits.MOST_PRICE)
+P = number("the number of nodes", 1, limits.MOST_NODES)
+
+
+def listed(one: Callable[[str], int]) -> Callable[[str], list[int]]:
+    """A reader of numbers that are parted by commas; `1:8` is each number from 1 to 8."""
+
+    def read(text: str) -> list[int]:
+        found: list[int] = []
+        for part in text.split(","):
+            first, _, last = part.partition(":")
+            start, end = one(first), one(last or first)
+            if end - start >= MOST_LISTED:
+                raise argparse.ArgumentTypeError(f"{part!r}: these are more than {MOST_LISTED} numbers")
+            found += range(start, end + 1)
+        return list(dict.fromkeys(found))
+
+    return read
+
+
+def pair(text: str, what: str) -> tuple[str, str]:
+    """A name and its value, as `NAME=VALUE`."""
+    name, equals, value = text.partition("=")
+    if not equals:
+        raise argparse.ArgumentTypeError(f"{text!r}: give {what}")
+    return name, value

@@ -1,0 +1,147 @@
+"""What is to be drawn, and from what: pictures, and pages of them."""
+
+from __future__ import annotations
+
+import argparse
+from dataclasses import dataclass, field
+from typing import TypeVar
+
+from .. import files
+from ..refusals import Refused, tell
+from . import matrix, page, series, split, sources, sweep, timeline
+from .canvas import Picture, thousands
+from .costs import Cost, Prices, total
+from .profile import Superstep
+
+# A picture has at most so many supersteps, and a timeline so many bars.
+MOST_SUPERSTEPS = 100
+MOST_BARS = 4096
+PICTURES = ("timeline", "matrix", "costs", "sweep", "compare")
+# What has the number of a superstep.
+Shown = TypeVar("Shown", Cost, Superstep)
+
+
+@dataclass(frozen=True)
+class Plan:
+    """What is to be drawn, and from what."""
+
+    options: argparse.Namespace
+    source: sources.Source
+    notes: list[str] = field(default_factory=list)
+
+    @property
+    def prices(self) -> Prices:
+        """g and l."""
+        return Prices(self.options.g, self.options.l)
+
+    @property
+    def title(self) -> str:
+        """What stands above a picture."""
+        return str(self.options.title)
+
+    def supersteps(self, most: int) -> list[Superstep]:
+        """The supersteps that a picture of a profile shows."""
+        if self.source.profile is None:
+            raise Refused(f"{self.source.name} has no profile: give one of `run --profile` for --timeline and --matrix")
+        return self.some(self.source.profile.supersteps, most)
+
+    def costs(self) -> list[Cost]:
+        """The supersteps of which the costs are shown."""
+        if not self.source.costs:
+            raise Refused(f"{self.source.name} has no costs of supersteps: give a profile or a report for --costs")
+        return self.some(self.source.costs, MOST_SUPERSTEPS)
+
+    def some(self, them: list[Shown], most: int) -> list[Shown]:
+        """The first of these that were asked for, with a line where there are more."""
+        first, last = self.options.supersteps
+        them = [it for it in them if it.number >= first and (last is None or it.number <= last)]
+        if not them:
+            raise Refused(f"{self.source.name} has no such supersteps")
+        if len(them) > most:
+            note = f"supersteps {them[0].number} to {them[most - 1].number} are drawn, of {len(them)}: --supersteps A:B chooses others"
+            if note not in self.notes:
+                self.notes.append(note)
+        return them[:most]
+
+    def timeline(self) -> Picture:
+        """The timeline."""
+        profile = self.source.profile
+        most = min(MOST_SUPERSTEPS, max(MOST_BARS // (2 * profile.nodes), 1)) if profile else 1
+        return timeline.draw(self.supersteps(most), self.prices, self.options.h, self.title)
+
+    def matrix(self) -> Picture:
+        """The matrix of bytes, of all supersteps that are chosen."""
+        return matrix.draw(self.supersteps(1 << 60), self.options.h, self.title)
+
+    def split(self) -> Picture:
+        """The split of the costs."""
+        return split.draw(self.costs(), self.prices, self.title)
+
+    def lines(self) -> list[sweep.Line]:
+        """The lines of a sweep."""
+        if not self.source.rows:
+            raise Refused(f"{self.source.name} has no sweep: give the table of bspsweep for --sweep and --compare")
+        return sweep.lines(self.source.rows)
+
+    def sweep(self) -> Picture:
+        """Totals, speedups, efficiencies."""
+        return series.draw(self.lines(), self.title)
+
+    def compare(self) -> Picture:
+        """Programs against one another."""
+        return series.compare(self.lines(), self.title)
+
+
+def settings(plan: Plan) -> list[tuple[str, str]]:
+    """What stands at the top of a page."""
+    source = plan.source
+    known = [("source", source.name), *plan.options.setting]
+    if source.profile:
+        known.append(("nodes", str(source.profile.nodes)))
+    if source.costs:
+        whole = f"{thousands(total(source.costs, plan.prices))} ticks in {len(source.costs)} supersteps"
+        known += [("g", f"{plan.prices.g} ticks a byte"), ("l", f"{plan.prices.l} ticks a superstep"), ("total", whole)]
+    return known + ([("outcome", source.outcome)] if source.outcome else [])
+
+
+def sections(plan: Plan) -> list[page.Section]:
+    """What a page has: all that the source tells."""
+    found = []
+    if plan.source.profile:
+        found.append(page.Section("The run in time", page.TIMELINE, page.inline(plan.timeline(), "timeline")))
+    if plan.source.costs:
+        found.append(page.Section("What the supersteps cost", page.COSTS, page.inline(plan.split(), "costs")))
+    if plan.source.profile:
+        found.append(page.Section("Who sent to whom", page.MATRIX, page.inline(plan.matrix(), "matrix")))
+    if plan.source.rows:
+        found.append(page.Section("Over the number of nodes", page.SWEEP, page.inline(plan.sweep(), "sweep")))
+        if sweep.crossings(plan.lines()):
+            found.append(page.Section("One against another", page.COMPARE, page.inline(plan.compare(), "compare")))
+        return [*found, page.sweep_table(plan.source.rows)]
+    return [*found, page.cost_table(plan.source.costs, plan.source.profile, plan.prices, plan.options.h)]
+
+
+def write_page(plan: Plan) -> None:
+    """Writes the page."""
+    untitled = Plan(argparse.Namespace(**{**vars(plan.options), "title": ""}), plan.source)
+    parts = sections(untitled)
+    drawn = [("drawn", note) for note in untitled.notes]
+    plan.notes.extend(it for it in untitled.notes if it not in plan.notes)
+    text = page.written(plan.title or plan.source.name, settings(plan) + drawn, parts)
+    files.write(plan.options.html, text)
+
+
+def draw(options: argparse.Namespace) -> None:
+    """Draws all that was asked for."""
+    pictures = [getattr(options, name) for name in PICTURES]
+    files.expect_apart([*pictures, options.html], [options.source])
+    plan = Plan(options, sources.read(options.source, options.h))
+    asked = {"timeline": plan.timeline, "matrix": plan.matrix, "costs": plan.split, "sweep": plan.sweep, "compare": plan.compare}
+    wanted = {name: make for name, make in asked.items() if getattr(options, name)}
+    if not wanted and not options.html:
+        raise Refused("nothing is asked for: give --timeline, --matrix, --costs, --sweep, --compare or --html")
+    for name, make in wanted.items():
+        make().save(getattr(options, name))
+    if options.html:
+        write_page(plan)
+    tell(plan.notes, "bspplot: ")

@@ -1,0 +1,54 @@
+"""What bspplot draws from: a profile, a report as `run --report` or `bsprun` writes it, or the table of a sweep."""
+
+from __future__ import annotations
+
+import pathlib
+from dataclasses import dataclass, field
+
+from ..files import content_of
+from ..limits import MOST_TABLE
+from ..refusals import Refused, printable
+from ..run import report
+from . import costs, profile, sweep
+
+
+@dataclass(frozen=True)
+class Source:
+    """What a file tells. A profile tells the costs too; a report has costs alone, and the table of a sweep neither."""
+
+    name: str
+    costs: list[costs.Cost] = field(default_factory=list)
+    profile: profile.Profile | None = None
+    rows: list[sweep.Row] = field(default_factory=list)
+    outcome: str = ""
+
+
+def read(path: str, reading: profile.Reading) -> Source:
+    """What a file tells; it refuses one that is nothing of this."""
+    content = content_of(path, MOST_TABLE)
+    try:
+        return understood(printable(pathlib.Path(path).name), content, reading)
+    except Refused as refused:
+        raise Refused(f"{path}: {refused}") from refused
+
+
+def understood(name: str, content: bytes, reading: profile.Reading) -> Source:
+    """What these bytes tell."""
+    text = content.decode(errors="replace")
+    if profile.is_profile(text):
+        found = profile.parse(text)
+        return Source(name, costs.of_profile(found, reading), found, outcome=found.outcome())
+    if sweep.is_table(text):
+        return Source(name, rows=sweep.parse(text))
+    known = report.read(content)
+    if known is None:
+        raise Refused("this is no profile, no report, and no table of a sweep")
+    if reading is not reading_of(known):
+        raise Refused(f"a report has one h, and this one's is that of --h {reading_of(known).value}: say so, or give a profile")
+    return Source(name, costs.of_report(known), outcome=known.outcome)
+
+
+def reading_of(known: report.Report) -> profile.Reading:
+    """Which bytes the h of a report counts: the version of the ledger that tells of messages leaves out what ranks move to themselves."""
+    tells_messages = all("m" in it.costs for it in known.supersteps)
+    return profile.Reading.OTHERS if tells_messages else profile.Reading.ALL

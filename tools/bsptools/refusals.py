@@ -1,0 +1,75 @@
+"""How a tool says that it cannot do what it was told, and the exit statuses of all of them."""
+
+from __future__ import annotations
+
+import contextlib
+import os
+import shutil
+import sys
+from collections.abc import Iterable, Iterator
+
+
+# Beside these bsprun has the emulator's own statuses.
+REFUSED = 1
+# A fault of the tool itself, as sysexits.h has it, and the base of the statuses of signals.
+BUG, BY_SIGNAL = 70, 128
+
+
+class Refused(Exception):
+    """What the person gave cannot be done, and why: in a line, and in more of them where another program has said why."""
+
+
+@contextlib.contextmanager
+def about(path: str | os.PathLike[str]) -> Iterator[None]:
+    """What the system refuses of a file is refused with the file's name."""
+    try:
+        yield
+    except BrokenPipeError:
+        raise
+    except OSError as error:
+        raise Refused(f"{os.fspath(path)}: {error.strerror or error}") from error
+
+
+def printable(text: str) -> str:
+    """A text of one line of which nothing is a command to a terminal: it may have come from a file, or be a file's name."""
+    return "".join(it if it.isprintable() or it == "\t" else it.encode("unicode_escape", "replace").decode() for it in text)
+
+
+def counted(count: int, name: str) -> str:
+    """A number of things by their name: `1 run`, `2 runs`."""
+    return f"{count} {name}" + ("" if count == 1 else "s")
+
+
+def lines_of(said: bytes, *names: str) -> list[str]:
+    """The lines that another program has said of files, whose names make none of their own."""
+    text = said.decode(errors="replace")
+    for name in names:
+        text = text.replace(name, printable(name))
+    return text.splitlines()
+
+
+def tell(lines: Iterable[str], begin: str = "") -> None:
+    """Writes lines on standard error, each behind the same beginning. A line feed in one is shown, so that no name makes a line of its own."""
+    for line in lines:
+        print(printable(begin + line), file=sys.stderr, flush=True)
+
+
+def put(content: str | bytes | memoryview) -> None:
+    """Writes to standard output all that there is up to here."""
+    if isinstance(content, str):
+        sys.stdout.write(content)
+        sys.stdout.flush()
+    else:
+        sys.stdout.flush()
+        sys.stdout.buffer.write(content)
+        sys.stdout.buffer.flush()
+
+
+def show(line: str, end: str = "") -> None:
+    """Shows on standard error what is under way, in the place of what was shown before. Without a terminal what has an end is shown."""
+    line = printable(line)
+    if sys.stderr.isatty():
+        shown = line if end else line[: shutil.get_terminal_size().columns - 1]
+        print(f"\r\033[K{shown}", end=end, file=sys.stderr, flush=True)
+    elif end:
+        tell([line])

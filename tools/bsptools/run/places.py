@@ -1,0 +1,114 @@
+"""Where in its source a node is: the calls that led to where it stands."""
+
+from __future__ import annotations
+
+import copy
+import pathlib
+
+from ..debugger import Node, signed
+from .program import Code, Statement, source_lines
+
+RA, SP, FP = 1, 2, 8
+MOST_FRAMES = 40
+# Functions of bsplib/ that are in a program and not in bsp.h.
+INNER = ("_start", "bsp_start", "bsp_stop", "bsp_stop_with", "bsp_stop_for_guards", "end_line", "end_of_main")
+
+
+class Prologue:
+    """What a function did to its stack between its first instruction and some address, by the code alone."""
+
+    def __init__(self) -> None:
+        self.size = 0
+        self.saved: dict[int, int] = {}
+        self.has_pointer = False
+        self.known: dict[int, int] = {0: 0}
+
+    def step(self, it: Statement) -> None:
+        """Takes an instruction into account."""
+        if it.name == "sw" and it.pointer == SP and it.operand(0) in (RA, FP):
+            self.saved.setdefault(it.operand(0), it.operand(1) - self.size)
+        elif it.name == "lui":
+            self.known[it.operand(0)] = it.operand(1) << 12
+        elif it.name in ("addi", "add"):
+            rd, rs1, other = (it.operand(at) for at in range(3))
+            if it.name == "add":
+                if rd == rs1 == SP and other in self.known:
+                    self.size -= signed(self.known[other] & 0xFFFFFFFF)
+            elif rd == rs1 == SP:
+                self.size -= other
+            elif rs1 == SP and rd == FP and other == self.size:
+                self.has_pointer = True
+            elif rs1 in self.known and rd not in (SP, FP):
+                self.known[rd] = self.known[rs1] + other
+
+    def save(self, name: str) -> None:
+        """Takes a call of GCC's function into account that saves x1, x8 and more, and makes room for them."""
+        self.size += 16 * (int(name.rpartition("_")[2]) // 4 + 1)
+        self.saved.update({RA: -4, FP: -8})
+
+
+def prologue(code: Code, start: int, address: int) -> Prologue:
+    """What the function at `start` did before `address`. Behind a return, what it had done before it left its frame."""
+    now, deepest = Prologue(), Prologue()
+    for at, it in code.body(start).items():
+        if at >= address:
+            break
+        now.step(it)
+        if (it.name, it.operands[:1]) == ("jal", ["x5"]) and (name := code.name_at(it.target)).startswith("__riscv_save_"):
+            now.save(name)
+        if now.size > deepest.size or (now.size == deepest.size and len(now.saved) >= len(deepest.saved)):
+            deepest = copy.deepcopy(now)
+        if (it.name, it.operands) == ("jalr", ["x0", "0(x1)"]) or (it.name, it.operands[:1]) == ("jal", ["x0"]):
+            now = copy.deepcopy(deepest)
+    return now
+
+
+def frames(code: Code, node: Node) -> list[int]:
+    """Where a node stands, and the calls that led to there, innermost first."""
+    addresses = [node.pc]
+    pc, sp, ra, fp = node.pc, node.x[SP], node.x[RA], node.x[FP]
+    called = code.call_before(ra)
+    if code.function(pc) is None and not code.stored(pc) and called is not None:
+        pc = called
+        addresses.append(pc)
+    while len(addresses) < MOST_FRAMES and (function := code.function(pc)):
+        done = prologue(code, function[0], pc)
+        top = fp if done.has_pointer else (sp + done.size) & 0xFFFFFFFF
+        kept = {which: node.at((top + offset) & 0xFFFFFFFF) for which, offset in done.saved.items()}
+        caller = kept.get(FP)
+        fp = fp if caller is None else caller
+        back = kept.get(RA) if RA in done.saved else (ra if len(addresses) == 1 or pc == called else None)
+        call = code.call_before(back) if back else None
+        if call is None:
+            break
+        pc, sp = call, top
+        addresses.append(pc)
+    return addresses
+
+
+def place(code: Code, node: Node) -> str:
+    """Function and line of where a node stands: the innermost that has a line, and what it was called from. Nothing where it is outside of
+    all functions of the program, as behind the end of main."""
+    chain = frames(code, node)[: 1 if code.lines else MOST_FRAMES]
+    known = [line for at in chain for line in source_lines(code, at)]
+    # A C library's own lines are of files that are not here.
+    known = [line for line in known if pathlib.Path(line[1].rpartition(":")[0]).exists() or code.lines] or known
+    if known:
+        texts = [f"{function}, {short(line)}" if function else short(line) for function, line in known]
+        shown = texts[:4] + (["…"] if len(texts) > 5 else []) + (texts[-1:] if len(texts) > 4 else [])
+        return ", called from ".join(shown)
+    names = [code.name_at(at) for at in chain if code.name_at(at)]
+    told = [it for it in names if it not in INNER] if "bsp_start" in code.names else names
+    return ", called from ".join(told[:6]) if names else f"address {node.pc:#x}"
+
+
+def short(line: str) -> str:
+    """A file and its line, without the folders."""
+    path, colon, number = line.rpartition(":")
+    return f"{pathlib.PurePath(path).name}:{number}" if colon else line
+
+
+def written(code: Code, address: int) -> str:
+    """An address with the name of what stands there."""
+    name = code.variable(address) if address else "NULL"
+    return f"{address:#x} ({name})" if name else f"{address:#x}"

@@ -1,0 +1,127 @@
+"""What is likely a mistake in a run, also where it ends well."""
+
+from __future__ import annotations
+
+from typing import List, NamedTuple, Tuple, Union
+
+from .calls import CHANGES, POP, PUSH, PUTS, REQUESTS, SYNC, Areas, Call, Tracer
+from .places import written
+from .replays import MOST_STOPS
+from .report import Report
+
+MOST_TOLD = 5
+TRACED = (*REQUESTS, *CHANGES, SYNC)
+
+# Pieces of a line that tells of something that was found: texts, and calls with their ranks, of which the places are looked for where
+# the line is told, since that takes runs.
+Finding = List[Union[str, Tuple[int, Call]]]
+
+
+class Landing(NamedTuple):
+    """The bytes of an area that a put writes, and the call that made it."""
+
+    start: int
+    end: int
+    rank: int
+    call: Call
+
+
+class Steps:
+    """The calls of each rank, superstep by superstep."""
+
+    def __init__(self, trace: Tracer, nodes: int) -> None:
+        self.trace, self.nodes = trace, nodes
+        self.is_whole = True
+        self.made: list[list[list[Call]]] = [self.parted(rank) for rank in range(nodes)]
+
+    def parted(self, rank: int) -> list[list[Call]]:
+        """The calls of a rank, a list for each superstep."""
+        steps: list[list[Call]] = [[]]
+        calls = self.trace.calls(rank, TRACED)
+        self.is_whole &= not calls or calls[-1].stop < MOST_STOPS
+        for call in calls:
+            if call.number == SYNC:
+                steps.append([])
+            else:
+                steps[-1].append(call)
+        return steps
+
+    def of(self, rank: int, superstep: int) -> list[Call]:
+        """The calls of a rank in a superstep."""
+        return self.made[rank][superstep] if superstep < len(self.made[rank]) else []
+
+    def told(self, piece: str | tuple[int, Call]) -> str:
+        """A piece of a finding: of a call its rank, and where it stands."""
+        return piece if isinstance(piece, str) else f"rank {piece[0]} at {self.trace.place_of(piece[0], TRACED, 0, piece[1])}"
+
+
+def warnings(trace: Tracer, nodes: int, report: Report) -> list[str]:
+    """Lines of what was found: puts that meet, requests that come to nothing, areas in another order."""
+    steps = Steps(trace, nodes)
+    last = report.supersteps[-1].number
+    ends = pending(steps, last) if report.outcome == "ended" else []
+    found = [*ends, *other_order(steps, last), *meeting(steps, last)]
+    more = [f"  and {len(found) - MOST_TOLD} more"] if len(found) > MOST_TOLD else []
+    if not steps.is_whole:
+        more.append(f"  and no more than the first {MOST_STOPS} calls of a rank were looked at")
+    return [f"bsprun: warning: {''.join(map(steps.told, it))}" for it in found[:MOST_TOLD]] + more
+
+
+def pending(steps: Steps, last: int) -> list[Finding]:
+    """The requests of the last superstep, which come to nothing, the first of each rank."""
+    found: list[Finding] = []
+    for rank in range(steps.nodes):
+        calls = [it for it in steps.of(rank, last) if it.number in REQUESTS]
+        if calls:
+            begin = f"what was asked for in superstep {last} comes to nothing, since no bsp_sync follows: {len(calls)} of rank {rank}"
+            found.append([f"{begin}, the first of ", (rank, calls[0])])
+    return found
+
+
+def other_order(steps: Steps, last: int) -> list[Finding]:
+    """Registrations that a rank makes of the same addresses as rank 0, but in another order."""
+    found: list[Finding] = []
+    for superstep in range(last + 1):
+        first = [it for it in steps.of(0, superstep) if it.number == PUSH]
+        for rank in range(1, steps.nodes):
+            calls = [it for it in steps.of(rank, superstep) if it.number == PUSH]
+            here, there = [it.area for it in calls], [it.area for it in first]
+            if here != there and sorted(here) == sorted(there):
+                at = next(i for i, (a, b) in enumerate(zip(here, there)) if a != b)
+                one, other = (written(steps.trace.code, it[at].area) for it in (calls, first))
+                begin = f"areas are pushed in another order in superstep {superstep}: {one} by "
+                found.append([begin, (rank, calls[at]), f", and {other} by ", (0, first[at])])
+    return found
+
+
+def meeting(steps: Steps, last: int) -> list[Finding]:
+    """Puts of one superstep that write the same byte, each pair of places once."""
+    areas = [Areas() for _ in range(steps.nodes)]
+    found: list[Finding] = []
+    told = set()
+    for superstep in range(last):
+        landings = sorted(landings_of(steps, areas, superstep), key=lambda it: (it[0], it[1].start))
+        for (target, one), (other_target, other) in zip(landings, landings[1:]):
+            key = (one.call.node.pc, one.call.node.x[1], other.call.node.x[1])
+            if target == other_target and other.start < one.end and key not in told:
+                told.add(key)
+                begin = f"two puts of superstep {superstep} write byte {other.start:#x} of rank {target}: that of "
+                found.append([begin, (one.rank, one.call), ", and that of ", (other.rank, other.call)])
+        for rank in range(steps.nodes):
+            for call in steps.of(rank, superstep):
+                if call.number in (PUSH, POP):
+                    areas[rank].take(call)
+    return found
+
+
+def landings_of(steps: Steps, areas: list[Areas], superstep: int) -> list[tuple[int, Landing]]:
+    """Where the puts of a superstep land, with the target's rank."""
+    found = []
+    for rank in range(steps.nodes):
+        for call in steps.of(rank, superstep):
+            if call.number in PUTS and call.operand("nbytes") > 0:
+                target, position = call.operand("pid"), areas[rank].position(call.area)
+                if position is not None and 0 <= target < steps.nodes and position < len(areas[target].entries):
+                    start = areas[target].entries[position][0] + call.operand("offset")
+                    found.append((target, Landing(start, start + call.operand("nbytes"), rank, call)))
+    return found

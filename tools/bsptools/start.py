@@ -1,0 +1,84 @@
+"""Where each tool begins, and how each ends: with what its `main` answers, or with a line that says why not."""
+
+from __future__ import annotations
+
+import importlib
+import os
+import pathlib
+import signal
+import subprocess
+import sys
+import traceback
+
+from . import children, packages, streams
+from .refusals import BUG, BY_SIGNAL, REFUSED, Refused, put, tell
+
+# The module whose `main` a tool is, and the package that it wants, without which some do less. Modules are imported as they are asked for.
+TOOLS = {
+    "bsprun": ("run.cli", packages.ELFTOOLS),
+    "bspgdb": ("debug.cli", ""),
+    "bspplot": ("plot.cli", packages.MATPLOTLIB),
+    "bspsweep": ("sweep.cli", ""),
+}
+FOLDER = pathlib.Path(__file__).resolve().parents[1]
+
+
+def begin(name: str, words: list[str]) -> int:
+    """Runs a tool with these arguments to its end, also where that is a help that was asked for, and writes all that it has to say."""
+    module, package = TOOLS[name]
+    again = [str(FOLDER), name, *words] if (FOLDER / "__main__.py").exists() else []
+    if package:
+        packages.find(package, again)
+    # Threads of matplotlib's arithmetic, each with memory of its own, would serve no picture.
+    os.environ.setdefault("OPENBLAS_NUM_THREADS", "1")
+    children.end_by_signals()
+    try:
+        status: int = importlib.import_module(f".{module}", __package__).main(words)
+    except SystemExit as ended:
+        status = ended.code if isinstance(ended.code, int) else REFUSED if ended.code else 0
+    put("")
+    return status
+
+
+def main(name: str, words: list[str]) -> int:
+    """Runs a tool with these arguments; the exit status is answered."""
+    try:
+        return begin(name, words)
+    except Refused as refused:
+        tell(refused.args, f"{name}: ")
+        return REFUSED
+    except children.Ended as ended:
+        return BY_SIGNAL + ended.number
+    except BrokenPipeError:
+        streams.drop_output()
+        return BY_SIGNAL + signal.SIGPIPE
+    except (OSError, MemoryError, ImportError, subprocess.SubprocessError) as error:
+        tell([f"{name}: {wanting(error)}"])
+        streams.drop_output()
+        return REFUSED
+    except Exception as error:  # pylint: disable=broad-except
+        last = traceback.extract_tb(error.__traceback__)[-1]
+        where = f"{os.path.relpath(last.filename, FOLDER)}:{last.lineno}"
+        what = " ".join(f"{type(error).__name__}: {error}".split())
+        tell([f"{name}: this is a mistake of {name} itself, at {where}: {what}; CONTRIBUTING.md says how to report it"])
+        return BUG
+
+
+def wanting(error: BaseException) -> str:
+    """What the host did not give."""
+    if isinstance(error, OSError):
+        return ": ".join(str(it) for it in (error.filename, error.strerror or error) if it is not None)
+    if isinstance(error, MemoryError):
+        return "memory ran out"
+    return f"a part of Python cannot be loaded: {error}" if isinstance(error, ImportError) else f"no process can be started: {error}"
+
+
+def process(name: str, words: list[str]) -> int:
+    """Runs a tool as a process of its own, which has standard streams of its own."""
+    streams.prepare()
+    return main(name, words)
+
+
+def script() -> int:
+    """A tool that was installed by itself, by the name under which it is started."""
+    return process(pathlib.Path(sys.argv[0]).name, sys.argv[1:])

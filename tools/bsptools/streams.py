@@ -1,0 +1,83 @@
+"""The standard streams, with whichever a tool is started: no file takes the number of one that is closed, what cannot be told on standard
+error changes no status, and what cannot be written on standard output is told with its name."""
+
+from __future__ import annotations
+
+import contextlib
+import io
+import os
+import sys
+from typing import Any
+
+from .refusals import about
+
+STDIN, STDOUT, STDERR = range(3)
+
+
+class Output(io.FileIO):
+    """Standard output. What the system refuses of it has its name, as it has of a file."""
+
+    def write(self, content: Any) -> int:
+        """Writes some of these bytes; answers how many."""
+        try:
+            return super().write(content)
+        except OSError as error:
+            error.filename = "standard output"
+            raise
+
+
+class Told(io.RawIOBase):
+    """Standard error, of which what cannot be written is left out."""
+
+    def writable(self) -> bool:
+        """It is."""
+        return True
+
+    def fileno(self) -> int:
+        """Its number."""
+        return STDERR
+
+    def isatty(self) -> bool:
+        """Whether a person sees it."""
+        return os.isatty(STDERR)
+
+    def write(self, content: Any) -> int:
+        """Takes all bytes."""
+        with contextlib.suppress(OSError):
+            write_all(content)
+        return len(content)
+
+
+def write_all(content: bytes) -> None:
+    """Writes bytes on standard error."""
+    rest = memoryview(content)
+    while rest:
+        rest = rest[os.write(STDERR, rest) :]
+
+
+def report(content: bytes) -> None:
+    """Writes what was asked for on standard error, or refuses to go on."""
+    with about("standard error"):
+        write_all(content)
+
+
+def prepare() -> None:
+    """Opens what is closed, and puts the streams above in the place of Python's own. A closed standard output takes nothing."""
+    for number in (STDIN, STDOUT, STDERR):
+        try:
+            os.fstat(number)
+        except OSError:
+            opened = os.open(os.devnull, os.O_WRONLY if number == STDERR else os.O_RDONLY)
+            os.dup2(opened, number, inheritable=True)
+            if opened != number:
+                os.close(opened)
+    output = io.BufferedWriter(Output(STDOUT, "w", closefd=False))
+    sys.stdout = io.TextIOWrapper(output, encoding="utf-8", errors="surrogateescape", line_buffering=output.isatty())
+    # TextIOWrapper wants no more of what is below it than that it can be written to.
+    told: Any = Told()
+    sys.stderr = io.TextIOWrapper(told, encoding="utf-8", errors="backslashreplace", write_through=True)
+
+
+def drop_output() -> None:
+    """Leaves out what was not written on standard output, which Python would try to write once more."""
+    os.dup2(os.open(os.devnull, os.O_WRONLY), STDOUT)

@@ -1,0 +1,64 @@
+"""The programs of a sweep; those in C are compiled once for each choice of their constants."""
+
+from __future__ import annotations
+
+import argparse
+import hashlib
+import itertools
+import os
+import pathlib
+import subprocess
+from typing import NamedTuple
+
+from .. import children, emulator
+from ..files import content_of
+from ..limits import MOST_PROGRAM
+from ..refusals import Refused, lines_of
+from ..run.program import kind_of
+
+
+class Program(NamedTuple):
+    """A program as it was named, the constants that it was compiled with, the image that is run, and what kind of file that is."""
+
+    name: str
+    defines: tuple[tuple[str, str], ...]
+    image: pathlib.Path
+    kind: str
+
+
+def digest(content: bytes) -> str:
+    """A name for these bytes."""
+    return hashlib.sha256(content).hexdigest()
+
+
+def programs(options: argparse.Namespace, folder: pathlib.Path) -> list[Program]:
+    """The programs that were named, each with each choice of its constants."""
+    names = [name for name, _ in options.define]
+    choices = [tuple(zip(names, values)) for values in itertools.product(*(values for _, values in options.define))]
+    found = []
+    for name in options.program:
+        kind = kind_of(pathlib.Path(name), content_of(name, MOST_PROGRAM))
+        if kind != "c" and names:
+            raise Refused(f"{name} is compiled already: --define is for programs in C")
+        if kind == "c":
+            found += [Program(name, choice, compiled(name, choice, options, folder), "elf") for choice in choices]
+        else:
+            found.append(Program(name, (), pathlib.Path(name).resolve(), kind))
+    return found
+
+
+def compiled(name: str, defines: tuple[tuple[str, str], ...], options: argparse.Namespace, folder: pathlib.Path) -> pathlib.Path:
+    """The executable of a program in C, under a name that follows from its bytes."""
+    folder.mkdir(parents=True, exist_ok=True)
+    target = folder / f"{pathlib.Path(name).stem}.{os.getpid()}"
+    constants = [f"-D{constant}={value}" for constant, value in defines]
+    stack = ["--stack", str(options.stack)] if options.stack else []
+    source = os.path.abspath(name)
+    words = [emulator.program("bspcc"), "-g", *constants, *stack, "-o", str(target), source, "-lm"]
+    done = children.call(words, stdout=subprocess.PIPE, stderr=subprocess.STDOUT)
+    if done.returncode != 0:
+        target.unlink(missing_ok=True)
+        raise Refused(f"{' '.join([name, *constants])} was not compiled", *lines_of(done.stdout, source))
+    image = folder / f"{pathlib.Path(name).stem}-{digest(target.read_bytes())[:16]}.elf"
+    target.replace(image)
+    return image

@@ -1,2 +1,0 @@
-    .entry 1
-    nop

@@ -1,0 +1,55 @@
+  $ bspemu debug --help
+  Run a program piece by piece: do what each line of standard input says, and write the answer
+  
+  Usage: bspemu debug [OPTIONS] <IMAGE>
+  
+  Arguments:
+    <IMAGE>  File with the program; - for standard input
+  
+  Options:
+        --format <FORMAT>   Format of IMAGE: elf, an ELF executable; raw, the bytes of memory from address 0; asm, an assembly text [default: elf]
+        --nodes <N>         Nodes of the machine, 1 to 1024 [default: 1]
+        --memory <BYTES>    Bytes of memory of each node, a multiple of 4096 from 4096 to 16777216 [default: 1048576]
+        --limit <TICKS>     Most ticks of each node, one per instruction, 1 to 1099511627776 [default: 1000000]
+        --input <FILE>      File that each node reads as its input, at most 16777216 bytes [default: no input]
+        --g <TICKS>         Ticks that a byte of the h-relation costs in the total [default: 1]
+        --l <TICKS>         Ticks that the end of a superstep costs in the total [default: 0]
+        --ledger <VERSION>  Version of the ledger: 2, in which h leaves out what a rank moves to itself and m counts messages, or 1, in which h counts it [default: 2]
+        --interactive       Answer each line before the next one is read, as at a terminal
+        --framed            For programs: write a line before each reply, which says how many lines the reply has and whether it is a refusal
+    -h, --help              Print help
+  
+  Lines of standard input. They are read to their end, and then answered one after another. At a terminal, and with
+  --interactive or --framed, each is answered before the next one is read:
+    break RANK ADDR      set a point: go stops before this rank makes a step at this address
+    break superstep K    set a point: go stops where superstep K begins
+    clear RANK ADDR      take away the point at this address
+    clear superstep K    take away the point at this superstep
+    step RANK N          make N steps of this rank, or fewer if it stops; points are not looked at
+    phase                run each rank until it stops, in rank order; points are not looked at
+    turn                 end the superstep, if no rank is running
+    go                   run on to the next point, or to the end
+    regs RANK            show where this rank is, its ticks, its state and its registers
+    bytes RANK ADDR LEN  show LEN bytes of the memory of this rank
+    queue RANK           show the messages that wait in the queue of this rank
+    costs                show the costs of the supersteps so far, and their total
+    output               show what was written in the supersteps so far
+    quit                 end
+  With --framed a line comes before each reply: `done N`, or `refused N` if the line is refused, where N is how many lines
+  the reply has. And there are more lines:
+    nodes                show how many ranks there are, and the other settings
+    where [RANK]         show where this rank, or each rank, is: its address, superstep and state
+    output FROM          show what was written, from byte FROM on
+    costs FROM           show the costs from superstep FROM on, and the total of all
+  Numbers are decimal, or hexadecimal as in 0x1f. All lines together may have 1048576 bytes. Where IMAGE is -, there are
+  no lines.
+  
+  A line that is refused changes nothing, and is answered `refused: NAME`:
+    BadCommand   the line is none of these, or a number in it is too great
+    BadRank      there is no such rank
+    BadRange     not all of these bytes lie in the memory
+    TooMany      1024 other points are set
+    NoSuchBreak  the point is not set
+    Over         the run has ended
+  The exit status is 0 whatever was refused and however the run ended; only an error ends it with 1, 5 or 6.
+  docs/manual/debugger.md has an example of each line.

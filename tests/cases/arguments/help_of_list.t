@@ -1,0 +1,11 @@
+  $ bspemu list --help
+  Write each word of a program with its address and its instruction
+  
+  Usage: bspemu list [OPTIONS] <IMAGE>
+  
+  Arguments:
+    <IMAGE>  File with the program; - for standard input
+  
+  Options:
+        --format <FORMAT>  Format of IMAGE: elf, an ELF executable; raw, the bytes of memory from address 0; asm, an assembly text [default: elf]
+    -h, --help             Print help

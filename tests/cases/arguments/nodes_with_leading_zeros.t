@@ -1,0 +1,2 @@
+  $ bspemu run examples/ranks.raw --nodes 007 --format raw
+  0123456 (no-eol)

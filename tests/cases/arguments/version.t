@@ -1,0 +1,2 @@
+  $ bspemu --version
+  bspemu 0.1.0

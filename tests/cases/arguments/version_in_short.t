@@ -1,0 +1,2 @@
+  $ bspemu -V
+  bspemu 0.1.0

@@ -1,0 +1,3 @@
+  $ bspemu asm - saved.elf
+  bspemu: cannot open - (stderr)
+  [6]

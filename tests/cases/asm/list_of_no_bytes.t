@@ -1,0 +1,1 @@
+  $ bspemu list - --format raw

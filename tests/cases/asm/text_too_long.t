@@ -1,0 +1,3 @@
+  $ bspemu run /dev/zero --format asm
+  bspemu: too long (stderr)
+  [1]

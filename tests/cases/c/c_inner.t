@@ -1,0 +1,12 @@
+  $ bspemu run examples/c/inner.elf --nodes 4 --report --ledger 1
+  the inner product of 1000 elements
+  rank 0: 166166000
+  done
+  rank 1: 166166000
+  rank 2: 166166000
+  rank 3: 166166000
+  superstep 0: w 1713 h 0 turned
+  superstep 1: w 97926 h 32 turned
+  superstep 2: w 1756 h 0 last
+  total 101427
+  ended

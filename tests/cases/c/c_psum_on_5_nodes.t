@@ -1,0 +1,13 @@
+  $ bspemu run examples/c/psum.elf --nodes 5 --report --g 4 --l 1000 --ledger 1
+  rank 0: 0 1 3 6 10 15 21 28
+  rank 1: 36 45 45 46 48 51 55 60
+  rank 2: 66 73 81 90 90 91 93 96
+  rank 3: 100 105 111 118 126 135 135 136
+  rank 4: 138 141 145 150 156 163 171 180
+  superstep 0: w 175 h 0 turned
+  superstep 1: w 56 h 4 turned
+  superstep 2: w 60 h 4 turned
+  superstep 3: w 60 h 4 turned
+  superstep 4: w 3943 h 0 last
+  total 9342
+  ended

@@ -1,0 +1,2 @@
+  $ bspemu run examples/c/wrong_total.elf --nodes 4
+  the total is 673059850

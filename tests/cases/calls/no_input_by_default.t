@@ -1,0 +1,1 @@
+  $ printf 'not read' | bspemu run examples/echo.raw --format raw

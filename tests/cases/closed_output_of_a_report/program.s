@@ -1,3 +1,0 @@
-# Nothing is written but the report.
-    li    a7, 1             # end()
-    ecall

@@ -1,0 +1,5 @@
+  $ unhex images/compressed_ranks.hex > program.raw
+  $ bspemu run program.raw --format raw --nodes 3 --report --ledger 1
+  012superstep 0: w 10 h 0 last
+  total 10
+  ended

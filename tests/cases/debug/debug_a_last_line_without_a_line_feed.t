@@ -1,0 +1,3 @@
+  $ printf 'phase\nturn' | bspemu debug examples/ranks.raw --format raw --nodes 3
+  moved 30
+  ended

@@ -1,0 +1,5 @@
+  $ { printf 'phase\n'; printf ' ' | repeat 1048571; } | bspemu debug examples/ranks.raw --format raw --nodes 3 --framed
+  done 1
+  moved 30
+  bspemu: too long (stderr)
+  [1]

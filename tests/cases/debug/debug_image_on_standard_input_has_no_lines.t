@@ -1,0 +1,1 @@
+  $ cat examples/ranks.raw | bspemu debug - --format raw

@@ -1,0 +1,5 @@
+  $ bspemu debug examples/ranks.elf --input examples <<'END'
+  > costs
+  > END
+  bspemu: read failed (stderr)
+  [6]

@@ -1,0 +1,1 @@
+  $ bspemu debug examples/ranks.raw --format raw --nodes 3

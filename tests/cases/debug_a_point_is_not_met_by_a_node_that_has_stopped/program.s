@@ -1,3 +1,0 @@
-# The fault leaves pc where it is.
-    li    a0, 1
-    ebreak

@@ -1,2 +1,0 @@
-# A byte more than the memory has.
-    .space 4097

@@ -1,4 +1,0 @@
-# A loop without an end.
-loop:
-    addi  s0, s0, 1
-    j     loop

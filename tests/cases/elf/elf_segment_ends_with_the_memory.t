@@ -1,0 +1,2 @@
+  $ unhex images/two_segments.hex > image
+  $ bspemu run image

@@ -1,0 +1,3 @@
+  $ bspemu list /dev/zero
+  bspemu: too long (stderr)
+  [1]

@@ -1,0 +1,3 @@
+  $ bspemu run absent.raw --input absent.txt --format raw
+  bspemu: cannot open absent.raw (stderr)
+  [6]

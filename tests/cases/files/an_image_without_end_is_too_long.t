@@ -1,0 +1,3 @@
+  $ bspemu run /dev/zero --format raw
+  bspemu: too long (stderr)
+  [1]

@@ -1,0 +1,3 @@
+  $ bspemu run --help >&-
+  bspemu: write failed (stderr)
+  [6]

@@ -1,0 +1,3 @@
+  $ bspemu --version >&-
+  bspemu: write failed (stderr)
+  [6]

@@ -1,0 +1,2 @@
+  $ bspemu run - --format raw
+  [2]

@@ -1,0 +1,3 @@
+  $ bspemu run '' --format raw
+  bspemu: cannot open  (stderr)
+  [6]

@@ -1,0 +1,3 @@
+  $ bspemu list examples/ranks.elf >&-
+  bspemu: write failed (stderr)
+  [6]

@@ -1,0 +1,4 @@
+  $ unhex <<'END' | bspemu run - --format raw
+  > 73 00 10 00  # ebreak
+  > END
+  [2]

@@ -1,0 +1,4 @@
+  $ unhex <<'END' | bspemu run - --format raw
+  > ff ff ff ff  # .word 0xffffffff
+  > END
+  [2]

@@ -1,0 +1,2 @@
+  $ bspemu run examples/ranks.raw --format raw
+  0 (no-eol)

@@ -1,0 +1,3 @@
+  $ bspemu run examples/ranks.raw --format raw --slice 0
+  bspemu: settings refused: BadSlice (stderr)
+  [1]

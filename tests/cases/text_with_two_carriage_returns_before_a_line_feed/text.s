@@ -1,3 +1,0 @@
-nop
-nop
-nop

@@ -1,0 +1,5 @@
+Wants: riscv64-unknown-elf-gcc
+
+  $ bspcc --version
+  bspcc *.*.* (glob)
+  riscv64-unknown-elf-gcc * (glob)

@@ -1,0 +1,7 @@
+Wants: riscv64-unknown-elf-gcc riscv64-unknown-elf-ld
+
+  $ printf 'int main(void) { return 5; }\n' >five.c && bspcc --small -o five.elf five.c && bsprun five.elf
+  bsp: rank 0: the program ended with status 5* (glob)
+  bsprun: rank 0 stopped: aborted (stderr)
+  rank 0 stopped in superstep 0, after * instructions: aborted (stderr) (glob)
+  [2]

@@ -1,0 +1,6 @@
+  $ bsprun -n 4 --warn examples/wrong_put.s
+  673059850
+  0
+  0
+  0
+  bsprun: warning: two puts of superstep 1 write byte 0x101 of rank 0: that of rank 0 at wrong_put.s:38, and that of rank 1 at wrong_put.s:38 (stderr)

@@ -1,0 +1,2 @@
+  $ at-a-terminal "$REPO"/bspemu run examples/ranks.s --format asm --nodes 3
+  012 (no-eol)

@@ -1,0 +1,69 @@
+"""Commands as they are typed at a scratch copy's top, with what they write and their statuses."""
+
+from __future__ import annotations
+
+import os
+import pathlib
+import signal
+import subprocess
+from typing import Dict, List, Tuple
+
+from pages.page import Command
+
+SECONDS = 120
+# Two lines that the debugger refuses, which changes nothing; so its answers to the lines between them can be told apart.
+MARK = "-\nclear superstep 0xffffffffffffffff\n"
+MARKED = "refused: BadCommand\nrefused: NoSuchBreak\n"
+GDB = "(gdb) "
+
+
+class Shell:
+    """Types commands at the top of a scratch copy, without the user's own settings."""
+
+    def __init__(self, top: pathlib.Path) -> None:
+        self.top = top
+        self.environment = environment(top)
+
+    def run(self, text: str, given: str) -> Tuple[int, str]:
+        """The status of a command, and all that it writes. What is given is its standard input."""
+        with subprocess.Popen(
+            ["bash", "-c", text],
+            cwd=self.top,
+            env=self.environment,
+            stdin=subprocess.PIPE,
+            stdout=subprocess.PIPE,
+            stderr=subprocess.STDOUT,
+            start_new_session=True,
+        ) as process:
+            try:
+                written, _ = process.communicate(given.encode(), timeout=SECONDS)
+            except subprocess.TimeoutExpired:
+                os.killpg(process.pid, signal.SIGKILL)
+                raise
+            return process.returncode, written.decode(errors="replace")
+
+    def type(self, command: Command) -> Tuple[int, List[List[str]]]:
+        """The status of a command, and the lines that it writes after each of its parts."""
+        if command.prompt is None:
+            status, text = self.run(command.text, command.given)
+            return status, [text.splitlines()]
+        lines = [part.typed + "\n" for part in command.parts[1:]]
+        if command.prompt == GDB:
+            status, text = self.run(command.text, "set width 0\n" + "".join(lines))
+            start, _, rest = text.partition(GDB)
+            answers = [start, *rest.split(GDB)[1:]]
+        else:
+            status, text = self.run(command.text, MARK + "".join(line + MARK for line in lines))
+            answers = text.split(MARKED)
+        # What was typed last is often `quit`, after which nothing is written; else an empty answer follows.
+        parts = len(command.parts)
+        answers = [*answers[:parts], "".join(answers[parts:])] if "".join(answers[parts:]).strip() else answers[:parts]
+        return status, [answer.splitlines() for answer in answers] + [[] for _ in range(parts - len(answers))]
+
+
+def environment(top: pathlib.Path) -> Dict[str, str]:
+    """What commands find set: programs are those of the user, and nothing else is."""
+    home, scratch = top.parent / "home", top.parent / "tmp"
+    for folder in (home, scratch):
+        folder.mkdir(exist_ok=True)
+    return {"PATH": os.environ["PATH"], "LANG": "C.UTF-8", "HOME": str(home), "TMPDIR": str(scratch), "TERM": "dumb"}

@@ -1,0 +1,43 @@
+// A program in C++ with the standard streams, which rank 0 reads and all ranks write.
+#include <iomanip>
+#include <iostream>
+#include <string>
+
+#include "bsp.h"
+
+struct Point {
+    int x, y;
+};
+
+static std::ostream &operator<<(std::ostream &to, const Point &point)
+{
+    return to << '(' << point.x << ", " << point.y << ')';
+}
+
+struct Early {
+    Early() { std::cout << "early" << std::endl; }
+};
+
+static Early early;
+
+int main()
+{
+    using namespace std;
+    int count = 0, sum = 0, number;
+    double factor;
+    string word, line;
+    bsp_begin(bsp_nprocs());
+    cin >> count >> factor >> word;
+    cin.ignore(100, '\n');
+    getline(cin, line);
+    while (cin >> number)
+        sum += number;
+    cout << bsp_pid() << ": " << count << ' ' << factor << " [" << word << "] [" << line << "] " << sum << boolalpha << ' ' << cin.eof() << '\n';
+    if (bsp_pid() == 0) {
+        cout << fixed << setprecision(3) << factor << setw(8) << 2.5 << '|' << left << setw(5) << "ab" << '|' << right << setfill('*') << setw(5)
+             << 42 << ' ' << Point{1, 2} << endl;
+        cerr << hex << 255 << dec << ' ' << -1 << ' ' << defaultfloat << 1e10 << ' ' << static_cast<unsigned char>('x') << '\n';
+    }
+    bsp_end();
+    return 0;
+}

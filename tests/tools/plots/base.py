@@ -1,0 +1,62 @@
+"""What all parts of the check stand on: the tools that they want, folders, and runs of the repository's tools."""
+
+from __future__ import annotations
+
+import functools
+import importlib.util
+import os
+import pathlib
+import subprocess
+import tempfile
+from dataclasses import replace
+from typing import Callable, Dict, Mapping, Optional, Tuple
+
+import checks
+from checks import Part, Tally, Tool
+
+from bsptools.sweep import engines
+
+HERE = pathlib.Path(__file__).resolve().parent
+REPO, SECONDS = checks.REPO, checks.SECONDS
+STORED = HERE / "profiles"
+
+MATPLOTLIB = replace(checks.MATPLOTLIB, look=lambda name: importlib.util.find_spec(name) is not None)
+PARALLEL = Tool("GNU parallel", "parallel", lambda _: engines.is_gnu_parallel())
+
+
+class Check:
+    """A part of the check. The tools run in a folder of its own; what it counts goes to a tally that all parts share."""
+
+    def __init__(self, folder: pathlib.Path, tally: Tally) -> None:
+        self.folder, self.tally = folder, tally
+        self.tell, self.expect, self.skip = tally.tell, tally.expect, tally.skip
+
+    def tool(self, name: str, *words: str, environment: Optional[Mapping[str, Optional[str]]] = None) -> subprocess.CompletedProcess[str]:
+        """A run of a script of the repository's top, with these changes of the environment: None takes a variable away."""
+        command = [str(REPO / name), *words]
+        variables: Dict[str, Optional[str]] = {**os.environ}
+        variables.update(environment or {})
+        left = {name: it for name, it in variables.items() if it is not None}
+        return subprocess.run(
+            command, input="", capture_output=True, text=True, check=False, cwd=self.folder, env=left, timeout=SECONDS
+        )
+
+
+class Parts:
+    """Makes parts, each with a folder of its own below this one."""
+
+    def __init__(self, folder: pathlib.Path, tally: Tally) -> None:
+        self.folder, self.tally = folder, tally
+
+    def part(self, name: str, make: Callable[..., None], *values: object, tools: Tuple[Tool, ...] = ()) -> Part:
+        """A part of this name: what it calls, with its check and these values, and the tools that it wants."""
+        # Folders of people have spaces in their names.
+        place = pathlib.Path(tempfile.mkdtemp(dir=self.folder)) / "a folder"
+        place.mkdir()
+        return Part(name, functools.partial(make, Check(place, self.tally), *values), tools)
+
+
+def has_profiles() -> bool:
+    """Whether the emulator writes profiles."""
+    words = [os.environ.get("BSPEMU") or str(REPO / "bspemu"), "run", "--help"]
+    return "--profile" in subprocess.run(words, capture_output=True, text=True, check=False).stdout

@@ -1,0 +1,192 @@
+"""The page in a browser without a window: it loads without an error, stands in each width, and no text of it is cut off."""
+
+from __future__ import annotations
+
+import html
+import json
+import pathlib
+import re
+import shutil
+import struct
+import subprocess
+import tempfile
+from typing import Any, Dict, List, Optional
+
+from base import SECONDS, STORED, Check, Parts
+from checks import Part, Tool
+from pictures import SWEEP
+
+NAMES = ("chromium", "chromium-browser", "google-chrome")
+# The widths of a telephone and of a screen. A page stands in a frame of each.
+WIDTHS = (400, 1400)
+HEIGHT = 3600
+# What is looked at in the page, by a script that is put into a copy of it: what lies outside the window's width, texts of pictures outside
+# their picture or over one another's middle, texts that are hard to see, and what the page would load from elsewhere.
+LOOK = """
+<script>
+window.onerror = (text) => { document.title = 'error: ' + text; };
+const light = (color) => {
+  const [r, g, b] = color.match(/[0-9.]+/g).map((it) => it / 255).map((it) => it <= 0.04045 ? it / 12.92 : ((it + 0.055) / 1.055) ** 2.4);
+  return 0.2126 * r + 0.7152 * g + 0.0722 * b + 0.05;
+};
+window.onload = () => {
+  const outside = [], over = [];
+  for (const picture of document.querySelectorAll('svg')) {
+    const frame = picture.getBoundingClientRect();
+    for (const text of picture.querySelectorAll('text')) {
+      const place = text.getBoundingClientRect();
+      if (place.left < frame.left - 1 || place.right > frame.right + 1 || place.top < frame.top - 1 || place.bottom > frame.bottom + 1)
+        outside.push(picture.id + ': ' + text.textContent);
+    }
+    const texts = [...picture.querySelectorAll('text')].map((it) => [it.textContent, it.getBoundingClientRect()]);
+    for (let i = 0; i < texts.length; i++)
+      for (let j = 0; j < i; j++) {
+        const [one, here] = texts[i], [other, there] = texts[j];
+        if (here.left < there.right - 1 && there.left < here.right - 1 && here.top < there.bottom - 4 && there.top < here.bottom - 4)
+          over.push(picture.id + ': ' + one + ' over ' + other);
+      }
+  }
+  const small = [...document.querySelectorAll('svg text')].filter((it) => it.getBoundingClientRect().height < 8).length;
+  const paper = light(getComputedStyle(document.body).backgroundColor);
+  const contrasts = [...document.querySelectorAll('h1, h2, p, th, td')].map((it) => light(getComputedStyle(it).color) / paper);
+  const found = {
+    window: window.innerWidth,
+    width: document.documentElement.scrollWidth,
+    dark: matchMedia('(prefers-color-scheme: dark)').matches,
+    contrast: Math.min(...contrasts.map((it) => Math.max(it, 1 / it))),
+    page: paper,
+    papers: [...new Set([...document.querySelectorAll('svg')].map((it) => getComputedStyle(it).backgroundColor))],
+    pictures: [...document.querySelectorAll('svg')].map((it) => it.id),
+    outside: outside,
+    over: over,
+    small: small,
+    rows: [...document.querySelectorAll('table')].pop().querySelectorAll('tr').length,
+    names: new Set([...document.querySelectorAll('[id]')].map((it) => it.id)).size,
+    named: document.querySelectorAll('[id]').length,
+    texts: [...document.querySelectorAll('svg text, td')].map((it) => it.textContent),
+    tags: document.querySelectorAll('b, i').length,
+    loaded: performance.getEntriesByType('resource').length,
+  };
+  parent.postMessage(JSON.stringify(found), '*');
+};
+</script>
+"""
+# The page around the frames, which writes down what each of them tells.
+AROUND = """<!DOCTYPE html><meta charset="utf-8"><body style="margin: 0"><script>
+window.onmessage = (told) => {
+  const line = document.createElement('pre');
+  line.textContent = told.data;
+  line.className = 'found';
+  document.body.append(line);
+};
+</script>
+"""
+# A program of this name is in the table. It would be parts of a page where it is not escaped.
+WILD = '<i>&amp;id="x".s'
+
+
+def browser() -> Optional[str]:
+    """The browser that is installed."""
+    return next(filter(None, map(shutil.which, NAMES)), None)
+
+
+def loaded(program: str, path: pathlib.Path, is_dark: bool) -> subprocess.CompletedProcess[str]:
+    """What a page is after it was loaded, and what its console says. A picture of it stands beside it."""
+    with tempfile.TemporaryDirectory() as folder:
+        size = f"--window-size={sum(WIDTHS)},{HEIGHT}"
+        words = [program, "--headless", "--no-sandbox", "--disable-gpu", size, "--hide-scrollbars", f"--user-data-dir={folder}"]
+        # 0 is dark, and 1 is light.
+        words += [f"--blink-settings=preferredColorScheme={0 if is_dark else 1}", f"--screenshot={path.with_suffix('.png')}"]
+        # Containers have little shared memory.
+        words += ["--disable-dev-shm-usage", "--enable-logging=stderr", "--virtual-time-budget=5000", "--dump-dom", path.as_uri()]
+        return subprocess.run(words, capture_output=True, text=True, check=False, timeout=SECONDS, stdin=subprocess.DEVNULL)
+
+
+BROWSER = Tool("chromium", "chromium", lambda _: browser() is not None)
+OF_PROFILE = ["costs", "matrix", "timeline"]
+# Each page, with the names of its pictures, and how many rows its table has.
+PAGES = {
+    "lu": (OF_PROFILE, 15),
+    "total_exchange": (OF_PROFILE, 4),
+    "table": (["compare", "sweep"], 8),
+    "large": (OF_PROFILE, 15),
+}
+# Those that are looked at by someone who likes dark pages.
+DARK = ("total_exchange", "large")
+
+
+def parts(make: Parts) -> List[Part]:
+    """A part for each page."""
+    return [make.part(f"page of {name} in a browser", load, name, tools=(BROWSER,)) for name in PAGES]
+
+
+def load(check: Check, name: str) -> None:
+    """Makes a page and loads it."""
+    names, rows = PAGES[name]
+    path = check.folder / f"{name}.html"
+    words = ["--html", str(path), "--g", "4", "--l", "1000", "--title", f"The page of {name}", "--setting", "program=<b>.c"]
+    done = check.tool("bspplot", *words, str(source_of(check, name)))
+    check.expect(f"page of {name}, made", done.returncode == 0, done.stderr)
+    check.tell(f"page of {name}", faults(browser() or BROWSER.name, path, names, rows, name in DARK))
+
+
+def source_of(check: Check, name: str) -> pathlib.Path:
+    """What a page is made of."""
+    if name == "large":
+        return large(check)
+    if name == "table":
+        path = check.folder / "table.csv"
+        path.write_text(SWEEP.replace("two.s", '"' + WILD.replace('"', '""') + '"'))
+        return path
+    return STORED / f"{name}.csv"
+
+
+def large(check: Check) -> pathlib.Path:
+    """A profile with numbers that are as long as they get."""
+    path = check.folder / "large.csv"
+    rows = [line.split(",") for line in (STORED / "lu.csv").read_text().splitlines()]
+    for row in rows[1:]:
+        row[3] = row[3] and str(int(row[3]) * 50_000_003)
+        row[4:7] = [it and str(int(it) * 50_003) for it in row[4:7]]
+    path.write_text("".join(",".join(row) + "\n" for row in rows))
+    return path
+
+
+def framed(text: str) -> str:
+    """A page with a frame of each width, in which this page is."""
+    page = html.escape(text.replace("</head>", LOOK + "</head>"))
+    frames = [f'<iframe style="border: 0; width: {width}px; height: {HEIGHT}px" srcdoc="{page}"></iframe>' for width in WIDTHS]
+    return AROUND + "".join(frames)
+
+
+def faults(program: str, path: pathlib.Path, names: List[str], rows: int, is_dark: bool) -> str:
+    """What is wrong with a page."""
+    text = path.read_text()
+    if re.search(r"""(?:src|href)=["']?(?:https?:|//|file:)""", text):
+        return "it asks for files from elsewhere"
+    if "program</th><td>&lt;b&gt;.c</td>" not in text:
+        return "a setting is missing"
+    path.write_text(framed(text))
+    done = loaded(program, path, is_dark)
+    console = [line for line in done.stderr.splitlines() if "CONSOLE" in line or "error: " in line.lower() and "dbus" not in line.lower()]
+    written = [json.loads(html.unescape(it)) for it in re.findall(r'<pre class="found">(\{.*?)</pre>', done.stdout)]
+    if sorted(it["window"] for it in written) != sorted(WIDTHS) or console:
+        return f"it was not loaded: {console} {done.stderr[-300:]}"
+    shot = path.with_suffix(".png").read_bytes()
+    if struct.unpack(">II", shot[16:24]) != (sum(WIDTHS), HEIGHT):
+        return "no picture of it was made"
+    return "".join(f"in {it['window']} pixels {fault}; " for it in written for fault in [fault_of(it, names, rows, is_dark)] if fault)
+
+
+def fault_of(found: Dict[str, Any], names: List[str], rows: int, is_dark: bool) -> str:
+    """What is wrong with a page in one of the frames."""
+    texts = found.pop("texts")
+    if sorted(found["pictures"]) != names or found["rows"] != rows:
+        return f"it has the pictures {found['pictures']} and {found['rows']} rows"
+    if found["width"] > found["window"] or found["outside"] or found["over"] or found["small"] or found["loaded"]:
+        return f"it does not stand in its width, or texts are cut off or small, or it loads more: {found}"
+    if found["dark"] != is_dark or (found["page"] < 0.2) != is_dark or found["contrast"] < 4.5 or found["papers"] != ["rgb(255, 255, 255)"]:
+        return f"it is hard to read: {found}"
+    if found["tags"] or ("compare" in names and texts.count(WILD) < 3):
+        return f"a name is not as it is written: {texts}"
+    return "" if found["names"] == found["named"] else "two of its parts have one name"

@@ -1,0 +1,375 @@
+"""Pictures of the stored profiles: each bar stands where the profile has it, and each number is the profile's."""
+
+from __future__ import annotations
+
+import json
+import math
+import os
+import pathlib
+import subprocess
+import sys
+from typing import Callable, Dict, List, Tuple
+
+import svg
+from base import REPO, SECONDS, STORED, Check, Parts
+from checks import Part
+from profiles import RUNS, stored
+
+from bsptools.plot import costs, series, sweep
+from bsptools.plot.canvas import EXCHANGE, thousands
+from bsptools.plot.profile import Profile, Reading
+
+G, L = 3, 70
+PRICES = costs.Prices(G, L)
+WORDS = ["--g", str(G), "--l", str(L)]
+SWEEP = """\
+program,nodes,g,l,input,args,N,supersteps,w,h,total,outcome
+one.s,1,1,10,,,100,3,900,0,930,ended
+one.s,2,1,10,,,100,3,460,40,530,ended
+one.s,4,1,10,,,100,3,240,80,350,ended
+one.s,8,1,10,,,100,,,,,not run
+two.s,1,1,10,,,100,4,950,0,990,ended
+two.s,2,1,10,,,100,4,480,20,540,ended
+two.s,4,1,10,,,100,4,250,30,320,ended
+"""
+# Calls the command line of bspplot for each list of words that it reads: most of the time of one goes into the import of matplotlib.
+COMMAND_LINES = """\
+import contextlib, io, json, sys
+sys.path.insert(0, sys.argv[1])
+from bsptools import start
+answers = []
+for words in json.load(sys.stdin):
+    said = io.StringIO()
+    with contextlib.redirect_stderr(said):
+        try:
+            status = start.main("bspplot", words)
+        except SystemExit as ended:
+            status = ended.code
+    answers.append((status, said.getvalue()))
+json.dump(answers, sys.stdout)
+"""
+
+
+def drawn(check: Check, kind: str, source: pathlib.Path, *words: str) -> svg.Drawing:
+    """A picture that bspplot draws of a file."""
+    return all_drawn(check, [kind], source, *words)[0]
+
+
+def all_drawn(check: Check, kinds: List[str], source: pathlib.Path, *words: str) -> List[svg.Drawing]:
+    """Pictures that bspplot draws of a file at once."""
+    paths = [check.folder / f"{kind}.svg" for kind in kinds]
+    for kind, path in zip(kinds, paths):
+        path.unlink(missing_ok=True)
+        words += (f"--{kind}", str(path))
+    done = check.tool("bspplot", *words, str(source))
+    if done.returncode != 0 or done.stderr:
+        raise ValueError(f"{' '.join(kinds)} of {source.name}: {done.stderr}")
+    return [svg.read(path.read_text()) for path in paths]
+
+
+def parts(make: Parts) -> List[Part]:
+    """A part for each stored profile, and what else there is to pictures."""
+    others = [same_bytes, refusals, forms, sweeps, choices, names, readings, scales]
+    return [*(make.part(it.__name__, it) for it in others), *(make.part(f"pictures of {name}", of_profile, name) for name in RUNS)]
+
+
+def of_profile(check: Check, name: str) -> None:
+    """The three pictures of a stored profile."""
+    found = stored(name)
+    pictures = all_drawn(check, ["timeline", "costs", "matrix"], STORED / f"{name}.csv", *WORDS)
+    looks: List[Callable[[Profile, svg.Drawing], str]] = [timeline, split, matrix]
+    for kind, look, picture in zip(("timeline", "costs", "matrix"), looks, pictures):
+        check.tell(f"{kind} of {name}", look(found, picture))
+
+
+def timeline(found: Profile, picture: svg.Drawing) -> str:
+    """What is wrong with a timeline: its bars, where they begin and end, and what they say."""
+    start = 0
+    wanted: Dict[str, Tuple[str, int, int]] = {}
+    for it in found.supersteps:
+        exchange = start + it.w
+        sync = exchange + G * it.h(Reading.OTHERS)
+        for rank, share in enumerate(it.shares):
+            done = start + share.ticks
+            wanted[f"work-{it.number}-{rank}"] = (f"superstep {it.number}, rank {rank}: work {share.ticks}", start, done)
+            wanted[f"wait-{it.number}-{rank}"] = (f"superstep {it.number}, rank {rank}: waits {it.w - share.ticks}", done, exchange)
+        text = f"superstep {it.number}: g·h = {G} × {it.h(Reading.OTHERS)} = {sync - exchange}"
+        wanted[f"exchange-{it.number}"] = (text, exchange, sync)
+        wanted[f"sync-{it.number}"] = (f"superstep {it.number}: l = {L}", sync, sync + L)
+        start = sync + L
+    fault = said(picture, {name: text for name, (text, begin, end) in wanted.items() if end > begin})
+    if fault:
+        return fault
+    places = [(name, begin, picture.marks[name].left) for name, (_, begin, end) in wanted.items() if end > begin]
+    places += [(name, end, picture.marks[name].right) for name, (_, begin, end) in wanted.items() if end > begin]
+    rows = [(name, int(name.split("-")[2]), (mark.top + mark.bottom) / 2) for name, mark in picture.named("w").items()]
+    return "" if picture.are_at("x", places) and picture.are_at("y", rows) else "a bar is not where it should be"
+
+
+def said(picture: svg.Drawing, wanted: Dict[str, str]) -> str:
+    """What is wrong with the names of marks and what they say."""
+    here = {name: mark.text for name, mark in picture.marks.items()}
+    differing = {name for name in {*here, *wanted} if here.get(name) != wanted.get(name)}
+    return "".join(f"{name}: {here.get(name)!r} and not {wanted.get(name)!r}; " for name in sorted(differing)[:3])
+
+
+def split(found: Profile, picture: svg.Drawing) -> str:
+    """What is wrong with the bars of the costs: their heights, what they stand on, what they say, and the sums."""
+    wanted: Dict[str, str] = {}
+    places: List[Tuple[str, float, float]] = []
+    sums = [0, 0, 0]
+    for cost in costs.of_profile(found, Reading.OTHERS):
+        low = 0
+        for i, (name, label, part) in enumerate(zip(("w", "gh", "l"), ("w", "g·h", "l"), cost.parts(PRICES))):
+            sums[i] += part
+            if part:
+                wanted[f"{name}-{cost.number}"] = f"superstep {cost.number}: {label} = {part}"
+                mark = picture.marks.get(f"{name}-{cost.number}")
+                places += [(f"{name}-{cost.number}", low, mark.bottom), (f"{name}-{cost.number}", low + part, mark.top)] if mark else []
+            low += part
+    fault = said(picture, wanted)
+    if not picture.are_at("y", places):
+        fault += "a bar has another height; "
+    legend = [it for it in picture.texts if " ticks, " in it]
+    if [it.split(": ")[1].split(" ticks")[0] for it in legend] != [thousands(it) for it in sums]:
+        fault += f"the sums are {legend}"
+    return fault
+
+
+def matrix(found: Profile, picture: svg.Drawing, reading: Reading = Reading.OTHERS) -> str:
+    """What is wrong with a matrix: its cells, where they stand, their numbers, and the margins."""
+    sums: Dict[Tuple[int, int], int] = {}
+    for it in found.supersteps:
+        for pair, count in it.transfers.items():
+            sums[pair] = sums.get(pair, 0) + count
+    kept = {f"bytes-{one}-{to}" for one, to in sums if one == to and reading is Reading.OTHERS}
+    cells = {f"bytes-{one}-{to}": f"{count} bytes from rank {one} to rank {to}" for (one, to), count in sums.items()}
+    cells.update({name: f"{cells[name]}, which do not count in h" for name in kept})
+    bars = margins(found, reading)
+    fault = said(picture, {**cells, **{name: text for name, (text, _) in bars.items()}})
+    marks = picture.named("bytes-")
+    middles = {name: ((it.left + it.right) / 2, (it.top + it.bottom) / 2) for name, it in marks.items()}
+    columns = [(name, int(name.split("-")[2]), x) for name, (x, _) in middles.items()]
+    rows = [(name, int(name.split("-")[1]), y) for name, (_, y) in middles.items()]
+    if not (picture.are_at("x", columns) and picture.are_at("y", rows)):
+        fault += "a cell is not where it should be; "
+    hatched = {name for name, it in marks.items() if "url(#" in it.style}
+    if hatched != kept:
+        fault += f"hatched are {hatched}; "
+    if found.nodes <= 16:
+        missing = {thousands(count) for count in [*sums.values(), *(count for _, count in bars.values())]} - set(picture.texts)
+        fault += f"the numbers {missing} are missing" if missing else ""
+    return fault + greatest(found, picture, reading)
+
+
+def margins(found: Profile, reading: Reading) -> Dict[str, Tuple[str, int]]:
+    """The bars beside a matrix: what each says, and its bytes."""
+    bars: Dict[str, Tuple[str, int]] = {}
+    for rank in range(found.nodes):
+        shares = [it.shares[rank] for it in found.supersteps]
+        kept = sum(it.kept for it in shares) if reading is Reading.ALL else 0
+        for kind, whom, count in (("sent", "to", sum(it.sent for it in shares)), ("received", "from", sum(it.received for it in shares))):
+            more = ", with those to itself" if reading is Reading.ALL else f" {whom} others"
+            if count + kept:
+                bars[f"{kind}-{rank}"] = (f"rank {rank} {kind} {count + kept} bytes{more}", count + kept)
+    return bars
+
+
+def greatest(found: Profile, picture: svg.Drawing, reading: Reading) -> str:
+    """What is wrong with the margins of a matrix: how long the bars are, which are marked, and what is said of h."""
+    bars = {name: count for name, (_, count) in margins(found, reading).items() if name in picture.marks}
+    marks, most, h = picture.marks, max(bars.values(), default=0), sum(it.h(reading) for it in found.supersteps)
+    along = [(name, count, marks[name].right) for name, count in bars.items() if name.startswith("sent")]
+    along += [(name, 0, marks[name].left) for name in bars if name.startswith("sent")]
+    down = [(name, count, marks[name].bottom) for name, count in bars.items() if name.startswith("received")]
+    down += [(name, 0, marks[name].top) for name in bars if name.startswith("received")]
+    fault = "" if picture.are_at("x", along) and picture.are_at("y", down) else "a sum has another length; "
+    marked = {name for name in bars if EXCHANGE in marks[name].style}
+    if marked != {name for name, count in bars.items() if count == most}:
+        fault += f"marked are {marked}; "
+    text = f"the greatest: h = {thousands(h)}" if most == h else f"the sum of h over {len(found.supersteps)} supersteps: {thousands(h)}"
+    return fault if any(it.endswith(text) for it in picture.texts) else f"{fault}nothing says {text}"
+
+
+def readings(check: Check) -> None:
+    """The matrix of one superstep, by both ways to count h: its greatest sum is h."""
+    whole = stored("samplesort")
+    one = Profile([it for it in whole.supersteps if it.number == 1])
+    for reading in Reading:
+        picture = drawn(check, "matrix", STORED / "samplesort.csv", "--supersteps", "1", "--h", reading.value)
+        check.tell(f"matrix of a superstep, --h {reading.value}", matrix(one, picture, reading))
+        text = f"the greatest: h = {one.supersteps[0].h(reading)}"
+        check.expect(f"h of a superstep, --h {reading.value}", text in picture.texts, picture.texts)
+    check.expect("both differ", one.supersteps[0].h(Reading.ALL) != one.supersteps[0].h(Reading.OTHERS), "h is the same")
+
+
+def choices(check: Check) -> None:
+    """Pictures of some supersteps, and by the other reading of h."""
+    source = STORED / "broadcast2.csv"
+    one = drawn(check, "matrix", source, "--supersteps", "1")
+    check.expect("matrix of one superstep", set(one.named("bytes-")) == {f"bytes-0-{to}" for to in (1, 2, 3)}, one.marks)
+    some = drawn(check, "costs", source, "--supersteps", "1:2")
+    check.expect("costs of two supersteps", {it.split("-")[1] for it in some.marks} == {"1", "2"}, some.marks)
+    others = drawn(check, "costs", STORED / "inner.csv")
+    check.expect("h of other ranks alone", others.marks["gh-1"].text == "superstep 1: g·h = 24", others.marks["gh-1"])
+    whole = drawn(check, "costs", STORED / "inner.csv", "--h", "all")
+    check.expect("h of all bytes", whole.marks["gh-1"].text == "superstep 1: g·h = 32", whole.marks["gh-1"])
+    rest = drawn(check, "timeline", STORED / "lu.csv", "--supersteps", "12:")
+    check.expect("timeline of the last supersteps", {it.split("-")[1] for it in rest.marks} == {"12", "13"}, rest.marks)
+
+
+def forms(check: Check) -> None:
+    """A report in each of its forms has the costs of its profile."""
+    wanted = drawn(check, "costs", STORED / "lu.csv", *WORDS)
+    for name in ("costs.csv", "costs.json", "costs.txt"):
+        check.tool("bsprun", "-n", "4", "--report", name, str(REPO / "examples/c/lu.elf"))
+        found = drawn(check, "costs", check.folder / name, *WORDS)
+        check.expect(f"costs of a report, {name}", found == wanted, found)
+    wanted = drawn(check, "costs", STORED / "inner.csv", "--h", "all")
+    found = drawn(check, "costs", first_report(check), "--h", "all")
+    check.expect("costs of a report by the first version of the ledger", found == wanted, found)
+
+
+def first_report(check: Check) -> pathlib.Path:
+    """A report by the first version of the ledger, of which h counts all bytes."""
+    path = check.folder / "first.txt"
+    words = [os.environ["BSPEMU"], "run", str(REPO / "examples/c/inner.elf"), "--nodes", "4", "--report", "--ledger", "1"]
+    path.write_bytes(subprocess.run(words, stdin=subprocess.DEVNULL, stdout=subprocess.PIPE, check=True, timeout=SECONDS).stdout)
+    return path
+
+
+def sweeps(check: Check) -> None:
+    """Pictures of a sweep: each point's number, its place, and the crossing."""
+    source = check.folder / "table.csv"
+    source.write_text(SWEEP)
+    lines = sweep.lines(sweep.parse(SWEEP))
+    picture = drawn(check, "sweep", source)
+    values = {"total": lambda line, it: line.totals[it], "speedup": sweep.Line.speedup, "efficiency": sweep.Line.efficiency}
+    for kind, value in values.items():
+        wanted = {f"{kind}-{i}-{it}": value(line, it) for i, line in enumerate(lines) for it in line.totals}
+        marks = picture.named(f"{kind}-")
+        numbers = {name: float(mark.text.rpartition(" ")[2]) for name, mark in marks.items()}
+        right = set(numbers) == set(wanted) and all(abs(numbers[it] - wanted[it]) <= 0.006 * wanted[it] for it in wanted)
+        check.expect(f"numbers of a sweep, {kind}", right, numbers)
+        check.expect(f"places of a sweep, {kind}", are_points(picture, wanted, kind != "efficiency"), marks)
+    check.expect("speedup on 4 nodes", picture.marks["speedup-0-4"].text == "one.s, 4 nodes: speedup 2.66", picture.marks)
+    axes = [it for it in picture.texts if "(logarithmic)" in it]
+    wanted_axes = ["nodes (logarithmic)"] * 3 + ["speedup (logarithmic)", "ticks (logarithmic)"]
+    check.expect("axes of a sweep", sorted(axes) == wanted_axes, axes)
+    one, more = picture.marks["ideal-1"], picture.marks["speedup-0-1"]
+    begins = abs(one.left - more.left) < 0.02 and abs(one.bottom - more.top) < 0.02
+    check.expect("the ideal", begins and one.text == "ideal: on 4 nodes speedup 4" and "ideal" in picture.texts, one)
+    ideal = {"ideal-1": (4.0, one.right, one.top)}
+    check.expect("place of the ideal", ends_at(picture, ideal), one)
+    check.expect("efficiency on 4 nodes", picture.marks["efficiency-1-4"].text == "two.s, 4 nodes: efficiency 0.773", picture.marks)
+    compared = drawn(check, "compare", source)
+    crossing = [mark.text for mark in compared.named("crossing-").values()]
+    check.expect("a crossing", crossing == ["from 4 nodes on two.s costs less, at g 1 and l 10"], crossing)
+    check.expect("its text", crossing[0] in compared.texts, compared.texts)
+    check.expect("axes of a comparison", "total, in ticks (logarithmic)" in compared.texts, compared.texts)
+    numbers_up = [value for value, _ in compared.ticks["axes_2 y"]]
+    check.expect("numbers up a comparison", len(numbers_up) >= 5, numbers_up)
+
+
+def scales(check: Check) -> None:
+    """Totals have plain numbers along their axis, at least five, whatever their range is."""
+    tried: Dict[Tuple[float, float], List[float]] = {
+        (90, 1100): [100, 200, 300, 500, 700, 1000],
+        (900, 60_000): [1000, 2000, 5000, 10_000, 20_000, 50_000],
+        (310, 1050): [400, 500, 600, 700, 800, 900, 1000],
+        (930, 990): [930, 940, 950, 960, 970, 980, 990],
+        (1, 2e30): [10.0**it for it in range(0, 31, 3)],
+    }
+    for (low, high), wanted in tried.items():
+        found = series.ticks(low, high)
+        inside = [it for it in found if low <= it <= high]
+        check.expect(f"numbers from {low} to {high}", inside == wanted, found)
+    doubled = [1 << it for it in range(11)]
+    kept = series.apart(doubled, series.PANEL)
+    check.expect("nodes beside one another", kept == [1, 2, 4, 8, 16, 32, 64, 256, 1024], kept)
+    check.expect("nodes over a whole width", series.apart(doubled, series.ALONE) == doubled, "some are left out")
+
+
+def names(check: Check) -> None:
+    """Lines are named by what tells them apart."""
+    tried = {
+        "one program": (SWEEP.replace("two.s", "one.s"), ["one.s"]),
+        "programs of one name": (SWEEP.replace("one.s", "a/x.s").replace("two.s", "b/x.s"), ["a/x.s", "b/x.s"]),
+        "programs in folders": (SWEEP.replace("one.s", "a/x.s").replace("two.s", "b/y.s"), ["x.s", "y.s"]),
+        "a constant": (SWEEP.replace("two.s,1,1,10,,,100", "one.s,1,1,10,,,200"), ["one.s, N 100", "one.s, N 200", "two.s, N 100"]),
+    }
+    for name, (text, wanted) in tried.items():
+        found = sweep.labels(sweep.lines(sweep.parse(text)))
+        check.expect(f"names of lines, {name}", found == wanted, found)
+
+
+def ends_at(picture: svg.Drawing, ends: Dict[str, Tuple[float, float, float]]) -> bool:
+    """Whether lines end at a number of nodes and the same speedup: each one's number, and its place across and up."""
+    log = {axis: [(math.log(value), place) for value, place in them] for axis, them in picture.ticks.items() if all(it for it, _ in them)}
+    scaled = svg.Drawing(picture.marks, picture.texts, log)
+    across = [(name, math.log(value), x) for name, (value, x, _) in ends.items()]
+    return scaled.are_at("x", across) and scaled.are_at("y", [(name, math.log(value), y) for name, (value, _, y) in ends.items()])
+
+
+def are_points(picture: svg.Drawing, wanted: Dict[str, float], is_of_powers: bool) -> bool:
+    """Whether points stand where the axes have them: the one of the nodes has a scale of powers, and the other may have."""
+    log = {axis: [(math.log(value), place) for value, place in them] for axis, them in picture.ticks.items() if all(it for it, _ in them)}
+    scaled = svg.Drawing(picture.marks, picture.texts, log)
+    across = [(name, math.log(int(name.split("-")[2])), picture.marks[name].left) for name in wanted]
+    up = [(name, math.log(value) if is_of_powers else value, picture.marks[name].top) for name, value in wanted.items()]
+    return scaled.are_at("x", across) and (scaled if is_of_powers else picture).are_at("y", up)
+
+
+def same_bytes(check: Check) -> None:
+    """Each kind of picture is written, and has the same bytes each time."""
+    beginnings = {"t.svg": b"<?xml", "t.png": b"\x89PNG", "t.pdf": b"%PDF", "t.html": b"<!DOCTYPE html>"}
+    for words in (["--timeline", "t.svg", "--html", "t.html"], ["--timeline", "t.png"], ["--timeline", "t.pdf"]):
+        contents: List[Dict[str, bytes]] = []
+        for _ in range(2):
+            check.tool("bspplot", *words, *WORDS, str(STORED / "lu.csv"))
+            contents.append({name: (check.folder / name).read_bytes() for name in words[1::2]})
+        for name in words[1::2]:
+            begun = contents[0][name].startswith(beginnings[name])
+            check.expect(f"the kind of {name}", begun, contents[0][name][:20])
+            check.expect(f"{name} twice", contents[0][name] == contents[1][name], "the bytes differ")
+
+
+def answers(check: Check, commands: List[Tuple[str, ...]]) -> List[Tuple[int, str]]:
+    """The status of bspplot with each of these words, and what it says on standard error."""
+    words = [sys.executable, "-c", COMMAND_LINES, str(REPO / "tools")]
+    given = json.dumps(commands)
+    done = subprocess.run(words, input=given, capture_output=True, text=True, check=True, cwd=check.folder, timeout=SECONDS)
+    return [(status, said) for status, said in json.loads(done.stdout)]
+
+
+def refusals(check: Check) -> None:
+    """One line says what is wrong."""
+    (check.folder / "cut.csv").write_text((STORED / "one_put.csv").read_text()[:100])
+    (check.folder / "other.csv").write_text("a,b\n1,2\n")
+    (check.folder / "table.csv").write_text(SWEEP)
+    check.tool("bsprun", "-n", "4", "--report", "report.csv", str(REPO / "examples/c/lu.elf"))
+    first_report(check)
+    tried = {
+        ("--timeline", "t.svg", "cut.csv"): "bspplot: cut.csv: line 3: ",
+        ("--timeline", "t.svg", "absent.csv"): "bspplot: absent.csv: No such file or directory",
+        ("--costs", "t.svg", "other.csv"): "bspplot: other.csv: this is no profile, no report, and no table of a sweep",
+        ("--timeline", "t.svg", "report.csv"): "bspplot: report.csv has no profile",
+        ("--sweep", "t.svg", "report.csv"): "bspplot: report.csv has no sweep",
+        ("--costs", "t.svg", "table.csv"): "bspplot: table.csv has no costs of supersteps",
+        ("--costs", "t.jpg", "report.csv"): "bspplot: argument --costs: 't.jpg': the name of a picture ends with",
+        ("--costs", "absent/t.svg", "report.csv"): "bspplot: absent/t.svg: No such file or directory",
+        ("--supersteps", "99", "--costs", "t.svg", "report.csv"): "bspplot: report.csv has no such supersteps",
+        ("--supersteps", "x", "--costs", "t.svg", "report.csv"): "bspplot: argument --supersteps: 'x': give supersteps as",
+        ("--h", "all", "--costs", "t.svg", "report.csv"): "bspplot: report.csv: a report has one h, and this one's is that of --h others",
+        ("--costs", "t.svg", "first.txt"): "bspplot: first.txt: a report has one h, and this one's is that of --h all",
+        ("report.csv",): "bspplot: nothing is asked for",
+    }
+    for (words, begin), (status, said) in zip(tried.items(), answers(check, list(tried))):
+        right = status == 1 and said.startswith(begin) and said.count("\n") == 1
+        check.expect(f"bspplot {' '.join(words)}", right, (status, said))
+    # Python without the packages that were installed beside it.
+    command = [sys.executable, "-S", str(REPO / "tools"), "bspplot", "--costs", "t.svg", "report.csv"]
+    environment = {"BSPTOOLS_AGAIN": "1"}
+    done = subprocess.run(command, capture_output=True, text=True, check=False, cwd=check.folder, env=environment)
+    line = "bspplot: python3-matplotlib is missing: apt-get install python3-matplotlib\n"
+    check.expect("without matplotlib", (done.returncode, done.stderr) == (1, line), done.stderr)

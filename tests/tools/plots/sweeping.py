@@ -1,0 +1,336 @@
+"""Sweeps: each engine gives the table of the plain one, no run is made twice, and a check finds what differs."""
+
+from __future__ import annotations
+
+import csv
+import functools
+import io
+import json
+import shlex
+import signal
+import subprocess
+import time
+from typing import Any, Callable, Dict, List, Mapping, Optional, Set
+
+import cluster
+from base import PARALLEL, REPO, Check, Parts
+from checks import COMPILER, Part
+
+from bsptools.sweep.store import Place
+
+PROGRAMS = [str(REPO / "examples/broadcast.s"), str(REPO / "examples/broadcast2.s")]
+TWELVE = ["--nodes", "2,3,8", "--prices", "1:100,4:1000", *PROGRAMS]
+# Stands for ssh: it notes the host, and runs the command here.
+STUB = """\
+#!/bin/sh
+while [ "${1#-}" != "$1" ]; do shift; done
+echo "$1" >> "$(dirname "$0")/told"
+shift
+[ "$1" = -- ] && shift
+exec sh -c "$*"
+"""
+SOURCE = """\
+#include <bsp.h>
+#include <stdio.h>
+#include <stdlib.h>
+int main(int argc, char **argv)
+{
+    static int x[N];
+    bsp_begin(bsp_nprocs());
+    bsp_push_reg(x, sizeof x);
+    bsp_sync();
+    bsp_put((bsp_pid() + 1) % bsp_nprocs(), x, x, 0, sizeof x);
+    bsp_sync();
+    if (argc > 1 && atoi(argv[1]) == bsp_nprocs())
+        bsp_abort("too many\\n");
+    bsp_end();
+    return 0;
+}
+"""
+
+
+def parts(make: Parts) -> List[Part]:
+    """Sweeps by the engines of one host, and what else there is to them."""
+    return [
+        make.part("sweeps by GNU parallel", parallel, tools=(PARALLEL,)),
+        make.part("a plain sweep", kept),
+        make.part("refusals of bspsweep", refusals),
+        make.part("what a run rests on", keys),
+        make.part("a folder of an odd name", odd),
+        make.part("runs that do not end", ended),
+        make.part("a sweep of a program in C", sources, tools=COMPILER),
+    ]
+
+
+def on_clusters(make: Parts) -> List[Part]:
+    """Sweeps by Slurm and over ssh, for which daemons are started."""
+    return [
+        make.part("a sweep by Slurm", slurm, tools=(cluster.SLURM,)),
+        make.part("a sweep over ssh", remote, tools=(PARALLEL, cluster.SSH_SERVER)),
+    ]
+
+
+def kept(check: Check) -> None:
+    """What is kept of a plain sweep, and then is damaged."""
+    plain(check)
+    damaged(check)
+    differing(check)
+
+
+def table(check: Check) -> str:
+    """The table of the plain engine."""
+    return check.tool("bspsweep", "--engine", "plain", "--folder", "plain", *TWELVE).stdout
+
+
+def parallel(check: Check) -> None:
+    """The same sweep by GNU parallel, here and on hosts."""
+    text = table(check)
+    by_engine(check, text, "parallel", ["--engine", "parallel"])
+    by_engine(check, text, "a host of parallel", ["--hosts", ":", "--check"])
+    stub = check.folder.parent / "ssh"
+    stub.write_text(STUB)
+    stub.chmod(0o755)
+    for name, shell in (("two hosts of parallel", "/bin/false"), ("two hosts of parallel where no SHELL is set", None)):
+        by_engine(check, text, name, ["--hosts", "one,two", "--check"], {"PARALLEL_SSH": str(stub), "SHELL": shell})
+    told = set((stub.parent / "told").read_text().split())
+    check.expect("both hosts were asked", told == {"one", "two"}, told)
+
+
+def plain(check: Check) -> None:
+    """The table of runs that are made one after another, compared with the reports; and nothing is run again."""
+    words = ["--engine", "plain", "--folder", "plain", "-o", "plain.csv", *TWELVE]
+    done = check.tool("bspsweep", *words)
+    check.expect("a plain sweep", done.returncode == 0 and "6 of 6 runs done, 0 left" in done.stderr, done.stderr)
+    rows = list(csv.DictReader(io.StringIO((check.folder / "plain.csv").read_text())))
+    check.expect("12 points", len(rows) == 12, rows)
+    for row in rows:
+        words = ["-n", row["nodes"], "--g", row["g"], "--l", row["l"], "--report", "one.json", row["program"]]
+        check.tool("bsprun", *words)
+        found = json.loads((check.folder / "one.json").read_text())
+        right = (str(found["total"]), found["outcome"]) == (row["total"], row["outcome"])
+        check.expect(f"the point {row['program']}, {row['nodes']} nodes, g {row['g']}", right, row)
+    times = [path.stat().st_mtime_ns for path in (check.folder / "plain/runs").glob("*/run.json")]
+    done = check.tool("bspsweep", "--engine", "plain", "--folder", "plain", *TWELVE)
+    again = [path.stat().st_mtime_ns for path in (check.folder / "plain/runs").glob("*/run.json")]
+    check.expect("nothing is run again", sorted(times) == sorted(again) and "6 of 6 runs were made before" in done.stderr, done.stderr)
+    check.expect("the same table from what is kept", done.stdout == (check.folder / "plain.csv").read_text(), done.stdout)
+    done = check.tool("bspsweep", "--engine", "plain", "--folder", "plain", "--nodes", "2,3,4", *PROGRAMS)
+    check.expect("two nodes more", "4 of 6 runs were made before" in done.stderr and "2 of 2 runs done" in done.stderr, done.stderr)
+
+
+def by_engine(check: Check, text: str, name: str, words: List[str], environment: Optional[Mapping[str, Optional[str]]] = None) -> None:
+    """The same sweep by another engine, from nothing."""
+    folder = name.replace(" ", "-")
+    done = check.tool("bspsweep", *words, "--folder", folder, "-o", f"{folder}.csv", *TWELVE, environment=environment)
+    path = check.folder / f"{folder}.csv"
+    right = done.returncode == 0 and path.exists() and path.read_text() == text
+    if "--check" in words:
+        right = right and "6 runs gave the same once more" in done.stderr
+    check.expect(f"a sweep by {name}", right, done.stderr)
+
+
+def slurm(check: Check) -> None:
+    """The same sweep by a Slurm of two nodes: as one command, broken off and gone on with, and by a script and its collecting step."""
+    if not cluster.may_start():
+        check.skip("a sweep by Slurm", "only root may start a Slurm of one's own")
+        return
+    text = table(check)
+    with cluster.Cluster(check.folder.parent / "cluster") as here:
+        if not here.is_ready():
+            check.tell("a sweep by Slurm", f"its daemons do not start here: {here.said()}")
+            return
+        by_engine(check, text, "slurm", ["--engine", "slurm"], here.environment)
+        where = functools.partial(here.asked, "squeue", "-h", "-t", "R", "-o", "%N")
+        used = broken_off(check, text, "slurm", ["--engine", "slurm"], here.environment, where)
+        check.expect("both nodes were used", used == set(cluster.NODES), used)
+        here.asked("scancel", "--name=bspsweep")
+        by_script(check, text, here)
+
+
+def by_script(check: Check, text: str, here: cluster.Cluster) -> None:
+    """The sweep by a script for sbatch."""
+    words = ["--folder", "by-hand", *TWELVE]
+    done = check.tool("bspsweep", "--script", *words)
+    start = shlex.split(done.stdout.splitlines()[0])[-1]
+    begun = subprocess.run(["sbatch", "--wait", start], capture_output=True, text=True, check=False, env=here.environment)
+    check.expect("a script for sbatch", begun.returncode == 0, done.stdout + begun.stderr)
+    becomes_true(lambda: len(list((check.folder / "by-hand/runs").glob("*/run.json"))) == 6)
+    done = check.tool("bspsweep", *words)
+    right = done.stdout == text and "6 of 6 runs were made before" in done.stderr
+    check.expect("its collecting step", right, done.stderr)
+
+
+def remote(check: Check) -> None:
+    """The same sweep by GNU parallel over ssh, to this host by two names: in one go with a check, and broken off and gone on with."""
+    if not cluster.may_start():
+        check.skip("a sweep over ssh", "only root may start its server")
+        return
+    text = table(check)
+    with cluster.Remote(check.folder.parent / "remote") as here:
+        if not here.is_ready():
+            check.tell("a sweep over ssh", f"its server does not start here: {here.said()}")
+            return
+        by_engine(check, text, "ssh", ["--hosts", "one,two", "--check"], here.environment)
+        broken_off(check, text, "ssh", ["--hosts", "one,two", "--jobs", "1"], here.environment, list)
+
+
+def broken_off(
+    check: Check, text: str, name: str, words: List[str], environment: Mapping[str, str], where: Callable[[], List[str]]
+) -> Set[str]:
+    """A sweep that gets Ctrl-C once a run is made, and then is begun once more. Answers where runs were seen."""
+    folder = f"broken-off-{name}"
+    command = [str(REPO / "bspsweep"), *words, "--folder", folder, *TWELVE]
+    seen: Set[str] = set()
+    pipes: Dict[str, Any] = {"stdin": subprocess.DEVNULL, "stdout": subprocess.PIPE, "stderr": subprocess.PIPE}
+    with subprocess.Popen(command, cwd=check.folder, env=environment, **pipes) as tool:
+
+        def is_begun() -> bool:
+            seen.update(where())
+            return bool(list((check.folder / folder / "runs").glob("*/run.json")))
+
+        becomes_true(is_begun)
+        tool.send_signal(signal.SIGINT)
+        out, _ = tool.communicate()
+    check.expect(f"a sweep by {name} that is broken off", (tool.returncode, out) == (130, b""), (tool.returncode, out))
+    if name == "slurm":
+        subprocess.run(["scancel", "--name=bspsweep"], check=False, env=environment)
+        becomes_true(lambda: not where())
+    made = len(list((check.folder / folder / "runs").glob("*/run.json")))
+    done = check.tool("bspsweep", *words, "--folder", folder, *TWELVE, environment=environment)
+    right = 0 < made < 6 and done.stdout == text and f"{made} of 6 runs were made before" in done.stderr
+    check.expect(f"a sweep by {name} that is gone on with", right, f"{made} {done.stderr}")
+    return seen
+
+
+def becomes_true(question: Callable[[], bool]) -> None:
+    """Waits until something is so, and no longer than it may take."""
+    deadline = time.monotonic() + cluster.SECONDS
+    while time.monotonic() < deadline and not question():
+        time.sleep(0.1)
+
+
+def differing(check: Check) -> None:
+    """A record that is not what the run gives is named."""
+    done = check.tool("bspsweep", "--engine", "plain", "--folder", "plain", "--check", "--nodes", "2", *PROGRAMS)
+    check.expect("a check where all is well", done.returncode == 0 and "2 runs gave the same once more" in done.stderr, done.stderr)
+    for path in (check.folder / "plain/runs").glob("*/run.json"):
+        place = Place(path.parent)
+        record = place.found()
+        if record and json.loads(place.job.read_text())["words"][1] == "2":
+            place.keep({**record, "costs": {**record["costs"], "w": 5}})
+    (check.folder / "old.csv").write_text("old\n")
+    for target in ("", "new.csv", "old.csv"):
+        words = ["-o", target] * bool(target)
+        done = check.tool("bspsweep", "--engine", "plain", "--folder", "plain", "--check", "--nodes", "2", *words, *PROGRAMS)
+        right = done.returncode == 1 and done.stderr.count("another result") == 2 and not done.stdout
+        check.expect(f"a check that finds two {target}", right and done.stderr.endswith("no table is written\n"), done.stderr)
+    right = not (check.folder / "new.csv").exists() and (check.folder / "old.csv").read_text() == "old\n"
+    check.expect("no table of a check that fails", right, "there is one")
+
+
+def damaged(check: Check) -> None:
+    """A record that is not what was written counts as not made, and is made again."""
+    words = ["--engine", "plain", "--folder", "plain", "--nodes", "2", PROGRAMS[0]]
+    text = check.tool("bspsweep", *words).stdout
+    found = (check.folder / "plain/runs").glob("*/run.json")
+    path = next(it for it in found if f",{json.loads(it.read_text())['record']['costs']['w']}," in text)
+    whole = path.read_text()
+    contents = {"empty": "", "cut": whole[:40], "no record": "[]", "another form": '{"record": [], "seal": 1}', "deep": "[" * 100_000}
+    contents["changed"] = whole.replace('"w": 6', '"w": 5')
+    for name, content in contents.items():
+        path.write_text(content)
+        (path.parent / "run.seconds").write_text("")
+        done = check.tool("bspsweep", *words)
+        right = done.returncode == 0 and done.stdout == text and path.read_text() == whole and "1 of 1 run done" in done.stderr
+        check.expect(f"a record that is damaged: {name}", right, done.stdout + done.stderr)
+
+
+def keys(check: Check) -> None:
+    """The same bytes under another path give the same, and what changes while a sweep is under way is told."""
+    image = (REPO / "tests/tools/c/found/words.elf").read_bytes()
+    long = check.folder / "a path that is longer"
+    long.mkdir()
+    (check.folder / "lines.txt").write_text("some words\n")
+    rows = []
+    for place, folder in ((check.folder, "short"), (long, "long")):
+        (place / "words.elf").write_bytes(image)
+        words = ["--engine", "plain", "--folder", folder, "--args", "one two", "--file", "lines.txt", str(place / "words.elf")]
+        done = check.tool("bspsweep", *words)
+        rows += [[row["w"], row["outcome"]] for row in csv.DictReader(io.StringIO(done.stdout))]
+    check.expect("the same bytes under a longer path", len(rows) == 2 and rows[0] == rows[1], rows)
+    done = check.tool("bspsweep", "--script", "--folder", "late", "--file", "lines.txt", str(long / "words.elf"))
+    place = next((check.folder / "late/runs").iterdir())
+    for path, content in ((check.folder / "lines.txt", b"others\n"), (long / "words.elf", image + b"more")):
+        before = path.read_bytes()
+        path.write_bytes(content)
+        done = check.tool("bspsweep", "--make", str(place), "run")
+        told = (place / "run.failed").read_text() if (place / "run.failed").exists() else ""
+        right = done.returncode == 1 and "is not what it was" in told and not (place / "run.json").exists()
+        check.expect(f"a run whose {path.name} was changed", right, done.stderr + told)
+        path.write_bytes(before)
+
+
+def odd(check: Check) -> None:
+    """Folders with a line feed, and arguments and names that begin with a dash."""
+    text = table(check)
+    for engine in ("plain", "parallel"):
+        if engine == "plain" or not check.tally.lacks(PARALLEL, "a folder of an odd name by GNU parallel"):
+            done = check.tool("bspsweep", "--engine", engine, "--folder", f"{engine}\n'a'", *TWELVE)
+            check.expect(f"a folder with a line feed by {engine}", done.returncode == 0 and done.stdout == text, done.stderr)
+    (check.folder / "-x").write_text("7\n")
+    words = ["--engine", "plain", "--file=-x", "--input=-x", "--args=-n 3 --report", str(REPO / "tests/tools/c/found/words.elf")]
+    done = check.tool("bspsweep", *words)
+    check.expect("names that begin with a dash", done.returncode == 0 and ",ended\n" in done.stdout, done.stderr)
+
+
+def refusals(check: Check) -> None:
+    """One line says what is wrong."""
+    tried = {
+        ("--nodes", "0", PROGRAMS[0]): "bspsweep: argument -n/--nodes: '0': the number of nodes is a whole number from 1 to 1024",
+        ("--nodes", "4:x", PROGRAMS[0]): "bspsweep: argument -n/--nodes: 'x'",
+        ("--prices", "4", PROGRAMS[0]): "bspsweep: argument --prices: '4': give prices as G:L",
+        ("--define", "N", PROGRAMS[0]): "bspsweep: argument --define: 'N': give a constant as",
+        ("--define", "N=1", PROGRAMS[0]): f"bspsweep: {PROGRAMS[0]} is compiled already: --define is for programs in C",
+        ("--args", "'", PROGRAMS[0]): "bspsweep: argument --args: \"'\": No closing quotation",
+        ("--nodes", "1:1000", "--g", "1:1000", PROGRAMS[0]): "bspsweep: these are 1000000 points, and a sweep has 100000 at most",
+        ("--make", PROGRAMS[0]): "bspsweep: unrecognized arguments: --make",
+        ("--make", "absent", "run"): "bspsweep: absent/job.json: No such file or directory",
+        ("absent.s",): "bspsweep: absent.s: No such file or directory",
+        ("--input", "absent", PROGRAMS[0]): "bspsweep: absent: No such file or directory",
+        ("-o", "absent/t.csv", "--folder", "plain", "--nodes", "3", PROGRAMS[0]): "absent/t.csv: No such file or directory",
+    }
+    for words, text in tried.items():
+        done = check.tool("bspsweep", *words)
+        check.expect(f"bspsweep {' '.join(words)}", done.returncode == 1 and text in done.stderr, done.stderr)
+
+
+def ended(check: Check) -> None:
+    """A run that does not end is a row with its outcome; one that cannot be made is a row without costs, and is tried again."""
+    words = ["--engine", "plain", "--nodes", "1:2", "--folder", "stopped", str(REPO / "examples/give_up.elf")]
+    done = check.tool("bspsweep", *words)
+    outcomes = [row["outcome"] for row in csv.DictReader(io.StringIO(done.stdout))]
+    check.expect("runs that do not end", (done.returncode, outcomes) == (0, ["ended", "rank 1 stopped: aborted"]), done.stdout)
+    (check.folder / "bad.elf").write_bytes(b"\x7fELF" + bytes(60))
+    for _ in range(2):
+        done = check.tool("bspsweep", "--engine", "plain", "--folder", "stopped", "bad.elf")
+        right = done.returncode == 1 and done.stdout.splitlines()[1].endswith(",,,,,not run") and "image refused" in done.stderr
+        check.expect("a run that cannot be made", right and "1 of 1 run done" in done.stderr, done.stdout + done.stderr)
+
+
+def sources(check: Check) -> None:
+    """A program in C, with constants, arguments and inputs."""
+    (check.folder / "ring.c").write_text(SOURCE)
+    (check.folder / "input.txt").write_text("7\n")
+    words = ["--engine", "plain", "--folder", "c", "--nodes", "1,2", "--define", "N=10,100", "--args", "3", "--args", "2"]
+    done = check.tool("bspsweep", *words, "--input", "input.txt", "ring.c")
+    rows = list(csv.DictReader(io.StringIO(done.stdout)))
+    found = [(row["args"], row["N"], row["nodes"], row["h"], row["outcome"][:6]) for row in rows]
+    wanted = []
+    for size in ("10", "100"):
+        for word in ("3", "2"):
+            # On one node the put goes to the rank itself, which h leaves out.
+            moved = {"1": "0", "2": str(4 * int(size))}
+            wanted += [(word, size, p, moved[p], "rank 0" if p == word else "ended") for p in ("1", "2")]
+    check.expect("a program in C", found == wanted, f"{found} {done.stderr}")
+    done = check.tool("bspsweep", "--define", "N=x", "ring.c")
+    check.expect("a constant that is wrong", done.returncode == 1 and "ring.c -DN=x was not compiled" in done.stderr, done.stderr)

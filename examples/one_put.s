@@ -2,7 +2,7 @@
 #
 #   ./bspemu run examples/one_put.s --format asm --nodes 2 --report --g 2 --l 10
 #
-# docs/MACHINE.md, "What a superstep costs", counts the ticks.
+# docs/manual/machine.md, "What a superstep costs", counts the ticks.
 
         li   a0, 1024       # the area: 4 bytes from 1024 on
         li   a1, 4

@@ -1,4 +1,4 @@
-# A put that lands at the wrong place. Do not copy this program: it has one fault, on purpose, which docs/DEBUGGER.md finds.
+# A put that lands at the wrong place. Do not copy this program: it has one fault, on purpose, which docs/manual/debugger.md finds.
 #
 # Rank r has the number 10 (r + 1), and puts it into entry r of a table that rank 0 holds. Rank 0 writes the table, a line for
 # each entry: with 4 ranks it should be 10, 20, 30 and 40.

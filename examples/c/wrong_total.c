@@ -1,5 +1,5 @@
 /* A total that is wrong: each rank puts its part into a table of rank 0, which adds them up. Four ranks should print 100.
-   docs/GDB.md finds out why they do not. */
+   docs/manual/gdb.md finds out why they do not. */
 #include <bsp.h>
 #include <stdio.h>
 

@@ -7,6 +7,7 @@ import os
 import pathlib
 import shutil
 import subprocess
+import sys
 import time
 
 from . import VERSION, children
@@ -18,9 +19,11 @@ QUIET_SECONDS = 2
 
 
 def program(name: str) -> str:
-    """Where a program of the repository is: at its top, or else on the PATH, where this package was installed elsewhere."""
-    found = REPO / name
-    path = str(found) if (REPO / "bspcc").exists() else shutil.which(name)
+    """Where a program of the repository is: at its top; or, where this package was installed elsewhere, beside the tool or on the PATH."""
+    if (REPO / "bspcc").exists():
+        return str(REPO / name)
+    beside = os.path.dirname(os.path.realpath(sys.argv[0]))
+    path = shutil.which(name, path=os.pathsep.join([beside, os.environ.get("PATH", os.defpath)]))
     if path is None:
         raise Refused(f"{name} is missing: put bin of an installation of bspemu, or its repository, on the PATH")
     return path
@@ -53,21 +56,30 @@ def said(*words: str) -> str:
 
 
 def version(name: str) -> list[str]:
-    """Lines that say what a tool is, of which commit where that is known, and which emulator it starts."""
+    """Lines that say what a tool is, of which commit where that is known, and which emulator it starts, or why there is none."""
     commit = ""
     with contextlib.suppress(Refused, OSError):
         is_checkout = (REPO / ".git").exists()
         git = ("git", "-C", str(REPO), "describe", "--always", "--dirty", "--exclude=*")
         # scripts/install notes it where it is known.
         commit = ", commit " + (said(*git) if is_checkout else (REPO / "commit").read_text().strip())
-    path = proved_program()
-    top = os.path.dirname(os.path.realpath(program("bspemu")))
-    told = f"{path}, of which nothing is known"
-    if path == f"{top}/prebuilt/bspemu":
-        told = f"the proved program, as the repository has it, by {pathlib.Path(top, 'prebuilt/kit').read_text().strip()}"
-    elif path == f"{top}/crates/bspemu/out/bspemu":
-        told = "the proved program, which was proved and built here"
-    return [f"{name} {VERSION}{commit}", f"{said(path, '--version')}: {told}"]
+    try:
+        path = proved_program()
+        told = [f"{said(path, '--version')}: {known(path)}"]
+    except Refused as refused:
+        told = list(refused.args)
+    return [f"{name} {VERSION}{commit}", *told]
+
+
+def known(path: str) -> str:
+    """What is known of the emulator at a path."""
+    with contextlib.suppress(Refused):
+        top = os.path.dirname(os.path.realpath(program("bspemu")))
+        if path == f"{top}/prebuilt/bspemu":
+            return f"the proved program, as the repository has it, by {pathlib.Path(top, 'prebuilt/kit').read_text().strip()}"
+        if path == f"{top}/crates/bspemu/out/bspemu":
+            return "the proved program, which was proved and built here"
+    return f"{path}, of which nothing is known"
 
 
 def run(words: list[str]) -> subprocess.CompletedProcess[bytes]:

@@ -80,7 +80,7 @@ def check(asked: argparse.Namespace) -> None:
     """Lets the debugger look at the program and the options, before anything waits for it. It says by itself what is wrong."""
     path = pathlib.Path(asked.program)
     if path.suffix in SOURCES and path.is_file():
-        raise Refused(f"{path} is to be compiled first: bspcc -g -O0 -o {path.stem}.elf {path}")
+        raise Refused(f"{path} is to be compiled first: {shlex.join(['bspcc', '-g', '-O0', '-o', f'{path.stem}.elf', str(path)])}")
     status = subprocess.run(command(asked), stdin=subprocess.DEVNULL, check=False).returncode
     if status != 0:
         sys.exit(status)

@@ -12,6 +12,7 @@ import pathlib
 import shutil
 import subprocess
 import sys
+import tempfile
 import threading
 import time
 from concurrent.futures import ThreadPoolExecutor
@@ -176,6 +177,16 @@ def emulator(words: Sequence[str]) -> str:
         program = done.stdout.rstrip("\n")
     os.environ["BSPEMU"] = program
     return program
+
+
+def try_parts(parts: Callable[[Tally, pathlib.Path], Iterable[Part]]) -> int:
+    """Makes the parts of a check in a scratch folder: those that the command line names behind the emulator, or all if it names none.
+    Answers the exit status."""
+    tally = Tally()
+    emulator(sys.argv[1:])
+    with tempfile.TemporaryDirectory() as folder:
+        tally.make(it for it in parts(tally, pathlib.Path(folder)) if not sys.argv[2:] or it.name in sys.argv[2:])
+    return tally.end()
 
 
 def commands_with(word: str) -> List[str]:

@@ -51,7 +51,7 @@ def arguments(words: list[str]) -> argparse.Namespace:
     add("--supersteps", type=span, default=(0, None), metavar="A:B", help="these supersteps alone; one as A, all from A on as A:")
     add("--title", type=printable, default="", metavar="TEXT", help="stands above each picture and the page")
     add("--setting", type=lambda text: pair(printable(text), "a setting as NAME=VALUE"), action="append", default=[], metavar="NAME=VALUE", help="stands at the top of the page; any number")
-    add("source", metavar="SOURCE")
+    add("source", metavar="SOURCE", help="what is drawn")
     return parser.parse_args(words)
 
 

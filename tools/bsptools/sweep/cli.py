@@ -64,7 +64,7 @@ def arguments(words: list[str]) -> argparse.Namespace:
     add("--sbatch", type=parted, default="", metavar="OPTIONS", help="further options of sbatch, as '--partition=short --time=10'")
     add("--script", action="store_true", help="write the script for sbatch, say how to start it, and run nothing")
     add("--check", action="store_true", help="make each run once more, with --hosts on each of them, and compare what comes of it")
-    add("program", metavar="PROGRAM", nargs="+")
+    add("program", metavar="PROGRAM", nargs="+", help="what is run")
     return parser.parse_args(words)
 
 

@@ -57,7 +57,7 @@ def is_gnu_parallel() -> bool:
 def chosen(name: str, jobs: int, hosts: tuple[str, ...], sbatch: str) -> Engine:
     """The engine of a name; it refuses one that is not here, and says which package has it."""
     if hosts and name not in (AUTO, PARALLEL):
-        raise Refused("--hosts is for GNU parallel")
+        raise Refused("--hosts is for GNU parallel: leave --engine out")
     if name == SLURM and shutil.which("sbatch") is None:
         raise Refused("sbatch is missing: install the package slurm-client, on a machine of a cluster that Slurm runs")
     if name in (AUTO, PARALLEL) and not is_gnu_parallel():

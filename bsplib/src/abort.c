@@ -8,6 +8,8 @@
 void bsp_vabort(const char *format, va_list arguments)
 {
     vprintf(format, arguments);
+    if (bsp_flush_files != NULL)
+        bsp_flush_files();
     bsp_stdio_flush();
     for (;;)
         machine_call_2(CALL_ABORT, 0, 0);

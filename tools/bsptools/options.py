@@ -54,9 +54,9 @@ class Parser(argparse.ArgumentParser):
         self.add_number("--limit", what="the limit of instructions", least=1, most=limits.MOST_TICKS, default=limits.MOST_TICKS,
             metavar="COUNT", help="instructions of a node, at most; 2^40 by default")  # fmt: skip
         self.add_number("--memory", what="the memory of a node in bytes", least=limits.PAGE, most=limits.MOST_MEMORY, unit=limits.PAGE,
-            default=limits.MEMORY, metavar="BYTES", help="of a node, 1M by default")  # fmt: skip
+            default=limits.MEMORY, metavar="BYTES", help="of a node, 16M by default")  # fmt: skip
         self.add_number("--stack", what="the room of the stack in bytes", least=limits.LEAST_STACK, most=limits.MOST_STACK,
-            metavar="BYTES", help="of a .c program")  # fmt: skip
+            metavar="BYTES", help="of a .c program, 1M by default")  # fmt: skip
 
     def add_prices(self) -> None:
         """g and l, where each is one number."""

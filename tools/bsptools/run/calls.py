@@ -10,10 +10,11 @@ from .places import place, written
 from .program import Code
 from .replays import Replays
 
-END, SYNC, PUSH, POP, PUT, GET, HPPUT, HPGET, TAGSIZE, SEND, MOVE, ABORT, WRITE = 1, 4, 5, 6, 7, 8, 9, 10, 11, 12, 15, 16, 17
+END, SYNC, PUSH, POP, PUT, GET, HPPUT, HPGET, TAGSIZE, SEND, GETTAG, MOVE, ABORT, WRITE = 1, 4, 5, 6, 7, 8, 9, 10, 11, 12, 14, 15, 16, 17
 PUTS, GETS = (PUT, HPPUT), (GET, HPGET)
 REQUESTS = (*PUTS, *GETS, SEND)
 CHANGES = (PUSH, POP)
+TAKES = (GETTAG, MOVE)
 
 # Each call's name, and its operands from a0 on; those whose name begins with * are addresses.
 NAMES = {
@@ -37,7 +38,8 @@ NAMES = {
     18: ("read", ("*bytes", "count")),
 }
 # The library's functions that make the calls of which a trace is asked for.
-FUNCTIONS = {**{number: name for number, (name, _) in NAMES.items()}, WRITE: "bsp_stdio_flush"}
+FUNCTIONS: dict[int, tuple[str, ...]] = {**{number: (name,) for number, (name, _) in NAMES.items()}, WRITE: ("bsp_stdio_flush",)}
+FUNCTIONS.update({it: (*FUNCTIONS[it], "bsp_hpmove") for it in TAKES})
 
 
 class Call(NamedTuple):
@@ -104,7 +106,7 @@ class Tracer:
 
     def sites(self, numbers: tuple[int, ...]) -> list[int]:
         """The addresses from which these calls are made."""
-        return self.code.calls_of(*(FUNCTIONS[it] for it in numbers))
+        return self.code.calls_of(*(name for it in numbers for name in FUNCTIONS[it]))
 
     def calls(self, rank: int, numbers: tuple[int, ...], superstep: int = 0) -> list[Call]:
         """The calls of these numbers that a rank made from the beginning of a superstep to the run's end."""

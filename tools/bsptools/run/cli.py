@@ -14,20 +14,20 @@ from typing import Any
 from .. import children, emulator, files, packages, streams
 from ..debugger import ALL
 from ..files import content_of
-from ..limits import MOST_INPUT, MOST_PROGRAM, MOST_WORKERS, NODES, PAGE, WORKERS
+from ..limits import COMPILED_STACK, MEMORY_OF_STACK, MOST_PROGRAM, MOST_WORKERS, NODES, STACK, WORKERS
 from ..options import P, Parser
 from ..refusals import Refused, about, lines_of, put, show, tell
-from . import report
-from .block import MAGIC, block
+from . import again, notes, records, report, sizes
 from .calls import Tracer
+from .given import given_input
 from .places import place
 from .program import Code, kind_of, read_elf, read_text
 from .replays import Replays
 from .warn import warnings
 from .why import Why
+from .written import Files
 
 DEAREST = 5
-TOO_LONG = f"input, arguments and files have more than {MOST_INPUT} bytes"
 SOURCES = (".c", ".cc", ".cpp", ".cxx", ".C")
 # Options for the compiler, with what each says of a C program.
 COMPILED = {"-D": "define a macro", "-I": "look for headers there too", "-O": "optimize so far", "-l": "link with this library, as -lm"}
@@ -59,10 +59,14 @@ def arguments(words: list[str]) -> argparse.Namespace:
     add("-np", "-npes", "-p", dest="nodes", type=P, default=argparse.SUPPRESS, metavar="P", help="as -n")
     add("--input", metavar="FILE", help="the program's input; standard input by default, where that is no terminal")
     add("--file", metavar="FILE", action="append", default=[], help="a file that fopen can read; any number of them")
+    add("--files", metavar="DIR", action="append", default=[], help="all files of a folder, as --file gives one")
+    add("--out", metavar="DIR", help="where files go that the program writes; without it there are none")
     add("--argv0", metavar="TEXT", help="argv[0] of main, by default PROGRAM as it is given")
     add("--report", metavar="FILE", help="the costs, into FILE: as CSV or JSON where its name says so; - is standard error")
     add("--profile", metavar="FILE", help="what each rank did in each superstep, into FILE as CSV: bspplot draws it")
     add("--summary", action="store_true", help="the totals and the dearest supersteps, on standard error")
+    parser.add_number("--fill", what="the byte of fresh memory", least=0, most=255, metavar="BYTE",
+        help="the byte that stack and malloc have at first, for a program that reads what it did not write; 0 by default")  # fmt: skip
     add("--warn", action="store_true", help="look for what is likely a mistake, also in a run that ends well; takes long")
     parser.add_machine()
     parser.add_number("--workers", what="the number of threads", least=1, most=MOST_WORKERS, default=WORKERS, metavar="COUNT",
@@ -88,11 +92,19 @@ class Job:
     image: pathlib.Path
     code: Code
     settings: list[str]
+    mark: bytes
+    content: bytes
 
     def replays(self) -> Replays:
         """The same run, in the debugger, of which places are to be told."""
         self.code.know_names()
         return Replays([*self.program, "debug", *self.settings], self.options.memory)
+
+    def set(self, flags: int, fill: int | None) -> None:
+        """Writes the image with settings for the program's library."""
+        flags |= records.RECORDS | (records.WRITES_FILES if self.options.out is not None else 0)
+        flags |= records.FILLED if fill is not None else 0
+        self.image.write_bytes(records.settings_in(self.content, flags, fill or 0, self.mark))
 
     def run(self) -> subprocess.CompletedProcess[bytes]:
         """The run itself."""
@@ -118,7 +130,8 @@ class Job:
 def compiled(options: argparse.Namespace, folder: pathlib.Path) -> pathlib.Path:
     """The executable of a program in C, of the files that the command line names first."""
     target = folder / "program.elf"
-    stack = ["--stack", str(options.stack)] if options.stack else []
+    room = options.stack or (STACK if options.memory >= MEMORY_OF_STACK else COMPILED_STACK)
+    stack = ["--stack", str(room)]
     sources = [options.program]
     while options.args and pathlib.Path(options.args[0]).suffix in SOURCES and os.path.isfile(options.args[0]):
         sources.append(options.args.pop(0))
@@ -145,7 +158,7 @@ def prepared(options: argparse.Namespace, folder: pathlib.Path) -> Job:
         image = folder / "image"
         image.write_bytes(content)
     if kind == "c":
-        image = compiled(options, folder)
+        image, options.stack = compiled(options, folder), None
         content, kind = content_of(image, MOST_PROGRAM), "elf"
     if kind == "asm":
         code = read_text(emulate, image.name, content, folder)
@@ -153,17 +166,23 @@ def prepared(options: argparse.Namespace, folder: pathlib.Path) -> Job:
         code = Code(segments=[(0, memoryview(content))], need=len(content))
     else:
         code = read_elf(content)
-    if code.need > options.memory:
-        need = -(-code.need // PAGE) * PAGE
-        raise Refused(f"{options.program} wants {need} bytes of memory for its code and variables: give --memory {need} or more")
+    sizes.expect_room(code, options)
     given = given_input(options, content)
+    mark = records.mark_for(content, given or b"")
+    if records.PLACE in content:
+        image = folder / "marked.elf"
+    elif options.out is not None:
+        raise Refused(f"{options.program} writes no files: it was not built by this bspcc")
     settings = [str(image), "--format", kind, "--nodes", str(options.nodes), "--memory", str(options.memory)]
     settings += ["--limit", str(options.limit)]
     if given is not None:
         with about(folder / "input"):
             (folder / "input").write_bytes(given)
         settings += ["--input", str(folder / "input")]
-    return Job(options, emulate, image, code, settings)
+    job = Job(options, emulate, image, code, settings, mark, content)
+    if records.PLACE in content:
+        job.set(0, options.fill)
+    return job
 
 
 def is_text(path: pathlib.Path) -> bool:
@@ -172,35 +191,6 @@ def is_text(path: pathlib.Path) -> bool:
         return bool(os.fsencode(path).decode())
     except UnicodeDecodeError:
         return False
-
-
-def given_input(options: argparse.Namespace, content: bytes) -> bytes | None:
-    """The input, with arguments and files in front of it where there are any."""
-    given = None
-    if options.input is not None:
-        given = content_of(options.input, MOST_INPUT)
-    elif sys.stdin is not None and not sys.stdin.isatty():
-        given = sys.stdin.buffer.read(MOST_INPUT + 1)
-    if options.args or options.file:
-        if MAGIC not in content:
-            raise Refused(f"{options.program} takes neither arguments nor files: it was not built by this bspcc")
-        words = [os.fsencode(word) for word in [options.argv0 or options.program, *options.args]]
-        given = block(words, given_files(options.file)) + (given or b"")
-    if given is not None and len(given) > MOST_INPUT:
-        raise Refused(TOO_LONG)
-    return given
-
-
-def given_files(names: list[str]) -> list[tuple[bytes, bytes]]:
-    """Files, each with its name. Those behind what fills an input are not read."""
-    found, size = [], 0
-    for name in names:
-        content = content_of(name, MOST_INPUT)
-        size += len(content)
-        if size > MOST_INPUT:
-            raise Refused(TOO_LONG)
-        found.append((os.fsencode(name), content))
-    return found
 
 
 def summary(job: Job, found: report.Report) -> list[str]:
@@ -231,8 +221,16 @@ def deliver(job: Job, done: subprocess.CompletedProcess[bytes]) -> int:
     if parted is None:
         return done.returncode
     output, found = parted
-    put(output)
     options = job.options
+    files_made = Files()
+    noted: list[notes.Note] = []
+    for piece in records.parted(output, job.mark):
+        if not isinstance(piece, records.Record):
+            put(piece)
+        elif piece.kind == records.NOTE:
+            noted += filter(None, [notes.note_of(piece)])
+        else:
+            files_made.take(piece)
     if options.report == "-":
         streams.report(found.text)
     elif options.report is not None:
@@ -244,11 +242,45 @@ def deliver(job: Job, done: subprocess.CompletedProcess[bytes]) -> int:
         lines = Why(job.code, job.replays(), options.nodes, options.limit).lines(found)
         show("")
         tell([f"bsprun: {found.outcome}", *lines])
+    tell_what_was_noted(job, files_made, noted)
     if options.warn:
-        tell(warnings(Tracer(job.code, job.replays()), options.nodes, found))
+        others = run_again(job, plain(job, output, found))
+        tell(warnings(Tracer(job.code, job.replays()), options.nodes, found, others))
     if (options.summary or options.warn or found.outcome != "ended") and job.code.debug and packages.missing(packages.ELFTOOLS):
         tell([f"bsprun: functions and lines are not named: {packages.missing(packages.ELFTOOLS)}"])
     return done.returncode
+
+
+def plain(job: Job, output: memoryview, found: report.Report) -> again.Run:
+    """What a run wrote, and how it ended."""
+    own = (it for it in records.parted(output, job.mark) if not isinstance(it, records.Record))
+    return again.Run(b"".join(own), found.outcome)
+
+
+def run_again(job: Job, first: again.Run) -> dict[str, list[str]]:
+    """What a run once more tells, by the names of what it looks for, where the program's library can look."""
+    if records.PLACE not in job.content:
+        return {}
+    fill = next(it for it in again.FILLS if it != job.options.fill)
+    job.set(records.LOOKS, fill)
+    parted = report.part(job.run().stdout)
+    found: dict[str, list[str]] = {"memory that is written past a block of malloc": [], "memory that is read before it is written": []}
+    if parted is not None:
+        second, options = plain(job, *parted), job.options
+        where = Why(job.code, job.replays(), options.nodes, options.limit).lines(parted[1]) if second.outcome != "ended" else []
+        overrun, read = found
+        found[overrun] = again.overruns(second, where)
+        found[read] = [] if found[overrun] else again.reads(first, second, fill)
+    job.set(0, job.options.fill)
+    return found
+
+
+def tell_what_was_noted(job: Job, made: Files, noted: list[notes.Note]) -> None:
+    """Puts the files that were written where they belong, and tells what the program's library noted."""
+    options = job.options
+    if options.out is not None:
+        tell([f"bsprun: {it}" for it in made.put(options.out, [options.program, *filter(None, [options.input]), *options.file])])
+    tell(notes.Teller(job.code, options.memory, made.writers()).lines(noted))
 
 
 def main(words: list[str]) -> int:
@@ -257,6 +289,9 @@ def main(words: list[str]) -> int:
     outputs = [options.report if options.report != "-" else None, options.profile]
     files.expect_apart(outputs, [options.program, options.input, *options.file])
     files.expect_writable(outputs)
+    if options.out is not None and not os.path.isdir(options.out):
+        with about(options.out):
+            os.mkdir(options.out)
     with children.folder("bsprun") as folder:
         job = prepared(options, folder)
         done = job.run()

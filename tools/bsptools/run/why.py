@@ -5,13 +5,14 @@ from __future__ import annotations
 import re
 
 from ..debugger import ALL, Node, node_of, signed
-from ..limits import MOST_AREAS, MOST_BYTES, MOST_REQUESTS, MOST_TAG, MOST_TICKS
+from ..limits import MOST_AREAS, MOST_BYTES, MOST_REQUESTS, MOST_STACK, MOST_TAG, MOST_TICKS
 from ..refusals import counted
 from .calls import CHANGES, GETS, POP, PUSH, PUTS, REQUESTS, SEND, TAGSIZE, WRITE, Call, Tracer, spelled
 from .places import place, written
 from .program import ECALL, Code
 from .replays import Replays
 from .report import Report
+from .sizes import spelled as spelled_size
 
 # How many stopped nodes are looked at, and how many of them are told of in full.
 MOST_LOOKS = 8
@@ -134,7 +135,8 @@ class Why:
         top = self.code.names.get("__stack_top", 0)
         texts = [f"address {address:#x} ({signed(address)}) is not in the memory, which ends at {self.replays.memory:#x}"]
         if top and (node.x[2] >= self.replays.memory or node.x[2] < 64):
-            texts = [f"the stack is too deep: its room is {top} bytes; give --stack with more, or make large arrays static"]
+            more = spelled_size(min(4 * top, MOST_STACK // 2))
+            texts = [f"the stack is too deep: its room is {top} bytes; give --stack {more}, of an ELF file to bspcc, or make large arrays static"]
         return texts
 
     def no_code(self, node: Node, superstep: int) -> list[str]:

@@ -1,0 +1,42 @@
+"""A run once more, in which the library looks at the heap in each superstep, and memory that the program has not written has another
+byte: what it tells of mistakes that have no effect else."""
+
+from __future__ import annotations
+
+import re
+from typing import NamedTuple
+
+# The byte that fresh memory has, where it has 0 in the run that is looked at, or another one.
+FILLS = (0xA5, 0x5A)
+OVERRUN = re.compile(rb"^bsp: rank \d+: (.*(?:past their end|what stands there))$", re.MULTILINE)
+MOST_SHOWN = 60
+
+
+class Run(NamedTuple):
+    """What a run wrote, without its records, and its outcome."""
+
+    output: bytes
+    outcome: str
+
+
+def overruns(again: Run, where: list[str]) -> list[str]:
+    """What the run once more stopped at, with lines that tell where."""
+    found = OVERRUN.search(again.output)
+    if found is None or again.outcome == "ended":
+        return []
+    place = next((it.strip()[len("at") :].strip() for it in where if it.strip().startswith("at ")), "")
+    first = where[0].partition(", after")[0] if where else again.outcome
+    return [f"{found[1].decode(errors='replace')}: seen where {first}" + (f", at {place}" if place else "")]
+
+
+def reads(first: Run, again: Run, fill: int) -> list[str]:
+    """Where the output of two runs differs."""
+    if first == again:
+        return []
+    begin = f"memory is read that was not written before: where it has the byte {fill:#x} at first"
+    if first.output == again.output:
+        return [f"{begin}, the run comes to another end: {again.outcome}"]
+    lines = [it.output.split(b"\n") for it in (first, again)]
+    at = next((i for i, (a, b) in enumerate(zip(*lines)) if a != b), min(map(len, lines)))
+    texts = [repr(of[at][:MOST_SHOWN].decode(errors="replace")) if at < len(of) else "not there" for of in lines]
+    return [f"{begin}, line {at + 1} of the output is {texts[1]}, and else {texts[0]}"]

@@ -14,6 +14,7 @@ extern "C" {
 int gethostname(char *name, size_t size);
 
 int ftruncate(int number, off_t size);
+uid_t getuid(void);
 
 __attribute__((error("a file of a node has one name: link is missing"))) int link(const char *, const char *);
 __attribute__((error("a node starts no processes: bsprun -n says how many nodes there are"))) pid_t fork(void);

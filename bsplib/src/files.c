@@ -403,8 +403,8 @@ WEAK int gettimeofday(struct timeval *restrict to, void *restrict zone)
     return 0;
 }
 
-/* picolibc has no getline. */
-WEAK ssize_t getline(char **restrict line, size_t *restrict size, FILE *restrict file)
+/* picolibc has neither of these. */
+WEAK ssize_t getdelim(char **restrict line, size_t *restrict size, int last, FILE *restrict file)
 {
     size_t count = 0;
     int byte = getc(file);
@@ -422,9 +422,14 @@ WEAK ssize_t getline(char **restrict line, size_t *restrict size, FILE *restrict
         if (byte == EOF)
             break;
         (*line)[count++] = (char)byte;
-        if (byte == '\n')
+        if (byte == last)
             break;
     }
     (*line)[count] = '\0';
     return (ssize_t)count;
+}
+
+WEAK ssize_t getline(char **restrict line, size_t *restrict size, FILE *restrict file)
+{
+    return getdelim(line, size, '\n', file);
 }

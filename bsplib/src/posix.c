@@ -54,6 +54,11 @@ WEAK int uname(struct utsname *names)
     return 0;
 }
 
+WEAK uid_t getuid(void)
+{
+    return 0;
+}
+
 WEAK pid_t getppid(void)
 {
     return 0;

@@ -253,6 +253,17 @@ int fflush(FILE *file)
     return 0;
 }
 
+int fgetpos(FILE *file, fpos_t *to)
+{
+    *to = ftell(file);
+    return *to < 0 ? -1 : 0;
+}
+
+int fsetpos(FILE *file, fpos_t *to)
+{
+    return fseek(file, (long)*to, SEEK_SET);
+}
+
 int fileno(FILE *file)
 {
     if (file->flags & __SBUF)

@@ -106,8 +106,7 @@ WEAK ssize_t write(int file, const void *bytes, size_t count)
 {
     if (file != 1 && file != 2)
         return refuse(EBADF);
-    bsp_stdio_flush();
-    machine_call_2(CALL_WRITE, (long)bytes, (long)count);
+    bsp_stdio_write(file, bytes, count);
     return (ssize_t)count;
 }
 

@@ -299,12 +299,8 @@ WEAK ssize_t write(int number, const void *bytes, size_t count)
         return refuse(EBADF);
     if (device == DEVICE_NONE)
         return put_bytes(open, bytes, count);
-    if (device == DEVICE_OUTPUT) {
-        bsp_stdio_flush();
-        machine_call_2(CALL_WRITE, (long)bytes, (long)count);
-    }
-    for (size_t i = 0; device == DEVICE_ERROR && i < count; i++)
-        putc(((const char *)bytes)[i], stderr);
+    if (device != DEVICE_NULL)
+        bsp_stdio_write(device == DEVICE_ERROR ? 2 : 1, bytes, count);
     return (ssize_t)count;
 }
 

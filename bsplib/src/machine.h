@@ -39,9 +39,16 @@ static inline int machine_call_2(int number, long a, long b)
     return a0;
 }
 
-/* Standard output is one buffer, which goes to the machine at the end of each line and where it is full. */
+/* Standard output and standard error have a buffer each, which goes to the machine at the end of each line, where it is full, and before
+   the other one takes a byte. */
 int bsp_stdio_put(char byte);
+int bsp_error_put(char byte);
+
+/* Has the machine take what stands in both. */
 void bsp_stdio_flush(void);
+
+/* Writes bytes at once: on standard error where `file` is 2, else on standard output. */
+void bsp_stdio_write(int file, const void *bytes, size_t count);
 
 /* The next byte of the input, or -1. */
 int bsp_stdio_get(void);
@@ -52,7 +59,7 @@ extern int bsp_has_input;
 /* Up to `count` bytes of the input, from the next one on: how many there were. */
 int bsp_input_read(void *to, int count);
 
-/* Writes "bsp: rank R: ", the text, the number where the text is followed by one, and the rest, and stops this node. */
+/* Writes on standard error "bsp: rank R: ", the text, the number where the text is followed by one, and the rest, and stops this node. */
 __attribute__((noreturn)) void bsp_stop(const char *text);
 __attribute__((noreturn)) void bsp_stop_with(const char *text, int number, const char *rest);
 

@@ -197,7 +197,7 @@ WEAK int dprintf(int file, const char *restrict format, ...)
     if (file != STDOUT_FILENO && file != STDERR_FILENO)
         return refuse(EBADF);
     va_start(arguments, format);
-    count = vprintf(format, arguments);
+    count = vfprintf(file == STDERR_FILENO ? stderr : stdout, format, arguments);
     va_end(arguments);
     return count;
 }
@@ -224,12 +224,12 @@ WEAK void quick_exit(int status)
 /* A line of an error: the program's name, the text where there is one, and the name of the error where one is asked for. */
 static void tell(const char *format, va_list arguments, const char *error)
 {
-    printf("program: ");
+    fprintf(stderr, "program: ");
     if (format != NULL)
-        vprintf(format, arguments);
+        vfprintf(stderr, format, arguments);
     if (error != NULL)
-        printf(format != NULL ? ": %s" : "%s", error);
-    putchar('\n');
+        fprintf(stderr, format != NULL ? ": %s" : "%s", error);
+    putc('\n', stderr);
 }
 
 WEAK void vwarn(const char *format, va_list arguments)

@@ -15,6 +15,12 @@ static int put(char byte, FILE *file)
     return bsp_stdio_put(byte);
 }
 
+static int put_error(char byte, FILE *file)
+{
+    (void)file;
+    return bsp_error_put(byte);
+}
+
 /* A node reads its input once, from the first byte on. A program that goes back in it has the whole of it in its memory. The
    address of this name is 1 where the program was linked with a function that goes back, and else 0. */
 extern char bsp_goes_back[] __attribute__((weak));
@@ -79,11 +85,11 @@ static int keep_open(FILE *file)
 
 static struct __file_ext input = FDEV_SETUP_EXT(NULL, get, NULL, keep_open, seek, NULL, _FDEV_SETUP_READ);
 static FILE output = FDEV_SETUP_STREAM(put, NULL, flush, _FDEV_SETUP_WRITE);
+static FILE errors = FDEV_SETUP_STREAM(put_error, NULL, flush, _FDEV_SETUP_WRITE);
 
 FILE *const stdin = &input.cfile.file;
 FILE *const stdout = &output;
-/* The machine has one output. */
-FILE *const stderr = &output;
+FILE *const stderr = &errors;
 
 /* In the place of picolibc's, which loses a last line that no line feed ends. */
 char *fgets(char *to, int size, FILE *file)

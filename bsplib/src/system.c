@@ -18,15 +18,37 @@ __attribute__((noreturn)) extern void exit(int status);
 void _init(void) {}
 void _fini(void) {}
 
+/* Standard output. While standard error has bytes, this is full but for one byte: with that, those go first. So a byte more costs nothing for
+   the order of the two, nor does a superstep that writes none. */
 static char out[1024];
 static int out_count = 0;
+enum { LAST = sizeof out - 1 };
+
+/* Standard error. The machine has one output for both, so that bsprun has what tells them apart written in front of these bytes: it
+   finds this place of the image by its magic, and puts a mark there, and how many bytes `mark` and `count` have. It costs the same
+   without. */
+static struct {
+    char magic[16];
+    volatile int front;
+    char mark[16];
+    int count;
+    char bytes[256];
+} error = {"\0bsprun\2\265\36\310\73\231\7\324", 0, {0}, 0, {0}};
 
 void bsp_stdio_flush(void)
 {
     if (out_count > 0) {
+        const char *from = out;
         int count = out_count;
         out_count = 0;
-        machine_call_2(CALL_WRITE, (long)out, count);
+        if (error.count > 0) {
+            machine_call_2(CALL_WRITE, (long)error.bytes - error.front, error.count + error.front);
+            error.count = 0;
+            from = out + LAST;
+            count -= LAST;
+        }
+        if (count > 0)
+            machine_call_2(CALL_WRITE, (long)from, count);
     }
 }
 
@@ -36,6 +58,28 @@ int bsp_stdio_put(char byte)
     if (byte == '\n' || out_count == sizeof out)
         bsp_stdio_flush();
     return 0;
+}
+
+int bsp_error_put(char byte)
+{
+    if (error.count == 0) {
+        bsp_stdio_flush();
+        out_count = LAST;
+    }
+    error.bytes[error.count++] = byte;
+    if (byte == '\n' || error.count == sizeof error.bytes)
+        bsp_stdio_flush();
+    return 0;
+}
+
+void bsp_stdio_write(int file, const void *bytes, size_t count)
+{
+    if (file == 2)
+        for (size_t i = 0; i < count; i++)
+            bsp_error_put(((const char *)bytes)[i]);
+    bsp_stdio_flush();
+    if (file != 2)
+        machine_call_2(CALL_WRITE, (long)bytes, (long)count);
 }
 
 /* Bytes of the input that were read and not taken yet. */
@@ -88,7 +132,7 @@ void *sbrk(ptrdiff_t change)
 static void put_text(const char *text)
 {
     while (*text != '\0')
-        bsp_stdio_put(*text++);
+        bsp_error_put(*text++);
 }
 
 static void put_number(int number)
@@ -115,8 +159,7 @@ static void begin_line(void)
 
 __attribute__((noreturn)) static void end_line(void)
 {
-    bsp_stdio_put('\n');
-    bsp_stdio_flush();
+    bsp_error_put('\n');
     for (;;)
         machine_call_2(CALL_ABORT, 0, 0);
 }

@@ -4,7 +4,15 @@ byte: what it tells of mistakes that have no effect else."""
 from __future__ import annotations
 
 import re
+import subprocess
 from typing import NamedTuple
+
+from .. import children
+from . import records
+from .job import Job
+from .parting import ERROR, OUTPUT, Marks
+from .report import Report, part
+from .why import Why
 
 # The byte that fresh memory has, where it has 0 in the run that is looked at, or another one.
 FILLS = (0xA5, 0x5A)
@@ -40,3 +48,33 @@ def reads(first: Run, again: Run, fill: int) -> list[str]:
     at = next((i for i, (a, b) in enumerate(zip(*lines)) if a != b), min(map(len, lines)))
     texts = [repr(of[at][:MOST_SHOWN].decode(errors="replace")) if at < len(of) else "not there" for of in lines]
     return [f"{begin}, line {at + 1} of the output is {texts[1]}, and else {texts[0]}"]
+
+
+def run_of(job: Job, flags: int, fill: int | None) -> tuple[Run, Report] | None:
+    """A run with these settings of the program's library: what it wrote, also on standard error, and its report."""
+    job.set(flags, fill)
+    done = children.call([*job.program, "run", *job.settings, "--report"], stdout=subprocess.PIPE, stderr=subprocess.DEVNULL)
+    parted = part(done.stdout)
+    if parted is None:
+        return None
+    marks = Marks(job.mark)
+    own = b"".join(piece for kind, piece in marks.take(bytes(parted[0])) if kind in (OUTPUT, ERROR))
+    return Run(own + marks.left(), parted[1].outcome), parted[1]
+
+
+def findings(job: Job) -> dict[str, list[str]]:
+    """What a run once more tells, by the names of what it looks for, where the program's library can look."""
+    options = job.options
+    if not job.mark or records.PLACE not in job.content:
+        return {}
+    fill = next(it for it in FILLS if it != options.fill)
+    found: dict[str, list[str]] = {"memory that is written past a block of malloc": [], "memory that is read before it is written": []}
+    first, again = run_of(job, 0, options.fill), run_of(job, records.LOOKS, fill)
+    if first is not None and again is not None:
+        has_ended = again[0].outcome == "ended"
+        where = [] if has_ended else Why(job.code, job.replays(), options.nodes, options.limit).lines(again[1])
+        overrun, read = found
+        found[overrun] = overruns(again[0], where)
+        found[read] = [] if found[overrun] else reads(first[0], again[0], fill)
+    job.set(0, options.fill)
+    return found

@@ -43,10 +43,11 @@ FUNCTIONS.update({it: (*FUNCTIONS[it], "bsp_hpmove") for it in TAKES})
 
 
 class Call(NamedTuple):
-    """A call that a node is about to make: the node, and which stop of a trace this is, from 1 on."""
+    """A call that a node is about to make: the node, and which stop of a trace this is, from 1 on; and its superstep, of a trace of one."""
 
     node: Node
     stop: int
+    superstep: int | None = None
 
     @property
     def number(self) -> int:
@@ -114,7 +115,8 @@ class Tracer:
 
     def calls_in(self, rank: int, numbers: tuple[int, ...], superstep: int) -> list[Call]:
         """Those that it made in one superstep."""
-        return self._made([*self.replays.begin(superstep), f"break superstep {superstep + 1}"], rank, numbers)
+        made = self._made([*self.replays.begin_for(rank, superstep), f"break superstep {superstep + 1}"], rank, numbers)
+        return [it._replace(superstep=superstep) for it in made]
 
     def _made(self, script: list[str], rank: int, numbers: tuple[int, ...]) -> list[Call]:
         stops = self.replays.stops(script, rank, self.sites(numbers))
@@ -134,5 +136,8 @@ class Tracer:
 
     def place_of(self, rank: int, numbers: tuple[int, ...], superstep: int, call: Call) -> str:
         """Where a call stands that a trace of these numbers from this superstep on found."""
-        node = self.replays.look(self.up_to(rank, numbers, superstep, call), rank)
-        return place(self.code, node) if node else "a place that was not found"
+        if call.superstep is None:
+            node = self.replays.look(self.up_to(rank, numbers, superstep, call), rank)
+        else:
+            node = self.replays.look_after(call.superstep, rank, call.node.ticks)
+        return place(self.code, node, is_call_told=True) if node else "a place that was not found"

@@ -1,36 +1,17 @@
-"""What a program is given: its input, with arguments and files in front of it."""
+"""The files that a program is given."""
 
 from __future__ import annotations
 
 import argparse
 import os
-import sys
 
 from ..files import content_of
 from ..limits import MOST_INPUT
 from ..refusals import Refused, about
-from .block import MAGIC, block
 
 TOO_LONG = f"input, arguments and files have more than {MOST_INPUT} bytes"
 # Of a folder that is given.
 MOST_FILES = 1000
-
-
-def given_input(options: argparse.Namespace, content: bytes) -> bytes | None:
-    """The input, with arguments and files in front of it where there are any."""
-    given = None
-    if options.input is not None:
-        given = content_of(options.input, MOST_INPUT)
-    elif sys.stdin is not None and not sys.stdin.isatty():
-        given = sys.stdin.buffer.read(MOST_INPUT + 1)
-    if options.args or options.file or options.files:
-        if MAGIC not in content:
-            raise Refused(f"{options.program} takes neither arguments nor files: it was not built by this bspcc")
-        words = [os.fsencode(word) for word in [options.argv0 or options.program, *options.args]]
-        given = block(words, given_files(options)) + (given or b"")
-    if given is not None and len(given) > MOST_INPUT:
-        raise Refused(TOO_LONG)
-    return given
 
 
 def given_files(options: argparse.Namespace) -> list[tuple[bytes, bytes]]:

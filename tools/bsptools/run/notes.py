@@ -36,7 +36,7 @@ class Note(NamedTuple):
 
 def note_of(record: Record) -> Note | None:
     """The note of a record, if it is one."""
-    content = bytes(record.content)
+    content = record.content
     if len(content) < _HEAD.size:
         return None
     what, superstep, place, one, other = _HEAD.unpack_from(content)

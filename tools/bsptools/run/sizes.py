@@ -36,7 +36,7 @@ def expect_room(code: Code, options: argparse.Namespace) -> None:
         raise Refused(f"{options.program} wants {need} bytes of memory for its code and variables, {text}")
     if need > options.memory:
         raise Refused(f"{options.program} wants {need} bytes of memory for its code and variables{arrays}: give --memory {need} or more")
-    if options.stack and code.know_names().names.get("__stack_top", 0) != options.stack:
+    if options.stack and not options.sources and code.know_names().names.get("__stack_top", 0) != options.stack:
         has = code.names.get("__stack_top")
         known = f", with {has} bytes" if has else ""
         raise Refused(f"--stack is for a program in C that is compiled here: {options.program} has its stack{known}; give --stack to bspcc")

@@ -42,10 +42,10 @@ class Files:
 
     def take(self, record: Record) -> None:
         """Does what a record of a file tells."""
-        words = struct.unpack_from("<II", bytes(record.content[:8]).ljust(8, b"\0"))
+        words = struct.unpack_from("<II", record.content[:8].ljust(8, b"\0"))
         key = (record.rank, words[0])
         if record.kind == NAME:
-            name = bytes(record.content[4:])
+            name = record.content[4:]
             if key in self.files:
                 self.files[key].name = name
             elif len(self.files) < MOST_FILES:
@@ -55,7 +55,7 @@ class Files:
         elif record.kind == REMOVED:
             self.size -= len(self.files.pop(key, Written(0, b"")).content)
         elif key in self.files and record.kind in (BYTES, SIZE):
-            place, content = words[1], bytes(record.content[8:])
+            place, content = words[1], record.content[8:]
             file = self.files[key].content
             end = place + len(content)
             if record.kind == SIZE:

@@ -16,7 +16,7 @@
  *   written until the next bsp_sync.
  * - bsp_abort stops its own node; the others run on to the end of the superstep, in which the run is then stopped.
  * - bsp_time answers 0, and the compiler warns of each call, since the machine has no clock: the report gives the cost of
- *   each superstep.
+ *   each superstep. A node that reads it more than 32 times gets later times, so that a loop which waits ends.
  * - bsp_hpsend copies as bsp_send does. bsp_pushregister, bsp_popregister and bsp_dtime are the Oxford toolset's names.
  * - Counts and sizes may be size_t where BSPlib has int: bsp_qsize, bsp_get_tag and bsp_set_tagsize take pointers to both.
  * - A negative size is refused: bsp_move aborts, bsp_set_tagsize stops the node with fault BadSize, and every other
@@ -94,7 +94,7 @@ void bsp_get_tag(bsp_number status, void *tag);
 void bsp_move(void *payload, int reception_nbytes);
 int bsp_hpmove(void **tag_ptr, void **payload_ptr);
 
-/* Always 0. */
+/* 0, but where they are read over and over. */
 __attribute__((warning("the machine has no clock, so this answers 0: the report gives the cost of each superstep")))
 double bsp_time(void);
 __attribute__((warning("the machine has no clock, so this answers 0: the report gives the cost of each superstep")))

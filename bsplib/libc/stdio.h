@@ -12,12 +12,15 @@ extern "C" {
 #endif
 
 ssize_t getline(char **__restrict line, size_t *__restrict size, FILE *__restrict file);
+ssize_t getdelim(char **__restrict line, size_t *__restrict size, int last, FILE *__restrict file);
 int dprintf(int file, const char *__restrict format, ...) __attribute__((format(printf, 2, 3)));
 
-__attribute__((error("a node has no files to write: popen, tmpfile, remove and rename are missing"))) FILE *tmpfile(void);
-__attribute__((error("a node has no files to write: popen, tmpfile, remove and rename are missing"))) int remove(const char *);
-__attribute__((error("a node has no files to write: popen, tmpfile, remove and rename are missing")))
+/* picolibc declares some of these in other headers, or by macros alone. */
+FILE *tmpfile(void);
+int remove(const char *);
 int rename(const char *, const char *);
+int fileno(FILE *);
+FILE *fdopen(int, const char *);
 __attribute__((error("a node has no other programs to run"))) FILE *popen(const char *, const char *);
 
 #ifdef __cplusplus

@@ -13,11 +13,10 @@ extern "C" {
 /* POSIX has it; whether picolibc shows it is a matter of feature macros. */
 int gethostname(char *name, size_t size);
 
-__attribute__((error("a node has no files to write: unlink, rmdir, mkdir, link and ftruncate are missing"))) int unlink(const char *);
-__attribute__((error("a node has no files to write: unlink, rmdir, mkdir, link and ftruncate are missing"))) int rmdir(const char *);
-__attribute__((error("a node has no files to write: unlink, rmdir, mkdir, link and ftruncate are missing")))
-int link(const char *, const char *);
-__attribute__((error("a node has no files to write: unlink, rmdir, mkdir, link and ftruncate are missing"))) int ftruncate(int, off_t);
+int ftruncate(int number, off_t size);
+uid_t getuid(void);
+
+__attribute__((error("a file of a node has one name: link is missing"))) int link(const char *, const char *);
 __attribute__((error("a node starts no processes: bsprun -n says how many nodes there are"))) pid_t fork(void);
 __attribute__((error("a node starts no processes: bsprun -n says how many nodes there are"))) int pipe(int[2]);
 __attribute__((error("a node has no other programs to run"))) int execv(const char *, char *const[]);

@@ -84,6 +84,8 @@ int atoi(const char *text)
 {
     int is_negative = 0;
     unsigned number = 0;
+    if (text == NULL)
+        bsp_stop_for_null("atoi");
     while (*text == ' ' || (*text >= '\t' && *text <= '\r'))
         text++;
     if (*text == '-' || *text == '+')

@@ -10,8 +10,7 @@ __attribute__((weak)) int write(int file, const void *bytes, size_t count)
 {
     if (file != 1 && file != 2)
         return -1;
-    bsp_stdio_flush();
-    machine_call_2(CALL_WRITE, (long)bytes, (long)count);
+    bsp_stdio_write(file, bytes, count);
     return (int)count;
 }
 
@@ -21,13 +20,14 @@ __attribute__((weak)) int read(int file, void *bytes, size_t count)
 }
 
 struct bsp_stream {
-    int file;
+    int (*put)(char byte);
 };
-static FILE input = {0}, output = {1};
-FILE *const stdin = &input, *const stdout = &output, *const stderr = &output;
+static FILE input = {NULL}, output = {bsp_stdio_put}, errors = {bsp_error_put};
+FILE *const stdin = &input, *const stdout = &output, *const stderr = &errors;
 
-/* Where formatted bytes go: to the output where `at` is NULL, else to the `left` bytes from there on. */
+/* Where formatted bytes go: to the stream where `at` is NULL, else to the `left` bytes from there on. */
 struct sink {
+    const FILE *file;
     char *at;
     size_t left;
     int count;
@@ -37,7 +37,7 @@ static void put(struct sink *to, char byte)
 {
     to->count++;
     if (to->at == NULL)
-        bsp_stdio_put(byte);
+        to->file->put(byte);
     else if (to->left > 0) {
         *to->at++ = byte;
         to->left--;
@@ -194,9 +194,9 @@ static void format_into(struct sink *to, const char *format, va_list *arguments)
     }
 }
 
-int vprintf(const char *format, va_list arguments)
+int vfprintf(FILE *file, const char *format, va_list arguments)
 {
-    struct sink to = {NULL, 0, 0};
+    struct sink to = {file, NULL, 0, 0};
     va_list copy;
     va_copy(copy, arguments);
     format_into(&to, format, &copy);
@@ -207,7 +207,7 @@ int vprintf(const char *format, va_list arguments)
 int vsnprintf(char *to, size_t size, const char *format, va_list arguments)
 {
     char nothing;
-    struct sink sink = {size > 0 ? to : &nothing, size > 0 ? size - 1 : 0, 0};
+    struct sink sink = {NULL, size > 0 ? to : &nothing, size > 0 ? size - 1 : 0, 0};
     va_list copy;
     va_copy(copy, arguments);
     format_into(&sink, format, &copy);
@@ -215,6 +215,11 @@ int vsnprintf(char *to, size_t size, const char *format, va_list arguments)
     if (size > 0)
         *sink.at = '\0';
     return sink.count;
+}
+
+int vprintf(const char *format, va_list arguments)
+{
+    return vfprintf(stdout, format, arguments);
 }
 
 int printf(const char *format, ...)
@@ -231,9 +236,8 @@ int fprintf(FILE *file, const char *format, ...)
 {
     int count;
     va_list arguments;
-    (void)file;
     va_start(arguments, format);
-    count = vprintf(format, arguments);
+    count = vfprintf(file, format, arguments);
     va_end(arguments);
     return count;
 }
@@ -250,9 +254,8 @@ int snprintf(char *to, size_t size, const char *format, ...)
 
 int fputs(const char *text, FILE *file)
 {
-    (void)file;
     while (*text != '\0')
-        bsp_stdio_put(*text++);
+        file->put(*text++);
     return 0;
 }
 

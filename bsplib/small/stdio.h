@@ -1,4 +1,4 @@
-/* The small library's part of stdio.h: formats without floating point, one output and one input. */
+/* The small library's part of stdio.h: formats without floating point, two outputs and one input. */
 #ifndef SMALL_STDIO_H
 #define SMALL_STDIO_H
 
@@ -16,6 +16,7 @@ __attribute__((format(printf, 1, 2))) int printf(const char *format, ...);
 __attribute__((format(printf, 2, 3))) int fprintf(FILE *file, const char *format, ...);
 __attribute__((format(printf, 3, 4))) int snprintf(char *to, size_t size, const char *format, ...);
 int vprintf(const char *format, va_list arguments);
+int vfprintf(FILE *file, const char *format, va_list arguments);
 int vsnprintf(char *to, size_t size, const char *format, va_list arguments);
 int puts(const char *text);
 int fputs(const char *text, FILE *file);

@@ -1,4 +1,4 @@
-/* bsp_abort and bsp_vabort, apart from the rest since they need printf. */
+/* bsp_abort and bsp_vabort, apart from the rest since they need vfprintf. */
 #include <stdarg.h>
 #include <stdio.h>
 
@@ -7,7 +7,9 @@
 
 void bsp_vabort(const char *format, va_list arguments)
 {
-    vprintf(format, arguments);
+    vfprintf(stderr, format, arguments);
+    if (bsp_flush_files != NULL)
+        bsp_flush_files();
     bsp_stdio_flush();
     for (;;)
         machine_call_2(CALL_ABORT, 0, 0);

@@ -51,12 +51,18 @@ void bsp_begin(int maxprocs)
     bsp_part = BSP_WITHIN;
 }
 
+/* Where the last put, get or message of this superstep was asked for, or NULL. */
+static const void *last_request = NULL;
+#define ASKED() (last_request = __builtin_return_address(0))
+
 /* bsp_end, with 0 as a value that nobody asks for: a `void main` which ends with bsp_end returns it. */
 int bsp_end_with_0(void) __asm__("bsp_end");
 int bsp_end_with_0(void)
 {
     MUST_BE_WITHIN("bsp_end");
     bsp_stdio_flush();
+    if (last_request != NULL)
+        bsp_note(NOTE_PENDING, last_request, 0, 0, "");
     bsp_part = BSP_AFTER;
     return 0;
 }
@@ -81,8 +87,6 @@ static struct {
     char *next; /* NULL where this superstep has not used it */
 } room;
 
-int bsp_superstep = 0;
-
 void bsp_sync(void)
 {
     MUST_BE_WITHIN("bsp_sync");
@@ -90,9 +94,8 @@ void bsp_sync(void)
     /* What was printed belongs to this superstep. */
     bsp_stdio_flush();
     machine_call_0(CALL_SYNC);
-#ifdef BSP_CHECK
     bsp_superstep++;
-#endif
+    last_request = NULL;
     received_tag_size = tag_size;
     tag_size = next_tag_size;
     room.next = NULL;
@@ -123,24 +126,28 @@ void bsp_popregister(const void *ident)
 void bsp_put(int pid, const void *src, void *dst, int offset, int nbytes)
 {
     MUST_BE_WITHIN("bsp_put");
+    ASKED();
     machine_call(CALL_PUT, pid, (long)src, (long)dst, offset, nbytes);
 }
 
 void bsp_hpput(int pid, const void *src, void *dst, int offset, int nbytes)
 {
     MUST_BE_WITHIN("bsp_hpput");
+    ASKED();
     machine_call(CALL_HPPUT, pid, (long)src, (long)dst, offset, nbytes);
 }
 
 void bsp_get(int pid, const void *src, int offset, void *dst, int nbytes)
 {
     MUST_BE_WITHIN("bsp_get");
+    ASKED();
     machine_call(CALL_GET, pid, (long)src, offset, (long)dst, nbytes);
 }
 
 void bsp_hpget(int pid, const void *src, int offset, void *dst, int nbytes)
 {
     MUST_BE_WITHIN("bsp_hpget");
+    ASKED();
     machine_call(CALL_HPGET, pid, (long)src, offset, (long)dst, nbytes);
 }
 
@@ -156,6 +163,7 @@ void bsp_set_tagsize(bsp_number tag_nbytes)
 void bsp_send(int pid, const void *tag, const void *payload, int payload_nbytes)
 {
     MUST_BE_WITHIN("bsp_send");
+    ASKED();
     machine_call(CALL_SEND, pid, (long)tag, (long)payload, payload_nbytes, 0);
 }
 
@@ -220,14 +228,4 @@ int bsp_hpmove(void **tag_ptr, void **payload_ptr)
     machine_call_2(CALL_MOVE, (long)room.next, status);
     room.next += rounded(status);
     return status;
-}
-
-double bsp_time(void)
-{
-    return 0.0;
-}
-
-double bsp_dtime(void)
-{
-    return 0.0;
 }

@@ -1,30 +1,32 @@
-/* What POSIX has below the streams of a C library: files, which bsprun gives, and times, which there are none. All of it is weak,
-   since a program may have functions of these names. */
+/* What POSIX has below the streams of a C library: files, which bsprun gives and takes, and times, which there are none. All of it is
+   weak, since a program may have functions of these names. */
 #include <errno.h>
 #include <fcntl.h>
+#include <stdarg.h>
 #include <stdio.h>
 #include <stdlib.h>
 #include <string.h>
+#include <sys/stat.h>
 #include <sys/time.h>
 #include <sys/types.h>
 #include <time.h>
 #include <unistd.h>
 
-#include "machine.h"
+#include "files.h"
 
 #define WEAK __attribute__((weak))
 
 /* 0 to 2 are the standard streams, and those from 3 on open files. */
-enum { FIRST_FILE = 3, MOST_FILES = 16 };
-static struct {
-    const struct bsp_file *file;
-    size_t next;
-} opened[MOST_FILES];
+enum { FIRST_FILE = 3, MOST_FILES = 64 };
+static struct bsp_open opened[MOST_FILES];
 
-static int is_open(int file)
-{
-    return file >= FIRST_FILE && file < FIRST_FILE + MOST_FILES && opened[file - FIRST_FILE].file != NULL;
-}
+static struct bsp_file *files = NULL;
+static unsigned number_of_files = 0;
+
+/* What a device answers: nothing is read from one that is written, and nothing is kept. */
+static struct bsp_file input = {.name = "/dev/stdin", .device = DEVICE_INPUT}, output = {.name = "/dev/stdout", .device = DEVICE_OUTPUT};
+static struct bsp_file errors = {.name = "/dev/stderr", .device = DEVICE_ERROR}, nothing = {.name = "/dev/null", .device = DEVICE_NULL};
+static struct bsp_file *const devices[] = {&input, &output, &errors, &nothing};
 
 static int refuse(int reason)
 {
@@ -32,83 +34,340 @@ static int refuse(int reason)
     return -1;
 }
 
-/* A file has the name that it was given by, or what stands behind its last slash. */
-const struct bsp_file *bsp_file_named(const char *name)
+int bsp_is_number(int number)
 {
-    if (strncmp(name, "./", 2) == 0)
+    return number >= FIRST_FILE && number < FIRST_FILE + MOST_FILES;
+}
+
+struct bsp_open *bsp_open_of(int number)
+{
+    struct bsp_open *open = &opened[number - FIRST_FILE];
+    return bsp_is_number(number) && open->file != NULL ? open : NULL;
+}
+
+/* The files that bsprun gives, made when one is first looked for. */
+static void know_given_files(void)
+{
+    static int is_done = 0;
+    if (is_done)
+        return;
+    is_done = 1;
+    for (int i = bsp_given_count - 1; i >= 0; i--) {
+        struct bsp_file *file = calloc(1, sizeof *file);
+        if (file == NULL)
+            bsp_stop("there is no memory for the files of bsprun: give --memory");
+        *file = (struct bsp_file){
+            .next = files, .name = (char *)bsp_given[i].name, .bytes = (char *)bsp_given[i].bytes, .size = bsp_given[i].size};
+        files = file;
+    }
+}
+
+static const char *without_dot(const char *name)
+{
+    while (strncmp(name, "./", 2) == 0)
         name += 2;
-    for (int i = 0; i < bsp_file_count; i++) {
-        const char *whole = bsp_files[i].name;
-        const char *slash = strrchr(whole, '/');
-        if (strcmp(whole, name) == 0 || (slash != NULL && strcmp(slash + 1, name) == 0))
-            return &bsp_files[i];
+    return name;
+}
+
+/* A file that was given has the name that it was given by, or what stands behind its last slash. */
+struct bsp_file *bsp_file_named(const char *name)
+{
+    know_given_files();
+    name = without_dot(name);
+    for (struct bsp_file *file = files; file != NULL; file = file->next) {
+        const char *slash;
+        if (file->name == NULL)
+            continue;
+        slash = file->number == 0 ? strrchr(file->name, '/') : NULL;
+        if (strcmp(without_dot(file->name), name) == 0 || (slash != NULL && strcmp(slash + 1, name) == 0))
+            return file;
     }
     return NULL;
 }
 
-WEAK int open(const char *name, int flags, ...)
+static struct bsp_file *device_named(const char *name)
 {
-    const struct bsp_file *file;
-    if ((flags & O_ACCMODE) != O_RDONLY) {
-        fprintf(stderr, "bsp: %s is to be opened for writing: a node has no files to write, but its output\n", name);
-        bsp_stop("a file was opened for writing");
-    }
-    file = bsp_file_named(name);
-    if (file == NULL)
-        return refuse(ENOENT);
-    for (int i = 0; i < MOST_FILES; i++)
-        if (opened[i].file == NULL) {
-            opened[i].file = file;
-            opened[i].next = 0;
-            return FIRST_FILE + i;
-        }
-    return refuse(EMFILE);
+    if (strcmp(name, "/dev/tty") == 0)
+        return &output;
+    for (size_t i = 0; i < sizeof devices / sizeof *devices; i++)
+        if (strcmp(devices[i]->name, name) == 0)
+            return devices[i];
+    return NULL;
 }
 
-WEAK int close(int file)
+/* Tells bsprun the name of a file, and its number where it has none yet. */
+static void tell_name(struct bsp_file *file)
 {
-    if (!is_open(file))
-        return refuse(EBADF);
-    opened[file - FIRST_FILE].file = NULL;
+    size_t size = strlen(file->name);
+    if (file->number == 0)
+        file->number = ++number_of_files;
+    bsp_record(RECORD_NAME, &file->number, 1, file->name, size < MOST_RECORD_BYTES ? (int)size : MOST_RECORD_BYTES);
+}
+
+static void tell_bytes(const struct bsp_file *file, size_t place, const char *bytes, size_t count)
+{
+    while (file->number != 0 && count > 0) {
+        size_t part = count < MOST_RECORD_BYTES ? count : MOST_RECORD_BYTES;
+        const unsigned words[] = {file->number, (unsigned)place};
+        bsp_record(RECORD_BYTES, words, 2, bytes, (int)part);
+        place += part;
+        bytes += part;
+        count -= part;
+    }
+}
+
+static void tell_size(struct bsp_file *file)
+{
+    const unsigned words[] = {file->number, (unsigned)file->size};
+    if (file->number != 0)
+        bsp_record(RECORD_SIZE, words, 2, "", 0);
+}
+
+/* Room for so many bytes, of which those behind the old ones are 0. Where there is none, the bytes are not kept any longer. */
+static int make_room(struct bsp_file *file, size_t size)
+{
+    if (size > file->room && !file->is_lost) {
+        size_t room = size < 256 ? 512 : 2 * size;
+        char *larger = file->room > 0 ? realloc(file->bytes, room) : malloc(room);
+        if (larger == NULL) {
+            file->is_lost = 1;
+            free(file->room > 0 ? file->bytes : NULL);
+            file->bytes = NULL;
+            file->room = 0;
+            return 0;
+        }
+        if (file->room == 0)
+            memcpy(larger, file->bytes, file->size);
+        file->bytes = larger;
+        file->room = room;
+    }
+    if (!file->is_lost && size > file->size)
+        memset(file->bytes + file->size, 0, size - file->size);
+    return !file->is_lost;
+}
+
+static struct bsp_file *new_file(const char *name)
+{
+    struct bsp_file *file = calloc(1, sizeof *file);
+    if (file != NULL && name != NULL && (file->name = strdup(without_dot(name))) == NULL) {
+        free(file);
+        file = NULL;
+    }
+    if (file != NULL) {
+        file->next = files;
+        files = file;
+    }
+    return file;
+}
+
+/* A file that can be written: one that there is, or a new one. NULL with a reason. */
+static struct bsp_file *writable(const char *name, int flags)
+{
+    struct bsp_file *file = bsp_file_named(name);
+    if (!(bsp_settings.flags & BSP_WRITES_FILES)) {
+        bsp_note(NOTE_UNWRITTEN, __builtin_return_address(0), 0, 0, name);
+        errno = EROFS;
+        return NULL;
+    }
+    if (file == NULL && !(flags & O_CREAT)) {
+        bsp_note(NOTE_ABSENT, __builtin_return_address(0), 0, 0, name);
+        errno = ENOENT;
+        return NULL;
+    }
+    if (file != NULL && (flags & O_CREAT) && (flags & O_EXCL)) {
+        errno = EEXIST;
+        return NULL;
+    }
+    if (file == NULL && (file = new_file(name)) == NULL)
+        return NULL;
+    if (file->number == 0) {
+        tell_name(file);
+        if (!(flags & O_TRUNC))
+            tell_bytes(file, 0, file->bytes, file->size);
+    }
+    if (flags & O_TRUNC) {
+        file->size = 0;
+        file->is_lost = 0;
+        tell_size(file);
+    }
+    return file;
+}
+
+static struct bsp_file *readable(const char *name)
+{
+    struct bsp_file *file = bsp_file_named(name);
+    if (file != NULL && !file->is_lost)
+        return file;
+    bsp_note(file == NULL ? NOTE_ABSENT : NOTE_LOST, __builtin_return_address(0), 0, 0, name);
+    errno = ENOENT;
+    return NULL;
+}
+
+static int open_file(struct bsp_file *file, int flags)
+{
+    for (int i = 0; file != NULL && i < MOST_FILES; i++)
+        if (opened[i].file == NULL) {
+            opened[i] = (struct bsp_open){.file = file, .flags = flags};
+            return FIRST_FILE + i;
+        }
+    return file == NULL ? -1 : refuse(EMFILE);
+}
+
+WEAK int open(const char *name, int flags, ...)
+{
+    struct bsp_file *file;
+    if (name == NULL)
+        bsp_stop("a file is opened whose name is NULL, as argv[1] is where the program is given no arguments");
+    file = device_named(name);
+    if (file == NULL)
+        file = (flags & O_ACCMODE) == O_RDONLY ? readable(name) : writable(name, flags);
+    return open_file(file, flags);
+}
+
+/* A file without a name, which stays in the node. */
+int bsp_open_nameless(void)
+{
+    return open_file(new_file(NULL), O_RDWR);
+}
+
+WEAK int creat(const char *name, mode_t mode)
+{
+    return open(name, O_WRONLY | O_CREAT | O_TRUNC, mode);
+}
+
+WEAK int close(int number)
+{
+    struct bsp_open *open = bsp_open_of(number);
+    if (open == NULL)
+        return number >= 0 && number <= 2 ? 0 : refuse(EBADF);
+    open->file = NULL;
+    open->stream = NULL;
     return 0;
 }
 
-WEAK ssize_t read(int file, void *bytes, size_t count)
+WEAK ssize_t read(int number, void *bytes, size_t count)
 {
-    const struct bsp_file *source;
+    struct bsp_open *open = bsp_open_of(number);
     size_t left;
-    if (file == 0)
+    if (number == 0 || (open != NULL && open->file->device == DEVICE_INPUT))
         return bsp_input_read(bytes, (int)count);
-    if (!is_open(file))
+    if (open == NULL || (open->flags & O_ACCMODE) == O_WRONLY)
         return refuse(EBADF);
-    source = opened[file - FIRST_FILE].file;
-    left = source->size - opened[file - FIRST_FILE].next;
+    if (open->file->device != DEVICE_NONE || open->next >= open->file->size || open->file->is_lost)
+        return 0;
+    left = open->file->size - open->next;
     count = count < left ? count : left;
-    memcpy(bytes, source->bytes + opened[file - FIRST_FILE].next, count);
-    opened[file - FIRST_FILE].next += count;
+    memcpy(bytes, open->file->bytes + open->next, count);
+    open->next += count;
     return (ssize_t)count;
 }
 
-WEAK off_t lseek(int file, off_t offset, int whence)
+WEAK off_t lseek(int number, off_t offset, int whence)
 {
-    off_t from, size;
-    if (!is_open(file))
-        return refuse(file >= 0 && file <= 2 ? ESPIPE : EBADF);
-    size = (off_t)opened[file - FIRST_FILE].file->size;
-    from = whence == SEEK_SET ? 0 : whence == SEEK_CUR ? (off_t)opened[file - FIRST_FILE].next : size;
-    if (offset < -from || offset > size - from)
+    struct bsp_open *open = bsp_open_of(number);
+    off_t from;
+    if (open == NULL || open->file->device != DEVICE_NONE)
+        return refuse(open != NULL || (number >= 0 && number <= 2) ? ESPIPE : EBADF);
+    from = whence == SEEK_SET ? 0 : (off_t)(whence == SEEK_CUR ? open->next : open->file->size);
+    if (offset < -from)
         return refuse(EINVAL);
-    opened[file - FIRST_FILE].next = (size_t)(from + offset);
+    open->next = (size_t)(from + offset);
     return from + offset;
 }
 
-WEAK ssize_t write(int file, const void *bytes, size_t count)
+/* Puts bytes into a file: into what the node keeps of it, and into that of bsprun. */
+static ssize_t put_bytes(struct bsp_open *open, const char *bytes, size_t count)
 {
-    if (file != 1 && file != 2)
-        return refuse(EBADF);
-    bsp_stdio_flush();
-    machine_call_2(CALL_WRITE, (long)bytes, (long)count);
+    struct bsp_file *file = open->file;
+    size_t place = open->flags & O_APPEND ? file->size : open->next;
+    if (make_room(file, place + count))
+        memcpy(file->bytes + place, bytes, count);
+    else if (file->number == 0)
+        return refuse(ENOSPC);
+    tell_bytes(file, place, bytes, count);
+    open->next = place + count;
+    if (file->size < open->next)
+        file->size = open->next;
     return (ssize_t)count;
+}
+
+WEAK ssize_t write(int number, const void *bytes, size_t count)
+{
+    struct bsp_open *open = bsp_open_of(number);
+    int device = number == 1 ? DEVICE_OUTPUT : number == 2 ? DEVICE_ERROR : open != NULL ? open->file->device : DEVICE_INPUT;
+    if (device == DEVICE_INPUT || (open != NULL && (open->flags & O_ACCMODE) == O_RDONLY))
+        return refuse(EBADF);
+    if (device == DEVICE_NONE)
+        return put_bytes(open, bytes, count);
+    if (device != DEVICE_NULL)
+        bsp_stdio_write(device == DEVICE_ERROR ? 2 : 1, bytes, count);
+    return (ssize_t)count;
+}
+
+WEAK int ftruncate(int number, off_t size)
+{
+    struct bsp_open *open = bsp_open_of(number);
+    if (open == NULL || open->file->device != DEVICE_NONE || (open->flags & O_ACCMODE) == O_RDONLY)
+        return refuse(EINVAL);
+    make_room(open->file, (size_t)size);
+    open->file->size = (size_t)size;
+    tell_size(open->file);
+    return 0;
+}
+
+/* Takes a file away. One that is open goes on without a name. */
+WEAK int unlink(const char *name)
+{
+    struct bsp_file *file = bsp_file_named(name);
+    if (file == NULL)
+        return refuse(ENOENT);
+    if (file->number == 0 && !(bsp_settings.flags & BSP_WRITES_FILES))
+        return refuse(EROFS);
+    if (file->number != 0)
+        bsp_record(RECORD_REMOVED, &file->number, 1, "", 0);
+    file->number = 0;
+    file->name = NULL;
+    return 0;
+}
+
+WEAK int remove(const char *name)
+{
+    return unlink(name);
+}
+
+WEAK int rename(const char *old, const char *name)
+{
+    struct bsp_file *file = bsp_file_named(old), *other = bsp_file_named(name);
+    char *copy;
+    if (file == NULL)
+        return refuse(ENOENT);
+    if (!(bsp_settings.flags & BSP_WRITES_FILES))
+        return refuse(EROFS);
+    copy = strdup(without_dot(name));
+    if (copy == NULL)
+        return -1;
+    if (other != NULL && other != file)
+        unlink(name);
+    file->name = copy;
+    if (file->number == 0) {
+        tell_name(file);
+        tell_bytes(file, 0, file->bytes, file->size);
+    } else
+        tell_name(file);
+    return 0;
+}
+
+/* Files have last names alone where bsprun puts them, so that any folder is there. */
+WEAK int mkdir(const char *name, mode_t mode)
+{
+    (void)name;
+    (void)mode;
+    return bsp_settings.flags & BSP_WRITES_FILES ? 0 : refuse(EROFS);
+}
+
+WEAK int rmdir(const char *name)
+{
+    return mkdir(name, 0);
 }
 
 WEAK int isatty(int file)
@@ -117,29 +376,31 @@ WEAK int isatty(int file)
     return 0;
 }
 
-/* The machine has no clock. Times are fixed, so that a run is the same each time; clock says that it has none. */
+/* clock says that there is none, for as long as the time stands still. */
 WEAK time_t time(time_t *to)
 {
+    time_t now = bsp_clock();
     if (to != NULL)
-        *to = 0;
-    return 0;
+        *to = now;
+    return now;
 }
 
 WEAK clock_t clock(void)
 {
-    return (clock_t)-1;
+    unsigned now = bsp_clock();
+    return now == 0 ? (clock_t)-1 : (clock_t)now * CLOCKS_PER_SEC;
 }
 
 WEAK int gettimeofday(struct timeval *restrict to, void *restrict zone)
 {
     (void)zone;
-    to->tv_sec = 0;
+    to->tv_sec = bsp_clock();
     to->tv_usec = 0;
     return 0;
 }
 
-/* picolibc has no getline. */
-WEAK ssize_t getline(char **restrict line, size_t *restrict size, FILE *restrict file)
+/* picolibc has neither of these. */
+WEAK ssize_t getdelim(char **restrict line, size_t *restrict size, int last, FILE *restrict file)
 {
     size_t count = 0;
     int byte = getc(file);
@@ -157,9 +418,14 @@ WEAK ssize_t getline(char **restrict line, size_t *restrict size, FILE *restrict
         if (byte == EOF)
             break;
         (*line)[count++] = (char)byte;
-        if (byte == '\n')
+        if (byte == last)
             break;
     }
     (*line)[count] = '\0';
     return (ssize_t)count;
+}
+
+WEAK ssize_t getline(char **restrict line, size_t *restrict size, FILE *restrict file)
+{
+    return getdelim(line, size, '\n', file);
 }

@@ -39,43 +39,82 @@ static inline int machine_call_2(int number, long a, long b)
     return a0;
 }
 
-/* Standard output is one buffer, which goes to the machine at the end of each line and where it is full. */
+/* Standard output and standard error have a buffer each, which goes to the machine at the end of each line, where it is full, and before
+   the other one takes a byte. */
 int bsp_stdio_put(char byte);
+int bsp_error_put(char byte);
+
+/* Has the machine take what stands in both. */
 void bsp_stdio_flush(void);
+
+/* Writes bytes at once: on standard error where `file` is 2, else on standard output. */
+void bsp_stdio_write(int file, const void *bytes, size_t count);
 
 /* The next byte of the input, or -1. */
 int bsp_stdio_get(void);
 
+/* Whether some byte of the input has come so far. */
+extern int bsp_has_input;
+
 /* Up to `count` bytes of the input, from the next one on: how many there were. */
 int bsp_input_read(void *to, int count);
 
-/* Writes "bsp: rank R: ", the text, the number where the text is followed by one, and the rest, and stops this node. */
+/* Writes on standard error "bsp: rank R: ", the text, the number where the text is followed by one, and the rest, and stops this node. */
 __attribute__((noreturn)) void bsp_stop(const char *text);
 __attribute__((noreturn)) void bsp_stop_with(const char *text, int number, const char *rest);
 
-/* Where nothing has its place: what NULL points to, and what an index below the first variable comes to. */
-extern const volatile unsigned bsp_null[4], bsp_guard[4];
+/* Stops this node where a function is given NULL in the place of a text. */
+__attribute__((noreturn, cold)) void bsp_stop_for_null(const char *function);
+
+/* Where nothing has its place: what NULL points to, and what an index below the first variable comes to. The first has a word over and
+   over that is no likely value: as a text it has no letter and no digit, as a number it is far from 0, as an address outside of the memory. */
+enum { BSP_NULL_WORDS = 16 };
+#define BSP_NULL_WORD 0xe5a6d39bu
+extern volatile unsigned bsp_null[BSP_NULL_WORDS];
+extern const volatile unsigned bsp_guard[4];
 __attribute__((noreturn, cold)) void bsp_stop_for_guards(void);
 
-/* Stops this node where one of these was written. A few instructions, since each bsp_sync has them. */
-static inline void bsp_look_at_guards(void)
+/* What is looked at besides in each superstep, where bsprun --warn asks for it, or NULL. */
+extern void (*bsp_look_further)(void);
+
+/* Whether the words at NULL are what they were. Their sum tells, in few instructions, since each bsp_sync has them. */
+static inline int bsp_null_is_whole(void)
 {
-    unsigned null = bsp_null[0] | bsp_null[1] | bsp_null[2] | bsp_null[3];
-    if ((null | bsp_guard[0] | bsp_guard[1] | bsp_guard[2] | bsp_guard[3]) != 0)
-        bsp_stop_for_guards();
+    unsigned sum = 0;
+#pragma GCC unroll 16
+    for (int i = 0; i < BSP_NULL_WORDS; i++)
+        sum += bsp_null[i];
+    return sum == BSP_NULL_WORDS * BSP_NULL_WORD;
 }
 
-/* The files that came in front of the input, each of which open finds by its name. */
-struct bsp_file {
+/* Stops this node where one of these was written. */
+static inline void bsp_look_at_guards(void)
+{
+    if (!bsp_null_is_whole() || (bsp_guard[0] | bsp_guard[1] | bsp_guard[2] | bsp_guard[3]) != 0)
+        bsp_stop_for_guards();
+    if (bsp_look_further != NULL)
+        bsp_look_further();
+}
+
+/* A file that came in front of the input. */
+struct bsp_given {
     const char *name;
     const char *bytes;
     size_t size;
 };
-extern struct bsp_file *bsp_files;
-extern int bsp_file_count;
+extern struct bsp_given *bsp_given;
+extern int bsp_given_count;
 
-/* The file of this name, or NULL. */
-const struct bsp_file *bsp_file_named(const char *name);
+/* What bsprun puts into a copy of the image before it runs it: it finds the place by its magic. So a program makes as many instructions
+   with it as without. */
+struct bsp_settings {
+    char magic[8];
+    unsigned flags;
+    unsigned fill; /* the byte of fresh memory, with BSP_FILLED */
+    char mark[16]; /* what stands in front of each record, with the record's kind as the last byte */
+};
+extern volatile struct bsp_settings bsp_settings;
+enum { BSP_RECORDS = 1, BSP_WRITES_FILES = 2, BSP_LOOKS = 4, BSP_FILLED = 8 };
 
 /* The bytes of the memory. */
 extern int bsp_memory_size;
@@ -83,7 +122,37 @@ extern int bsp_memory_size;
 /* Where the program is: before bsp_begin, between it and bsp_end, or after that. */
 extern enum bsp_part { BSP_BEFORE, BSP_WITHIN, BSP_AFTER } bsp_part;
 
-/* The superstep, from 0 on. It is counted where BSP_CHECK is defined, as for a program of bspcc --check. */
+/* The time in seconds: 0, but where a program reads it over and over. */
+unsigned bsp_clock(void);
+
+/* The superstep, from 0 on. */
 extern int bsp_superstep;
+
+/* What goes to bsprun through the output: records, each behind a mark, its kind and how many bytes it has. Where bsprun does not ask for
+   them, nobody would part them from the output, and none is written. tools/bsptools/run/records.py reads them. */
+enum {
+    RECORD_NAME = 'f', /* number and name of a file that is written */
+    RECORD_BYTES = 'b', /* number, place in the file, and bytes that stand there */
+    RECORD_SIZE = 's', /* number, and how many bytes the file keeps */
+    RECORD_REMOVED = 'r', /* number of a file that is taken away */
+    RECORD_NOTE = 'n' /* what is to be told of the run: what it is, superstep, place in the code, two numbers, and a text */
+};
+enum { MOST_RECORD_WORDS = 5, MOST_RECORD_BYTES = 1024 };
+void bsp_record(int kind, const unsigned *words, int count, const void *bytes, int size);
+
+/* What a note tells. */
+enum {
+    NOTE_REFUSED = 'm', /* bytes that were asked for, and bytes that are in use; the function's name */
+    NOTE_ABSENT = 'r', /* the name of a file that was to be read */
+    NOTE_UNWRITTEN = 'w', /* the name of a file that was to be written */
+    NOTE_LOST = 'l', /* the name of a file that was written and is to be read, of which there was no memory to keep its bytes */
+    NOTE_PENDING = 'p', /* of requests before the end, the place of the last one */
+    NOTE_EMPTY = 'i', /* a number was read from an input of no bytes */
+    NOTE_CLOCK = 'c' /* the clock was read over and over */
+};
+void bsp_note(int what, const void *place, unsigned one, unsigned other, const char *text);
+
+/* Writes what open files hold back, or NULL where the program has opened none. */
+extern void (*bsp_flush_files)(void);
 
 #endif

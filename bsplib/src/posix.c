@@ -13,7 +13,7 @@
 #include <time.h>
 #include <unistd.h>
 
-#include "machine.h"
+#include "files.h"
 
 #define WEAK __attribute__((weak))
 
@@ -51,6 +51,11 @@ WEAK int uname(struct utsname *names)
 {
     static const struct utsname fixed = {"bspemu", "node", "1", "1", "riscv32"};
     *names = fixed;
+    return 0;
+}
+
+WEAK uid_t getuid(void)
+{
     return 0;
 }
 
@@ -105,15 +110,20 @@ WEAK int sched_yield(void)
 
 WEAK clock_t times(struct tms *to)
 {
-    if (to != NULL)
+    enum { TICKS = 100 };
+    clock_t now = (clock_t)bsp_clock() * TICKS;
+    if (to != NULL) {
         memset(to, 0, sizeof *to);
-    return 0;
+        to->tms_utime = now;
+    }
+    return now;
 }
 
 WEAK int getrusage(int who, struct rusage *to)
 {
     (void)who;
     memset(to, 0, sizeof *to);
+    to->ru_utime.tv_sec = bsp_clock();
     return 0;
 }
 
@@ -121,6 +131,7 @@ WEAK int clock_gettime(clockid_t clock, struct timespec *to)
 {
     (void)clock;
     memset(to, 0, sizeof *to);
+    to->tv_sec = bsp_clock();
     return 0;
 }
 
@@ -134,7 +145,7 @@ WEAK int clock_getres(clockid_t clock, struct timespec *to)
 
 WEAK double omp_get_wtime(void)
 {
-    return 0.0;
+    return bsp_clock();
 }
 
 WEAK double omp_get_wtick(void)
@@ -142,24 +153,36 @@ WEAK double omp_get_wtick(void)
     return 0.0;
 }
 
-/* Files that bsprun gave can be read, and nothing else is there. */
+/* Files that bsprun gave, or that the program wrote, are there, and nothing else. */
 WEAK int access(const char *name, int mode)
 {
     if (bsp_file_named(name) == NULL)
         return refuse(ENOENT);
-    return (mode & (W_OK | X_OK)) != 0 ? refuse(EACCES) : 0;
+    if ((mode & X_OK) != 0 || ((mode & W_OK) != 0 && !(bsp_settings.flags & BSP_WRITES_FILES)))
+        return refuse(EACCES);
+    return 0;
+}
+
+static int describe(const struct bsp_file *file, struct stat *to)
+{
+    if (file == NULL)
+        return refuse(ENOENT);
+    memset(to, 0, sizeof *to);
+    to->st_mode = (file->device == DEVICE_NONE ? S_IFREG : S_IFCHR) | S_IRUSR | S_IRGRP | S_IROTH;
+    to->st_nlink = 1;
+    to->st_size = (off_t)file->size;
+    return 0;
 }
 
 WEAK int stat(const char *restrict name, struct stat *restrict to)
 {
-    const struct bsp_file *file = bsp_file_named(name);
-    if (file == NULL)
-        return refuse(ENOENT);
-    memset(to, 0, sizeof *to);
-    to->st_mode = S_IFREG | S_IRUSR | S_IRGRP | S_IROTH;
-    to->st_nlink = 1;
-    to->st_size = (off_t)file->size;
-    return 0;
+    return describe(bsp_file_named(name), to);
+}
+
+WEAK int fstat(int number, struct stat *to)
+{
+    const struct bsp_open *open = bsp_open_of(number);
+    return open == NULL ? refuse(EBADF) : describe(open->file, to);
 }
 
 WEAK int lstat(const char *restrict name, struct stat *restrict to)
@@ -174,7 +197,7 @@ WEAK int dprintf(int file, const char *restrict format, ...)
     if (file != STDOUT_FILENO && file != STDERR_FILENO)
         return refuse(EBADF);
     va_start(arguments, format);
-    count = vprintf(format, arguments);
+    count = vfprintf(file == STDERR_FILENO ? stderr : stdout, format, arguments);
     va_end(arguments);
     return count;
 }
@@ -201,12 +224,12 @@ WEAK void quick_exit(int status)
 /* A line of an error: the program's name, the text where there is one, and the name of the error where one is asked for. */
 static void tell(const char *format, va_list arguments, const char *error)
 {
-    printf("program: ");
+    fprintf(stderr, "program: ");
     if (format != NULL)
-        vprintf(format, arguments);
+        vfprintf(stderr, format, arguments);
     if (error != NULL)
-        printf(format != NULL ? ": %s" : "%s", error);
-    putchar('\n');
+        fprintf(stderr, format != NULL ? ": %s" : "%s", error);
+    putc('\n', stderr);
 }
 
 WEAK void vwarn(const char *format, va_list arguments)

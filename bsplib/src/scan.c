@@ -10,6 +10,7 @@
 #include <wchar.h>
 
 #include "digits.h"
+#include "machine.h"
 
 /* What is read: a text, or a file of which one byte may be looked at. */
 enum { NOT_LOOKED_AT = -2 };
@@ -271,6 +272,8 @@ static float float_of(uint64_t bits)
 
 double strtod(const char *restrict text, char **restrict end)
 {
+    if (text == NULL)
+        bsp_stop_for_null("strtod");
     return bsp_double_of(floating_of(text, end, &bsp_double));
 }
 
@@ -287,6 +290,8 @@ long double strtold(const char *restrict text, char **restrict end)
 
 double atof(const char *text)
 {
+    if (text == NULL)
+        bsp_stop_for_null("atof");
     return strtod(text, NULL);
 }
 
@@ -529,5 +534,9 @@ int vfscanf(FILE *file, const char *format, va_list arguments)
     va_end(rest);
     if (from.next != NOT_LOOKED_AT && from.next != EOF)
         ungetc(from.next, file);
+    if (stored == EOF && file == stdin && !bsp_has_input) {
+        bsp_note(NOTE_EMPTY, __builtin_return_address(0), 0, 0, "");
+        bsp_has_input = 1;
+    }
     return stored;
 }

@@ -3,6 +3,9 @@
 
 int bsp_memory_size __attribute__((section(".data"))) = 0; /* set before anything else runs */
 enum bsp_part bsp_part = BSP_BEFORE;
+int bsp_superstep = 0;
+void (*bsp_look_further)(void) = NULL, (*bsp_flush_files)(void) = NULL;
+volatile struct bsp_settings bsp_settings = {"\0bsprun\3", 0, 0, {0}};
 
 extern char __heap_start[];
 extern void (*__preinit_array_start[])(void), (*__preinit_array_end[])(void);
@@ -15,15 +18,37 @@ __attribute__((noreturn)) extern void exit(int status);
 void _init(void) {}
 void _fini(void) {}
 
+/* Standard output. While standard error has bytes, this is full but for one byte: with that, those go first. So a byte more costs nothing for
+   the order of the two, nor does a superstep that writes none. */
 static char out[1024];
 static int out_count = 0;
+enum { LAST = sizeof out - 1 };
+
+/* Standard error. The machine has one output for both, so that bsprun has what tells them apart written in front of these bytes: it
+   finds this place of the image by its magic, and puts a mark there, and how many bytes `mark` and `count` have. It costs the same
+   without. */
+static struct {
+    char magic[16];
+    volatile int front;
+    char mark[16];
+    int count;
+    char bytes[256];
+} error = {"\0bsprun\2\265\36\310\73\231\7\324", 0, {0}, 0, {0}};
 
 void bsp_stdio_flush(void)
 {
     if (out_count > 0) {
+        const char *from = out;
         int count = out_count;
         out_count = 0;
-        machine_call_2(CALL_WRITE, (long)out, count);
+        if (error.count > 0) {
+            machine_call_2(CALL_WRITE, (long)error.bytes - error.front, error.count + error.front);
+            error.count = 0;
+            from = out + LAST;
+            count -= LAST;
+        }
+        if (count > 0)
+            machine_call_2(CALL_WRITE, (long)from, count);
     }
 }
 
@@ -35,16 +60,41 @@ int bsp_stdio_put(char byte)
     return 0;
 }
 
+int bsp_error_put(char byte)
+{
+    if (error.count == 0) {
+        bsp_stdio_flush();
+        out_count = LAST;
+    }
+    error.bytes[error.count++] = byte;
+    if (byte == '\n' || error.count == sizeof error.bytes)
+        bsp_stdio_flush();
+    return 0;
+}
+
+void bsp_stdio_write(int file, const void *bytes, size_t count)
+{
+    if (file == 2)
+        for (size_t i = 0; i < count; i++)
+            bsp_error_put(((const char *)bytes)[i]);
+    bsp_stdio_flush();
+    if (file != 2)
+        machine_call_2(CALL_WRITE, (long)bytes, (long)count);
+}
+
 /* Bytes of the input that were read and not taken yet. */
 static struct {
     char bytes[256];
     int next, end;
 } in;
 
+int bsp_has_input = 0;
+
 static int fill(void)
 {
     in.next = 0;
     in.end = machine_call_2(CALL_READ, (long)in.bytes, sizeof in.bytes);
+    bsp_has_input |= in.end;
     return in.end;
 }
 
@@ -61,7 +111,10 @@ int bsp_input_read(void *to, int count)
     int done = 0;
     while (done < count && in.next < in.end)
         ((char *)to)[done++] = in.bytes[in.next++];
-    return done < count ? done + machine_call_2(CALL_READ, (long)to + done, count - done) : done;
+    if (done < count)
+        done += machine_call_2(CALL_READ, (long)to + done, count - done);
+    bsp_has_input |= done;
+    return done;
 }
 
 void *sbrk(ptrdiff_t change)
@@ -79,7 +132,7 @@ void *sbrk(ptrdiff_t change)
 static void put_text(const char *text)
 {
     while (*text != '\0')
-        bsp_stdio_put(*text++);
+        bsp_error_put(*text++);
 }
 
 static void put_number(int number)
@@ -106,8 +159,7 @@ static void begin_line(void)
 
 __attribute__((noreturn)) static void end_line(void)
 {
-    bsp_stdio_put('\n');
-    bsp_stdio_flush();
+    bsp_error_put('\n');
     for (;;)
         machine_call_2(CALL_ABORT, 0, 0);
 }
@@ -128,9 +180,22 @@ void bsp_stop_with(const char *text, int number, const char *rest)
     end_line();
 }
 
+/* How many arguments main is given, with the program's name. */
+static int argument_count = 1;
+
+void bsp_stop_for_null(const char *function)
+{
+    begin_line();
+    put_text(function);
+    put_text(" is given NULL in the place of a text");
+    if (argument_count == 1)
+        put_text(", as argv[1] is, since the program has no arguments: they stand behind its name, as in bsprun PROGRAM 100");
+    end_line();
+}
+
 void bsp_stop_for_guards(void)
 {
-    if ((bsp_null[0] | bsp_null[1] | bsp_null[2] | bsp_null[3]) != 0)
+    if (!bsp_null_is_whole())
         bsp_stop("memory at address 0 was written: through a pointer that is NULL, or by a stack that is too deep");
     bsp_stop("memory before the first variable was written, as by an index below 0");
 }
@@ -148,8 +213,8 @@ struct block {
     unsigned size, arguments, files;
 };
 
-struct bsp_file *bsp_files = NULL;
-int bsp_file_count = 0;
+struct bsp_given *bsp_given = NULL;
+int bsp_given_count = 0;
 
 static char *take_text(char **at)
 {
@@ -183,19 +248,29 @@ static int take_block(char ***argv)
     head = (const struct block *)at;
     bsp_input_read(at, (int)size);
     *argv = room((head->arguments + 1) * sizeof **argv);
-    bsp_files = room(head->files * sizeof *bsp_files);
-    bsp_file_count = (int)head->files;
+    bsp_given = room(head->files * sizeof *bsp_given);
+    bsp_given_count = (int)head->files;
     at += sizeof *head;
     for (i = 0; i < head->files; i++, at += sizeof(unsigned))
-        bsp_files[i].size = *(unsigned *)at;
+        bsp_given[i].size = *(unsigned *)at;
     for (i = 0; i < head->arguments; i++)
         (*argv)[i] = take_text(&at);
     for (i = 0; i < head->files; i++) {
-        bsp_files[i].name = take_text(&at);
-        bsp_files[i].bytes = at;
-        at += bsp_files[i].size;
+        bsp_given[i].name = take_text(&at);
+        bsp_given[i].bytes = at;
+        at += bsp_given[i].size;
     }
+    bsp_has_input = in.next < in.end;
     return (int)head->arguments;
+}
+
+/* Fresh memory of the stack gets a byte that bsprun --fill gives: below what is in use here, down to what NULL points to. */
+__attribute__((noinline)) static void fill_stack(void)
+{
+    const unsigned word = bsp_settings.fill * 0x01010101u;
+    volatile unsigned *top = __builtin_frame_address(0);
+    for (volatile unsigned *at = top - 32; at >= bsp_null + BSP_NULL_WORDS; at--)
+        *at = word;
 }
 
 /* What main answers. A main that is declared void answers what was left in a register. */
@@ -214,7 +289,13 @@ __attribute__((noreturn)) void bsp_start(void)
     static char name[] = "program";
     static char *alone[] = {name, NULL};
     char **argv = alone;
-    int argc = take_block(&argv);
+    int argc;
+#pragma GCC unroll 16
+    for (int i = 0; i < BSP_NULL_WORDS; i++)
+        bsp_null[i] = BSP_NULL_WORD;
+    if (bsp_settings.flags & BSP_FILLED)
+        fill_stack();
+    argc = argument_count = take_block(&argv);
     for (void (**it)(void) = __preinit_array_start; it != __preinit_array_end; it++)
         (*it)();
     for (void (**it)(void) = __init_array_start; it != __init_array_end; it++)
@@ -225,6 +306,8 @@ __attribute__((noreturn)) void bsp_start(void)
 __attribute__((noreturn)) void _exit(int status)
 {
     bsp_look_at_guards();
+    if (bsp_flush_files != NULL)
+        bsp_flush_files();
     if (status != 0)
         bsp_stop_with("the program ended with status ", status, "");
     if (bsp_part == BSP_WITHIN)

@@ -58,8 +58,8 @@ int main(void)
     } else if (MISTAKE == 6) {
         deep(1);
     } else if (MISTAKE == 7) {
-        for (i = 0; none == NULL; i++) /* 7 */
-            word += i;
+        for (i = 0; none == NULL; word += i, i++) /* 7 */
+            ;
     } else if (MISTAKE == 8) {
         *none = 5;
         bsp_sync(); /* 8 */

@@ -92,6 +92,8 @@ CLASSES = Tool("c++", "g++", in_includes)
 PYELFTOOLS = Tool(packages.ELFTOOLS, packages.PACKAGES[packages.ELFTOOLS], in_python)
 # What bspplot wants to draw.
 MATPLOTLIB = Tool(packages.MATPLOTLIB, packages.PACKAGES[packages.MATPLOTLIB], in_python)
+# What builds a project as it is found.
+MAKE, CMAKE = Tool("make", "make"), Tool("cmake", "cmake")
 GDB = Tool("gdb-multiarch", "gdb-multiarch")
 # What bspcc wants, without the C library and with it.
 BARE_COMPILER = (GCC, BINUTILS)

@@ -16,6 +16,7 @@ PR_SET_PDEATHSIG = 1
 # What ends a tool from outside. Each comes to the same end as Ctrl-C: temporary folders are removed, and children are ended.
 SIGNALS = (signal.SIGTERM, signal.SIGHUP, signal.SIGQUIT)
 _LIBC = ctypes.CDLL(None, use_errno=True)
+_taken: list[signal.Signals] = []
 
 
 class Ended(BaseException):
@@ -35,9 +36,14 @@ def _end(number: int, _frame: object) -> NoReturn:
 
 def end_by_signals() -> None:
     """Has each signal that ends this process raise `Ended`, but those that it was started to ignore."""
-    for number in (signal.SIGINT, *SIGNALS):
-        if signal.getsignal(number) != signal.SIG_IGN:
-            signal.signal(number, _end)
+    _taken.extend(number for number in (signal.SIGINT, *SIGNALS) if signal.getsignal(number) != signal.SIG_IGN)
+    end_by_signals_again()
+
+
+def end_by_signals_again() -> None:
+    """The same once more, where `Ended` was caught and this process goes on."""
+    for number in _taken:
+        signal.signal(number, _end)
 
 
 def end_with_parent(number: int, parent: int) -> None:
@@ -82,8 +88,9 @@ def running(words: Sequence[str], by: int = signal.SIGKILL, **given: Any) -> Ite
 
 
 @contextlib.contextmanager
-def folder(name: str) -> Iterator[pathlib.Path]:
-    """A folder for a while. A shell waits until this process closes a pipe, and removes it: also where this one is killed."""
+def folder(name: str, is_inherited: bool = False) -> Iterator[pathlib.Path]:
+    """A folder for a while. A shell waits until this process closes a pipe, and removes it: also where this one is killed. Where the
+    folder is inherited, it stays as well for what this process becomes by exec."""
     # A signal that comes between the two would leave the folder.
     mask = signal.pthread_sigmask(signal.SIG_BLOCK, (signal.SIGINT, *SIGNALS))
     try:
@@ -91,6 +98,8 @@ def folder(name: str) -> Iterator[pathlib.Path]:
         words = ["sh", "-c", 'read -r _; exec rm -rf -- "$1"', "sh", path]
         try:
             keeper = subprocess.Popen(words, stdin=subprocess.PIPE, start_new_session=True)
+            assert keeper.stdin is not None
+            os.set_inheritable(keeper.stdin.fileno(), is_inherited)
         except (OSError, subprocess.SubprocessError):
             os.rmdir(path)
             raise
@@ -100,8 +109,20 @@ def folder(name: str) -> Iterator[pathlib.Path]:
         yield pathlib.Path(path)
 
 
+@contextlib.contextmanager
+def kept(child: subprocess.Popen[bytes]) -> Iterator[None]:
+    """A block during which a shell waits, which ends a child with its group where this process is killed: a compiler has children."""
+    words = ["sh", "-c", 'read -r word; [ -n "$word" ] || exec kill -KILL -- "-$1"', "sh", str(child.pid)]
+    with subprocess.Popen(words, stdin=subprocess.PIPE, stderr=subprocess.DEVNULL, start_new_session=True) as keeper:
+        try:
+            yield
+        finally:
+            assert keeper.stdin is not None
+            keeper.stdin.write(b"over\n")
+
+
 def call(words: Sequence[str], by: int = signal.SIGTERM, **given: Any) -> subprocess.CompletedProcess[bytes]:
     """Runs a process to its end, with nothing to read."""
-    with running(words, by, stdin=subprocess.DEVNULL, **given) as child:
+    with running(words, by, stdin=subprocess.DEVNULL, **given) as child, kept(child):
         stdout, stderr = child.communicate()
         return subprocess.CompletedProcess(list(words), child.returncode, stdout, stderr)

@@ -10,9 +10,11 @@ from collections.abc import Iterator
 from typing import Any
 
 from . import bounds, limits
-from .packages import ELFTOOLS, missing
+from .packages import ELFTOOLS, borrow
 
 LOAD = 1
+# A section of symbols, the bytes of one of them, and of a name at the most.
+SYMBOLS, SYMBOL_BYTES, MOST_NAME = 2, 16, 1 << 12
 FUNCTION, OBJECT = "STT_FUNC", "STT_OBJECT"
 # What makes a scope of a function's debug information, with the blocks in it.
 CALLED, PUT_IN, BLOCK = "DW_TAG_subprogram", "DW_TAG_inlined_subroutine", "DW_TAG_lexical_block"
@@ -38,13 +40,29 @@ def segments(content: bytes) -> Iterator[tuple[int, memoryview, int]]:
                 yield address, stored, address + memsize
 
 
+def names(content: bytes) -> set[str]:
+    """The names of an ELF file's symbols; none of a file that has none, or is broken."""
+    with contextlib.suppress(struct.error, IndexError):
+        (start,) = struct.unpack_from("<I", content, 32)
+        size, count = struct.unpack_from("<HH", content, 46)
+        sections = [struct.unpack_from("<10I", content, start + i * size) for i in range(min(count, MOST_SECTIONS))]
+        table = next((it for it in sections if it[1] == SYMBOLS), None)
+        if table is not None:
+            _, _, _, _, begin, length, link, *_ = table
+            texts, room = sections[link][4:6]
+            places = [struct.unpack_from("<I", content, begin + at)[0] for at in range(0, length, SYMBOL_BYTES)]
+            text = content[texts : texts + room]
+            return {text[at : text.index(b"\0", at)].decode(errors="replace") for at in places if b"\0" in text[at : at + MOST_NAME]}
+    return set()
+
+
 class Debug:
     """What a file has for debuggers. What cannot be read, as in a file that is broken, is left out: pyelftools raises errors of all kinds."""
 
     def __init__(self, content: bytes) -> None:
         self.symbols: list[Any] = []
         self.info: Any = None
-        if not missing(ELFTOOLS):
+        if not borrow(ELFTOOLS):
             from elftools.elf.elffile import ELFFile
 
             with contextlib.suppress(Exception), bounds.at_most(MOST_MEMORY):

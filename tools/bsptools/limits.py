@@ -3,9 +3,10 @@
 from __future__ import annotations
 
 NODES, MOST_NODES = 1, 1024
-# Of a node, in bytes.
+# Of a node, in bytes. The emulator gives a node 2^20 where nothing is said; the tools give it all that it can have, since programs are
+# written for more, and memory that is not used costs the host nothing.
 PAGE = 4096
-MEMORY, MOST_MEMORY = 1 << 20, 1 << 24
+MEMORY = MOST_MEMORY = 1 << 24
 # The most instructions of a node. The emulator has fewer where nothing is said; who waits at a terminal has Ctrl-C.
 MOST_TICKS = 1 << 40
 WORKERS, MOST_WORKERS = 1, 64
@@ -15,8 +16,10 @@ G, L, MOST_PRICE = 1, 0, (1 << 64) - 1
 MOST_INPUT = 1 << 24
 # Bytes of a program: of an ELF file, which is the largest of all kinds, and of a text of assembly.
 MOST_PROGRAM, MOST_TEXT = 1 << 25, 1 << 22
-# The room of the stack of a program in C, in bytes.
+# The room of the stack of a program in C, in bytes: what bspcc gives it, and what the tools give it that have it compiled, where there is
+# the memory for it.
 LEAST_STACK, MOST_STACK = 16, 1 << 24
+COMPILED_STACK, STACK, MEMORY_OF_STACK = 1 << 17, 1 << 20, 1 << 22
 
 # Of one superstep: puts, gets and messages, as well as pushes; bytes of these and of output; and areas at once.
 MOST_REQUESTS = 65_536

@@ -3,6 +3,7 @@
 from __future__ import annotations
 
 import argparse
+import os
 from collections.abc import Callable
 from typing import Any, NoReturn
 
@@ -12,6 +13,9 @@ from .refusals import Refused, printable
 # Of a range of numbers.
 MOST_LISTED = 10_000
 UNITS = {"K": 1 << 10, "M": 1 << 20}
+# Options for the compiler, with what each says of a C program.
+COMPILED = {"-D": "define a macro", "-I": "look for headers there too", "-O": "optimize so far", "-l": "link with this library, as -lm"}
+KINDS = ("elf", "asm", "raw", "c")
 
 
 class Version(argparse.Action):
@@ -20,6 +24,13 @@ class Version(argparse.Action):
     def __call__(self, parser: argparse.ArgumentParser, *_: Any) -> None:
         print(*map(printable, emulator.version(parser.prog)), sep="\n")
         parser.exit()
+
+
+class Compiled(argparse.Action):
+    """Keeps an option for the compiler, in the order in which they stand."""
+
+    def __call__(self, _parser: argparse.ArgumentParser, found: argparse.Namespace, value: Any, option: str | None = None) -> None:
+        found.compiled = [*(found.compiled or []), f"{option}{value}"]
 
 
 class Parser(argparse.ArgumentParser):
@@ -49,14 +60,32 @@ class Parser(argparse.ArgumentParser):
         reader = number(what, least, most, unit, given["metavar"] == "BYTES")
         self.add_argument(*names, type=reader, **given)
 
+    def add_program(self) -> None:
+        """A program and its nodes, input, files and arguments, as each tool has them that makes one run."""
+        add = self.add_argument
+        add("-n", "--nodes", type=P, default=os.environ.get("BSP_PROCS") or limits.NODES, metavar="P",
+            help="nodes; by default as many as BSP_PROCS says in the environment, or 1")  # fmt: skip
+        add("-np", "-npes", "-p", dest="nodes", type=P, default=argparse.SUPPRESS, metavar="P", help="as -n")
+        add("--input", metavar="FILE", help="the program's input")
+        add("--file", metavar="FILE", action="append", default=[], help="a file that fopen can read; any number of them")
+        add("--files", metavar="DIR", action="append", default=[], help="all files of a folder, as --file gives one")
+        add("--argv0", metavar="TEXT", help="argv[0] of main, by default PROGRAM as it is given")
+        add("--check", action="store_true", help="a .c program's whole numbers, indices, pointers and shifts are looked at as it runs")
+        for option, what in COMPILED.items():
+            add(option, dest="compiled", action=Compiled, metavar="WORD", help=what)
+        add("--format", choices=KINDS, help="what PROGRAM is, where its bytes and its name do not tell")
+        self.set_defaults(bspemu=None)
+        add("program", metavar="PROGRAM", help="what is run")
+        add("args", metavar="ARGS", nargs=argparse.REMAINDER, help="the arguments of main").required = False
+
     def add_machine(self) -> None:
         """The settings of nodes that all runs have."""
         self.add_number("--limit", what="the limit of instructions", least=1, most=limits.MOST_TICKS, default=limits.MOST_TICKS,
             metavar="COUNT", help="instructions of a node, at most; 2^40 by default")  # fmt: skip
         self.add_number("--memory", what="the memory of a node in bytes", least=limits.PAGE, most=limits.MOST_MEMORY, unit=limits.PAGE,
-            default=limits.MEMORY, metavar="BYTES", help="of a node, 1M by default")  # fmt: skip
+            default=limits.MEMORY, metavar="BYTES", help="of a node, 16M by default")  # fmt: skip
         self.add_number("--stack", what="the room of the stack in bytes", least=limits.LEAST_STACK, most=limits.MOST_STACK,
-            metavar="BYTES", help="of a .c program")  # fmt: skip
+            metavar="BYTES", help="of a .c program, 1M by default")  # fmt: skip
 
     def add_prices(self) -> None:
         """g and l, where each is one number."""

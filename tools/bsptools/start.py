@@ -15,7 +15,7 @@ from .refusals import BUG, BY_SIGNAL, REFUSED, Refused, put, tell
 
 # The module whose `main` a tool is, and the package that it wants, without which some do less. Modules are imported as they are asked for.
 TOOLS = {
-    "bsprun": ("run.cli", packages.ELFTOOLS),
+    "bsprun": ("run.cli", ""),
     "bspgdb": ("debug.cli", ""),
     "bspplot": ("plot.cli", packages.MATPLOTLIB),
     "bspsweep": ("sweep.cli", ""),

@@ -1,4 +1,4 @@
-/* picolibc's sys/stat.h, and what cannot be. */
+/* picolibc's sys/stat.h, and what it shows some systems alone. */
 #ifndef BSP_LIBC_SYS_STAT_H
 #define BSP_LIBC_SYS_STAT_H
 
@@ -10,8 +10,7 @@
 extern "C" {
 #endif
 
-__attribute__((error("a node has no files to write: unlink, rmdir, mkdir, link and ftruncate are missing")))
-int mkdir(const char *, mode_t);
+int lstat(const char *__restrict name, struct stat *__restrict to);
 
 #ifdef __cplusplus
 }

@@ -12,7 +12,7 @@ from checks import Part
 
 from bsptools.plot import costs, profile, sources
 from bsptools.refusals import Refused
-from bsptools.run import report
+from bsptools.run import forms
 
 # Each stored profile, with the arguments of its run.
 RUNS = {
@@ -123,9 +123,9 @@ def damaged(check: Check) -> None:
             check.tell(f"profile with {name}", "it is taken")
         except Refused as refused:
             check.expect(f"profile with {name}", said in str(refused), refused)
-    known = report.read(REPORT.encode())
+    known = forms.read(REPORT.encode())
     assert known is not None
-    spelled = {"text": REPORT, "csv": report.as_csv(known).decode(), "json": report.as_json(known).decode()}
+    spelled = {"text": REPORT, "csv": forms.as_csv(known).decode(), "json": forms.as_json(known).decode()}
     for name, (form, before, after, said) in REPORTS.items():
         check.tell(f"report with {name}", taken(spelled[form], before, after, said))
     for name, (before, after, said) in TABLES.items():
@@ -148,7 +148,7 @@ def by_report(check: Check, name: str) -> str:
     path = check.folder / "report.json"
     words = [str(REPO / "bsprun"), "--report", str(path), *RUNS[name]]
     subprocess.run(words, stdin=subprocess.DEVNULL, capture_output=True, check=False, cwd=REPO)
-    found = report.of_json(json.loads(path.read_text()))
+    found = forms.of_json(json.loads(path.read_text()))
     here = stored(name)
     if costs.of_report(found) != costs.of_profile(here, profile.Reading.OTHERS):
         return f"{costs.of_profile(here, profile.Reading.OTHERS)} and not {costs.of_report(found)}"

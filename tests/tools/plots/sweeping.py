@@ -6,7 +6,9 @@ import csv
 import functools
 import io
 import json
+import os
 import shlex
+import shutil
 import signal
 import subprocess
 import time
@@ -28,6 +30,12 @@ echo "$1" >> "$(dirname "$0")/told"
 shift
 [ "$1" = -- ] && shift
 exec sh -c "$*"
+"""
+# Stands for an emulator, and kills who makes a run on two nodes.
+KILLING = """\
+#!/bin/sh
+case "$*" in *" --nodes 2 "*) kill -KILL "$(ps -o ppid= -p "$PPID" | tr -d " ")" ;; esac
+exec "$PROVED" "$@"
 """
 SOURCE = """\
 #include <bsp.h>
@@ -59,6 +67,8 @@ def parts(make: Parts) -> List[Part]:
         make.part("a folder of an odd name", odd),
         make.part("runs that do not end", ended),
         make.part("a sweep of a program in C", sources, tools=COMPILER),
+        make.part("runs that cannot be made", missing),
+        make.part("programs that are not compiled", uncompiled, tools=COMPILER),
     ]
 
 
@@ -116,6 +126,41 @@ def plain(check: Check) -> None:
     check.expect("the same table from what is kept", done.stdout == (check.folder / "plain.csv").read_text(), done.stdout)
     done = check.tool("bspsweep", "--engine", "plain", "--folder", "plain", "--nodes", "2,3,4", *PROGRAMS)
     check.expect("two nodes more", "4 of 6 runs were made before" in done.stderr and "2 of 2 runs done" in done.stderr, done.stderr)
+
+
+def outcomes(text: str) -> List[str]:
+    """The outcomes of a table, in its order."""
+    return [row["outcome"] for row in csv.DictReader(io.StringIO(text))]
+
+
+def missing(check: Check) -> None:
+    """A run whose place cannot be written, and one whose maker is killed, are told and in the table, and the others are made."""
+    words = ["--engine", "plain", "--folder", "kept", "--nodes", "2,3", PROGRAMS[0]]
+    check.tool("bspsweep", *words)
+    place = next(it.parent for it in (check.folder / "kept/runs").glob("*/job.json") if '"--nodes",\n  "2"' in it.read_text())
+    shutil.rmtree(place)
+    place.write_text("")
+    done = check.tool("bspsweep", *words)
+    right = done.returncode == 1 and "its result cannot be kept" in done.stderr and outcomes(done.stdout) == ["not run", "ended"]
+    check.expect("a place that cannot be written", right and "Traceback" not in done.stderr, done)
+    killing = check.folder / "killing"
+    killing.write_text(KILLING)
+    killing.chmod(0o755)
+    environment = {"BSPEMU": str(killing), "PROVED": os.environ["BSPEMU"]}
+    done = check.tool("bspsweep", "--engine", "plain", "--folder", "anew", *words[4:], environment=environment)
+    right = done.returncode == 1 and "not made: " in done.stderr and outcomes(done.stdout) == ["not run", "ended"]
+    check.expect("a job that is killed", right and "Traceback" not in done.stderr, done)
+
+
+def uncompiled(check: Check) -> None:
+    """A program that is not compiled by one choice of its constants is told, and the others are run; where none is, there is no table."""
+    (check.folder / "half.c").write_text("#if N > 1\nbroken\n#endif\nint main(void) { return 0; }\n")
+    words = ["--engine", "plain", "--folder", "kept", "half.c"]
+    done = check.tool("bspsweep", *words, "--define", "N=2,1")
+    right = done.returncode == 1 and "half.c -DN=2 was not compiled" in done.stderr and outcomes(done.stdout) == ["not run", "ended"]
+    check.expect("one choice of constants", right and "half.c:2:" in done.stderr, done)
+    done = check.tool("bspsweep", *words, "--define", "N=2")
+    check.expect("no program", done.returncode == 1 and done.stdout == "" and "was not compiled" in done.stderr, done)
 
 
 def by_engine(check: Check, text: str, name: str, words: List[str], environment: Optional[Mapping[str, Optional[str]]] = None) -> None:

@@ -8,7 +8,7 @@ from dataclasses import dataclass, field
 from ..files import content_of
 from ..limits import MOST_TABLE
 from ..refusals import Refused, printable
-from ..run import report
+from ..run import forms, report
 from . import costs, profile, sweep
 
 
@@ -40,7 +40,7 @@ def understood(name: str, content: bytes, reading: profile.Reading) -> Source:
         return Source(name, costs.of_profile(found, reading), found, outcome=found.outcome())
     if sweep.is_table(text):
         return Source(name, rows=sweep.parse(text))
-    known = report.read(content)
+    known = forms.read(content)
     if known is None:
         raise Refused("this is no profile, no report, and no table of a sweep")
     if reading is not reading_of(known):

@@ -10,10 +10,11 @@ from .places import place, written
 from .program import Code
 from .replays import Replays
 
-END, SYNC, PUSH, POP, PUT, GET, HPPUT, HPGET, TAGSIZE, SEND, MOVE, ABORT, WRITE = 1, 4, 5, 6, 7, 8, 9, 10, 11, 12, 15, 16, 17
+END, SYNC, PUSH, POP, PUT, GET, HPPUT, HPGET, TAGSIZE, SEND, GETTAG, MOVE, ABORT, WRITE = 1, 4, 5, 6, 7, 8, 9, 10, 11, 12, 14, 15, 16, 17
 PUTS, GETS = (PUT, HPPUT), (GET, HPGET)
 REQUESTS = (*PUTS, *GETS, SEND)
 CHANGES = (PUSH, POP)
+TAKES = (GETTAG, MOVE)
 
 # Each call's name, and its operands from a0 on; those whose name begins with * are addresses.
 NAMES = {
@@ -37,14 +38,16 @@ NAMES = {
     18: ("read", ("*bytes", "count")),
 }
 # The library's functions that make the calls of which a trace is asked for.
-FUNCTIONS = {**{number: name for number, (name, _) in NAMES.items()}, WRITE: "bsp_stdio_flush"}
+FUNCTIONS: dict[int, tuple[str, ...]] = {**{number: (name,) for number, (name, _) in NAMES.items()}, WRITE: ("bsp_stdio_flush",)}
+FUNCTIONS.update({it: (*FUNCTIONS[it], "bsp_hpmove") for it in TAKES})
 
 
 class Call(NamedTuple):
-    """A call that a node is about to make: the node, and which stop of a trace this is, from 1 on."""
+    """A call that a node is about to make: the node, and which stop of a trace this is, from 1 on; and its superstep, of a trace of one."""
 
     node: Node
     stop: int
+    superstep: int | None = None
 
     @property
     def number(self) -> int:
@@ -104,7 +107,7 @@ class Tracer:
 
     def sites(self, numbers: tuple[int, ...]) -> list[int]:
         """The addresses from which these calls are made."""
-        return self.code.calls_of(*(FUNCTIONS[it] for it in numbers))
+        return self.code.calls_of(*(name for it in numbers for name in FUNCTIONS[it]))
 
     def calls(self, rank: int, numbers: tuple[int, ...], superstep: int = 0) -> list[Call]:
         """The calls of these numbers that a rank made from the beginning of a superstep to the run's end."""
@@ -112,7 +115,8 @@ class Tracer:
 
     def calls_in(self, rank: int, numbers: tuple[int, ...], superstep: int) -> list[Call]:
         """Those that it made in one superstep."""
-        return self._made([*self.replays.begin(superstep), f"break superstep {superstep + 1}"], rank, numbers)
+        made = self._made([*self.replays.begin_for(rank, superstep), f"break superstep {superstep + 1}"], rank, numbers)
+        return [it._replace(superstep=superstep) for it in made]
 
     def _made(self, script: list[str], rank: int, numbers: tuple[int, ...]) -> list[Call]:
         stops = self.replays.stops(script, rank, self.sites(numbers))
@@ -132,5 +136,8 @@ class Tracer:
 
     def place_of(self, rank: int, numbers: tuple[int, ...], superstep: int, call: Call) -> str:
         """Where a call stands that a trace of these numbers from this superstep on found."""
-        node = self.replays.look(self.up_to(rank, numbers, superstep, call), rank)
-        return place(self.code, node) if node else "a place that was not found"
+        if call.superstep is None:
+            node = self.replays.look(self.up_to(rank, numbers, superstep, call), rank)
+        else:
+            node = self.replays.look_after(call.superstep, rank, call.node.ticks)
+        return place(self.code, node, is_call_told=True) if node else "a place that was not found"

@@ -4,12 +4,16 @@ from __future__ import annotations
 
 import copy
 import pathlib
+from typing import NamedTuple
 
 from ..debugger import Node, signed
+from ..emulator import REPO
 from .program import Code, Statement, source_lines
 
 RA, SP, FP = 1, 2, 8
 MOST_FRAMES = 40
+# Where sources lie that are none of the program's own.
+LIBRARIES = (REPO / "bsplib", pathlib.Path("/usr/include"), pathlib.Path("/usr/lib"))
 # Functions of bsplib/ that are in a program and not in bsp.h.
 INNER = ("_start", "bsp_start", "bsp_stop", "bsp_stop_with", "bsp_stop_for_guards", "end_line", "end_of_main")
 
@@ -49,6 +53,14 @@ class Prologue:
 
 def prologue(code: Code, start: int, address: int) -> Prologue:
     """What the function at `start` did before `address`. Behind a return, what it had done before it left its frame."""
+    found: Prologue | None = code.prologues.get(address)
+    if found is None:
+        found = code.prologues[address] = prologue_anew(code, start, address)
+    return found
+
+
+def prologue_anew(code: Code, start: int, address: int) -> Prologue:
+    """The same, from the code."""
     now, deepest = Prologue(), Prologue()
     for at, it in code.body(start).items():
         if at >= address:
@@ -86,15 +98,46 @@ def frames(code: Code, node: Node) -> list[int]:
     return addresses
 
 
-def place(code: Code, node: Node) -> str:
-    """Function and line of where a node stands: the innermost that has a line, and what it was called from. Nothing where it is outside of
-    all functions of the program, as behind the end of main."""
+class Frame(NamedTuple):
+    """A function and its line in the source of the program, and the function of a library that it has called, or nothing."""
+
+    function: str
+    line: str
+    called: str
+
+    def __str__(self) -> str:
+        return f"{self.function}, {short(self.line)}" if self.function else short(self.line)
+
+
+def users_frames(code: Code, chain: list[int]) -> list[Frame]:
+    """The frames of the program's own source in a chain of addresses, innermost first; none where no line is known."""
+    known = [(at, *line) for at in range(len(chain)) for line in source_lines(code, chain[at])]
+    # A C library's own lines are of files that are not here; those of headers are of files that no user has written.
+    written_here = [it for it in known if not is_librarys(it[2])]
+    known = [it for it in written_here if code.lines or path_of(it[2]).exists()] or written_here or known
+    return [Frame(function, line, code.name_at(chain[at - 1]) if at > 0 else "") for at, function, line in known]
+
+
+def path_of(line: str) -> pathlib.Path:
+    """The file of a line."""
+    return pathlib.Path(line.rpartition(":")[0])
+
+
+def is_librarys(line: str) -> bool:
+    """Whether a line is of a header or a source that comes with bspcc or the compiler."""
+    folders = path_of(line).parents
+    return any(folder in folders for folder in LIBRARIES)
+
+
+def place(code: Code, node: Node, is_call_told: bool = False) -> str:
+    """Function and line of where a node stands: the innermost of the program's own source, the call in it, unless that is told elsewhere, and
+    what it was called from. Nothing where it is outside of all functions of the program, as behind the end of main."""
     chain = frames(code, node)[: 1 if code.lines else MOST_FRAMES]
-    known = [line for at in chain for line in source_lines(code, at)]
-    # A C library's own lines are of files that are not here.
-    known = [line for line in known if pathlib.Path(line[1].rpartition(":")[0]).exists() or code.lines] or known
+    known = users_frames(code, chain)
     if known:
-        texts = [f"{function}, {short(line)}" if function else short(line) for function, line in known]
+        texts = [str(it) for it in known]
+        if known[0].called and not is_call_told:
+            texts[0] += f", in {known[0].called}"
         shown = texts[:4] + (["…"] if len(texts) > 5 else []) + (texts[-1:] if len(texts) > 4 else [])
         return ", called from ".join(shown)
     names = [code.name_at(at) for at in chain if code.name_at(at)]

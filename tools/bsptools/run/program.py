@@ -8,7 +8,7 @@ import re
 import struct
 import subprocess
 from dataclasses import dataclass, field
-from typing import NamedTuple
+from typing import Any, NamedTuple
 
 from .. import elf, emulator
 from ..files import content_of
@@ -78,7 +78,10 @@ class Code:
     text: str = ""
     content: bytes = b""
     debug: elf.Debug | None = None
+    # What was found out of functions and addresses already.
     bodies: dict[int, dict[int, Statement]] = field(default_factory=dict)
+    prologues: dict[int, Any] = field(default_factory=dict)
+    places: dict[int, list[tuple[str, str]]] = field(default_factory=dict)
 
     def know_names(self) -> Code:
         """Reads what an ELF file has for debuggers. That takes a while, and is wanted only where something is told of a run."""
@@ -207,6 +210,8 @@ def read_text(emulator: list[str], name: str, content: bytes, folder: pathlib.Pa
 def source_lines(code: Code, address: int) -> list[tuple[str, str]]:
     """Function and line of an address, innermost first where functions were put into others; of a text the label before it."""
     if not code.lines:
-        return code.debug.lines(address) if code.debug else []
+        if address not in code.places:
+            code.places[address] = code.debug.lines(address) if code.debug else []
+        return code.places[address]
     here = [number for place, number in code.lines if place <= address]
     return [(code.name_at(address), f"{code.text}:{here[-1]}")] if here else []

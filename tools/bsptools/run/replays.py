@@ -1,4 +1,7 @@
-"""A run once more, in the debugger. Runs are the same each time, so each question is a run of its own, with a script of lines."""
+"""A run once more, in the debugger. Runs are the same each time, so each question is a run of its own, with a script of lines.
+
+Points make a run some four times as slow, so that supersteps before the one that is asked for are made without.
+"""
 
 from __future__ import annotations
 
@@ -6,18 +9,20 @@ import contextlib
 from collections.abc import Iterator
 
 from ..debugger import BATCH, DebuggerEnded, Node, Session, node_of
+from ..limits import MOST_TICKS
 
 # The debugger takes 1 MiB of lines, of which a stop takes 12 bytes at most; a superstep has 65,536 requests at most.
 MOST_STOPS = 80_000
+# A superstep without points takes two lines, `phase` and `turn`, of which there is room for so many beside these stops.
+MOST_TURNS = 3_000
 STACK_BYTES = 1 << 17
 
 
 class Replays:
-    """Runs of one program, with its input and settings. `memory` is the bytes of a node."""
+    """Runs of one program, with its input and settings. `memory` is the bytes of a node, and `nodes` how many there are."""
 
-    def __init__(self, words: list[str], memory: int) -> None:
-        self.words = words
-        self.memory = memory
+    def __init__(self, words: list[str], memory: int, nodes: int = 1) -> None:
+        self.words, self.memory, self.nodes = words, memory, nodes
 
     @contextlib.contextmanager
     def session(self) -> Iterator[Session]:
@@ -34,26 +39,59 @@ class Replays:
 
     def begin(self, superstep: int) -> list[str]:
         """A script that comes to the beginning of a superstep."""
-        return [f"break superstep {superstep}", "go", f"clear superstep {superstep}"] if superstep > 0 else []
+        far = superstep - MOST_TURNS
+        return [*([f"break superstep {far}", "go", f"clear superstep {far}"] if far > 0 else []), *["phase", "turn"] * min(superstep, MOST_TURNS)]
 
-    def looks(self, scripts: list[tuple[list[str], int]]) -> list[Node | None]:
-        """The nodes of these ranks, with their stacks, each where its script comes to, in one run."""
-        nodes: list[Node | None] = []
+    def begin_for(self, rank: int, superstep: int) -> list[str]:
+        """A script that comes to where a rank begins a superstep, after the others have gone through it: these need no points."""
+        return [*self.begin(superstep), *(f"step {other} {MOST_TICKS}" for other in range(self.nodes) if other != rank)]
+
+    @contextlib.contextmanager
+    def end_of(self, superstep: int) -> Iterator[Session]:
+        """A run in which each rank has stopped by itself in a superstep. Where it cannot go on, the block is left."""
         with self.session() as session:
-            for script, rank in scripts:
-                session.ask_all(script)
-                node = session.node(rank)
-                nodes.append(node and node._replace(stack=self.stack(session, node)))
-        return nodes + [None] * (len(scripts) - len(nodes))
+            session.ask_all([*self.begin(superstep), "phase"])
+            yield session
 
-    def stack(self, session: Session, node: Node) -> bytes:
-        """What is shown of a node's stack; from 0 on where it left the memory."""
+    def with_stack(self, session: Session, node: Node, most: int = STACK_BYTES) -> Node:
+        """A node with so many bytes of its stack; from 0 on where it left the memory."""
         start = node.x[2] if node.x[2] < self.memory else 0
-        return bytes_of(session.ask(f"bytes {node.rank} {start} {min(self.memory - start, STACK_BYTES)}").accepted())
+        return node._replace(stack=bytes_of(session.ask(f"bytes {node.rank} {start} {min(self.memory - start, most)}").accepted()))
+
+    @contextlib.contextmanager
+    def after(self, superstep: int, rank: int, ticks: int) -> Iterator[Session]:
+        """A run in which a rank has made so many instructions, the last of them in a superstep."""
+        with self.session() as session:
+            session.ask_all(self.begin(superstep))
+            node = session.node(rank)
+            if node is not None:
+                session.ask(f"step {rank} {ticks - node.ticks}")
+                yield session
+
+    def look_after(self, superstep: int, rank: int, ticks: int) -> Node | None:
+        """A node, with its stack, there."""
+        found = None
+        with self.after(superstep, rank, ticks) as session:
+            node = session.node(rank)
+            found = node and self.with_stack(session, node)
+        return found
+
+    def bytes_after(self, superstep: int, node: Node, address: int, count: int) -> bytes:
+        """Memory of a rank where it was this node; nothing where it does not lie in the memory."""
+        found = b""
+        with self.after(superstep, node.rank, node.ticks) as session:
+            reply = session.ask(f"bytes {node.rank} {address} {count}")
+            found = bytes_of(reply.lines) if reply.is_done else b""
+        return found
 
     def look(self, script: list[str], rank: int) -> Node | None:
         """A node, with its stack, where a script comes to."""
-        return self.looks([(script, rank)])[0]
+        found = None
+        with self.session() as session:
+            session.ask_all(script)
+            node = session.node(rank)
+            found = node and self.with_stack(session, node)
+        return found
 
     def bytes(self, script: list[str], rank: int, address: int, count: int) -> bytes:
         """Memory of a node where a script comes to; nothing where it does not lie in the memory."""

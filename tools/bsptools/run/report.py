@@ -1,16 +1,12 @@
-"""The report that the emulator writes behind a program's output: parted from it, and told in other forms."""
+"""The report that the emulator writes behind a program's output, parted from it."""
 
 from __future__ import annotations
 
-import csv
-import io
-import json
 import re
 from collections.abc import Iterator
-from typing import Any, NamedTuple
+from typing import NamedTuple
 
 from ..files import whole
-from ..refusals import Refused
 
 SUPERSTEP = re.compile(rb"superstep (\d+): w (\d+) h (\d+)((?: [a-z]+ \d+)*) (turned|last)$")
 TOTAL = re.compile(rb"total (\d+)$")
@@ -75,38 +71,6 @@ def part(written: bytes) -> tuple[memoryview, Report] | None:
     return None
 
 
-def read(content: bytes) -> Report | None:
-    """The report of a file in any of its three forms. It is refused where it begins as one and is none that the emulator writes, and None
-    where it is something else."""
-    try:
-        if content.startswith(b"{"):
-            return of_json(json.loads(content))
-        if content.split(b"\n", 1)[0].split(b",")[:3] == [b"superstep", b"w", b"h"]:
-            return of_csv(content.decode())
-        parted = part(content)
-    except (ValueError, KeyError, TypeError, AttributeError, RecursionError, csv.Error) as error:
-        raise Refused(f"it begins as a report, and goes on as none: {error}") from error
-    return parted[1] if parted else None
-
-
-def of_json(content: dict[str, Any]) -> Report:
-    """A report from an object as `as_json` makes it."""
-    supersteps = [superstep_by_names(it) for it in content["supersteps"]]
-    return checked(Report(supersteps, whole(content["total"]), str(content["outcome"]), b""))
-
-
-def of_csv(text: str) -> Report:
-    """A report from a table as `as_csv` makes it, which has no outcome and no prices."""
-    supersteps = [superstep_by_names(row) for row in csv.DictReader(io.StringIO(text))]
-    return checked(Report(supersteps, 0, "", b""))
-
-
-def superstep_by_names(row: dict[str, Any]) -> Superstep:
-    """A superstep from its values by their names."""
-    values = {name: whole(value, MOST_COST) for name, value in row.items() if name not in ("superstep", "end")}
-    return Superstep(whole(row["superstep"], MOST_COST), values, row["end"])
-
-
 def checked(report: Report) -> Report:
     """A report that the emulator may have written; what is none raises ValueError."""
     names = list(report.supersteps[0].costs) if report.supersteps else []
@@ -131,37 +95,7 @@ def adds_up(rest: int, h: int, count: int) -> bool:
     return any(rest >= g * h and (rest - g * h) % count == 0 for g in range(count if h else 1))
 
 
-def as_csv(report: Report) -> bytes:
-    """A row for each superstep, below the names of the columns."""
-    text = io.StringIO()
-    names = list(report.supersteps[0].costs)
-    rows = csv.writer(text, lineterminator="\n")
-    rows.writerow(["superstep", *names, "end"])
-    rows.writerows([it.number, *(it.costs[name] for name in names), it.end] for it in report.supersteps)
-    return text.getvalue().encode()
-
-
-def as_json(report: Report) -> bytes:
-    """An object with the supersteps, the total and the outcome."""
-    supersteps = [{"superstep": it.number, **it.costs, "end": it.end} for it in report.supersteps]
-    content = {"supersteps": supersteps, "total": report.total, "outcome": report.outcome}
-    return json.dumps(content, indent=1).encode() + b"\n"
-
-
-def spelled_for(path: str, report: Report) -> bytes:
-    """The report as the name of its file asks for: `.csv`, `.json`, or else the emulator's lines."""
-    if path.endswith(".csv"):
-        return as_csv(report)
-    if path.endswith(".json"):
-        return as_json(report)
-    return report.text
-
-
 def cost_of(superstep: Superstep, g: int, l: int) -> int:
     """What a superstep costs at these prices."""
     return superstep.costs["w"] + g * superstep.costs["h"] + l
 
-
-def dearest(report: Report, g: int, l: int, count: int) -> list[Superstep]:
-    """The supersteps that cost most, the dearest first."""
-    return sorted(report.supersteps, key=lambda it: (-cost_of(it, g, l), it.number))[:count]

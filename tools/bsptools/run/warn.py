@@ -4,13 +4,13 @@ from __future__ import annotations
 
 from typing import List, NamedTuple, Tuple, Union
 
-from .calls import CHANGES, POP, PUSH, PUTS, REQUESTS, SYNC, Areas, Call, Tracer
+from .calls import CHANGES, MOVE, POP, PUSH, PUTS, REQUESTS, SEND, SYNC, TAGSIZE, TAKES, Areas, Call, Tracer
 from .places import written
 from .replays import MOST_STOPS
 from .report import Report
 
 MOST_TOLD = 5
-TRACED = (*REQUESTS, *CHANGES, SYNC)
+TRACED = (*REQUESTS, *CHANGES, *TAKES, TAGSIZE, SYNC)
 
 # Pieces of a line that tells of something that was found: texts, and calls with their ranks, of which the places are looked for where
 # the line is told, since that takes runs.
@@ -50,21 +50,34 @@ class Steps:
         """The calls of a rank in a superstep."""
         return self.made[rank][superstep] if superstep < len(self.made[rank]) else []
 
+    def tag_size(self, rank: int, call: Call) -> int:
+        """The tag size that a call sets."""
+        script = self.trace.up_to(rank, TRACED, 0, call)
+        return int.from_bytes(self.trace.replays.bytes(script, rank, call.node.x[10], 4), "little", signed=True)
+
     def told(self, piece: str | tuple[int, Call]) -> str:
         """A piece of a finding: of a call its rank, and where it stands."""
         return piece if isinstance(piece, str) else f"rank {piece[0]} at {self.trace.place_of(piece[0], TRACED, 0, piece[1])}"
 
 
-def warnings(trace: Tracer, nodes: int, report: Report) -> list[str]:
-    """Lines of what was found: puts that meet, requests that come to nothing, areas in another order."""
+def warnings(trace: Tracer, nodes: int, report: Report, others: dict[str, list[str]]) -> list[str]:
+    """Lines of what was found, by `others` too, and a last one of what was looked for and not found."""
     steps = Steps(trace, nodes)
     last = report.supersteps[-1].number
-    ends = pending(steps, last) if report.outcome == "ended" else []
-    found = [*ends, *other_order(steps, last), *meeting(steps, last)]
-    more = [f"  and {len(found) - MOST_TOLD} more"] if len(found) > MOST_TOLD else []
+    found: dict[str, list[Finding]] = {
+        "requests that come to nothing": pending(steps, last) if report.outcome == "ended" else [],
+        "areas in another order": other_order(steps, last),
+        "puts that meet": meeting(steps, last),
+        "messages that are read too late": late(steps, last),
+        "tags of a size that is not in effect yet": early(steps, last),
+    }
+    findings = [it for several in found.values() for it in several]
+    texts = ["".join(map(steps.told, it)) for it in findings[:MOST_TOLD]] + [it for several in others.values() for it in several]
+    more = [f"  and {len(findings) - MOST_TOLD} more"] if len(findings) > MOST_TOLD else []
     if not steps.is_whole:
         more.append(f"  and no more than the first {MOST_STOPS} calls of a rank were looked at")
-    return [f"bsprun: warning: {''.join(map(steps.told, it))}" for it in found[:MOST_TOLD]] + more
+    absent = ", ".join(name for name, several in [*found.items(), *others.items()] if not several)
+    return [f"bsprun: warning: {it}" for it in texts] + more + ([f"bsprun: looked for, and not found: {absent}"] if absent else [])
 
 
 def pending(steps: Steps, last: int) -> list[Finding]:
@@ -106,11 +119,58 @@ def meeting(steps: Steps, last: int) -> list[Finding]:
             if target == other_target and other.start < one.end and key not in told:
                 told.add(key)
                 begin = f"two puts of superstep {superstep} write byte {other.start:#x} of rank {target}: that of "
-                found.append([begin, (one.rank, one.call), ", and that of ", (other.rank, other.call)])
+                found.append([begin, (one.rank, one.call), ", and that of ", (other.rank, other.call), counted_in_bytes(one, other)])
         for rank in range(steps.nodes):
             for call in steps.of(rank, superstep):
                 if call.number in (PUSH, POP):
                     areas[rank].take(call)
+    return found
+
+
+def counted_in_bytes(one: Landing, other: Landing) -> str:
+    """What is likely where two puts of as many bytes meet in a part of them: an index in the place of an offset."""
+    size, offsets = one.end - one.start, [it.call.operand("offset") for it in (one, other)]
+    if other.end - other.start != size or all(it % size == 0 for it in offsets):
+        return ""
+    return f"; offset {max(offsets)} is no multiple of the {size} bytes of a put: offsets count bytes"
+
+
+def late(steps: Steps, last: int) -> list[Finding]:
+    """Takings of messages where none is left, one superstep after some were left in the queue, the first of each rank."""
+    found: list[Finding] = []
+    for rank in range(steps.nodes):
+        left = 0
+        for superstep in range(1, last + 1):
+            came = sum(it.number == SEND and it.operand("pid") == rank for of in range(steps.nodes) for it in steps.of(of, superstep - 1))
+            takes = [it for it in steps.of(rank, superstep) if it.number in TAKES]
+            moves = [i for i, it in enumerate(takes) if it.number == MOVE]
+            behind = moves[came - 1] + 1 if 0 < came <= len(moves) else 0 if came == 0 else len(takes)
+            if left > 0 and behind < len(takes):
+                begin = f"a message is read in superstep {superstep}, where none is left, by "
+                end = f": {left} of superstep {superstep - 1} were not read there, and are gone"
+                found.append([begin, (rank, takes[behind]), end])
+                break
+            left = max(came - len(moves), 0)
+    return found
+
+
+def early(steps: Steps, last: int) -> list[Finding]:
+    """Messages behind a call that sets another tag size in the same superstep, the first of each rank."""
+    found: list[Finding] = []
+    for rank in range(steps.nodes):
+        size = 0
+        for superstep in range(last + 1):
+            calls = steps.of(rank, superstep)
+            sets = [i for i, it in enumerate(calls) if it.number == TAGSIZE]
+            if not sets:
+                continue
+            next_size = steps.tag_size(rank, calls[sets[-1]])
+            sends = [it for it in calls[sets[-1] :] if it.number == SEND]
+            if sends and next_size != size:
+                begin = f"a message is sent in superstep {superstep}, which sets the tag size, by "
+                found.append([begin, (rank, sends[0]), f": its tag still has {size} bytes, and {next_size} from the next superstep on"])
+                break
+            size = next_size
     return found
 
 

@@ -4,15 +4,19 @@ from __future__ import annotations
 
 import re
 
-from ..debugger import ALL, Node, node_of, signed
-from ..limits import MOST_AREAS, MOST_BYTES, MOST_REQUESTS, MOST_TAG, MOST_TICKS
+from ..debugger import Node, Session, node_of, signed
+from ..limits import MOST_AREAS, MOST_BYTES, MOST_REQUESTS, MOST_STACK, MOST_TAG, MOST_TICKS
 from ..refusals import counted
 from .calls import CHANGES, GETS, POP, PUSH, PUTS, REQUESTS, SEND, TAGSIZE, WRITE, Call, Tracer, spelled
 from .places import place, written
 from .program import ECALL, Code
-from .replays import Replays
+from .replays import Replays, bytes_of
 from .report import Report
+from .sizes import spelled as spelled_size
 
+# Of a run of more instructions, what was registered before its last superstep is looked for where likely mistakes are.
+MOST_TRACED = 100_000_000
+LONG = "what is registered was not looked for in so long a run: --warn does"
 # How many stopped nodes are looked at, and how many of them are told of in full.
 MOST_LOOKS = 8
 MOST_TOLD = 3
@@ -21,14 +25,27 @@ MOST_TOLD = 3
 class Why:
     """What can be said of a run that did not end by itself."""
 
-    def __init__(self, code: Code, replays: Replays, nodes: int, limit: int) -> None:
-        self.code, self.replays, self.nodes, self.limit = code, replays, nodes, limit
+    def __init__(self, code: Code, replays: Replays, nodes: int, limit: int, is_patient: bool = False) -> None:
+        self.code, self.replays, self.nodes, self.limit, self.is_patient = code, replays, nodes, limit, is_patient
         self.trace = Tracer(code, replays)
+        self.session: Session
+        self.is_long = False
+        # What brings gdb to the place that is told.
+        self.gdb = ["continue"]
 
     def lines(self, report: Report) -> list[str]:
         """The lines that tell why, for each outcome but `ended`."""
         superstep = report.supersteps[-1].number
-        outcome = report.outcome
+        self.is_long = self.nodes * sum(it.costs["w"] for it in report.supersteps[:-1]) > MOST_TRACED and not self.is_patient
+        lines: list[str] = []
+        if report.outcome.startswith("refused"):
+            return self.lines_of(report.outcome, superstep)
+        with self.replays.end_of(superstep) as self.session:
+            lines = self.lines_of(report.outcome, superstep)
+        return lines
+
+    def lines_of(self, outcome: str, superstep: int) -> list[str]:
+        """The lines that tell why a run had this outcome in a superstep, whose end the session has come to."""
         if re.match(r"rank \d+ stopped: ", outcome):
             return self.stopped(superstep)
         if found := re.match(r"desync: rank (\d+) ended, rank (\d+) synced", outcome):
@@ -40,19 +57,31 @@ class Why:
             return teller(int(found[2]), superstep)
         return []
 
-    def node_at_end(self, rank: int, superstep: int) -> Node | None:
-        """A node where it stopped by itself in a superstep."""
-        return self.replays.look([*self.replays.begin(superstep), f"step {rank} {ALL}"], rank)
+    def node_at_end(self, rank: int) -> Node | None:
+        """A node where it stopped by itself in the last superstep."""
+        node = self.session.node(rank)
+        return node and self.replays.with_stack(self.session, node)
+
+    def bytes_at_end(self, rank: int, address: int, count: int) -> bytes:
+        """Memory of a node there; nothing where it does not lie in the memory."""
+        reply = self.session.ask(f"bytes {rank} {address} {count}")
+        return bytes_of(reply.lines) if reply.is_done else b""
+
+    def bring_gdb_to(self, rank: int, superstep: int, call: Call, made: list[Call]) -> None:
+        """Has gdb come to a call of those that a rank made in a superstep, and show its line."""
+        before = sum(it.stop < call.stop and it.node.pc == call.node.pc for it in made)
+        self.gdb = [f"monitor superstep {superstep}", "continue"] if superstep > 0 else []
+        self.gdb += [f"break *{call.node.pc:#x} thread {rank + 1}", *([f"ignore 1 {before}"] if before else []), "continue", "up"]
 
     # A node that was stopped.
 
     def stopped(self, superstep: int) -> list[str]:
         """The nodes that were stopped in the last superstep, each place once."""
-        stopped = self.stopped_ranks(superstep)
+        stopped = self.stopped_ranks()
         lines: list[str] = []
         told: set[str] = set()
         for rank in stopped[:MOST_LOOKS]:
-            node = self.node_at_end(rank, superstep)
+            node = self.node_at_end(rank)
             text = self.stop_of(node, superstep) if node else []
             where = "".join(text[1:2])
             if text and where not in told and len(told) < MOST_TOLD:
@@ -61,22 +90,24 @@ class Why:
         others = len(stopped) - len(told)
         return lines + ([f"  and {others} more of the ranks in this superstep"] if others > 0 else [])
 
-    def stopped_ranks(self, superstep: int) -> list[int]:
-        """The ranks that were stopped in a superstep."""
-        script = [*self.replays.begin(superstep), "phase", *(f"regs {rank}" for rank in range(self.nodes))]
-        shown = [node_of(reply) for reply in self.replays.ask(script)[-self.nodes :] if reply]
+    def stopped_ranks(self) -> list[int]:
+        """The ranks that were stopped in the last superstep."""
+        shown = [node_of(reply.lines) for reply in self.session.ask_all([f"regs {rank}" for rank in range(self.nodes)])]
         return [it.rank for it in shown if it and it.state not in ("synced", "ended", "running")]
 
     def stop_of(self, node: Node, superstep: int) -> list[str]:
         """What is said of one node that was stopped."""
         if node.state == "exhausted":
             return self.exhausted(node, superstep)
-        where = place(self.code, node)
+        is_call = self.code.stored(node.pc) == ECALL and node.state != "aborted"
+        where = place(self.code, node, is_call)
         lines = [f"rank {node.rank} stopped in superstep {superstep}, after {node.ticks} instructions: {node.state}"]
         lines += [f"  at   {where}"] if where else []
         if node.state == "aborted":
             return lines
-        if self.code.stored(node.pc) == ECALL:
+        if is_call:
+            # gdb stands in the library's function then.
+            self.gdb = ["continue", "up"] if self.code.functions else self.gdb
             lines.append(f"  call {spelled(self.code, node)}")
         return lines + [f"  why  {text}" for text in self.reasons(node, superstep)]
 
@@ -118,10 +149,9 @@ class Why:
             return ["nbytes is negative"]
         return [f"bytes that the call names do not lie in the memory, which ends at {self.replays.memory:#x}"]
 
-    def bad_size(self, node: Node, superstep: int) -> list[str]:
+    def bad_size(self, node: Node, _superstep: int) -> list[str]:
         """A tag size."""
-        script = [*self.replays.begin(superstep), f"step {node.rank} {ALL}"]
-        content = self.replays.bytes(script, node.rank, node.x[10], 4)
+        content = self.bytes_at_end(node.rank, node.x[10], 4)
         size = int.from_bytes(content, "little", signed=True)
         return [f"the tag size is {size}, and has to be 0 to {MOST_TAG}" if content else f"a tag size has to be 0 to {MOST_TAG}"]
 
@@ -134,18 +164,18 @@ class Why:
         top = self.code.names.get("__stack_top", 0)
         texts = [f"address {address:#x} ({signed(address)}) is not in the memory, which ends at {self.replays.memory:#x}"]
         if top and (node.x[2] >= self.replays.memory or node.x[2] < 64):
-            texts = [f"the stack is too deep: its room is {top} bytes; give --stack with more, or make large arrays static"]
+            more = spelled_size(min(4 * top, MOST_STACK // 2))
+            texts = [f"the stack is too deep: its room is {top} bytes; give --stack {more}, of an ELF file to bspcc, or make large arrays static"]
         return texts
 
-    def no_code(self, node: Node, superstep: int) -> list[str]:
+    def no_code(self, node: Node, _superstep: int) -> list[str]:
         """A jump to where there is no instruction, or code that was overwritten."""
         stored = self.code.stored(node.pc)
         if self.code.function(node.pc) is None and not stored:
             return [f"there is no code at {written(self.code, node.pc)}: a function was called by a pointer that is bad"]
-        script = [*self.replays.begin(superstep), f"step {node.rank} {ALL}"]
-        content = self.replays.bytes(script, node.rank, node.pc, 2)
+        content = self.bytes_at_end(node.rank, node.pc, 2)
         if content and content[0] & 3 == 3:
-            content = self.replays.bytes(script, node.rank, node.pc, 4) or content
+            content = self.bytes_at_end(node.rank, node.pc, 4) or content
         unit = "word" if len(content) == 4 else "halfword"
         if content and content != stored:
             return [f"the code was overwritten: the {unit} at {node.pc:#x} is 0x{content[::-1].hex()}"]
@@ -157,11 +187,13 @@ class Why:
         """An area that is not in effect: pushed too late, popped, named from its middle, or never pushed."""
         address = Call(node, 0).area
         name = written(self.code, address)
-        areas = self.trace.areas(node.rank, superstep)
         for call in self.trace.calls_in(node.rank, CHANGES, superstep):
             if call.number == PUSH and call.area == address and node.x[17] != POP:
                 where = self.trace.place_of(node.rank, CHANGES, superstep, call)
                 return [f"{name} was registered in this superstep, at {where}: that is in effect after the next bsp_sync"]
+        if self.is_long:
+            return [LONG]
+        areas = self.trace.areas(node.rank, superstep)
         if (around := areas.around(address)) is not None:
             return [f"{name} lies in the area that begins at {written(self.code, around[0])}: name that, and give an offset"]
         if node.x[17] == POP:
@@ -179,14 +211,16 @@ class Why:
         if request >= len(made):
             return [f"rank {rank}, superstep {superstep}: request {request} was not found"]
         call = made[request]
-        target, position = call.operand("pid"), self.trace.areas(rank, superstep).position(call.area)
-        areas = self.trace.areas(target, superstep).entries
-        offset, count = call.operand("offset"), call.operand("nbytes")
+        self.bring_gdb_to(rank, superstep, call, made)
+        offset, count, target = call.operand("offset"), call.operand("nbytes"), call.operand("pid")
         lines = [
             f"rank {rank} asked in superstep {superstep} for what its area does not have, in its request {request}",
             f"  at   {self.trace.place_of(rank, REQUESTS, superstep, call)}",
             f"  call {spelled(self.code, call.node)}",
         ]
+        if self.is_long:
+            return [*lines, f"  why  {LONG}"]
+        position, areas = self.trace.areas(rank, superstep).position(call.area), self.trace.areas(target, superstep).entries
         if position is None or position >= len(areas):
             return lines
         size = areas[position][1]
@@ -203,6 +237,7 @@ class Why:
         lines = [f"rank {rank} did not make the registrations of rank 0 in superstep {superstep}; the first that differs:"]
         for which, calls in zip((0, rank), made):
             if first < len(calls):
+                self.bring_gdb_to(which, superstep, calls[first], calls)
                 where = self.trace.place_of(which, CHANGES, superstep, calls[first])
                 lines.append(f"  rank {which}  {spelled(self.code, calls[first].node)}, at {where}")
             else:
@@ -218,9 +253,9 @@ class Why:
                 lines.append(f"  rank {which}  does not call bsp_set_tagsize")
                 continue
             last = calls[-1]
+            self.bring_gdb_to(which, superstep, last, calls)
             where = self.trace.place_of(which, (TAGSIZE,), superstep, last)
-            script = self.trace.up_to(which, (TAGSIZE,), superstep, last)
-            size = int.from_bytes(self.replays.bytes(script, which, last.node.x[10], 4), "little", signed=True)
+            size = int.from_bytes(self.replays.bytes_after(superstep, last.node, last.node.x[10], 4), "little", signed=True)
             lines.append(f"  rank {which}  sets {size}, at {where}")
         return lines
 
@@ -246,15 +281,14 @@ class Why:
 
     def desync(self, ended: int, synced: int, superstep: int) -> list[str]:
         """Two ranks of which one waits for the other, which has ended."""
-        waiting = self.node_at_end(synced, superstep)
+        waiting = self.node_at_end(synced)
         lines = [f"rank {ended} ended in superstep {superstep}, where rank {synced} called bsp_sync once more"]
         if waiting:
-            lines.append(f"  rank {synced}  bsp_sync, at {place(self.code, waiting)}")
-        script = [*self.replays.begin(superstep), f"break superstep {superstep + 1}"]
+            lines.append(f"  rank {synced}  bsp_sync, at {place(self.code, waiting, is_call_told=True)}")
+        script = [*self.replays.begin_for(ended, superstep), f"break superstep {superstep + 1}"]
         ends = [self.code.names[it] for it in ("bsp_end", "exit") if it in self.code.names]
         stops = self.replays.stops(script, ended, ends) if ends else []
-        script = [*self.replays.begin(superstep), *(f"break {ended} {it}" for it in ends), "go"]
-        node = self.replays.look(script, ended) if stops else self.node_at_end(ended, superstep)
+        node = self.replays.look_after(superstep, ended, stops[0].ticks) if stops else self.node_at_end(ended)
         if node:
-            lines.append(f"  rank {ended}  ended, at {place(self.code, node)}")
+            lines.append(f"  rank {ended}  ended, at {place(self.code, node, is_call_told=True)}")
         return lines

@@ -97,8 +97,22 @@ class Sweep:
         self.options = options
         self.folder = kept_in(options.folder)
         self.points = points(options, programs(options, self.folder / "programs"))
-        store = Store(self.folder, options)
-        self.places = {run: store.place(run) for run in dict.fromkeys(it.run for it in self.points)}
+        self.store = Store(self.folder, options)
+        # The runs that have no place are not made.
+        self.places: dict[Run, Place] = {}
+        self.unplaced: list[str] = []
+        for run in dict.fromkeys(it.run for it in self.points):
+            self.give_place(run)
+
+    def give_place(self, run: Run) -> None:
+        """Gives a run its place, unless its program was not compiled, or the place cannot be written."""
+        if run.program.why:
+            self.unplaced.append(f"{run}: the program was not compiled")
+            return
+        try:
+            self.places[run] = self.store.place(run)
+        except OSError as error:
+            self.unplaced.append(f"{run}: its result cannot be kept: {error.filename}: {error.strerror}")
 
     def commands(self, wanted: dict[Run, Place], copy: str) -> pathlib.Path:
         """The list of commands that make these runs, in a file of their own: another sweep may be under way."""
@@ -169,10 +183,10 @@ def sweep(options: argparse.Namespace, words: list[str]) -> int:
     if missing:
         whole.make(engine, missing, MAIN)
     wrong = whole.check(engine) if options.check else []
-    is_whole = not wrong and not whole.missing()
+    is_whole = not wrong and not whole.missing() and not whole.unplaced
     if is_whole or not options.check:
         whole.write()
-    tell([*table.failures(whole.places), *wrong], "bspsweep: ")
+    tell([*whole.unplaced, *table.failures(whole.places), *wrong], "bspsweep: ")
     if options.check:
         tell([f"{counted(len(whole.places), 'run')} gave the same once more" if is_whole else "no table is written"], "bspsweep: ")
     return 0 if is_whole else REFUSED

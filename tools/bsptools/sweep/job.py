@@ -15,7 +15,7 @@ from .. import children, emulator
 from ..files import content_of, write
 from ..limits import MOST_PROGRAM, MOST_TABLE
 from ..refusals import REFUSED, Refused
-from ..run.report import read
+from ..run.forms import read
 from .programs import digest
 from .store import Place, Record
 
@@ -40,7 +40,8 @@ def make(folder: str, copy: str) -> int:
     write(place.file("seconds", copy), f"{time.monotonic() - start:.3f}\n")
     other = changed(job)
     if not content or other:
-        write(place.file("failed", copy), other or done.stderr.decode(errors="replace").strip() + "\n")
+        said = done.stderr.decode(errors="replace").strip() or f"bsprun has ended with status {done.returncode}, and no report"
+        write(place.file("failed", copy), other or said + "\n")
         return REFUSED
     place.file("failed", copy).unlink(missing_ok=True)
     place.keep(record(content, done), copy)

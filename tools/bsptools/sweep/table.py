@@ -4,6 +4,7 @@ from __future__ import annotations
 
 import csv
 import io
+import pathlib
 
 from ..files import content_of
 from ..limits import MOST_TABLE
@@ -21,7 +22,7 @@ def table(points: list[Point], places: dict[Run, Place], defines: list[str]) -> 
     rows = csv.writer(text, lineterminator="\n")
     rows.writerow([*FIRST, "input", "args", *defines, "supersteps", *costs, "total", "outcome"])
     for point in points:
-        rows.writerow(row(point, found[point.run], costs, defines))
+        rows.writerow(row(point, found.get(point.run), costs, defines))
     return text.getvalue()
 
 
@@ -40,9 +41,11 @@ def row(point: Point, found: Record | None, costs: list[str], defines: list[str]
 def failures(places: dict[Run, Place]) -> list[str]:
     """Lines for each run that could not be made."""
     failed = {run: place.file("failed") for run, place in places.items() if place.found() is None}
-    return [
-        f"{run}: {line}"
-        for run, why in failed.items()
-        if why.exists()
-        for line in content_of(why, MOST_TABLE).decode(errors="replace").strip().splitlines()
-    ]
+    return [f"{run}: {line}" for run, why in failed.items() for line in reasons(why)]
+
+
+def reasons(why: pathlib.Path) -> list[str]:
+    """The lines that say why a run could not be made."""
+    if not why.is_file():
+        return ["not made: whatever made it has ended before it"]
+    return content_of(why, MOST_TABLE).decode(errors="replace").strip().splitlines()

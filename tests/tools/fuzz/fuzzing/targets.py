@@ -134,7 +134,7 @@ class Trial:
         payloads = [self.chance.choice(PACKETS) for _ in range(12)]
         payloads = [mutated(it, self.chance)[:4000] if self.chance.random() < 0.5 else it for it in payloads]
         data = b"".join(it if it == b"\x03" else b"$%s#%02x" % (it, sum(it) % 256) for it in payloads)
-        words = ["--tcp", "0", "p.s", "--format", "asm", "--nodes", "2", "--limit", "1000"]
+        words = ["--tcp", "0", "--format", "asm", "-n", "2", "--limit", "1000", "p.s"]
         return self.command("bspgdb", words, [], lambda told, is_over: talk(told, data, is_over))
 
     def command(self, name: str, words: Sequence[str], made: Sequence[str], beside: Optional[Callable[..., None]] = None) -> str:

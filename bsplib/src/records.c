@@ -1,0 +1,34 @@
+/* Records for bsprun, and notes of what is to be told of a run. */
+#include <string.h>
+
+#include "machine.h"
+
+/* A record is written by one call, so that it is whole wherever the node stops. */
+static struct {
+    char mark[sizeof bsp_settings.mark];
+    unsigned size; /* of what stands behind it */
+    unsigned rank;
+    char bytes[MOST_RECORD_WORDS * sizeof(unsigned) + MOST_RECORD_BYTES];
+} record;
+
+void bsp_record(int kind, const unsigned *words, int count, const void *bytes, int size)
+{
+    int head = count * (int)sizeof *words;
+    if (!(bsp_settings.flags & BSP_RECORDS))
+        return;
+    memcpy(record.mark, (const char *)bsp_settings.mark, sizeof record.mark);
+    record.mark[sizeof record.mark - 1] = (char)kind;
+    record.size = (unsigned)(sizeof record.rank + (size_t)(head + size));
+    record.rank = (unsigned)machine_call_0(CALL_PID);
+    memcpy(record.bytes, words, (size_t)head);
+    memcpy(record.bytes + head, bytes, (size_t)size);
+    bsp_stdio_flush();
+    machine_call_2(CALL_WRITE, (long)&record, (long)(record.bytes - (char *)&record) + head + size);
+}
+
+void bsp_note(int what, const void *place, unsigned one, unsigned other, const char *text)
+{
+    const unsigned words[] = {(unsigned)what, (unsigned)bsp_superstep, (unsigned)place, one, other};
+    size_t size = strlen(text);
+    bsp_record(RECORD_NOTE, words, MOST_RECORD_WORDS, text, size < MOST_RECORD_BYTES ? (int)size : MOST_RECORD_BYTES);
+}

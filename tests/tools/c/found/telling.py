@@ -1,0 +1,151 @@
+"""Parts of run: files that programs write, what they are given, and mistakes that would pass in silence."""
+
+from __future__ import annotations
+
+import pathlib
+import subprocess
+from typing import Callable, Dict, List, NamedTuple, Tuple
+
+from checks import REPO, SECONDS, Tally
+
+HERE = pathlib.Path(__file__).resolve().parent
+
+
+class Case(NamedTuple):
+    """A mistake of silent.c: the options of its run, what is said of it, and whether its line is named."""
+
+    options: List[str]
+    said: str
+    has_line: bool = True
+
+
+TOLD: Dict[int, Case] = {
+    1: Case([], "malloc of 100000000 bytes was refused at main, "),
+    2: Case([], "rank 0, superstep 0: life.pgm was to be written: give --out DIR, and so 1 more rank", False),
+    3: Case([], "params.cfg was to be read, and no file of this name is given or in this folder", False),
+    4: Case([], "here.cfg was to be read: it is in this folder, give --file here.cfg", False),
+    5: Case([], "superstep 1: what was asked for comes to nothing, since no bsp_sync follows: the last of it at messages, "),
+    7: Case([], "10 bytes of malloc at 0x"),
+    8: Case([], "memory that was given back before"),
+    9: Case([], "an address that malloc did not give"),
+    10: Case([], "memory at address 0 was written"),
+    11: Case([], "a number is read, and the input is empty: give --input FILE", False),
+    12: Case([], "the clock was read over and over", False),
+    13: Case(["--warn"], "10 bytes of malloc at 0x"),
+    14: Case(["--warn"], "line 1 of the output is '-910', and else '0'", False),
+    15: Case(["--warn"], "a message is read in superstep 3, where none is left, by rank 0"),
+    16: Case(["--warn"], "its tag still has 0 bytes, and 4 from the next superstep on"),
+    17: Case(["--warn"], "offset 1 is no multiple of the 8 bytes of a put"),
+}
+NOT_FOUND = "bsprun: looked for, and not found: requests that come to nothing, areas in another order, puts that meet, messages"
+# What writes.c writes on three nodes, but for the picture.
+WRITTEN = {
+    "lines.txt": "line of rank 0\nline of rank 1\nline of rank 2\n",
+    "log.txt": "log of rank 0\nlog of rank 1\nlog of rank 2\n",
+    **{f"part{s}.txt.new": f"{s}\n2 bytes\n" for s in range(3)},
+}
+# A program that cannot fit, one that wants more than is said, and one with a deep stack.
+ARRAYS = "#include <bsp.h>\ndouble table[SIZE], other[500];\nint main(void)\n{\n    bsp_begin(1);\n    bsp_end();\n    return table[1] != other[2];\n}\n"
+STACK = "int main(void)\n{\n    volatile char bytes[400000];\n    bytes[0] = 0;\n    return bytes[0];\n}\n"
+
+
+class Telling:
+    """Runs by bsprun in a folder of this part's own."""
+
+    def __init__(self, tally: Tally, folder: pathlib.Path) -> None:
+        self.tally, self.folder = tally, folder
+
+    def build(self, name: str, *options: str) -> str:
+        """The executable of a program of this folder, with lines."""
+        source = next(it for it in (HERE / f"{name}.c", REPO / "examples/c" / f"{name}.c") if it.exists())
+        words = [str(REPO / "bspcc"), "-g", "-O1", "-w", *options, "-o", f"{name}.elf", str(source), "-lm"]
+        subprocess.run(words, cwd=self.folder, check=True, capture_output=True, timeout=SECONDS)
+        return f"{name}.elf"
+
+    def run(self, *words: str, given: str = "") -> "subprocess.CompletedProcess[str]":
+        """A run by bsprun."""
+        command = [str(REPO / "bsprun"), *words]
+        return subprocess.run(
+            command, input=given, capture_output=True, text=True, errors="replace", cwd=self.folder, check=False, timeout=SECONDS
+        )
+
+    def expect(self, name: str, done: "subprocess.CompletedProcess[str]", status: int, *said: str) -> None:
+        """A run has this status, and says all of this."""
+        told = done.stdout + done.stderr
+        missing = [it for it in said if it not in told]
+        self.tally.expect(name, done.returncode == status and not missing, f"status {done.returncode}, without {missing}: {told}")
+
+    def told(self) -> None:
+        """Each mistake of examples/c/silent.c is told, with its line."""
+        image = self.build("silent")
+        (self.folder / "here.cfg").write_text("1\n")
+        marked = (REPO / "examples/c/silent.c").read_text().splitlines()
+        for number, case in TOLD.items():
+            line = next(i for i, text in enumerate(marked, 1) if text.endswith(f"/* {number} */"))
+            done = self.run("-n", "2", *case.options, image, str(number))
+            self.expect(f"told {number}", done, done.returncode, case.said, *([f"silent.c:{line}"] if case.has_line else []))
+        self.expect("no argument", self.run(image), 2, "atoi is given NULL", "bsprun PROGRAM 100", "silent.c:")
+        self.expect("nothing to warn of", self.run("-n", "2", "--warn", image, "0"), 0, NOT_FOUND)
+
+    def written(self) -> None:
+        """Files go where --out says, and nowhere else."""
+        image = self.build("writes")
+        before = sorted(self.folder.iterdir())
+        (self.folder / "out").mkdir()
+        (self.folder / "elsewhere").write_text("kept\n")
+        (self.folder / "out/log.txt").symlink_to(self.folder / "elsewhere")
+        done = self.run("-n", "3", "--out", "out", image)
+        both = ["lines.txt was written by 3 ranks, 0 to 2: their parts stand one behind another", "log.txt was written by 3 ranks"]
+        self.expect("files are written", done, 0, "rank 0 is done\nrank 1 is done\nrank 2 is done\n", *both)
+        found = {it.name: it.read_text() for it in (self.folder / "out").iterdir() if it.suffix != ".pgm"}
+        self.tally.expect("what is written", found == WRITTEN, found)
+        picture = (self.folder / "out/life.pgm").read_bytes()
+        self.tally.expect("a picture", picture == b"P5\n08 08\n255\n" + bytes(range(64)), picture)
+        after = sorted(it for it in self.folder.iterdir() if it.name not in ("out", "elsewhere"))
+        kept = (self.folder / "elsewhere").read_text() == "kept\n"
+        self.tally.expect("nothing elsewhere", before == after and kept, (before, after))
+        done = self.run("-n", "2", image)
+        self.expect("no --out", done, 2, "out/life.pgm: Read-only file system", "out/life.pgm was to be written: give --out DIR")
+        source = self.folder / "life.pgm"
+        source.write_text("an input\n")
+        done = self.run("--out", ".", "--file", "life.pgm", image)
+        self.expect("an output that is an input", done, 0, "life.pgm was not written: it is read as life.pgm")
+        self.tally.expect("an input is kept", source.read_text() == "an input\n", source.read_bytes())
+
+    def given(self) -> None:
+        """Words that are files, and all files of a folder."""
+        for name, text in (("in.txt", "12 5\n"), ("data/one.txt", "7\n"), ("data/two.txt", "8\n")):
+            (self.folder / name).parent.mkdir(exist_ok=True)
+            (self.folder / name).write_text(text)
+        (self.folder / "reads.c").write_text(
+            "#include <stdio.h>\nint main(int n, char **names)\n{\n    int i, number;\n    for (i = 1; i < n; i++) {\n"
+            '        if (freopen(names[i], "r", stdin) != NULL)\n            while (scanf("%d", &number) == 1)\n'
+            '                printf("%s %d\\n", names[i], number);\n    }\n    return 0;\n}\n'
+        )
+        self.expect("a word that is a file", self.run("reads.c", "in.txt"), 0, "in.txt 12\nin.txt 5\n")
+        self.expect("a folder", self.run("--files", "data", "reads.c", "two.txt", "data/one.txt"), 0, "two.txt 8\ndata/one.txt 7\n")
+        self.expect("no folder", self.run("--files", "no", "reads.c"), 1, "bsprun: no: No such file or directory")
+
+    def sizes(self) -> None:
+        """What does not fit is told with the largest arrays, and room of the stack is given or refused."""
+        (self.folder / "arrays.c").write_text(ARRAYS)
+        (self.folder / "stack.c").write_text(STACK)
+        done = self.run("-DSIZE=3000000", "arrays.c")
+        self.expect("too large", done, 1, "and a node has 16777216 at most; the largest are table of 24000000 bytes: give each rank its part")
+        done = self.run("-DSIZE=300000", "--memory", "2M", "arrays.c")
+        self.expect("larger than said", done, 1, "the largest are table of 2400000 bytes: give --memory 2")
+        self.expect("what fits", self.run("-DSIZE=1500000", "arrays.c"), 0)
+        self.expect("a stack of 1M", self.run("stack.c"), 0)
+        self.expect("a stack of 128K", self.run("--stack", "128K", "stack.c"), 2, "its room is 131072 bytes; give --stack 512K")
+        words = [str(REPO / "bspcc"), "--stack", "512K", "-o", "stack.elf", "stack.c"]
+        subprocess.run(words, cwd=self.folder, check=True, timeout=SECONDS)
+        self.expect("a stack of an ELF file", self.run("--stack", "512K", "stack.elf"), 0)
+        self.expect("another stack", self.run("--stack", "1M", "stack.elf"), 1, "stack.elf has its stack, with 524288 bytes; give --stack to bspcc")
+
+
+PARTS: List[Tuple[str, Callable[[Telling], None]]] = [
+    ("mistakes in silence", Telling.told),
+    ("files that are written", Telling.written),
+    ("files that are given", Telling.given),
+    ("sizes", Telling.sizes),
+]

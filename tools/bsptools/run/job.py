@@ -1,0 +1,179 @@
+"""A program that is ready to run: compiled where it has to be, with its settings, and its input as the nodes read it."""
+
+from __future__ import annotations
+
+import argparse
+import os
+import pathlib
+import shlex
+import shutil
+import sys
+from dataclasses import dataclass
+from typing import TYPE_CHECKING
+
+from .. import elf, emulator
+from ..files import content_of
+from ..limits import MOST_INPUT, MOST_PROGRAM, NODES
+from ..options import Parser
+from ..refusals import Refused, about, tell
+from . import records, sizes
+from .block import MAGIC, block
+from .compiling import compiled, take_sources
+from .given import TOO_LONG, given_files
+from .parting import marked
+from .program import Code, kind_of, read_elf, read_text
+
+if TYPE_CHECKING:
+    from .replays import Replays
+
+# Functions that are in a program which may read its input; those of them that read nothing else; and one that is where it opens files, with
+# which some of the others come too.
+READ = {"bsp_stdio_get", "read"}
+READ_INPUT = {"scanf", "vscanf", "getchar"}
+OPEN = "open"
+
+
+@dataclass
+class Job:
+    """A program that is ready to run: the words that start the emulator, the settings behind its verb, the file that is run and its kind,
+    what is known of its code, the bytes of the image, what stands before all in its output that is none, and whether standard input had
+    something for it."""
+
+    options: argparse.Namespace
+    program: list[str]
+    image: pathlib.Path
+    kind: str
+    code: Code
+    settings: list[str]
+    content: bytes
+    mark: bytes
+    is_typed: bool
+
+    @property
+    def is_for_gdb(self) -> bool:
+        """Whether gdb takes it, which it does for the names and lines that it has."""
+        return self.kind == "elf"
+
+    def replays(self) -> Replays:
+        """The same run, in the debugger, of which places are to be told."""
+        from .replays import Replays
+
+        self.code.know_names()
+        return Replays([*self.program, "debug", *self.settings], self.options.memory, self.options.nodes)
+
+    def set(self, flags: int, fill: int | None) -> None:
+        """Writes the image with settings for the program's library, and a byte of fresh memory where there is one."""
+        flags |= records.RECORDS | (records.WRITES_FILES if self.options.out is not None else 0)
+        flags |= records.FILLED if fill is not None else 0
+        self.image.write_bytes(records.settings_in(self.content, flags, fill or 0, self.mark))
+
+    def give_nodes(self, count: int) -> None:
+        """Has this job run on so many nodes."""
+        self.options.nodes = count
+        self.settings[self.settings.index("--nodes") + 1] = str(count)
+
+
+def prepared(options: argparse.Namespace, folder: pathlib.Path, tool: str, is_marked: bool = False) -> Job:
+    """Finds out for a tool what the program is, and makes all files that its run wants. A job that is marked writes standard error apart."""
+    content = content_of(options.program, MOST_PROGRAM)
+    kind = options.format or kind_of(pathlib.Path(options.program), content)
+    emulate = [options.bspemu or emulator.emulator()]
+    image = pathlib.Path(os.path.abspath(options.program))
+    if options.check and kind != "c":
+        raise Refused(f"--check is for a program in C, and {options.program} is compiled: give --check to bspcc")
+    options.sources = []
+    if kind == "c":
+        take_sources(options)
+        image = folder / "program.elf"
+        tell(compiled(options, image))
+        content, kind = content_of(image, MOST_PROGRAM), "elf"
+    if kind == "asm":
+        code = read_text(emulate, image.name, content, folder)
+    elif kind == "raw":
+        code = Code(segments=[(0, memoryview(content))], need=len(content))
+    else:
+        code = read_elf(content)
+    sizes.expect_room(code, options)
+    given = given_input(options, content, tool)
+    is_typed = options.input is None and bool(given)
+    given = with_block(options, content, given)
+    run, mark = marked(content, given or b"") if is_marked else (content, b"")
+    if is_marked and options.out is not None and (not mark or records.PLACE not in content):
+        raise Refused(f"{options.program} writes no files: it was not built by this bspcc")
+    if mark or not is_text(image):
+        # The emulator takes no name that is no text.
+        image = folder / "image"
+        with about(image):
+            image.write_bytes(run)
+    settings = [str(image), "--format", kind, "--nodes", str(options.nodes), "--memory", str(options.memory)]
+    settings += ["--limit", str(options.limit)]
+    if given is not None:
+        with about(folder / "input"):
+            (folder / "input").write_bytes(given)
+        settings += ["--input", str(folder / "input")]
+    job = Job(options, emulate, image, kind, code, settings, run, mark, is_typed)
+    if mark:
+        job.set(0, options.fill)
+    return job
+
+
+def is_text(path: pathlib.Path) -> bool:
+    """Whether a path is text."""
+    try:
+        return bool(os.fsencode(path).decode())
+    except UnicodeDecodeError:
+        return False
+
+
+def given_input(options: argparse.Namespace, content: bytes, tool: str) -> bytes | None:
+    """The input, where there is any. What is typed to bspgdb is for gdb."""
+    if options.input is not None:
+        return content_of(options.input, MOST_INPUT)
+    return standard_input(options.program, content) if tool == "bsprun" else None
+
+
+def with_block(options: argparse.Namespace, content: bytes, given: bytes | None) -> bytes | None:
+    """An input, with arguments and files in front of it where there are any."""
+    if options.args or options.file or options.files:
+        if MAGIC not in content:
+            raise Refused(f"{options.program} takes neither arguments nor files: it was not built by this bspcc")
+        words = [os.fsencode(word) for word in [options.argv0 or options.program, *options.args]]
+        given = block(words, given_files(options)) + (given or b"")
+    if given is not None and len(given) > MOST_INPUT:
+        raise Refused(TOO_LONG)
+    return given
+
+
+def standard_input(name: str, content: bytes) -> bytes | None:
+    """What standard input has for a program, which is left alone where the program links no function that reads. At a terminal it is typed;
+    what may be another's than a program of bspcc gets nothing there."""
+    names = elf.names(content) if MAGIC in content else set()
+    is_typed = sys.stdin.isatty()
+    reads = READ_INPUT if is_typed and OPEN in names else READ
+    if not reads & names and (names or is_typed):
+        return None
+    if is_typed:
+        tell([f"bsprun: {name} reads its input: type it, and then Ctrl-D at the beginning of a line"])
+    return sys.stdin.buffer.read(MOST_INPUT + 1)
+
+
+def words_of(job: Job, parser: Parser) -> list[str]:
+    """The words of a command line that make the same job, with the options that each tool has that makes one run. What standard input had
+    wants a file."""
+    options = job.options
+    words = ["-n", str(options.nodes)] if options.nodes != NODES else []
+    words += ["--input", "FILE"] if job.is_typed else []
+    for name in ("--input", "--argv0", "--limit", "--memory", "--stack", "--g", "--l", "--format"):
+        value = getattr(options, name.strip("-"))
+        words += [name, str(value)] if value != parser.get_default(name.strip("-")) else []
+    words += [it for name in options.file for it in ("--file", name)]
+    words += [it for name in options.files for it in ("--files", name)]
+    words += [*(["--check"] if options.check else []), *(options.compiled or [])]
+    return [*words, options.program, *options.sources[1:], *options.args]
+
+
+def gdb_line(job: Job, parser: Parser, commands: list[str]) -> str:
+    """The command line of bspgdb that comes to a place by these commands of gdb."""
+    tool = os.path.join(".", os.path.relpath(emulator.program("bspgdb")))
+    tool = tool if not tool.startswith("./..") else shutil.which("bspgdb") and "bspgdb" or emulator.program("bspgdb")
+    return shlex.join([tool, *words_of(job, parser), "--", *(it for command in commands for it in ("-ex", command))])

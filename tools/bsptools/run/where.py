@@ -1,0 +1,91 @@
+"""Where the ranks of a run were that was broken off: it is run again for as long as it went on."""
+
+from __future__ import annotations
+
+import time
+from typing import NamedTuple
+
+from ..debugger import Node, Session, node_of
+from .job import Job
+from .places import place
+from .replays import Replays
+
+# A run is followed for so many seconds at the most, and to so many steps of a rank at a time in its last superstep.
+MOST_SECONDS, SLICE = 5.0, 1 << 20
+# Lines are left for the last superstep's steps.
+RESERVE = 1 << 18
+# So many places are told.
+MOST_PLACES = 4
+
+
+class Reached(NamedTuple):
+    """A superstep that a run had come to by a time, and after how many seconds it began."""
+
+    superstep: int
+    seconds: float
+
+
+def reached(replays: Replays, seconds: float) -> Reached:
+    """The superstep that a run comes to in so many seconds."""
+    found = Reached(0, 0.0)
+    start = time.monotonic()
+    with replays.session() as session:
+        while session.room > RESERVE:
+            session.send("phase", "turn")
+            if not session.is_answered(max(start + seconds - time.monotonic(), 0.0)):
+                break
+            session.reply()
+            if session.reply().lines != ["turned"]:
+                break
+            found = Reached(found.superstep + 1, time.monotonic() - start)
+    return found
+
+
+def nodes_after(session: Session, ranks: int, seconds: float) -> list[Node]:
+    """The nodes, after they ran for so many seconds in a superstep."""
+    found: dict[int, Node] = {}
+    running = list(range(ranks))
+    until = time.monotonic() + seconds
+    while running:
+        session.ask_all([f"step {rank} {SLICE}" for rank in running])
+        for reply in session.ask_all([f"regs {rank}" for rank in running]):
+            node = node_of(reply.accepted())
+            assert node is not None
+            found[node.rank] = node
+        running = [rank for rank in running if found[rank].runs]
+        if time.monotonic() >= until or session.room < RESERVE // 2:
+            break
+    return [found[rank] for rank in range(ranks)]
+
+
+def ranks_at(job: Job, seconds: float) -> str:
+    """The superstep, and for each place the ranks that were there, after a run of so many seconds."""
+    replays = job.replays()
+    wanted = min(seconds, MOST_SECONDS)
+    at = reached(replays, wanted)
+    texts: dict[str, list[int]] = {}
+    with replays.session() as session:
+        session.ask_all(replays.begin(at.superstep))
+        alike: dict[object, list[Node]] = {}
+        for node in nodes_after(session, job.options.nodes, wanted - at.seconds):
+            alike.setdefault((node.pc, node.x[1], node.x[2], node.state), []).append(node)
+        for nodes in alike.values():
+            text = "its end" if nodes[0].state == "ended" else place(job.code, replays.with_stack(session, nodes[0]))
+            texts.setdefault(text, []).extend(it.rank for it in nodes)
+    told = [f"{numbered(sorted(ranks))} at {text}" for text, ranks in list(texts.items())[:MOST_PLACES]]
+    more = sum(len(it) for it in list(texts.values())[MOST_PLACES:])
+    later = " or later" if wanted < seconds else ""
+    return f"superstep {at.superstep}{later}: " + "; ".join([*told, *([f"{more} more elsewhere"] if more else [])])
+
+
+def numbered(ranks: list[int]) -> str:
+    """Ranks in a few words: `rank 0`, `ranks 0 to 3 and 7`."""
+    runs: list[tuple[int, int]] = []
+    for rank in ranks:
+        if runs and rank == runs[-1][1] + 1:
+            runs[-1] = (runs[-1][0], rank)
+        else:
+            runs.append((rank, rank))
+    texts = [it for first, last in runs for it in ([f"{first} to {last}"] if last > first + 1 else map(str, sorted({first, last})))]
+    listed = " and ".join([", ".join(texts[:-1]), texts[-1]] if len(texts) > 1 else texts)
+    return f"rank{'s' if len(ranks) > 1 else ''} {listed}"

@@ -17,23 +17,27 @@ from ..files import content_of
 from ..limits import MOST_INPUT, MOST_PROGRAM, MOST_WORKERS, NODES, PAGE, WORKERS
 from ..options import P, Parser
 from ..refusals import Refused, about, lines_of, put, show, tell
-from . import report
+from . import choices, report
 from .block import MAGIC, block
 from .calls import Tracer
+from .compiling import compiled, take_sources
 from .places import place
+from .portable import is_portable
 from .program import Code, kind_of, read_elf, read_text
 from .replays import Replays
+from .trials import Subject
 from .warn import warnings
 from .why import Why
 
 DEAREST = 5
 TOO_LONG = f"input, arguments and files have more than {MOST_INPUT} bytes"
-SOURCES = (".c", ".cc", ".cpp", ".cxx", ".C")
 # Options for the compiler, with what each says of a C program.
 COMPILED = {"-D": "define a macro", "-I": "look for headers there too", "-O": "optimize so far", "-l": "link with this library, as -lm"}
 KINDS = ("elf", "asm", "raw", "c")
 # The status of a run in which a rank was stopped.
 STOPPED = 2
+# That of a program which comes to something else where a library chooses otherwise.
+OTHERWISE = 10
 # How a program says at its start that it takes fewer nodes: bsplib/src/bsp.c.
 FEWER = re.compile(rb"^bsp: rank 0: there are more nodes than the program takes in bsp_begin: bsprun -n (\d+) ", re.MULTILINE)
 
@@ -64,6 +68,7 @@ def arguments(words: list[str]) -> argparse.Namespace:
     add("--profile", metavar="FILE", help="what each rank did in each superstep, into FILE as CSV: bspplot draws it")
     add("--summary", action="store_true", help="the totals and the dearest supersteps, on standard error")
     add("--warn", action="store_true", help="look for what is likely a mistake, also in a run that ends well; takes long")
+    add("--portable", action="store_true", help="then run a .c program again under each choice that BSPlib leaves to a library")
     parser.add_machine()
     parser.add_number("--workers", what="the number of threads", least=1, most=MOST_WORKERS, default=WORKERS, metavar="COUNT",
         help="threads of the host, 1 by default")  # fmt: skip
@@ -115,23 +120,6 @@ class Job:
         return True
 
 
-def compiled(options: argparse.Namespace, folder: pathlib.Path) -> pathlib.Path:
-    """The executable of a program in C, of the files that the command line names first."""
-    target = folder / "program.elf"
-    stack = ["--stack", str(options.stack)] if options.stack else []
-    sources = [options.program]
-    while options.args and pathlib.Path(options.args[0]).suffix in SOURCES and os.path.isfile(options.args[0]):
-        sources.append(options.args.pop(0))
-    places = [os.path.abspath(it) for it in sources]
-    before = [*stack, *(["--check"] if options.check else []), "-o", str(target)]
-    given = [*before, *places, *(options.compiled or []), "-lm"]
-    done = children.call([emulator.program("bspcc"), "-g", *given], stdout=subprocess.PIPE, stderr=subprocess.STDOUT)
-    tell(lines_of(done.stdout, *places))
-    if done.returncode != 0:
-        raise Refused(f"{' '.join(sources)} was not compiled")
-    return target
-
-
 def prepared(options: argparse.Namespace, folder: pathlib.Path) -> Job:
     """Finds out what the program is, and makes all files that its run wants."""
     content = content_of(options.program, MOST_PROGRAM)
@@ -144,9 +132,14 @@ def prepared(options: argparse.Namespace, folder: pathlib.Path) -> Job:
         # The emulator takes no such name.
         image = folder / "image"
         image.write_bytes(content)
+    options.sources = []
     if kind == "c":
-        image = compiled(options, folder)
+        take_sources(options)
+        image = folder / "program.elf"
+        tell(compiled(options, image))
         content, kind = content_of(image, MOST_PROGRAM), "elf"
+    elif options.portable and choices.MAGIC not in content:
+        raise Refused(f"{options.program} takes no choices, which --portable makes: give a program in C, or what bspcc --portable has built")
     if kind == "asm":
         code = read_text(emulate, image.name, content, folder)
     elif kind == "raw":
@@ -260,4 +253,10 @@ def main(words: list[str]) -> int:
     with children.folder("bsprun") as folder:
         job = prepared(options, folder)
         done = job.run()
-        return deliver(job, job.run() if job.takes_fewer(done) else done)
+        if job.takes_fewer(done):
+            done = job.run()
+        status = deliver(job, done)
+        if options.portable and status == 0:
+            subject = Subject(options, job.program, job.code, job.settings, folder)
+            return 0 if is_portable(subject, done.stdout) else OTHERWISE
+        return status

@@ -2,6 +2,7 @@
 
 from __future__ import annotations
 
+from collections.abc import Iterator
 from typing import List, NamedTuple, Tuple, Union
 
 from .calls import CHANGES, POP, PUSH, PUTS, REQUESTS, SYNC, Areas, Call, Tracer
@@ -96,22 +97,29 @@ def other_order(steps: Steps, last: int) -> list[Finding]:
 
 def meeting(steps: Steps, last: int) -> list[Finding]:
     """Puts of one superstep that write the same byte, each pair of places once."""
-    areas = [Areas() for _ in range(steps.nodes)]
     found: list[Finding] = []
     told = set()
+    for superstep, target, one, other in meetings(steps, last):
+        key = (one.call.node.pc, one.call.node.x[1], other.call.node.x[1])
+        if key not in told:
+            told.add(key)
+            begin = f"two puts of superstep {superstep} write byte {other.start:#x} of rank {target}: that of "
+            found.append([begin, (one.rank, one.call), ", and that of ", (other.rank, other.call)])
+    return found
+
+
+def meetings(steps: Steps, last: int) -> Iterator[tuple[int, int, Landing, Landing]]:
+    """A superstep, a target's rank, and two puts that write the same byte of it, of those that are neighbours by the first byte."""
+    areas = [Areas() for _ in range(steps.nodes)]
     for superstep in range(last):
         landings = sorted(landings_of(steps, areas, superstep), key=lambda it: (it[0], it[1].start))
         for (target, one), (other_target, other) in zip(landings, landings[1:]):
-            key = (one.call.node.pc, one.call.node.x[1], other.call.node.x[1])
-            if target == other_target and other.start < one.end and key not in told:
-                told.add(key)
-                begin = f"two puts of superstep {superstep} write byte {other.start:#x} of rank {target}: that of "
-                found.append([begin, (one.rank, one.call), ", and that of ", (other.rank, other.call)])
+            if target == other_target and other.start < one.end:
+                yield superstep, target, one, other
         for rank in range(steps.nodes):
             for call in steps.of(rank, superstep):
                 if call.number in (PUSH, POP):
                     areas[rank].take(call)
-    return found
 
 
 def landings_of(steps: Steps, areas: list[Areas], superstep: int) -> list[tuple[int, Landing]]:

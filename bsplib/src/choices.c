@@ -99,6 +99,13 @@ void *__wrap_malloc(size_t size)
     return place;
 }
 
+/* A C library's own may count on memory that sbrk gave, and leave it as it is. */
+void *__wrap_calloc(size_t count, size_t size)
+{
+    void *place = size > 0 && count > (size_t)-1 / size ? NULL : __real_malloc(count * size);
+    return place == NULL ? NULL : memset(place, 0, count * size);
+}
+
 /* Unbuffered calls. */
 struct call {
     struct call *next;

@@ -11,7 +11,7 @@ int main(void)
     bsp_push_reg(table, sizeof table);
     bsp_sync();
     for (to = 0; to < bsp_nprocs(); to++) {
-        buffer = 100 * bsp_pid() + to;
+        buffer = 100 * bsp_pid() + to; /* and here */
         bsp_hpput(to, &buffer, table, bsp_pid() * (int)sizeof buffer, sizeof buffer); /* here */
     }
     bsp_sync();

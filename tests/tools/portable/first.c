@@ -12,7 +12,7 @@ int main(void)
     bsp_sync();
     bsp_qsize(&messages, &bytes);
     if (messages > 0) {
-        bsp_move(&winner, sizeof winner);
+        bsp_move(&winner, sizeof winner); /* and here */
         printf("rank %d was first of %d\n", winner, messages);
     }
     bsp_end();

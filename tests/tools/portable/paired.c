@@ -14,7 +14,7 @@ int main(void)
         number = i;
         value = 10 * i + s;
         bsp_send((s + 1) % bsp_nprocs(), NULL, &number, sizeof number); /* here */
-        bsp_send((s + 1) % bsp_nprocs(), NULL, &value, sizeof value);
+        bsp_send((s + 1) % bsp_nprocs(), NULL, &value, sizeof value); /* and here */
         bsp_sync();
     }
     bsp_hpmove(&tag, &payload);

@@ -256,7 +256,9 @@ def main(words: list[str]) -> int:
         if job.takes_fewer(done):
             done = job.run()
         status = deliver(job, done)
-        if options.portable and status == 0:
+        if options.portable and done.returncode in (2, 3, 4):
+            tell(["bsprun: not tried: other choices, since the run does not end well as it is"])
+        elif options.portable and status == 0:
             subject = Subject(options, job.program, job.code, job.settings, folder)
             return 0 if is_portable(subject, done.stdout) else OTHERWISE
         return status

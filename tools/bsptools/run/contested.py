@@ -59,9 +59,8 @@ def by_emulator(program: list[str], settings: list[str], folder: pathlib.Path) -
     return Looked([it for it in read(file.read_text()) if it.first_byte != it.second_byte], is_exact=True)
 
 
-def by_pairs(trace: Tracer, nodes: int, last: int) -> Looked:
+def by_pairs(steps: Steps, last: int) -> Looked:
     """Puts of a superstep that write another byte to the same place, of those that stand beside one another by their first bytes."""
-    steps = Steps(trace, nodes)
     found: list[Contested] = []
     looked = 0
     for superstep, target, one, other in meetings(steps, last):
@@ -69,7 +68,7 @@ def by_pairs(trace: Tracer, nodes: int, last: int) -> Looked:
         if looked > MOST_PAIRS:
             break
         start, end = other.start, min(one.end, other.end)
-        values = [bytes_of(trace, it.rank, it.call, start - it.start, end - start) for it in (one, other)]
+        values = [bytes_of(steps.trace, it.rank, it.call, start - it.start, end - start) for it in (one, other)]
         at = next((i for i, (a, b) in enumerate(zip(*values)) if a != b), None)
         if at is not None:
             first, second = (request_of(steps, it.rank, superstep, it.call) for it in (one, other))

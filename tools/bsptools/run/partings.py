@@ -61,6 +61,7 @@ def read_by(node: Node) -> tuple[int, int]:
 
 def calls_of(trials: Trials, choices: Choices) -> Iterator[Stop]:
     """The calls of the lower ranks of a run, in the run's order."""
+    trials.code.know_names()
     sites = [it for it in trials.code.calls() if trials.code.name_at(it) not in ASKING]
     points = [(rank, site) for rank in range(trials.nodes) for site in sites][:MOST_POINTS]
     return itertools.islice(stops(trials.replays(choices), [], points, read_by), MOST_CALLS)

@@ -2,6 +2,7 @@
 
 from __future__ import annotations
 
+import functools
 import pathlib
 import re
 from collections.abc import Callable
@@ -12,7 +13,7 @@ from ..debugger import ALL, Node, Session
 from ..files import content_of
 from ..limits import MOST_NODES, MOST_PROGRAM
 from ..refusals import Refused, counted, lines_of, show, tell
-from . import contested, report, variables
+from . import contested, remote, report, variables
 from .calls import HPGET, HPPUT, REQUESTS, Tracer, spelled
 from .choices import EARLY, LATE, REVERSED, SHUFFLED, WATCHED, Choices, Point, swaps
 from .compiling import compiled
@@ -20,8 +21,10 @@ from .contested import Contested, Looked
 from .partings import first_parting, shown
 from .places import place
 from .program import Code, read_elf
+from .remote import Touched
 from .replays import Replays
-from .trials import Ending, Stop, Subject, Trials, ending_of, least, looked, memory_of, stops
+from .trials import Ending, NoRoom, Stop, Subject, Trials, ending_of, least, looked, memory_of, stops
+from .warn import TRACED, Steps
 
 ORDERS = (Choices(order=REVERSED), Choices(order=SHUFFLED, seed=1), Choices(order=SHUFFLED, seed=2))
 TIMES = (Choices(unbuffered=EARLY), Choices(unbuffered=LATE))
@@ -30,6 +33,8 @@ PATTERNS = (0x40, 0xC1)
 VALUES = ("pattern", "zero")
 UNSET = re.compile(r"^(.*?):(\d+):\d+: warning: (.*) \[-W(?:maybe-)?uninitialized\]$")
 CHANGED = "the source of an unbuffered call is other at bsp_sync: call "
+# What a program says where there are more nodes than it takes.
+MORE_NODES = b"there are more nodes than the program takes in bsp_begin"
 MOST_TOLD = 3
 
 WHY_PUTS = "BSPlib leaves open in which order the puts and gets of a superstep write"
@@ -38,7 +43,9 @@ WHY_UNBUFFERED = "BSPlib lets bsp_hpput and bsp_hpget read and write at any time
 WHY_HEAP = "C leaves open which bytes malloc's memory has"
 WHY_STACK = "C leaves open what a variable of a function has before it is given a value"
 
-QUEUE = ("bsp_qsize", "bsp_get_tag", "bsp_move", "bsp_hpmove")
+# What the linker calls in the place of these functions, in a program that has them.
+QUEUE = ("__wrap_bsp_qsize", "__wrap_bsp_get_tag", "__wrap_bsp_move", "__wrap_bsp_hpmove")
+CALLS = ("__wrap_bsp_hpput", "__wrap_bsp_hpget")
 
 
 @dataclass
@@ -77,9 +84,20 @@ class Portable:
         self.known: dict[Choices, list[bytes]] = {}
         self.verdict = Verdict()
 
+    @functools.cached_property
+    def trace(self) -> Tracer:
+        """Traces of the run as it is."""
+        words = [*self.subject.program, "debug", *self.subject.settings]
+        return Tracer(self.subject.code.know_names(), Replays(words, self.subject.options.memory))
+
+    @functools.cached_property
+    def steps(self) -> Steps:
+        """The calls of the run as it is."""
+        return Steps(self.trace, self.trials.nodes)
+
     def has(self, *names: str) -> bool:
-        """Whether the program calls one of these functions, as far as its names tell."""
-        return not self.code.names or any(f"__wrap_{it}" in self.code.names for it in names)
+        """Whether the program has one of these functions, as far as its names tell."""
+        return not self.code.names or any(it in self.code.names for it in names)
 
     # What runs come to.
 
@@ -94,6 +112,14 @@ class Portable:
         if not self.variables:
             return None
         return variables.difference(self.variables, self.memories(Choices()), self.memories(choices))
+
+    def base(self) -> Ending:
+        """What the build that takes choices comes to where none is made. Messages stay in the machine where there is no room for them."""
+        try:
+            return self.trials.run(Choices())
+        except NoRoom:
+            self.trials.room = 0
+            return self.trials.run(Choices(seed=1))
 
     def ends_otherwise(self, choices: Choices) -> bool:
         """Whether a run has another output or outcome."""
@@ -113,26 +139,33 @@ class Portable:
     def look(self) -> None:
         """Looks for all, and takes down what is found."""
         self.contested()
-        base = self.trials.run(Choices())
+        base = self.base()
         if base != self.ended:
             difference = parted(self.ended, base)
             self.verdict.found.append(["another output where code and variables lie elsewhere, as in another build", f"then   {difference}"])
             self.ended = base
             self.fresh()
             return
-        self.messages()
-        self.unbuffered()
+        self.tried("messages in other orders", self.messages)
+        self.tried("unbuffered calls at other times", self.unbuffered)
         self.fresh()
+
+    def tried(self, what: str, look: Callable[[], None]) -> None:
+        """Looks for something where there is room for what is kept."""
+        try:
+            if not self.trials.room:
+                raise NoRoom
+            look()
+        except NoRoom:
+            self.verdict.notes.append(f"not tried: {what}, since the memory has no room for them above the program's own")
 
     def contested(self) -> None:
         """Bytes that two requests of a superstep write."""
         program, settings = self.subject.program, self.subject.settings
         looked_at = contested.by_emulator(program, settings, self.subject.folder)
-        trace = Tracer(self.subject.code.know_names(), Replays([*program, "debug", *settings], self.subject.options.memory))
         if looked_at is None:
-            names = self.subject.code.names
-            has_puts = not names or "bsp_put" in names or "bsp_hpput" in names
-            looked_at = contested.by_pairs(trace, self.trials.nodes, self.ended.last) if has_puts else Looked([], is_exact=False)
+            has_puts = self.has("bsp_put", "__wrap_bsp_hpput")
+            looked_at = contested.by_pairs(self.steps, self.ended.last) if has_puts else Looked([], is_exact=False)
             if has_puts and looked_at.is_whole and not looked_at.found:
                 self.verdict.notes.append("looked at: the puts of each superstep, in pairs: no two write other bytes to one place")
             if not looked_at.is_whole:
@@ -141,14 +174,11 @@ class Portable:
             self.verdict.exact = f"portable: nothing contested in {counted(self.supersteps, 'superstep')} (exact)"
         if looked_at.found:
             first = looked_at.found[0]
-            self.verdict.found.append(told_contested(trace, first, len(looked_at.found) - 1))
+            self.verdict.found.append(told_contested(self.trace, first, len(looked_at.found) - 1))
 
     def messages(self) -> None:
         """Messages in other orders. That they lie in another order at the end is no mistake by itself."""
         if not self.has(*QUEUE):
-            return
-        if not self.trials.room:
-            self.verdict.notes.append("not tried: messages in other orders, since the memory leaves no room for them")
             return
         for choices in ORDERS:
             if self.ends_otherwise(choices):
@@ -163,10 +193,10 @@ class Portable:
 
     def unbuffered(self) -> None:
         """bsp_hpput and bsp_hpget at other times."""
-        if not self.has("bsp_hpput", "bsp_hpget"):
+        if not self.has(*CALLS):
             return
-        if not self.trials.room:
-            self.verdict.notes.append("not tried: unbuffered calls at other times, since the memory leaves no room for them")
+        if (touched := remote.touched(self.steps, self.ended.last)) is not None:
+            self.verdict.found.append(self.told_touched(touched))
             return
         watched = self.trials.run(Choices(unbuffered=WATCHED))
         if watched != self.ended and (rank := re.match(r"rank (\d+) stopped: aborted", watched.outcome)) is not None:
@@ -204,9 +234,10 @@ class Portable:
         told = []
         for nodes in (it for it in (self.trials.nodes - 1, self.trials.nodes + 1) if 1 <= it <= MOST_NODES):
             ending = self.subject.run(nodes)
-            output = "the same output" if ending.output == self.ended.output else "another output"
-            told.append(f"on {counted(nodes, 'node')} {output if ending.outcome == self.ended.outcome else ending.outcome}")
-        self.verdict.notes.append(f"for information: {', '.join(told)}")
+            if MORE_NODES not in ending.output:
+                output = "the same output" if ending.output == self.ended.output else "another output"
+                told.append(f"on {counted(nodes, 'node')} {output if ending.outcome == 'ended' else ending.outcome}")
+        self.verdict.notes += [f"for information: {', '.join(told)}"] if told else []
 
     # What is told of each.
 
@@ -226,7 +257,7 @@ class Portable:
             it = sends[order[at]]
             where = place(self.code, it.node)
             lines.append(f"sent   by rank {it.node.rank} in superstep {superstep - 1}, at {where}: {shown(it.content)}")
-        takers = self.entries(replays, Point(superstep, rank, 0), "bsp_move", "bsp_hpmove", "bsp_get_tag")
+        takers = self.entries(replays, Point(superstep, rank, 0), *QUEUE[1:])
         if takers is not None:
             lines.append(f"taken  by rank {rank}, at {place(self.code, takers.node)}")
         return [*lines, f"then   {other.difference}", f"why    {WHY_MESSAGES}"]
@@ -241,7 +272,7 @@ class Portable:
 
     def entries(self, replays: Replays, point: Point, *names: str) -> Stop | None:
         """A rank where it calls one of these functions in a superstep for the n-th time, `point` says for which."""
-        points = [(point.rank, self.code.names[f"__wrap_{it}"]) for it in names if f"__wrap_{it}" in self.code.names]
+        points = [(point.rank, self.code.names[it]) for it in names if it in self.code.names]
         script = [*replays.begin(point.superstep), f"break superstep {point.superstep + 1}"]
         calls = stops(replays, script, points, lambda node: (node.x[11], node.x[14]))
         return next((it for it in calls if it.number == point.which), None) if points else None
@@ -250,7 +281,7 @@ class Portable:
         """A bsp_hpput whose source is another one at bsp_sync."""
         replays = self.trials.replays(Choices())
         lines = ["bsp_hpput has other bytes at its source at bsp_sync than at the call"]
-        call = self.entries(replays, point, "bsp_hpput", "bsp_hpget")
+        call = self.entries(replays, point, *CALLS)
         lines += self.told_entry(point, call)
         if call is not None:
             lines += self.told_change(replays, point, call)
@@ -267,27 +298,38 @@ class Portable:
 
     def told_change(self, replays: Replays, point: Point, call: Stop) -> list[str]:
         """Where the source of a call changes, and what it has before and behind that."""
-        address, count = call.node.x[11], call.node.x[14]
-        entries = [self.code.names[f"__wrap_{it}"] for it in ("bsp_hpput", "bsp_hpget") if f"__wrap_{it}" in self.code.names]
+        entries = [self.code.names[it] for it in CALLS if it in self.code.names]
         script = [*replays.begin(point.superstep), *(f"break {point.rank} {it}" for it in entries), *["go"] * (call.number + 1)]
         script += [f"clear {point.rank} {it}" for it in entries]
+        where, content = self.changed_at(replays, script, point.rank, call.node.x[11], call.content)
+        return [f"other  at {where}: {differing(call.content, content)}"]
+
+    def changed_at(self, replays: Replays, script: list[str], rank: int, address: int, content: bytes) -> tuple[str, bytes]:
+        """Where a rank changes bytes of its memory in the superstep to which a script comes, and what they are at its end."""
 
         def after(steps: int) -> tuple[Node, bytes]:
             with replays.session() as session:
-                session.ask_all([*script, f"step {point.rank} {steps}"])
-                return looked(replays, session, point.rank), memory_of(session, point.rank, address, count)
+                session.ask_all([*script, f"step {rank} {steps}"])
+                return looked(replays, session, rank), memory_of(session, rank, address, len(content))
             raise Refused("the run could not be made again")
 
-        end, content = after(ALL)
-        steps = least(0, end.ticks - call.node.ticks, lambda it: after(it)[1] != call.content)
-        where = place(self.code, after(steps - 1)[0])
-        at = next((i for i, (a, b) in enumerate(zip(call.content, content)) if a != b), 0)
-        return [f"other  at {where}: from byte {at} on {shown(call.content[at:])}, and then {shown(content[at:])}"]
+        end, other = after(ALL)
+        steps = least(0, end.ticks - after(0)[0].ticks, lambda it: after(it)[1] != content)
+        return place(self.code, after(steps - 1)[0]), other
+
+    def told_touched(self, it: Touched) -> list[str]:
+        """An unbuffered call whose bytes at the other rank are written there."""
+        lines = [f"rank {it.owner} writes in a superstep what an unbuffered call of rank {it.rank} names there"]
+        lines.append(f"superstep {it.superstep}, rank {it.rank}: {spelled(self.trace.code, it.call.node)}")
+        lines.append(f"at     {self.trace.place_of(it.rank, TRACED, 0, it.call)}")
+        where, _ = self.changed_at(self.trace.replays, self.trace.replays.begin(it.superstep), it.owner, it.address, it.before)
+        lines.append(f"and    rank {it.owner} at {where}: {differing(it.before, it.after)}")
+        return [*lines, f"why    {WHY_UNBUFFERED}"]
 
     def told_call(self, other: Other) -> list[str]:
         """An unbuffered call of which the time counts."""
         chosen = self.trials.first(other.choices, self.supersteps, other.is_other)
-        call = self.entries(self.trials.replays(chosen), chosen.until, "bsp_hpput", "bsp_hpget")
+        call = self.entries(self.trials.replays(chosen), chosen.until, *CALLS)
         lines = [f"something else where {described(other.choices)}", *self.told_entry(chosen.until, call)]
         return [*lines, f"then   {other.difference}", f"why    {WHY_UNBUFFERED}"]
 
@@ -296,7 +338,7 @@ class Portable:
         chosen = self.trials.first(other.choices, self.supersteps, other.is_other)
         superstep, rank, index = chosen.until
         lines = [f"something else where {described(other.choices)}"]
-        piece = self.entries(self.trials.replays(chosen), chosen.until, "malloc")
+        piece = self.entries(self.trials.replays(chosen), chosen.until, "__wrap_malloc")
         if piece is not None:
             size = counted(piece.node.x[10], "byte")
             lines.append(f"superstep {superstep}, rank {rank}: {size} are taken at {place(self.code, piece.node)}")
@@ -336,6 +378,12 @@ def told_contested(trace: Tracer, it: Contested, others: int) -> list[str]:
     return [*lines, *([f"and    {counted(others, 'more pair')} of requests"] if others else []), f"why    {WHY_PUTS}"]
 
 
+def differing(one: bytes, other: bytes) -> str:
+    """The first bytes in which two texts of the same length differ."""
+    at = next((i for i, (a, b) in enumerate(zip(one, other)) if a != b), 0)
+    return f"from byte {at} on {shown(one[at:])}, and then {shown(other[at:])}"
+
+
 def told_variable(found: variables.Difference) -> str:
     """A variable that has something else at the end."""
     offset = f" + {found.offset}" if found.offset else ""
@@ -368,7 +416,7 @@ def built(subject: Subject, ticks: int, *options: str) -> tuple[Trials, list[str
     target = subject.folder / "portable.elf"
     said = compiled(subject.options, target, "--portable", *options)
     content = content_of(target, MOST_PROGRAM)
-    return Trials(subject, content, read_elf(content).know_names(), ticks), said
+    return Trials(subject, content, read_elf(content), ticks), said
 
 
 def is_portable(subject: Subject, written: bytes) -> bool:

@@ -18,12 +18,17 @@ from .choices import WORD, Choices, Point, image_with
 from .program import Code
 from .replays import Replays, bytes_of
 
-# Bytes above the program's memory, where messages and calls are kept.
+# Bytes above the program's memory, where messages and calls are kept, and what the library says where they are too few.
 ROOM = 1 << 22
+NO_ROOM = b": there is no room for what bsprun --portable keeps\n"
 # How many more instructions a run under choices may make, and how many times as many.
 MORE_TICKS, TIMES = 100_000_000, 20
 # Bytes that are looked at where a call names some.
 MOST_SHOWN = 1 << 16
+
+
+class NoRoom(Exception):
+    """The messages or calls of a superstep find no room above the program's memory."""
 
 
 @dataclass(frozen=True)
@@ -96,7 +101,10 @@ class Trials:
     def _run(self, choices: Choices) -> Ending:
         show("bsprun: trying other choices")
         workers = ["--workers", str(self.subject.options.workers)]
-        return ending_of(emulator.run([*self.subject.program, "run", *self._settings_for(choices), *workers, "--report"]).stdout)
+        ending = ending_of(emulator.run([*self.subject.program, "run", *self._settings_for(choices), *workers, "--report"]).stdout)
+        if NO_ROOM in ending.output and ending.outcome != "ended":
+            raise NoRoom
+        return ending
 
     def replays(self, choices: Choices) -> Replays:
         """The same run in the debugger, up to the next one that is asked for."""

@@ -122,12 +122,12 @@ def meetings(steps: Steps, last: int) -> Iterator[tuple[int, int, Landing, Landi
                     areas[rank].take(call)
 
 
-def landings_of(steps: Steps, areas: list[Areas], superstep: int) -> list[tuple[int, Landing]]:
-    """Where the puts of a superstep land, with the target's rank."""
+def landings_of(steps: Steps, areas: list[Areas], superstep: int, numbers: tuple[int, ...] = PUTS) -> list[tuple[int, Landing]]:
+    """Where the puts of a superstep land, or which bytes its other requests of these numbers name, with the target's rank."""
     found = []
     for rank in range(steps.nodes):
         for call in steps.of(rank, superstep):
-            if call.number in PUTS and call.operand("nbytes") > 0:
+            if call.number in numbers and call.operand("nbytes") > 0:
                 target, position = call.operand("pid"), areas[rank].position(call.area)
                 if position is not None and 0 <= target < steps.nodes and position < len(areas[target].entries):
                     start = areas[target].entries[position][0] + call.operand("offset")

@@ -1,0 +1,56 @@
+"""Unbuffered calls whose bytes at the other rank are written there in the same superstep: who comes first is open."""
+
+from __future__ import annotations
+
+from typing import NamedTuple
+
+from .calls import CHANGES, HPGET, HPPUT, Areas, Call
+from .trials import memory_of
+from .warn import Landing, Steps, landings_of
+
+# How many supersteps with such calls are looked at.
+MOST_SUPERSTEPS = 64
+
+
+class Touched(NamedTuple):
+    """A call of a rank, and the bytes that it names at another one: where they are, what they are when the superstep begins, and what when
+    that rank has come to its end."""
+
+    superstep: int
+    rank: int
+    call: Call
+    owner: int
+    address: int
+    before: bytes
+    after: bytes
+
+
+def touched(steps: Steps, last: int) -> Touched | None:
+    """The first such call of a run."""
+    areas = [Areas() for _ in range(steps.nodes)]
+    looked = 0
+    for superstep in range(last):
+        made = landings_of(steps, areas, superstep, (HPPUT, HPGET))
+        looked += bool(made)
+        found = touched_in(steps, superstep, made) if looked <= MOST_SUPERSTEPS else None
+        if found is not None:
+            return found
+        for rank in range(steps.nodes):
+            for call in steps.of(rank, superstep):
+                if call.number in CHANGES:
+                    areas[rank].take(call)
+    return None
+
+
+def touched_in(steps: Steps, superstep: int, made: list[tuple[int, Landing]]) -> Touched | None:
+    """The first such call of a superstep."""
+    replays = steps.trace.replays
+    with replays.session() as session:
+        session.ask_all(replays.begin(superstep))
+        before = [memory_of(session, owner, it.start, it.end - it.start) for owner, it in made]
+        session.ask("phase")
+        for (owner, it), content in zip(made, before):
+            after = memory_of(session, owner, it.start, it.end - it.start)
+            if after != content:
+                return Touched(superstep, it.rank, it.call, owner, it.start, content, after)
+    return None

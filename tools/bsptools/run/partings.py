@@ -64,7 +64,7 @@ def calls_of(trials: Trials, choices: Choices) -> Iterator[Stop]:
     trials.code.know_names()
     sites = [it for it in trials.code.calls() if trials.code.name_at(it) not in ASKING]
     points = [(rank, site) for rank in range(trials.nodes) for site in sites][:MOST_POINTS]
-    return itertools.islice(stops(trials.replays(choices), [], points, read_by), MOST_CALLS)
+    return itertools.islice(stops(trials.replays(choices), trials.code, [], points, read_by), MOST_CALLS)
 
 
 def deeds(trials: Trials, choices: Choices) -> dict[int, list[tuple[Deed, Node]]]:
@@ -78,7 +78,7 @@ def deeds(trials: Trials, choices: Choices) -> dict[int, list[tuple[Deed, Node]]
         superstep = supersteps.setdefault(node.rank, 0)
         supersteps[node.rank] += number == SYNC
         operands = tuple(node.x[10 + i] for i, it in enumerate(NAMES[number][1]) if not it.startswith("*"))
-        found.setdefault(node.rank, []).append((Deed(superstep, number, operands, stop.content), node._replace(stack=node.stack[:4096])))
+        found.setdefault(node.rank, []).append((Deed(superstep, number, operands, stop.content), node))
     return found
 
 

@@ -267,14 +267,14 @@ class Portable:
         sites = self.code.calls_of("bsp_send", "bsp_hpsend")
         points = [(it, site) for it in range(self.trials.nodes) for site in sites]
         script = [*replays.begin(superstep), f"break superstep {superstep + 1}"]
-        found = list(stops(replays, script, points, lambda node: (node.x[12], node.x[13]))) if len(points) < 1000 else []
+        found = list(stops(replays, self.code, script, points, lambda node: (node.x[12], node.x[13]))) if len(points) < 1000 else []
         return sorted((it for it in found if it.node.x[10] == rank and it.node.x[17] == 12), key=lambda it: it.node.rank)
 
     def entries(self, replays: Replays, point: Point, *names: str) -> Stop | None:
         """A rank where it calls one of these functions in a superstep for the n-th time, `point` says for which."""
         points = [(point.rank, self.code.names[it]) for it in names if it in self.code.names]
         script = [*replays.begin(point.superstep), f"break superstep {point.superstep + 1}"]
-        calls = stops(replays, script, points, lambda node: (node.x[11], node.x[14]))
+        calls = stops(replays, self.code, script, points, lambda node: (node.x[11], node.x[14]))
         return next((it for it in calls if it.number == point.which), None) if points else None
 
     def told_source(self, point: Point) -> list[str]:
@@ -301,28 +301,28 @@ class Portable:
         entries = [self.code.names[it] for it in CALLS if it in self.code.names]
         script = [*replays.begin(point.superstep), *(f"break {point.rank} {it}" for it in entries), *["go"] * (call.number + 1)]
         script += [f"clear {point.rank} {it}" for it in entries]
-        where, content = self.changed_at(replays, script, point.rank, call.node.x[11], call.content)
+        where, content = self.changed_at(Tracer(self.code, replays), script, point.rank, call.node.x[11], call.content)
         return [f"other  at {where}: {differing(call.content, content)}"]
 
-    def changed_at(self, replays: Replays, script: list[str], rank: int, address: int, content: bytes) -> tuple[str, bytes]:
+    def changed_at(self, trace: Tracer, script: list[str], rank: int, address: int, content: bytes) -> tuple[str, bytes]:
         """Where a rank changes bytes of its memory in the superstep to which a script comes, and what they are at its end."""
 
         def after(steps: int) -> tuple[Node, bytes]:
-            with replays.session() as session:
+            with trace.replays.session() as session:
                 session.ask_all([*script, f"step {rank} {steps}"])
-                return looked(replays, session, rank), memory_of(session, rank, address, len(content))
+                return looked(session, trace.code, rank), memory_of(session, rank, address, len(content))
             raise Refused("the run could not be made again")
 
         end, other = after(ALL)
         steps = least(0, end.ticks - after(0)[0].ticks, lambda it: after(it)[1] != content)
-        return place(self.code, after(steps - 1)[0]), other
+        return place(trace.code, after(steps - 1)[0]), other
 
     def told_touched(self, it: Touched) -> list[str]:
         """An unbuffered call whose bytes at the other rank are written there."""
         lines = [f"rank {it.owner} writes in a superstep what an unbuffered call of rank {it.rank} names there"]
         lines.append(f"superstep {it.superstep}, rank {it.rank}: {spelled(self.trace.code, it.call.node)}")
         lines.append(f"at     {self.trace.place_of(it.rank, TRACED, 0, it.call)}")
-        where, _ = self.changed_at(self.trace.replays, self.trace.replays.begin(it.superstep), it.owner, it.address, it.before)
+        where, _ = self.changed_at(self.trace, self.trace.replays.begin(it.superstep), it.owner, it.address, it.before)
         lines.append(f"and    rank {it.owner} at {where}: {differing(it.before, it.after)}")
         return [*lines, f"why    {WHY_UNBUFFERED}"]
 

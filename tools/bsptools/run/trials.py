@@ -133,24 +133,27 @@ def least(low: int, high: int, holds: Callable[[int], bool]) -> int:
     return high
 
 
-def stops(replays: Replays, script: list[str], points: list[tuple[int, int]], named: Callable[[Node], tuple[int, int]]) -> Iterator[Stop]:
+def stops(
+    replays: Replays, code: Code, script: list[str], points: list[tuple[int, int]], named: Callable[[Node], tuple[int, int]]
+) -> Iterator[Stop]:
     """The stops of a run at these points, each a rank and an address, from where a script comes to. `named` says which bytes of the memory a
     call names, by address and number."""
     counts: dict[int, int] = {}
     with replays.session() as session:
         session.ask_all([*script, *(f"break {rank} {address}" for rank, address in points[: MOST_POINTS - 24])])
         while (found := session.ask("go").accepted()[0].split())[:3] == ["stopped", "at", "rank"]:
-            node = looked(replays, session, int(found[3]))
+            node = looked(session, code, int(found[3]))
             counts[node.rank] = counts.get(node.rank, -1) + 1
             yield Stop(node, counts[node.rank], memory_of(session, node.rank, *named(node)))
 
 
-def looked(replays: Replays, session: Session, rank: int) -> Node:
-    """A node with its stack, as it stands."""
+def looked(session: Session, code: Code, rank: int) -> Node:
+    """A node as it stands, with what is on its stack, which is not looked at in full where it is deep."""
     node = session.node(rank)
     if node is None:
         raise Refused(f"there is no rank {rank}")
-    return node._replace(stack=replays.stack(session, node))
+    depth = code.names.get("__stack_top", 0) - node.x[2]
+    return node._replace(stack=memory_of(session, rank, node.x[2], depth))
 
 
 def memory_of(session: Session, rank: int, address: int, count: int) -> bytes:

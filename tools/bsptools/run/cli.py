@@ -260,5 +260,5 @@ def main(words: list[str]) -> int:
             tell(["bsprun: not tried: other choices, since the run does not end well as it is"])
         elif options.portable and status == 0:
             subject = Subject(options, job.program, job.code, job.settings, folder)
-            return 0 if is_portable(subject, done.stdout) else OTHERWISE
+            return 0 if is_portable(subject, done) else OTHERWISE
         return status

@@ -5,6 +5,7 @@ from __future__ import annotations
 import argparse
 import functools
 import pathlib
+import subprocess
 from collections.abc import Callable, Iterator
 from dataclasses import dataclass, field
 from typing import NamedTuple
@@ -12,7 +13,7 @@ from typing import NamedTuple
 from .. import emulator
 from ..debugger import Node, Session
 from ..limits import MOST_MEMORY, MOST_POINTS, MOST_TICKS
-from ..refusals import Refused, show
+from ..refusals import Refused, lines_of, show
 from . import report
 from .choices import WORD, Choices, Point, image_with
 from .program import Code
@@ -54,14 +55,14 @@ class Subject(NamedTuple):
         """The program as it is, on some number of nodes."""
         settings = list(self.settings)
         settings[settings.index("--nodes") + 1] = str(nodes)
-        return ending_of(emulator.run([*self.program, "run", *settings, "--report"]).stdout)
+        return ending_of(emulator.run([*self.program, "run", *settings, "--report"]))
 
 
-def ending_of(written: bytes) -> Ending:
+def ending_of(done: subprocess.CompletedProcess[bytes]) -> Ending:
     """What a run with a report came to."""
-    parted = report.part(written)
+    parted = report.part(done.stdout)
     if parted is None:
-        raise Refused("a run of the program under choices was not made")
+        raise Refused("the program could not be run once more", *lines_of(done.stderr))
     output, found = parted
     return Ending(bytes(output), found.outcome, found.supersteps[-1].number)
 
@@ -79,12 +80,7 @@ class Trials:
 
     def __init__(self, subject: Subject, content: bytes, code: Code, ticks: int) -> None:
         self.subject, self.content, self.code, self.ticks = subject, content, code, ticks
-        memory = subject.options.memory
-        self.room = min(MOST_MEMORY - memory, ROOM)
-        settings = list(subject.settings)
-        settings[settings.index("--memory") + 1] = str(memory + self.room)
-        settings[settings.index("--limit") + 1] = str(min(TIMES * ticks + MORE_TICKS, MOST_TICKS))
-        self.settings = settings
+        self.room = min(MOST_MEMORY - subject.options.memory, ROOM)
         self.run = functools.lru_cache(maxsize=None)(self._run)
 
     @property
@@ -95,13 +91,22 @@ class Trials:
     def _settings_for(self, choices: Choices) -> list[str]:
         """The settings of a run, of which the image is written."""
         image = self.subject.folder / "chosen.elf"
-        image.write_bytes(image_with(self.content, choices._replace(memory=self.subject.options.memory if self.room else 0)))
-        return [str(image), *self.settings[1:]]
+        memory = self.subject.options.memory
+        image.write_bytes(image_with(self.content, choices._replace(memory=memory if self.room else 0)))
+        settings = [str(image), *self.subject.settings[1:]]
+        settings[settings.index("--memory") + 1] = str(memory + self.room)
+        settings[settings.index("--limit") + 1] = str(min(TIMES * self.ticks + MORE_TICKS, MOST_TICKS))
+        return settings
+
+    def go_without_room(self) -> None:
+        """Leaves messages and calls to the machine, which has room for them."""
+        self.room = 0
+        self.run.cache_clear()
 
     def _run(self, choices: Choices) -> Ending:
         show("bsprun: trying other choices")
         workers = ["--workers", str(self.subject.options.workers)]
-        ending = ending_of(emulator.run([*self.subject.program, "run", *self._settings_for(choices), *workers, "--report"]).stdout)
+        ending = ending_of(emulator.run([*self.subject.program, "run", *self._settings_for(choices), *workers, "--report"]))
         if NO_ROOM in ending.output and ending.outcome != "ended":
             raise NoRoom
         return ending
@@ -110,12 +115,13 @@ class Trials:
         """The same run in the debugger, up to the next one that is asked for."""
         return Replays([*self.subject.program, "debug", *self._settings_for(choices)], self.subject.options.memory)
 
-    def first(self, choices: Choices, supersteps: int, is_other: Callable[[Choices], bool]) -> Choices:
+    def first(self, choices: Choices, is_other: Callable[[Choices], bool]) -> Choices:
         """The same choices up to the first that, with those before it, makes the run come to something else; `until` is that point."""
 
         def at(point: Point) -> bool:
             return is_other(choices._replace(until=point))
 
+        supersteps = max(self.run(it).last for it in (choices, Choices())) + 1
         superstep = least(0, supersteps, lambda it: at(Point(it, 0, 0))) - 1
         rank = least(0, self.nodes, lambda it: at(Point(superstep, it, 0))) - 1
         most = 1

@@ -7,7 +7,7 @@ int main(void)
     int s, i, count, bytes, value, ends = 0;
     bsp_begin(bsp_nprocs());
     s = bsp_pid();
-    bsp_send(0, NULL, &s, sizeof s); /* here */
+    bsp_hpsend(0, NULL, &s, sizeof s); /* here */
     bsp_sync();
     bsp_qsize(&count, &bytes);
     for (i = 0; i < count; i++) {

@@ -38,6 +38,8 @@ NAMES = {
 }
 # The library's functions that make the calls of which a trace is asked for.
 FUNCTIONS = {**{number: name for number, (name, _) in NAMES.items()}, WRITE: "bsp_stdio_flush"}
+# Other names of functions that make them.
+ALSO = {PUSH: "bsp_pushregister", POP: "bsp_popregister", SEND: "bsp_hpsend"}
 
 
 class Call(NamedTuple):
@@ -104,7 +106,7 @@ class Tracer:
 
     def sites(self, numbers: tuple[int, ...]) -> list[int]:
         """The addresses from which these calls are made."""
-        return self.code.calls_of(*(FUNCTIONS[it] for it in numbers))
+        return self.code.calls_of(*(FUNCTIONS[it] for it in numbers), *(name for it, name in ALSO.items() if it in numbers))
 
     def calls(self, rank: int, numbers: tuple[int, ...], superstep: int = 0) -> list[Call]:
         """The calls of these numbers that a rank made from the beginning of a superstep to the run's end."""

@@ -72,7 +72,7 @@ class Findings:
 
     def messages_to(self, replays: Replays, superstep: int, rank: int) -> list[Stop]:
         """The messages that are sent to a rank in a superstep, in the order in which they come here; none where there are too many ranks."""
-        sites = self.code.calls_of("bsp_send", "bsp_hpsend")
+        sites = Tracer(self.code, replays).sites((SEND,))
         points = [(it, site) for it in range(self.trials.nodes) for site in sites]
         script = [*replays.begin(superstep), f"break superstep {superstep + 1}"]
         found = list(stops(replays, self.code, script, points, lambda node: (node.x[12], node.x[13]))) if len(points) < 1000 else []

@@ -80,6 +80,8 @@ class Trials:
 
     def __init__(self, subject: Subject, content: bytes, code: Code, ticks: int) -> None:
         self.subject, self.content, self.code, self.ticks = subject, content, code, ticks
+        # The program has no less memory behind its variables than it has as it is.
+        self.memory = subject.options.memory + max(code.need - subject.code.need, 0)
         self.room = min(MOST_MEMORY - subject.options.memory, ROOM)
         self.run = functools.lru_cache(maxsize=None)(self._run)
 
@@ -91,10 +93,9 @@ class Trials:
     def _settings_for(self, choices: Choices) -> list[str]:
         """The settings of a run, of which the image is written."""
         image = self.subject.folder / "chosen.elf"
-        memory = self.subject.options.memory
-        image.write_bytes(image_with(self.content, choices._replace(memory=memory if self.room else 0)))
+        image.write_bytes(image_with(self.content, choices._replace(memory=self.memory if self.room else 0)))
         settings = [str(image), *self.subject.settings[1:]]
-        settings[settings.index("--memory") + 1] = str(memory + self.room)
+        settings[settings.index("--memory") + 1] = str(self.subject.options.memory + self.room)
         settings[settings.index("--limit") + 1] = str(min(TIMES * self.ticks + MORE_TICKS, MOST_TICKS))
         return settings
 

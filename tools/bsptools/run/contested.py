@@ -41,10 +41,11 @@ class Looked(NamedTuple):
 
 
 def read(text: str) -> list[Contested]:
-    """The rows of a file of `bspemu run --contested`."""
+    """The rows of a file of `bspemu run --contested`, by the names of its columns."""
+    columns = ["bytes" if it == "size" else it for it in Contested._fields]
     try:
-        return [Contested(*map(int, row)) for row in list(csv.reader(io.StringIO(text)))[1:]]
-    except (ValueError, TypeError) as error:
+        return [Contested._make(int(row[it]) for it in columns) for row in csv.DictReader(io.StringIO(text))]
+    except (ValueError, TypeError, KeyError) as error:
         raise Refused(f"the emulator's contested bytes cannot be read: {error}") from error
 
 
@@ -56,7 +57,7 @@ def by_emulator(program: list[str], settings: list[str], folder: pathlib.Path) -
     done = emulator.run([*program, "run", *settings, "--contested", str(file)])
     if not file.exists():
         raise Refused("the emulator's contested bytes were not written", *done.stderr.decode(errors="replace").splitlines())
-    return Looked([it for it in read(file.read_text()) if it.first_byte != it.second_byte], is_exact=True)
+    return Looked(read(file.read_text()), is_exact=True)
 
 
 def by_pairs(steps: Steps, last: int) -> Looked:

@@ -22,7 +22,8 @@ from .trials import Ending, Stop, Trials, least, looked, memory_of, stops
 from .warn import TRACED
 
 # What the linker calls in the place of these functions, in a program that has them.
-QUEUE = ("__wrap_bsp_qsize", "__wrap_bsp_get_tag", "__wrap_bsp_move", "__wrap_bsp_hpmove")
+TAKING = ("__wrap_bsp_move", "__wrap_bsp_hpmove")
+QUEUE = (*TAKING, "__wrap_bsp_qsize", "__wrap_bsp_get_tag")
 CALLS = ("__wrap_bsp_hpput", "__wrap_bsp_hpget")
 UNSET = re.compile(r"^(.*?):(\d+):\d+: warning: (.*) \[-W(?:maybe-)?uninitialized\]$")
 MOST_TOLD = 3
@@ -65,9 +66,9 @@ class Findings:
             it = sends[order[at]]
             where = place(self.code, it.node)
             lines.append(f"sent   by rank {it.node.rank} in superstep {superstep - 1}, at {where}: {shown(it.content)}")
-        takers = self.entries(replays, Point(superstep, rank, 0), *QUEUE[1:])
-        if takers is not None:
-            lines.append(f"taken  by rank {rank}, at {place(self.code, takers.node)}")
+        taker = self.entries(replays, chosen.until, *TAKING) or self.entries(replays, Point(superstep, rank, 0), *QUEUE)
+        if taker is not None:
+            lines.append(f"taken  by rank {rank}, at {place(self.code, taker.node)}")
         return [*lines, f"then   {other.difference}", f"why    {WHY_MESSAGES}"]
 
     def messages_to(self, replays: Replays, superstep: int, rank: int) -> list[Stop]:

@@ -15,7 +15,6 @@ from . import contested, remote, report, variables
 from .calls import Tracer
 from .choices import EARLY, LATE, REVERSED, SHUFFLED, WATCHED, Choices, Point
 from .compiling import compiled
-from .contested import Looked
 from .findings import CALLS, QUEUE, Findings, Other, described, parted, told_contested, told_variable
 from .program import read_elf
 from .replays import Replays
@@ -154,20 +153,19 @@ class Portable:
 
     def contested(self) -> None:
         """Bytes that two requests of a superstep write."""
-        program, settings = self.subject.program, self.subject.settings
-        looked_at = contested.by_emulator(program, settings, self.subject.folder)
-        if looked_at is None:
-            has_puts = self.has("bsp_put", "__wrap_bsp_hpput")
-            looked_at = contested.by_pairs(self.steps, self.ended.last) if has_puts else Looked([], is_exact=False)
-            if has_puts and looked_at.is_whole and not looked_at.found:
-                self.verdict.notes.append("looked at: the puts of each superstep, in pairs: no two write other bytes to one place")
-            if not looked_at.is_whole:
-                self.verdict.notes.append("looked at: the first puts that meet, since there are too many for all")
-        elif not looked_at.found:
+        looked = contested.by_emulator(self.subject.program, self.subject.settings, self.subject.folder)
+        if looked is None and self.has("bsp_put", "__wrap_bsp_hpput"):
+            looked = contested.by_pairs(self.steps, self.ended.last)
+        if looked is None:
+            return
+        if looked.found:
+            self.verdict.found.append(told_contested(self.trace, looked.found[0], len(looked.found) - 1))
+        elif looked.is_exact:
             self.verdict.exact = f"portable: nothing contested in {counted(self.ended.last + 1, 'superstep')} (exact)"
-        if looked_at.found:
-            first = looked_at.found[0]
-            self.verdict.found.append(told_contested(self.trace, first, len(looked_at.found) - 1))
+        elif looked.is_whole:
+            self.verdict.notes.append("looked at: the puts of each superstep, in pairs: no two write other bytes to one place")
+        if not looked.is_whole:
+            self.verdict.notes.append("looked at: the first puts that meet, since there are too many for all")
 
     def messages(self) -> None:
         """Messages in other orders."""

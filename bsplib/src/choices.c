@@ -69,9 +69,12 @@ __attribute__((noreturn)) extern void __real_bsp_start(void);
 /* The stack grows down to the guard at address 0. */
 static void fill_stack(char *top, size_t most)
 {
-    char *from = (char *)(bsp_null + 4);
-    if (bsp_choices.stack != 0 && top > from)
-        memset((size_t)(top - from) > most ? top - most : from, (int)bsp_choices.stack, (size_t)(top - from) > most ? most : (size_t)(top - from));
+    char *lowest = (char *)(bsp_null + 4);
+    size_t count = top > lowest ? (size_t)(top - lowest) : 0;
+    if (count > most)
+        count = most;
+    if (bsp_choices.stack != 0)
+        memset(top - count, (int)bsp_choices.stack, count);
 }
 
 __attribute__((noreturn)) void __wrap_bsp_start(void)

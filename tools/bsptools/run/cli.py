@@ -139,7 +139,7 @@ def prepared(options: argparse.Namespace, folder: pathlib.Path) -> Job:
         tell(compiled(options, image))
         content, kind = content_of(image, MOST_PROGRAM), "elf"
     elif options.portable and choices.MAGIC not in content:
-        raise Refused(f"{options.program} takes no choices, which --portable makes: give a program in C, or what bspcc --portable has built")
+        raise Refused(f"{options.program} takes no choices, as --portable makes: give a program in C, or what bspcc --portable built")
     if kind == "asm":
         code = read_text(emulate, image.name, content, folder)
     elif kind == "raw":

@@ -72,7 +72,7 @@ class Findings:
         return [*lines, f"then   {other.difference}", f"why    {WHY_MESSAGES}"]
 
     def messages_to(self, replays: Replays, superstep: int, rank: int) -> list[Stop]:
-        """The messages that are sent to a rank in a superstep, in the order in which they come here; none where there are too many ranks."""
+        """The messages that are sent to a rank in a superstep, in the order in which they come here; none where ranks are too many."""
         sites = Tracer(self.code, replays).sites((SEND,))
         points = [(it, site) for it in range(self.trials.nodes) for site in sites]
         script = [*replays.begin(superstep), f"break superstep {superstep + 1}"]

@@ -14,7 +14,7 @@ from .trials import Stop, Trials, stops
 
 TRACED = (*REQUESTS, WRITE, SYNC)
 # Functions of bsplib/ with environment calls that ask and change nothing.
-ASKING = ("bsp_start", "bsp_begin", "bsp_nprocs", "bsp_pid", "bsp_input_read", "bsp_stdio_get", "bsp_qsize", "bsp_get_tag", "bsp_move", "_exit")
+ASKING = ("bsp_start", "bsp_begin", "bsp_nprocs", "bsp_pid", "bsp_input_read", "bsp_stdio_get", "bsp_qsize", "bsp_get_tag", "bsp_move")
 # How many calls of a run are compared.
 MOST_CALLS = 20_000
 MOST_POINTS = 1000

@@ -10,7 +10,7 @@ from dataclasses import dataclass, field
 
 from ..files import content_of
 from ..limits import MOST_NODES, MOST_PROGRAM
-from ..refusals import counted, show, tell
+from ..refusals import Refused, counted, show, tell
 from . import contested, remote, report, variables
 from .calls import Tracer
 from .choices import EARLY, LATE, REVERSED, SHUFFLED, WATCHED, Choices, Point
@@ -119,8 +119,8 @@ class Portable:
         return Other(choices, lambda it: self.difference(it) is not None, f"the output is the same; {told_variable(found)}")
 
     def note_variables(self, *tried: Choices) -> None:
-        """Tells, as no mistake by itself, of the first run whose variables end otherwise: an inbox may be in the order of arrival, and a text
-        have any bytes behind its end."""
+        """Tells, as no mistake by itself, of the first run whose variables end otherwise: an inbox may be in the order of arrival, and a
+        text have any bytes behind its end."""
         for choices in tried:
             if (found := self.difference(choices)) is not None:
                 self.verdict.notes.append(f"for information: where {described(choices)} the output is the same; {told_variable(found)}")
@@ -134,7 +134,7 @@ class Portable:
         base = self.base()
         if base != self.ended:
             difference = parted(self.ended, base)
-            self.verdict.found.append(["another output where code and variables lie elsewhere, as in another build", f"then   {difference}"])
+            self.verdict.found.append(["another output where code and variables lie elsewhere", f"then   {difference}"])
             self.ended = base
             self.fresh()
             return
@@ -188,7 +188,7 @@ class Portable:
             return
         watched = self.trials.run(Choices(unbuffered=WATCHED))
         if watched != self.ended and (rank := re.match(r"rank (\d+) stopped: aborted", watched.outcome)) is not None:
-            said = re.search(rb"^bsp: rank %b: %b(\d+)$" % (rank[1].encode(), CHANGED.encode()), watched.output, re.MULTILINE)
+            said = re.search(rb"bsp: rank %b: %b(\d+)\n" % (rank[1].encode(), CHANGED.encode()), watched.output)
             if said is not None:
                 self.verdict.found.append(self.findings.source(Point(watched.last, int(rank[1]), int(said[1]))))
                 return
@@ -213,6 +213,7 @@ class Portable:
         for value in VALUES if self.subject.options.sources else ():
             options = ["-Wuninitialized", "-Wmaybe-uninitialized", f"-ftrivial-auto-var-init={value}"]
             trials, said = built(self.subject, self.trials.ticks, *options)
+            trials.room = self.trials.room
             ending = trials.run(Choices())
             if ending != self.ended:
                 self.verdict.found.append(self.findings.stack(trials, Choices(), parted(self.ended, ending), said))
@@ -224,7 +225,10 @@ class Portable:
         """The program on one node less and one more, for information."""
         told = []
         for nodes in (it for it in (self.trials.nodes - 1, self.trials.nodes + 1) if 1 <= it <= MOST_NODES):
-            ending = self.subject.run(nodes)
+            try:
+                ending = self.subject.run(nodes, self.trials.limit)
+            except Refused:
+                continue
             if MORE_NODES not in ending.output:
                 output = "the same output" if ending.output == self.ended.output else "another output"
                 told.append(f"on {counted(nodes, 'node')} {output if ending.outcome == 'ended' else ending.outcome}")

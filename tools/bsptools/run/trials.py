@@ -51,10 +51,11 @@ class Subject(NamedTuple):
     settings: list[str]
     folder: pathlib.Path
 
-    def run(self, nodes: int) -> Ending:
-        """The program as it is, on some number of nodes."""
+    def run(self, nodes: int, limit: int) -> Ending:
+        """The program as it is, on some number of nodes and with another limit."""
         settings = list(self.settings)
         settings[settings.index("--nodes") + 1] = str(nodes)
+        settings[settings.index("--limit") + 1] = str(limit)
         return ending_of(emulator.run([*self.program, "run", *settings, "--report"]))
 
 
@@ -90,13 +91,18 @@ class Trials:
         """The number of nodes."""
         return int(self.subject.options.nodes)
 
+    @property
+    def limit(self) -> int:
+        """The most instructions of a node: a run under choices that goes on and on has an end."""
+        return min(TIMES * self.ticks + MORE_TICKS, MOST_TICKS)
+
     def _settings_for(self, choices: Choices) -> list[str]:
         """The settings of a run, of which the image is written."""
         image = self.subject.folder / "chosen.elf"
         image.write_bytes(image_with(self.content, choices._replace(memory=self.memory if self.room else 0)))
         settings = [str(image), *self.subject.settings[1:]]
         settings[settings.index("--memory") + 1] = str(self.subject.options.memory + self.room)
-        settings[settings.index("--limit") + 1] = str(min(TIMES * self.ticks + MORE_TICKS, MOST_TICKS))
+        settings[settings.index("--limit") + 1] = str(self.limit)
         return settings
 
     def go_without_room(self) -> None:
@@ -143,8 +149,8 @@ def least(low: int, high: int, holds: Callable[[int], bool]) -> int:
 def stops(
     replays: Replays, code: Code, script: list[str], points: list[tuple[int, int]], named: Callable[[Node], tuple[int, int]]
 ) -> Iterator[Stop]:
-    """The stops of a run at these points, each a rank and an address, from where a script comes to. `named` says which bytes of the memory a
-    call names, by address and number."""
+    """The stops of a run at these points, each a rank and an address, from where a script comes to. `named` says which bytes of the memory
+    a call names, by address and number."""
     counts: dict[int, int] = {}
     with replays.session() as session:
         session.ask_all([*script, *(f"break {rank} {address}" for rank, address in points[: MOST_POINTS - 24])])

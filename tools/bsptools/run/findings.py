@@ -131,7 +131,7 @@ class Findings:
         lines = [f"rank {it.owner} writes in a superstep what an unbuffered call of rank {it.rank} names there"]
         lines.append(f"superstep {it.superstep}, rank {it.rank}: {spelled(self.trace.code, it.call.node)}")
         lines.append(f"at     {self.trace.place_of(it.rank, TRACED, 0, it.call)}")
-        where, _ = self.changed_at(self.trace, self.trace.replays.begin(it.superstep), it.owner, it.address, it.before)
+        where, _ = self.changed_at(self.trace, it.script, it.owner, it.address, it.before)
         lines.append(f"and    rank {it.owner} at {where}: {differing(it.before, it.after)}")
         return [*lines, f"why    {WHY_UNBUFFERED}"]
 

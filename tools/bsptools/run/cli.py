@@ -25,7 +25,6 @@ from .places import place
 from .portable import is_portable
 from .program import Code, kind_of, read_elf, read_text
 from .replays import Replays
-from .trials import Subject
 from .warn import warnings
 from .why import Why
 
@@ -259,6 +258,5 @@ def main(words: list[str]) -> int:
         if options.portable and done.returncode in (2, 3, 4):
             tell(["bsprun: not tried: other choices, since the run does not end well as it is"])
         elif options.portable and status == 0:
-            subject = Subject(options, job.program, job.code, job.settings, folder)
-            return 0 if is_portable(subject, done) else OTHERWISE
+            return 0 if is_portable(options, job.program, job.settings, folder) else OTHERWISE
         return status

@@ -7,7 +7,7 @@ from collections.abc import Iterator
 from typing import NamedTuple
 
 from ..debugger import Node, signed
-from .calls import FUNCTIONS, NAMES, PUTS, REQUESTS, SEND, SYNC, WRITE
+from .calls import NAMES, PUTS, REQUESTS, SEND, SYNC, WRITE
 from .choices import Choices
 from .places import place
 from .trials import Stop, Trials, stops
@@ -31,7 +31,7 @@ class Deed(NamedTuple):
     @property
     def told(self) -> str:
         """The call, with some of its bytes."""
-        name = FUNCTIONS[self.number] if self.number != WRITE else "what is printed"
+        name = NAMES[self.number][0] if self.number != WRITE else "what is printed"
         return f"{name}, {shown(self.content)}" if self.content else name
 
 

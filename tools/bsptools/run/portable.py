@@ -2,23 +2,24 @@
 
 from __future__ import annotations
 
+import argparse
 import functools
+import pathlib
 import re
-import subprocess
 from collections.abc import Callable
 from dataclasses import dataclass, field
 
 from ..files import content_of
 from ..limits import MOST_NODES, MOST_PROGRAM
 from ..refusals import Refused, counted, show, tell
-from . import contested, remote, report, variables
+from . import contested, remote, variables
 from .calls import Tracer
 from .choices import EARLY, LATE, REVERSED, SHUFFLED, WATCHED, Choices, Point
 from .compiling import compiled
 from .findings import CALLS, QUEUE, Findings, Other, described, parted, told_contested, told_variable
 from .program import read_elf
 from .replays import Replays
-from .trials import Ending, NoRoom, Subject, Trials, ending_of
+from .trials import Ending, NoRoom, Subject, Trials
 from .warn import Steps
 
 ORDERS = (Choices(order=REVERSED), Choices(order=SHUFFLED, seed=1), Choices(order=SHUFFLED, seed=2))
@@ -100,10 +101,13 @@ class Portable:
     def base(self) -> Ending:
         """What the build that takes choices comes to where none is made. Messages stay in the machine where there is no room for them."""
         try:
-            return self.trials.run(Choices())
+            base = self.trials.run(Choices())
         except NoRoom:
+            base = None
+        if base is None or (base != self.ended and self.trials.memory < self.subject.options.memory):
             self.trials.go_without_room()
-            return self.trials.run(Choices())
+            base = self.trials.run(Choices())
+        return base
 
     def ends_otherwise(self, choices: Choices) -> bool:
         """Whether a run has another output or outcome."""
@@ -243,17 +247,19 @@ def built(subject: Subject, ticks: int, *options: str) -> tuple[Trials, list[str
     return Trials(subject, content, read_elf(content), ticks), said
 
 
-def is_portable(subject: Subject, done: subprocess.CompletedProcess[bytes]) -> bool:
-    """Tries a program of which this run, with its report, has ended. Tells what was found and what was tried; answers whether nothing was
+def is_portable(options: argparse.Namespace, program: list[str], settings: list[str], folder: pathlib.Path) -> bool:
+    """Tries a program whose run with these settings has ended well. Tells what was found and what was tried; answers whether nothing was
     found."""
-    parted_report = report.part(done.stdout)
-    ticks = sum(it.costs["w"] for it in parted_report[1].supersteps) if parted_report else 0
-    if subject.options.sources:
-        trials, _ = built(subject, ticks)
-    else:
-        content = content_of(subject.settings[0], MOST_PROGRAM)
-        trials = Trials(subject, content, read_elf(content), ticks)
-    portable = Portable(subject, trials, ending_of(done))
+    content = content_of(folder / "program.elf" if options.sources else options.program, MOST_PROGRAM)
+    image = folder / "plain.elf"
+    image.write_bytes(content)
+    subject = Subject(options, program, read_elf(content), [str(image), *settings[1:]], folder)
+    ended = subject.run(options.nodes, options.limit)
+    if ended.outcome != "ended":
+        tell(["bsprun: not tried: other choices, since the program by itself does not end well"])
+        return True
+    trials = built(subject, ended.ticks)[0] if options.sources else Trials(subject, content, read_elf(content), ended.ticks)
+    portable = Portable(subject, trials, ended)
     portable.look()
     portable.other_nodes()
     show("")

@@ -34,11 +34,12 @@ class NoRoom(Exception):
 
 @dataclass(frozen=True)
 class Ending:
-    """What a run wrote, and how it ended. Its last superstep is no part of what is compared."""
+    """What a run wrote, and how it ended. Its last superstep, and the sum of all w, are no part of what is compared."""
 
     output: bytes
     outcome: str
     last: int = field(compare=False)
+    ticks: int = field(compare=False)
 
 
 class Subject(NamedTuple):
@@ -65,7 +66,7 @@ def ending_of(done: subprocess.CompletedProcess[bytes]) -> Ending:
     if parted is None:
         raise Refused("the program could not be run once more", *lines_of(done.stderr))
     output, found = parted
-    return Ending(bytes(output), found.outcome, found.supersteps[-1].number)
+    return Ending(bytes(output), found.outcome, found.supersteps[-1].number, sum(it.costs["w"] for it in found.supersteps))
 
 
 class Stop(NamedTuple):
@@ -81,9 +82,9 @@ class Trials:
 
     def __init__(self, subject: Subject, content: bytes, code: Code, ticks: int) -> None:
         self.subject, self.content, self.code, self.ticks = subject, content, code, ticks
-        # The program has no less memory behind its variables than it has as it is.
-        self.memory = subject.options.memory + max(code.need - subject.code.need, 0)
-        self.room = min(MOST_MEMORY - subject.options.memory, ROOM)
+        # The program has as much memory behind its variables as it has as it is, but where a node has not so much.
+        self.memory = min(subject.options.memory + max(code.need - subject.code.need, 0), MOST_MEMORY - ROOM)
+        self.room = ROOM if code.need <= self.memory else 0
         self.run = functools.lru_cache(maxsize=None)(self._run)
 
     @property
@@ -101,7 +102,7 @@ class Trials:
         image = self.subject.folder / "chosen.elf"
         image.write_bytes(image_with(self.content, choices._replace(memory=self.memory if self.room else 0)))
         settings = [str(image), *self.subject.settings[1:]]
-        settings[settings.index("--memory") + 1] = str(self.subject.options.memory + self.room)
+        settings[settings.index("--memory") + 1] = str(min(self.subject.options.memory + self.room, MOST_MEMORY))
         settings[settings.index("--limit") + 1] = str(self.limit)
         return settings
 

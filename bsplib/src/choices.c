@@ -26,7 +26,7 @@ struct bsp_choices {
     unsigned stack;      /* the same below the stack's top, at the start and at each bsp_sync */
     struct point until;
 };
-struct bsp_choices bsp_choices __attribute__((section(".data"))) = {"\0bsprun\2", 0, 0, 0, 0, 0, 0, {0, 0, 0}};
+struct bsp_choices bsp_choices __attribute__((section(".data"))) = {"\0bsprun\4", 0, 0, 0, 0, 0, 0, {0, 0, 0}};
 
 /* What is below the stack's top at a bsp_sync and belongs to nobody, as far as it is filled there. */
 #define BELOW 2048

@@ -8,7 +8,7 @@ from typing import NamedTuple
 from ..refusals import Refused
 
 # What stands before the choices in an image. No text has such a byte at its end.
-MAGIC = b"\0bsprun\2"
+MAGIC = b"\0bsprun\4"
 # The order in which messages are handed out, and when bsp_hpput and bsp_hpget read and write.
 AS_SENT, REVERSED, SHUFFLED = range(3)
 AS_BUFFERED, EARLY, LATE, WATCHED = range(4)
@@ -41,9 +41,9 @@ class Choices(NamedTuple):
 
 def image_with(content: bytes, choices: Choices) -> bytes:
     """A program's image with these choices."""
-    at = content.find(MAGIC) + len(MAGIC)
-    if at < len(MAGIC):
-        raise Refused("the program was not built by bspcc --portable")
+    if content.count(MAGIC) != 1:
+        raise Refused("the program has no one place for choices: it was not built by bspcc --portable")
+    at = content.index(MAGIC) + len(MAGIC)
     words = struct.pack("<9I", *choices[:-1], *choices.until)
     return content[:at] + words + content[at + len(words) :]
 

@@ -4,13 +4,15 @@ from __future__ import annotations
 
 import csv
 import io
+import itertools
 import pathlib
+from collections.abc import Iterator
 from typing import NamedTuple
 
 from .. import emulator
 from ..refusals import Refused
-from .calls import REQUESTS, Call, Tracer
-from .warn import TRACED, Steps, meetings
+from .calls import PUTS, REQUESTS, Call, Tracer
+from .warn import TRACED, Landing, Steps, landings_in
 
 # How many puts that meet are looked at.
 MOST_PAIRS = 64
@@ -60,8 +62,18 @@ def by_emulator(program: list[str], settings: list[str], folder: pathlib.Path) -
     return Looked(read(file.read_text()), is_exact=True)
 
 
+def meetings(steps: Steps, last: int) -> Iterator[tuple[int, int, Landing, Landing]]:
+    """A superstep, a target's rank, and two puts that write the same byte of it."""
+    for superstep, landings in landings_in(steps, last, PUTS):
+        for i, (target, one) in enumerate(landings):
+            for other_target, other in itertools.islice(landings, i + 1, None):
+                if other_target != target or other.start >= one.end:
+                    break
+                yield superstep, target, one, other
+
+
 def by_pairs(steps: Steps, last: int) -> Looked:
-    """Puts of a superstep that write another byte to the same place, of those that stand beside one another by their first bytes."""
+    """Puts of a superstep that write another byte to the same place."""
     found: list[Contested] = []
     looked = 0
     for superstep, target, one, other in meetings(steps, last):

@@ -2,11 +2,12 @@
 
 from __future__ import annotations
 
+import itertools
 from typing import NamedTuple
 
-from .calls import CHANGES, HPGET, HPPUT, Areas, Call
+from .calls import HPGET, HPPUT, Call
 from .trials import memory_of
-from .warn import TRACED, Landing, Steps, landings_of
+from .warn import TRACED, Landing, Steps, landings_in
 
 # How many supersteps with such calls are looked at.
 MOST_SUPERSTEPS = 64
@@ -28,19 +29,9 @@ class Touched(NamedTuple):
 
 def touched(steps: Steps, last: int) -> Touched | None:
     """The first such call of a run."""
-    areas = [Areas() for _ in range(steps.nodes)]
-    looked = 0
-    for superstep in range(last):
-        made = landings_of(steps, areas, superstep, (HPPUT, HPGET))
-        looked += bool(made)
-        found = touched_in(steps, superstep, made) if looked <= MOST_SUPERSTEPS else None
-        if found is not None:
-            return found
-        for rank in range(steps.nodes):
-            for call in steps.of(rank, superstep):
-                if call.number in CHANGES:
-                    areas[rank].take(call)
-    return None
+    with_calls = ((superstep, made) for superstep, made in landings_in(steps, last, (HPPUT, HPGET)) if made)
+    found = (touched_in(steps, superstep, made) for superstep, made in itertools.islice(with_calls, MOST_SUPERSTEPS))
+    return next((it for it in found if it is not None), None)
 
 
 def touched_in(steps: Steps, superstep: int, made: list[tuple[int, Landing]]) -> Touched | None:

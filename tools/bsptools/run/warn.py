@@ -96,34 +96,32 @@ def other_order(steps: Steps, last: int) -> list[Finding]:
 
 
 def meeting(steps: Steps, last: int) -> list[Finding]:
-    """Puts of one superstep that write the same byte, each pair of places once."""
+    """Puts of one superstep that write the same byte and are neighbours by their first bytes, each pair of places once."""
     found: list[Finding] = []
     told = set()
-    for superstep, target, one, other in meetings(steps, last):
-        key = (one.call.node.pc, one.call.node.x[1], other.call.node.x[1])
-        if key not in told:
-            told.add(key)
-            begin = f"two puts of superstep {superstep} write byte {other.start:#x} of rank {target}: that of "
-            found.append([begin, (one.rank, one.call), ", and that of ", (other.rank, other.call)])
+    for superstep, landings in landings_in(steps, last, PUTS):
+        for (target, one), (other_target, other) in zip(landings, landings[1:]):
+            key = (one.call.node.pc, one.call.node.x[1], other.call.node.x[1])
+            if target == other_target and other.start < one.end and key not in told:
+                told.add(key)
+                begin = f"two puts of superstep {superstep} write byte {other.start:#x} of rank {target}: that of "
+                found.append([begin, (one.rank, one.call), ", and that of ", (other.rank, other.call)])
     return found
 
 
-def meetings(steps: Steps, last: int) -> Iterator[tuple[int, int, Landing, Landing]]:
-    """A superstep, a target's rank, and two puts that write the same byte of it, of those that are neighbours by the first byte."""
+def landings_in(steps: Steps, last: int, numbers: tuple[int, ...]) -> Iterator[tuple[int, list[tuple[int, Landing]]]]:
+    """Each superstep but the last, with where its requests of these numbers land or read, by the targets' ranks and the first bytes."""
     areas = [Areas() for _ in range(steps.nodes)]
     for superstep in range(last):
-        landings = sorted(landings_of(steps, areas, superstep), key=lambda it: (it[0], it[1].start))
-        for (target, one), (other_target, other) in zip(landings, landings[1:]):
-            if target == other_target and other.start < one.end:
-                yield superstep, target, one, other
+        yield superstep, sorted(landings_of(steps, areas, superstep, numbers), key=lambda it: (it[0], it[1].start))
         for rank in range(steps.nodes):
             for call in steps.of(rank, superstep):
                 if call.number in (PUSH, POP):
                     areas[rank].take(call)
 
 
-def landings_of(steps: Steps, areas: list[Areas], superstep: int, numbers: tuple[int, ...] = PUTS) -> list[tuple[int, Landing]]:
-    """Where the puts of a superstep land, or which bytes its other requests of these numbers name, with the target's rank."""
+def landings_of(steps: Steps, areas: list[Areas], superstep: int, numbers: tuple[int, ...]) -> list[tuple[int, Landing]]:
+    """The bytes of areas that the requests of these numbers name in a superstep, with the target's rank."""
     found = []
     for rank in range(steps.nodes):
         for call in steps.of(rank, superstep):

@@ -14,8 +14,8 @@ MOST_SUPERSTEPS = 64
 
 
 class Touched(NamedTuple):
-    """A call of a rank, and the bytes that it names at another one, or at its own: where they are, what they are where a script comes to, and
-    what when that rank has come to the end of the superstep."""
+    """A call of a rank, and the bytes that it names at another one, or at its own: where they are, what they are where a script comes to,
+    and what when that rank has come to the end of the superstep."""
 
     superstep: int
     rank: int

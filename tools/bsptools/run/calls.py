@@ -40,6 +40,9 @@ NAMES = {
 # The library's functions that make the calls of which a trace is asked for.
 FUNCTIONS: dict[int, tuple[str, ...]] = {**{number: (name,) for number, (name, _) in NAMES.items()}, WRITE: ("bsp_stdio_flush",)}
 FUNCTIONS.update({it: (*FUNCTIONS[it], "bsp_hpmove") for it in TAKES})
+# Other names of functions that make them.
+ALSO = {PUSH: "bsp_pushregister", POP: "bsp_popregister", SEND: "bsp_hpsend"}
+FUNCTIONS.update({number: (*FUNCTIONS[number], name) for number, name in ALSO.items()})
 
 
 class Call(NamedTuple):

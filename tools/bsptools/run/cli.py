@@ -16,6 +16,8 @@ from .watch import Done, Fewer, Interrupted, Stopped, Watch
 
 # The status of a run that the clock has ended, as that of timeout(1), and the longest that --wall takes.
 WALL, MOST_SECONDS = 124, 10_000_000
+# That of a program which comes to something else where a library chooses otherwise.
+OTHERWISE = 10
 
 
 def parser() -> Parser:
@@ -38,6 +40,7 @@ def parser() -> Parser:
     found.add_number("--fill", what="the byte of fresh memory", least=0, most=255, metavar="BYTE",
         help="the byte that stack and malloc have at first, for a program that reads what it did not write; 0 by default")  # fmt: skip
     add("--warn", action="store_true", help="look for what is likely a mistake, also in a run that ends well; takes long")
+    add("--portable", action="store_true", help="then run a .c program again under each choice that BSPlib leaves to a library")
     found.add_number("--wall", what="the time of a run in seconds", least=1, most=MOST_SECONDS, metavar="SECONDS",
         help="end the run after so long, with a line that says where the ranks were")  # fmt: skip
     found.add_number("--workers", what="the number of threads", least=1, most=MOST_WORKERS, default=WORKERS, metavar="COUNT",
@@ -121,4 +124,12 @@ def main(words: list[str]) -> int:
         with about(options.out):
             os.mkdir(options.out)
     with children.folder("bsprun") as folder:
-        return run(prepared(options, folder, "bsprun", is_marked=True))
+        job = prepared(options, folder, "bsprun", is_marked=True)
+        status = run(job)
+        if options.portable and status in (2, 3, 4):
+            tell(["bsprun: not tried: other choices, since the run does not end well as it is"])
+        elif options.portable and status == 0:
+            from .portable import is_portable
+
+            return 0 if is_portable(options, job.program, job.settings, folder) else OTHERWISE
+        return status

@@ -18,6 +18,7 @@ from ..options import Parser
 from ..refusals import Refused, about, tell
 from . import records, sizes
 from .block import MAGIC, block
+from .choices import MAGIC as CHOICES
 from .compiling import compiled, take_sources
 from .given import TOO_LONG, given_files
 from .parting import marked
@@ -87,6 +88,8 @@ def prepared(options: argparse.Namespace, folder: pathlib.Path, tool: str, is_ma
         image = folder / "program.elf"
         tell(compiled(options, image))
         content, kind = content_of(image, MOST_PROGRAM), "elf"
+    elif getattr(options, "portable", False) and CHOICES not in content:
+        raise Refused(f"{options.program} takes no choices, as --portable makes: give a program in C, or what bspcc --portable built")
     if kind == "asm":
         code = read_text(emulate, image.name, content, folder)
     elif kind == "raw":

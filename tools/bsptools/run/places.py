@@ -14,7 +14,8 @@ RA, SP, FP = 1, 2, 8
 MOST_FRAMES = 40
 # Where sources lie that are none of the program's own.
 LIBRARIES = (REPO / "bsplib", pathlib.Path("/usr/include"), pathlib.Path("/usr/lib"))
-# Functions of bsplib/ that are in a program and not in bsp.h.
+# Functions of bsplib/ that are in a program and not in bsp.h, and how those begin that stand for others in a program of bspcc --portable.
+WRAP = "__wrap_"
 INNER = ("_start", "bsp_start", "bsp_stop", "bsp_stop_with", "bsp_stop_for_guards", "end_line", "end_of_main")
 
 
@@ -141,7 +142,7 @@ def place(code: Code, node: Node, is_call_told: bool = False) -> str:
         shown = texts[:4] + (["…"] if len(texts) > 5 else []) + (texts[-1:] if len(texts) > 4 else [])
         return ", called from ".join(shown)
     names = [code.name_at(at) for at in chain if code.name_at(at)]
-    told = [it for it in names if it not in INNER] if "bsp_start" in code.names else names
+    told = [it for it in names if it not in INNER and not it.startswith(WRAP)] if "bsp_start" in code.names else names
     return ", called from ".join(told[:6]) if names else f"address {node.pc:#x}"
 
 

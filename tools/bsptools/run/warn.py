@@ -2,6 +2,7 @@
 
 from __future__ import annotations
 
+from collections.abc import Iterator
 from typing import List, NamedTuple, Tuple, Union
 
 from .calls import CHANGES, MOVE, POP, PUSH, PUTS, REQUESTS, SEND, SYNC, TAGSIZE, TAKES, Areas, Call, Tracer
@@ -108,23 +109,28 @@ def other_order(steps: Steps, last: int) -> list[Finding]:
 
 
 def meeting(steps: Steps, last: int) -> list[Finding]:
-    """Puts of one superstep that write the same byte, each pair of places once."""
-    areas = [Areas() for _ in range(steps.nodes)]
+    """Puts of one superstep that write the same byte and are neighbours by their first bytes, each pair of places once."""
     found: list[Finding] = []
     told = set()
-    for superstep in range(last):
-        landings = sorted(landings_of(steps, areas, superstep), key=lambda it: (it[0], it[1].start))
+    for superstep, landings in landings_in(steps, last, PUTS):
         for (target, one), (other_target, other) in zip(landings, landings[1:]):
             key = (one.call.node.pc, one.call.node.x[1], other.call.node.x[1])
             if target == other_target and other.start < one.end and key not in told:
                 told.add(key)
                 begin = f"two puts of superstep {superstep} write byte {other.start:#x} of rank {target}: that of "
                 found.append([begin, (one.rank, one.call), ", and that of ", (other.rank, other.call), counted_in_bytes(one, other)])
+    return found
+
+
+def landings_in(steps: Steps, last: int, numbers: tuple[int, ...]) -> Iterator[tuple[int, list[tuple[int, Landing]]]]:
+    """Each superstep but the last, with where its requests of these numbers land or read, by the targets' ranks and the first bytes."""
+    areas = [Areas() for _ in range(steps.nodes)]
+    for superstep in range(last):
+        yield superstep, sorted(landings_of(steps, areas, superstep, numbers), key=lambda it: (it[0], it[1].start))
         for rank in range(steps.nodes):
             for call in steps.of(rank, superstep):
                 if call.number in (PUSH, POP):
                     areas[rank].take(call)
-    return found
 
 
 def counted_in_bytes(one: Landing, other: Landing) -> str:
@@ -174,12 +180,12 @@ def early(steps: Steps, last: int) -> list[Finding]:
     return found
 
 
-def landings_of(steps: Steps, areas: list[Areas], superstep: int) -> list[tuple[int, Landing]]:
-    """Where the puts of a superstep land, with the target's rank."""
+def landings_of(steps: Steps, areas: list[Areas], superstep: int, numbers: tuple[int, ...]) -> list[tuple[int, Landing]]:
+    """The bytes of areas that the requests of these numbers name in a superstep, with the target's rank."""
     found = []
     for rank in range(steps.nodes):
         for call in steps.of(rank, superstep):
-            if call.number in PUTS and call.operand("nbytes") > 0:
+            if call.number in numbers and call.operand("nbytes") > 0:
                 target, position = call.operand("pid"), areas[rank].position(call.area)
                 if position is not None and 0 <= target < steps.nodes and position < len(areas[target].entries):
                     start = areas[target].entries[position][0] + call.operand("offset")

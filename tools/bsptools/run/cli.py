@@ -20,6 +20,7 @@ from ..refusals import Refused, about, lines_of, put, show, tell
 from . import report
 from .block import MAGIC, block
 from .calls import Tracer
+from .lines import Measured, form
 from .places import place
 from .program import Code, kind_of, read_elf, read_text
 from .replays import Replays
@@ -63,6 +64,10 @@ def arguments(words: list[str]) -> argparse.Namespace:
     add("--report", metavar="FILE", help="the costs, into FILE: as CSV or JSON where its name says so; - is standard error")
     add("--profile", metavar="FILE", help="what each rank did in each superstep, into FILE as CSV: bspplot draws it")
     add("--summary", action="store_true", help="the totals and the dearest supersteps, on standard error")
+    add("--lines", action="store_true", help="where w and h come from, by line and by function, on standard error")
+    add("--fold", action="store_true", help="as --lines, with the work of library functions at the lines that called them")
+    add("--lines-as", type=form, action="append", default=[], metavar="KIND=FILE", help="that as a file of this kind: callgrind,"
+        " folded (stacks for a flame graph), trace (for Perfetto) or json (for bspplot --source); any number of them")  # fmt: skip
     add("--warn", action="store_true", help="look for what is likely a mistake, also in a run that ends well; takes long")
     parser.add_machine()
     parser.add_number("--workers", what="the number of threads", least=1, most=MOST_WORKERS, default=WORKERS, metavar="COUNT",
@@ -81,13 +86,14 @@ def arguments(words: list[str]) -> argparse.Namespace:
 
 @dataclass
 class Job:
-    """A program that is ready to run: the command's words behind its verb, and what is known of its code."""
+    """A program that is ready to run: the command's words behind its verb, what is known of its code, and the file for its counts."""
 
     options: argparse.Namespace
     program: list[str]
     image: pathlib.Path
     code: Code
     settings: list[str]
+    counts: pathlib.Path
 
     def replays(self) -> Replays:
         """The same run, in the debugger, of which places are to be told."""
@@ -95,14 +101,27 @@ class Job:
         return Replays([*self.program, "debug", *self.settings], self.options.memory)
 
     def run(self) -> subprocess.CompletedProcess[bytes]:
-        """The run itself."""
+        """The run itself. The emulator writes either counts or a profile, so that for both it is made twice."""
+        if wants_counts(self.options):
+            done = self.made("--counts", str(self.counts))
+            if self.options.profile is None or report.part(done.stdout) is None:
+                return done
+        if self.options.profile is None:
+            return self.made()
+        with files.replaced(self.options.profile) as written:
+            return self.made("--profile", written)
+
+    def made(self, *more: str) -> subprocess.CompletedProcess[bytes]:
+        """A run with these words behind the others."""
         options = self.options
         prices = ["--workers", str(options.workers), "--g", str(options.g), "--l", str(options.l)]
-        words = [*self.program, "run", *self.settings, *prices, "--report"]
-        if options.profile is None:
-            return emulator.run(words)
-        with files.replaced(options.profile) as written:
-            return emulator.run([*words, "--profile", written])
+        return emulator.run([*self.program, "run", *self.settings, *prices, "--report", *more])
+
+    def measured(self, found: report.Report) -> Measured:
+        """The run with its counts."""
+        options = self.options
+        trace = Tracer(self.code, self.replays())
+        return Measured(self.counts, options.nodes, trace, found, (options.g, options.l), options.program)
 
     def takes_fewer(self, done: subprocess.CompletedProcess[bytes]) -> bool:
         """Whether a run was given up since the program takes fewer nodes. Then it is told, and this job has as many."""
@@ -148,7 +167,7 @@ def prepared(options: argparse.Namespace, folder: pathlib.Path) -> Job:
         image = compiled(options, folder)
         content, kind = content_of(image, MOST_PROGRAM), "elf"
     if kind == "asm":
-        code = read_text(emulate, image.name, content, folder)
+        code = read_text(emulate, str(image), content, folder)
     elif kind == "raw":
         code = Code(segments=[(0, memoryview(content))], need=len(content))
     else:
@@ -163,7 +182,12 @@ def prepared(options: argparse.Namespace, folder: pathlib.Path) -> Job:
         with about(folder / "input"):
             (folder / "input").write_bytes(given)
         settings += ["--input", str(folder / "input")]
-    return Job(options, emulate, image, code, settings)
+    return Job(options, emulate, image, code, settings, folder / "counts")
+
+
+def wants_counts(options: argparse.Namespace) -> bool:
+    """Whether the costs of lines are asked for."""
+    return bool(options.lines or options.fold or options.lines_as)
 
 
 def is_text(path: pathlib.Path) -> bool:
@@ -239,6 +263,13 @@ def deliver(job: Job, done: subprocess.CompletedProcess[bytes]) -> int:
         files.write(options.report, report.spelled_for(options.report, found))
     if options.summary:
         tell(summary(job, found))
+    if wants_counts(options) and job.counts.exists():
+        show("bsprun: looking for the lines")
+        measured = job.measured(found)
+        told = measured.tables(options.fold) if options.lines or options.fold else []
+        told += [f"bsprun: {line}" for kind, path in options.lines_as for line in measured.write(kind, path)]
+        show("")
+        tell(told)
     if found.outcome != "ended":
         show("bsprun: looking for the place")
         lines = Why(job.code, job.replays(), options.nodes, options.limit).lines(found)
@@ -246,7 +277,8 @@ def deliver(job: Job, done: subprocess.CompletedProcess[bytes]) -> int:
         tell([f"bsprun: {found.outcome}", *lines])
     if options.warn:
         tell(warnings(Tracer(job.code, job.replays()), options.nodes, found))
-    if (options.summary or options.warn or found.outcome != "ended") and job.code.debug and packages.missing(packages.ELFTOOLS):
+    tells = options.summary or options.warn or wants_counts(options)
+    if (tells or found.outcome != "ended") and job.code.debug and packages.missing(packages.ELFTOOLS):
         tell([f"bsprun: functions and lines are not named: {packages.missing(packages.ELFTOOLS)}"])
     return done.returncode
 
@@ -254,7 +286,7 @@ def deliver(job: Job, done: subprocess.CompletedProcess[bytes]) -> int:
 def main(words: list[str]) -> int:
     """Runs a program; the status is that of the emulator."""
     options = arguments(words)
-    outputs = [options.report if options.report != "-" else None, options.profile]
+    outputs = [options.report if options.report != "-" else None, options.profile, *(path for _, path in options.lines_as)]
     files.expect_apart(outputs, [options.program, options.input, *options.file])
     files.expect_writable(outputs)
     with children.folder("bsprun") as folder:

@@ -1,0 +1,79 @@
+"""What functions cost with what they call. Counts tell how often each place called which function, and not how much of a function's work
+was for which call. So where a function was called from several places, each has a share of its work by the number of its calls; and where
+all calls came from one place, this is exact."""
+
+from __future__ import annotations
+
+from collections.abc import Callable, Iterable, Mapping
+from typing import NamedTuple
+
+from .flow import Call
+from .shares import shared
+
+
+class Passed(NamedTuple):
+    """Work that was passed on to callers: what came by each call; what each function has by itself and from those that it called, with all
+    functions in whose circle it stands; and what those have that passed nothing on, each without the others of its circle."""
+
+    by_call: dict[Call, int]
+    inclusive: dict[int, int]
+    kept: dict[int, int]
+
+
+class Graph:
+    """The functions of a run, each known by its start, and the calls that were made."""
+
+    def __init__(self, functions: Iterable[int], calls: Iterable[Call]) -> None:
+        self.calls = [it for it in calls if it.times > 0]
+        self.callees: dict[int, set[int]] = {it: set() for it in functions}
+        self.into: dict[int, list[Call]] = {it: [] for it in self.callees}
+        for call in self.calls:
+            self.callees[call.caller].add(call.callee)
+            self.into[call.callee].append(call)
+        self.reached = {it: self.reach(self.callees[it]) for it in self.callees}
+
+    def reach(self, begin: Iterable[int]) -> set[int]:
+        """These functions, and all that they call, and these call."""
+        found = set(begin)
+        left = list(found)
+        while left:
+            more = self.callees[left.pop()] - found
+            found |= more
+            left += more
+        return found
+
+    def circle(self, function: int) -> frozenset[int]:
+        """The functions that call one another in a circle with this one; itself alone where there is none."""
+        return frozenset({function, *(it for it in self.reached[function] if function in self.reached[it])})
+
+    def circles(self) -> list[frozenset[int]]:
+        """All circles, each behind those that it calls."""
+        found = dict.fromkeys(self.circle(it) for it in sorted(self.callees))
+        return sorted(found, key=lambda circle: len(self.reached[min(circle)] | circle))
+
+    def passed(self, costs: Mapping[int, int], passes: Callable[[int], bool]) -> Passed:
+        """The costs of functions passed on to their callers, by those circles of which all functions pass theirs."""
+        held = {it: costs.get(it, 0) for it in self.callees}
+        found = Passed({}, {}, {})
+        for circle in self.circles():
+            whole = sum(held[it] for it in circle)
+            found.inclusive.update(dict.fromkeys(circle, whole))
+            outer = [call for it in sorted(circle) for call in self.into[it] if call.caller not in circle]
+            if outer and all(map(passes, circle)):
+                for call, part in zip(outer, shared(whole, [call.times for call in outer])):
+                    found.by_call[call] = part
+                    held[call.caller] += part
+            else:
+                found.kept.update({it: held[it] for it in circle})
+        return found
+
+    def is_exact(self, calls: Iterable[Call], function: int | None = None) -> bool:
+        """Whether the work of what is called there is for these calls alone; or for the function that makes them, whoever called it."""
+        made = set(calls)
+        within = self.reach(it.callee for it in made) | ({function} if function is not None else set())
+        return all(
+            call.is_sure and (call.caller in within or call in made)
+            for it in within
+            if it != function
+            for call in self.into[it]
+        )

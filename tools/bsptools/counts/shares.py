@@ -1,0 +1,16 @@
+"""Parts of whole numbers."""
+
+from __future__ import annotations
+
+from collections.abc import Sequence
+
+
+def shared(whole: int, weights: Sequence[int]) -> list[int]:
+    """A whole number parted by weights of which not all are 0: whole numbers whose sum it is, each less than 1 away from its share. The first
+    of those that lose most have what is left over."""
+    total = sum(weights)
+    parts = [whole * it // total for it in weights]
+    behind = sorted(range(len(weights)), key=lambda at: (-(whole * weights[at] % total), at))
+    for at in behind[: whole - sum(parts)]:
+        parts[at] += 1
+    return parts

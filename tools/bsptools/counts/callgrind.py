@@ -27,7 +27,8 @@ class Written:
         self.work = work
         keys = {address: (function, work.places[address]) for address, function in work.function_of.items()}
         self.paid, self.made = summed(work.paid, keys), summed(work.made, keys)
-        self.by_call = [work.graph.passed(summed(it, work.function_of), lambda _: True).by_call for it in (work.paid, work.made)]
+        made = work.graph.passed(summed(work.made, work.function_of), work.made)
+        self.by_call = (work.passed.by_call, made.by_call)
         self.homes: dict[int, Place] = {}
         for function in sorted(work.names):
             self.homes[function] = work.places.get(function, Place("", 0, ""))

@@ -4,11 +4,13 @@ from __future__ import annotations
 
 from array import array
 from collections.abc import Mapping
+from functools import cached_property
 from typing import NamedTuple, TypeVar
 
 from ..run.program import Code
 from .flow import Call, Flow
-from .graph import Graph
+from .graph import Graph, Passed
+from .shares import WHOLE, shared
 from .source import Place, Source
 from .table import Counts
 
@@ -55,13 +57,12 @@ class Work:
         calls: dict[Place, list[Call]] = {}
         for call in self.graph.calls:
             calls.setdefault(self.places[call.site], []).append(call)
-        passed = self.graph.passed(summed(self.paid, self.function_of), lambda _: True)
         ranks, functions = self.ranks(self.places), self.functions()
         found = []
         for place, paid in summed(self.paid, self.places).items():
             made = calls.get(place, [])
             again = any(it.caller in self.graph.circle(it.callee) for it in made)
-            whole = None if again else paid + sum(passed.by_call[it] for it in made)
+            whole = None if again else paid + sum(self.passed.by_call.get(it, 0) for it in made)
             name, is_exact = self.names[functions[place]], not again and self.graph.is_exact(made)
             found.append(Cost(place, name, functions[place] not in self.own, paid, ranks[place], whole, is_exact))
         return sorted(found, key=lambda it: (-it.paid, -sum(it.ranks), it.place))
@@ -69,28 +70,59 @@ class Work:
     def by_functions(self) -> list[Cost]:
         """The costs of all functions, the dearest first."""
         sums = summed(self.paid, self.function_of)
-        inclusive = self.graph.passed(sums, lambda _: True).inclusive
         ranks = self.ranks(self.function_of)
         found = []
         for function, paid in sums.items():
             made = [it for it in self.graph.calls if it.caller == function]
             name, is_exact = self.names[function], self.graph.is_exact(made, function)
             is_library = function not in self.own
-            found.append(Cost(Place("", 0, name), name, is_library, paid, ranks[function], inclusive[function], is_exact))
+            found.append(Cost(Place("", 0, name), name, is_library, paid, ranks[function], self.passed.inclusive[function], is_exact))
         return sorted(found, key=lambda it: (-it.paid, -sum(it.ranks), it.place))
 
-    def folded(self) -> dict[Place, int]:
-        """What is paid at each place, the work of library functions at the places that called them, by the numbers of calls."""
-        found = summed({it: count for it, count in self.paid.items() if self.function_of[it] in self.own}, self.places)
-        library = {function: paid for function, paid in summed(self.paid, self.function_of).items() if function not in self.own}
-        passed = self.graph.passed(library, lambda function: function not in self.own)
-        for call, part in passed.by_call.items():
-            if call.caller in self.own:
-                found[self.places[call.site]] += part
-        for function, paid in passed.kept.items():
-            if function not in self.own:
-                found[Place("", 0, self.names[function])] = paid
+    @cached_property
+    def passed(self) -> Passed:
+        """What is paid, passed on to callers in each superstep by the calls that its slowest rank made."""
+        whole = Passed({}, {})
+        for superstep in self.counts.supersteps:
+            steps = dict(superstep.made)
+            part = self.graph.passed(summed(steps, self.function_of), steps)
+            for function, paid in part.inclusive.items():
+                whole.inclusive[function] = whole.inclusive.get(function, 0) + paid
+            for call, paid in part.by_call.items():
+                whole.by_call[call] = whole.by_call.get(call, 0) + paid
+        return whole
+
+    def homes(self, steps: Mapping[int, int]) -> dict[int, dict[Place, int]]:
+        """The places at which the work of each library function stands when it is folded, with their weights, in a part of the run that made
+        these steps: those of the program's own functions that called it, or that called what called it, by the numbers of calls; itself
+        where there are none."""
+        found: dict[int, dict[Place, int]] = {}
+        for circle, outer in reversed(self.graph.outer):
+            if not outer or circle & self.own:
+                found.update({it: {Place("", 0, self.names[it]): WHOLE} for it in circle})
+                continue
+            weights: dict[Place, int] = {}
+            for call, part in self.graph.parted(WHOLE, outer, steps):
+                home = {self.places[call.site]: WHOLE} if call.caller in self.own else found[call.caller]
+                for place, weight in home.items() if part else ():
+                    weights[place] = weights.get(place, 0) + weight * part // WHOLE
+            found.update(dict.fromkeys(circle, weights))
         return found
+
+    def folded(self, steps: Mapping[int, int]) -> dict[Place, int]:
+        """The steps of a part of the run by places, the work of library functions at their homes."""
+        found = summed({it: count for it, count in steps.items() if self.function_of[it] in self.own}, self.places)
+        library = {it: count for it, count in steps.items() if self.function_of[it] not in self.own}
+        homes = self.homes(steps)
+        for function, count in summed(library, self.function_of).items():
+            for place, part in zip(homes[function], shared(count, list(homes[function].values()))):
+                found[place] = found.get(place, 0) + part
+        return found
+
+    @cached_property
+    def folded_parts(self) -> list[dict[Place, int]]:
+        """What is paid in each superstep, folded."""
+        return [self.folded(dict(it.made)) for it in self.counts.supersteps]
 
     def ranks(self, keys: Mapping[int, Key]) -> dict[Key, array[int]]:
         """The steps of each rank, by what addresses are put together by."""

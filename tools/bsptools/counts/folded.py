@@ -6,12 +6,10 @@ from __future__ import annotations
 
 from ..refusals import printable
 from .costs import Work, summed
-from .shares import shared
+from .shares import WHOLE, shared
 
 # Stacks that lead to one function. Those with the least weight are left out, and the others have their share.
 MOST_STACKS = 64
-# What the weights of all stacks of a function come to.
-WHOLE = 1 << 40
 
 
 def text(work: Work, exchange: int, ends: int) -> str:
@@ -25,9 +23,8 @@ def stacks(work: Work) -> dict[str, int]:
     graph, paid = work.graph, summed(work.paid, work.function_of)
     weights: dict[int, dict[str, int]] = {it: {} for it in graph.callees}
     found: dict[str, int] = {}
-    for circle in reversed(graph.circles()):
+    for circle, outer in reversed(graph.outer):
         frame = "+".join(sorted(frame_of(work.names[it]) for it in circle))
-        outer = [call for it in sorted(circle) for call in graph.into[it] if call.caller not in circle]
         above: dict[str, int] = {}
         for call, part in zip(outer, shared(WHOLE, [it.times for it in outer])):
             for stack, weight in weights[call.caller].items():

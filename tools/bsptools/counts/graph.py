@@ -4,7 +4,8 @@ all calls came from one place, this is exact."""
 
 from __future__ import annotations
 
-from collections.abc import Callable, Iterable, Mapping
+from collections.abc import Iterable, Mapping
+from functools import cached_property
 from typing import NamedTuple
 
 from .flow import Call
@@ -12,12 +13,10 @@ from .shares import shared
 
 
 class Passed(NamedTuple):
-    """Work that was passed on to callers: what came by each call; what each function has by itself and from those that it called, with all
-    functions in whose circle it stands; and what those have that passed nothing on, each without the others of its circle."""
+    """The work of functions with what they call, each with all functions in whose circle it stands; and what of it is for each call."""
 
-    by_call: dict[Call, int]
     inclusive: dict[int, int]
-    kept: dict[int, int]
+    by_call: dict[Call, int]
 
 
 class Graph:
@@ -27,9 +26,11 @@ class Graph:
         self.calls = [it for it in calls if it.times > 0]
         self.callees: dict[int, set[int]] = {it: set() for it in functions}
         self.into: dict[int, list[Call]] = {it: [] for it in self.callees}
+        self.times: dict[int, int] = {}
         for call in self.calls:
             self.callees[call.caller].add(call.callee)
             self.into[call.callee].append(call)
+            self.times[call.site] = self.times.get(call.site, 0) + call.times
         self.reached = {it: self.reach(self.callees[it]) for it in self.callees}
 
     def reach(self, begin: Iterable[int]) -> set[int]:
@@ -51,20 +52,29 @@ class Graph:
         found = dict.fromkeys(self.circle(it) for it in sorted(self.callees))
         return sorted(found, key=lambda circle: len(self.reached[min(circle)] | circle))
 
-    def passed(self, costs: Mapping[int, int], passes: Callable[[int], bool]) -> Passed:
-        """The costs of functions passed on to their callers, by those circles of which all functions pass theirs."""
+    @cached_property
+    def outer(self) -> list[tuple[frozenset[int], list[Call]]]:
+        """All circles, each behind those that it calls, with the calls of them that others make."""
+        return [
+            (circle, [call for it in sorted(circle) for call in self.into[it] if call.caller not in circle]) for circle in self.circles()
+        ]
+
+    def parted(self, whole: int, calls: list[Call], steps: Mapping[int, int]) -> list[tuple[Call, int]]:
+        """A number parted by how often these calls were made in a part of the run that made so many steps at the calls; by how often they were
+        made in the whole run where none of them was, as in a superstep in which a function goes on."""
+        weights = [steps.get(it.site, 0) * it.times // self.times[it.site] for it in calls]
+        return list(zip(calls, shared(whole, weights if any(weights) else [it.times for it in calls])))
+
+    def passed(self, costs: Mapping[int, int], steps: Mapping[int, int]) -> Passed:
+        """The costs of functions in a part of the run that made so many steps at each address, passed on to their callers."""
         held = {it: costs.get(it, 0) for it in self.callees}
-        found = Passed({}, {}, {})
-        for circle in self.circles():
+        found = Passed({}, {})
+        for circle, outer in self.outer:
             whole = sum(held[it] for it in circle)
             found.inclusive.update(dict.fromkeys(circle, whole))
-            outer = [call for it in sorted(circle) for call in self.into[it] if call.caller not in circle]
-            if outer and all(map(passes, circle)):
-                for call, part in zip(outer, shared(whole, [call.times for call in outer])):
-                    found.by_call[call] = part
-                    held[call.caller] += part
-            else:
-                found.kept.update({it: held[it] for it in circle})
+            for call, part in self.parted(whole, outer, steps) if whole else ():
+                found.by_call[call] = part
+                held[call.caller] += part
         return found
 
     def is_exact(self, calls: Iterable[Call], function: int | None = None) -> bool:

@@ -8,7 +8,7 @@ from collections.abc import Mapping
 from typing import Any, NamedTuple
 
 from ..files import whole
-from ..limits import MOST_NODES, MOST_PRICE
+from ..limits import MOST_NODES
 from ..refusals import Refused, about, printable
 from ..run.report import MOST_COST, OUTCOME, Report
 from .costs import Work
@@ -33,15 +33,16 @@ class Superstep(NamedTuple):
 class Line(NamedTuple):
     """What a line costs, or a function that has no line. `file` is the file's place among the sources, and -1 without a line.
 
-    paid are the steps of the slowest ranks, of which w is made, and supersteps has them by superstep. with_calls are those that are paid with
-    what is called from there, None where that is not known, exact or apportioned. ranks are the steps of each rank. h is the bytes of h that
-    the line asks for.
+    paid are the steps of the slowest ranks, of which w is made; with_calls those that are paid with what is called from there, None where
+    that is not known, exact or apportioned. In `folded` the work of library functions stands at the lines that called them, apportioned;
+    supersteps has that by superstep, and ranks has all steps of each rank in the same way. h is the bytes of h that the line asks for.
     """
 
     file: int
     number: int
     function: str
     paid: int
+    folded: int
     with_calls: int | None
     is_exact: bool
     ranks: list[int]
@@ -57,11 +58,9 @@ class File(NamedTuple):
 
 
 class Listing(NamedTuple):
-    """A run: its program, its prices, its supersteps, its outcome, and what its lines cost, the dearest first."""
+    """A run: its program, its supersteps, its outcome, and what its lines cost, the dearest first."""
 
     program: str
-    g: int
-    l: int
     supersteps: list[Superstep]
     outcome: str
     files: list[File]
@@ -77,45 +76,21 @@ class Listing(NamedTuple):
         """The work of all supersteps."""
         return sum(it.w for it in self.supersteps)
 
-    @property
-    def total(self) -> int:
-        """What the run costs."""
-        return self.w + self.g * sum(it.h for it in self.supersteps) + self.l * len(self.supersteps)
 
-
-def listing(work: Work, report: Report, relations: list[Relation], prices: tuple[int, int], program: str) -> Listing:
+def listing(work: Work, report: Report, relations: list[Relation], program: str) -> Listing:
     """The listing of a run."""
     paths = sorted({it.path for it in work.places.values() if it.is_own})
-    supersteps = [
-        Superstep(it.w, told.costs["h"], list(it.ticks)) for it, told in zip(work.counts.supersteps, report.supersteps)
-    ]
-    by_superstep, asked = made_in(work), asked_for(relations)
-    lines = [
-        Line(
-            paths.index(it.place.path) if it.place.is_own else -1,
-            it.place.number,
-            it.function,
-            it.paid,
-            it.with_calls,
-            it.is_exact,
-            list(it.ranks),
-            by_superstep.get(it.place, {}),
-            asked.pop(it.place, 0),
-        )
-        for it in work.lines()
-    ]
+    supersteps = [Superstep(it.w, told.costs["h"], list(it.ticks)) for it, told in zip(work.counts.supersteps, report.supersteps)]
+    by_rank = [work.folded({at: them[rank] for at, them in work.counts.by_rank.items()}) for rank in range(work.counts.nodes)]
+    asked = asked_for(relations)
+    lines = []
+    for it in work.lines():
+        made = {number: found[it.place] for number, found in enumerate(work.folded_parts) if found.get(it.place)}
+        file = paths.index(it.place.path) if it.place.is_own else -1
+        costs = (it.paid, sum(made.values()), it.with_calls, it.is_exact, [found.get(it.place, 0) for found in by_rank], made)
+        lines.append(Line(file, it.place.number, it.function, *costs, asked.get(it.place, 0)))
     name = printable(pathlib.PurePath(program).name)
-    return Listing(name, *prices, supersteps, report.outcome, [source(it) for it in paths], lines)
-
-
-def made_in(work: Work) -> dict[Place, dict[int, int]]:
-    """What is paid at each place in each superstep."""
-    found: dict[Place, dict[int, int]] = {}
-    for superstep in work.counts.supersteps:
-        for address, count in superstep.made:
-            at = found.setdefault(work.places[address], {})
-            at[superstep.number] = at.get(superstep.number, 0) + count
-    return found
+    return Listing(name, supersteps, report.outcome, [source(it) for it in paths], lines)
 
 
 def asked_for(relations: list[Relation]) -> dict[Place, int]:
@@ -172,8 +147,7 @@ def of_json(content: Mapping[str, Any]) -> Listing:
     outcome = str(content["outcome"])
     if not OUTCOME.match(outcome.encode(errors="replace")) or "\n" in outcome:
         raise ValueError(f"{outcome!r} is no outcome")
-    prices = whole(content["g"], MOST_PRICE), whole(content["l"], MOST_PRICE)
-    return Listing(printable(str(content["program"])), *prices, supersteps, outcome, files, lines)
+    return Listing(printable(str(content["program"])), supersteps, outcome, files, lines)
 
 
 def line_of(it: Mapping[str, Any]) -> Line:
@@ -184,6 +158,7 @@ def line_of(it: Mapping[str, Any]) -> Line:
         whole(it["number"], MOST_COST),
         printable(str(it["function"])),
         whole(it["paid"], MOST_SUM),
+        whole(it["folded"], MOST_SUM),
         None if with_calls is None else whole(with_calls, MOST_SUM),
         bool(it["is_exact"]),
         [whole(count, MOST_SUM) for count in it["ranks"]],
@@ -203,12 +178,12 @@ def checked(it: Listing) -> Listing:
     for line in it.lines:
         if not -1 <= line.file < len(it.files) or (line.file >= 0) != (line.number > 0) or len(line.ranks) != it.nodes:
             raise ValueError(f"{line.function}: it is no line of a file that there is")
-        if sum(line.supersteps.values()) != line.paid:
-            raise ValueError(f"{line.function}: what is paid is not that of its supersteps")
+        if sum(line.supersteps.values()) != line.folded:
+            raise ValueError(f"{line.function}: its supersteps do not come to its sum")
         for number, count in line.supersteps.items():
             sums[number] += count
         ranks = [one + other for one, other in zip(ranks, line.ranks)]
-    if sums != [superstep.w for superstep in it.supersteps]:
+    if sums != [superstep.w for superstep in it.supersteps] or sum(line.paid for line in it.lines) != it.w:
         raise ValueError("the lines do not come to w")
     if ranks != [sum(of_rank) for of_rank in zip(*(superstep.ticks for superstep in it.supersteps))]:
         raise ValueError("the lines do not come to what the ranks made")

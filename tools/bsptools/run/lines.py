@@ -91,7 +91,11 @@ class Told:
 
     def folded(self) -> list[str]:
         """The table by line, with the work of library functions at the lines that called them."""
-        paid = sorted(self.work.folded().items(), key=lambda it: (-it[1], it[0]))
+        sums: dict[Place, int] = {}
+        for part in self.work.folded_parts:
+            for place, count in part.items():
+                sums[place] = sums.get(place, 0) + count
+        paid = sorted(sums.items(), key=lambda it: (-it[1], it[0]))
         rows = []
         for place, count in paid[:MOST_LINES]:
             cells = [str(count), share(count, self.w), share(count, self.report.total)]
@@ -196,5 +200,5 @@ class Measured:
             most, count = trace.most_supersteps(self.nodes), len(self.report.supersteps)
             return [f"{path} has the first {most} of {count} supersteps"] if most < count else []
         else:
-            files.write(path, listing.as_json(listing.listing(self.work, self.report, self.relations, self.prices, self.program)))
+            files.write(path, listing.as_json(listing.listing(self.work, self.report, self.relations, self.program)))
         return []

@@ -13,6 +13,9 @@ from .table import Counts
 
 # The registers of return addresses: that of calls, and that of GCC's functions which save registers.
 LINKS = ("x1", "x5")
+JUMPS = ("jal", "jalr")
+# What does not go on to the instruction behind it, or, as the call that ends a node, may not.
+LEAVING = (*JUMPS, "ecall")
 BRANCHES = ("beq", "bne", "blt", "bge", "bltu", "bgeu")
 
 
@@ -56,7 +59,8 @@ class Flow:
         jumps = {at: target for at in self.statements if (target := self.target(at)) is not None}
         called = {target for at, target in jumps.items() if self.statements[at].operands[0] in LINKS}
         self.functions = Functions(code, made, called, code.entry)
-        self.calls = [it for it in (self.call(at, target) for at, target in jumps.items()) if it]
+        ways = [*jumps.items(), *((at, it.end) for at, it in self.statements.items() if it.name not in LEAVING)]
+        self.calls = [it for it in (self.call(at, target) for at, target in ways) if it]
         self.calls += self.by_pointers()
 
     def target(self, at: int) -> int | None:
@@ -70,18 +74,19 @@ class Flow:
         return (at - 4 + (before.operand(1) << 12) + it.operand(1)) & 0xFFFFFFFE if is_one else None
 
     def call(self, at: int, target: int) -> Call | None:
-        """The call that a jump is, if it is one: with a link, or into another function."""
+        """The call that a way on from an instruction is, if it is one: by a jump with a link, or into another function."""
         caller = self.functions.of(at)
         if target not in self.made:
             return None
         callee = self.functions.of(target)
-        is_call = self.statements[at].operands[0] in LINKS
+        it = self.statements[at]
+        is_call = it.name in JUMPS and it.operands[0] in LINKS
         return Call(at, caller, callee, self.made[at]) if is_call or caller != callee else None
 
     def by_pointers(self) -> list[Call]:
         """The calls by pointers. The functions that they may have begun are those that began more often than jumps to them were made."""
         sites = {at for at, it in self.statements.items() if self.is_by_pointer(at, it)}
-        into = self.jumps_to_starts()
+        into = self.ways_to_starts()
         began = {it for it, jumps in into.items() if self.made[it] > sum(self.made[at] for at in jumps)} - {self.entry}
         if not sites or not began:
             return []
@@ -97,13 +102,14 @@ class Flow:
         """How much more often a function began than jumps to it were made."""
         return made.get(function, 0) - sum(made.get(at, 0) for at in jumps)
 
-    def jumps_to_starts(self) -> dict[int, list[int]]:
-        """The jumps and branches to the start of each function that began."""
+    def ways_to_starts(self) -> dict[int, list[int]]:
+        """The instructions from which the start of each function that began is come to, but by pointers."""
         found: dict[int, list[int]] = {it: [] for it in self.functions.starts if it in self.made}
         for at, it in self.statements.items():
             target = branch(it) if it.name in BRANCHES else self.target(at)
-            if target in found:
-                found[target].append(at)
+            for way in (target, None if it.name in LEAVING else it.end):
+                if way in found:
+                    found[way].append(at)
         return found
 
     def is_by_pointer(self, at: int, it: Statement) -> bool:
@@ -121,11 +127,9 @@ class Flow:
         known = {function}
         for at in here:
             it = self.statements[at]
-            if it.name in BRANCHES:
-                known.add(branch(it))
-            if (target := self.target(at)) is not None:
+            if (target := branch(it) if it.name in BRANCHES else self.target(at)) is not None:
                 known.add(target)
-            if it.name not in ("jal", "jalr") or it.operands[0] in LINKS:
+            if it.name not in JUMPS or it.operands[0] in LINKS:
                 known.add(it.end)
         return not known.issuperset(here)
 

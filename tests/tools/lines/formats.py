@@ -50,7 +50,8 @@ def events(path: pathlib.Path) -> List[Dict[str, Any]]:
 
 def time_of(found: List[Dict[str, Any]], rank: int) -> Tuple[int, Dict[str, int]]:
     """Where the track of a rank ends, and how long it is in each kind; the end is -1 where two events overlap or leave a gap."""
-    at, sums = 0, {}
+    at = 0
+    sums: Dict[str, int] = {}
     for event in found:
         if event["ph"] == "X" and event["tid"] == rank:
             if event["ts"] != at or event["dur"] <= 0:

@@ -15,8 +15,8 @@ UNKNOWN = "???"
 
 
 def text(work: Work, program: str) -> str:
-    """The costs of a run, each as what is paid and as what all ranks made: of lines, which are exact, and of calls with all that was called by
-    them, which are apportioned where `Graph.is_exact` says no."""
+    """The costs of a run, each as what is paid and as what all ranks made: of lines, which are exact, and of calls with all that they call,
+    which are apportioned where `Graph.is_exact` says no."""
     return "\n".join(Written(work).lines(program)) + "\n"
 
 

@@ -76,7 +76,7 @@ class Work:
             made = [it for it in self.graph.calls if it.caller == function]
             name, is_exact = self.names[function], self.graph.is_exact(made, function)
             is_library = function not in self.own
-            found.append(Cost(Place("", 0, name), name, is_library, paid, ranks[function], self.passed.inclusive[function], is_exact))
+            found.append(Cost(Place("", 0, name), name, is_library, paid, ranks[function], self.passed.inclusive.get(function, 0), is_exact))
         return sorted(found, key=lambda it: (-it.paid, -sum(it.ranks), it.place))
 
     @cached_property
@@ -84,45 +84,47 @@ class Work:
         """What is paid, passed on to callers in each superstep by the calls that its slowest rank made."""
         whole = Passed({}, {})
         for superstep in self.counts.supersteps:
-            steps = dict(superstep.made)
-            part = self.graph.passed(summed(steps, self.function_of), steps)
+            part = self.graph.passed(summed(superstep.made, self.function_of), superstep.made)
             for function, paid in part.inclusive.items():
                 whole.inclusive[function] = whole.inclusive.get(function, 0) + paid
             for call, paid in part.by_call.items():
                 whole.by_call[call] = whole.by_call.get(call, 0) + paid
         return whole
 
-    def homes(self, steps: Mapping[int, int]) -> dict[int, dict[Place, int]]:
-        """The places at which the work of each library function stands when it is folded, with their weights, in a part of the run that made
+    def home(self, function: int, steps: Mapping[int, int], known: dict[int, dict[Place, int]]) -> dict[Place, int]:
+        """The places at which the work of a library function stands when it is folded, with their weights, in a part of the run that made
         these steps: those of the program's own functions that called it, or that called what called it, by the numbers of calls; itself
-        where there are none."""
-        found: dict[int, dict[Place, int]] = {}
-        for circle, outer in reversed(self.graph.outer):
-            if not outer or circle & self.own:
-                found.update({it: {Place("", 0, self.names[it]): WHOLE} for it in circle})
-                continue
+        where there are none. Those that are known are those of the same part."""
+        if function not in known:
+            circle, outer = self.graph.circle_of[function]
             weights: dict[Place, int] = {}
-            for call, part in self.graph.parted(WHOLE, outer, steps):
-                home = {self.places[call.site]: WHOLE} if call.caller in self.own else found[call.caller]
-                for place, weight in home.items() if part else ():
-                    weights[place] = weights.get(place, 0) + weight * part // WHOLE
-            found.update(dict.fromkeys(circle, weights))
-        return found
+            if not outer or circle & self.own:
+                weights[Place("", 0, self.names[function])] = WHOLE
+                circle = frozenset({function})
+            for call, part in self.graph.parted(WHOLE, outer, steps) if not weights else ():
+                if part:
+                    is_own = call.caller in self.own
+                    above = {self.places[call.site]: WHOLE} if is_own else self.home(call.caller, steps, known)
+                    for place, weight in above.items():
+                        weights[place] = weights.get(place, 0) + weight * part // WHOLE
+            known.update(dict.fromkeys(circle, weights))
+        return known[function]
 
     def folded(self, steps: Mapping[int, int]) -> dict[Place, int]:
         """The steps of a part of the run by places, the work of library functions at their homes."""
         found = summed({it: count for it, count in steps.items() if self.function_of[it] in self.own}, self.places)
         library = {it: count for it, count in steps.items() if self.function_of[it] not in self.own}
-        homes = self.homes(steps)
+        known: dict[int, dict[Place, int]] = {}
         for function, count in summed(library, self.function_of).items():
-            for place, part in zip(homes[function], shared(count, list(homes[function].values()))):
+            home = self.home(function, steps, known)
+            for place, part in zip(home, shared(count, list(home.values()))):
                 found[place] = found.get(place, 0) + part
         return found
 
     @cached_property
     def folded_parts(self) -> list[dict[Place, int]]:
         """What is paid in each superstep, folded."""
-        return [self.folded(dict(it.made)) for it in self.counts.supersteps]
+        return [self.folded(it.made) for it in self.counts.supersteps]
 
     def ranks(self, keys: Mapping[int, Key]) -> dict[Key, array[int]]:
         """The steps of each rank, by what addresses are put together by."""

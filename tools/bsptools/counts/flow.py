@@ -8,8 +8,8 @@ from collections.abc import Mapping
 from typing import NamedTuple
 
 from ..run.program import Code, Statement
+from . import table
 from .pointers import Part, matched
-from .table import Counts
 
 # The registers of return addresses: that of calls, and that of GCC's functions which save registers.
 LINKS = ("x1", "x5")
@@ -52,7 +52,7 @@ class Functions:
 class Flow:
     """The functions and the calls of a run."""
 
-    def __init__(self, code: Code, counts: Counts) -> None:
+    def __init__(self, code: Code, counts: table.Counts) -> None:
         self.counts, self.entry = counts, code.entry
         self.made = made = counts.by_all()
         self.statements = code.statements_at(sorted(made))
@@ -90,11 +90,11 @@ class Flow:
         began = {it for it, jumps in into.items() if self.made[it] > sum(self.made[at] for at in jumps)} - {self.entry}
         if not sites or not began:
             return []
-        wanted = sites.union(began, *(into[it] for it in began))
-        parts = [
-            Part({it: made[it] for it in sites if it in made}, {it: more for it in began if (more := self.more(made, it, into[it])) > 0})
-            for made in self.counts.parts(wanted)
-        ]
+        parts = []
+        for made in (it.made for it in table.parts(self.counts.path)):
+            calls = {it: made[it] for it in sites if it in made}
+            if calls:
+                parts.append(Part(calls, {it: more for it in began if (more := self.more(made, it, into[it])) > 0}))
         return [Call(it.site, self.functions.of(it.site), it.callee, times, is_sure) for it, (times, is_sure) in matched(parts).items()]
 
     @staticmethod

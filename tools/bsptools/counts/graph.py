@@ -55,13 +55,20 @@ class Graph:
     @cached_property
     def outer(self) -> list[tuple[frozenset[int], list[Call]]]:
         """All circles, each behind those that it calls, with the calls of them that others make."""
-        return [
-            (circle, [call for it in sorted(circle) for call in self.into[it] if call.caller not in circle]) for circle in self.circles()
-        ]
+        return [(circle, self.calls_of(circle)) for circle in self.circles()]
+
+    @cached_property
+    def circle_of(self) -> dict[int, tuple[frozenset[int], list[Call]]]:
+        """The circle of each function, with the calls of it that others make."""
+        return {function: (circle, outer) for circle, outer in self.outer for function in circle}
+
+    def calls_of(self, circle: frozenset[int]) -> list[Call]:
+        """The calls of these functions that others make."""
+        return [call for it in sorted(circle) for call in self.into[it] if call.caller not in circle]
 
     def parted(self, whole: int, calls: list[Call], steps: Mapping[int, int]) -> list[tuple[Call, int]]:
-        """A number parted by how often these calls were made in a part of the run that made so many steps at the calls; by how often they were
-        made in the whole run where none of them was, as in a superstep in which a function goes on."""
+        """A number parted by how often these calls were made in a part of the run that made so many steps at each address; where none of
+        them was, as in a superstep in which a function goes on, by how often they were made in the whole run."""
         weights = [steps.get(it.site, 0) * it.times // self.times[it.site] for it in calls]
         return list(zip(calls, shared(whole, weights if any(weights) else [it.times for it in calls])))
 
@@ -70,11 +77,11 @@ class Graph:
         held = {it: costs.get(it, 0) for it in self.callees}
         found = Passed({}, {})
         for circle, outer in self.outer:
-            whole = sum(held[it] for it in circle)
-            found.inclusive.update(dict.fromkeys(circle, whole))
-            for call, part in self.parted(whole, outer, steps) if whole else ():
-                found.by_call[call] = part
-                held[call.caller] += part
+            if whole := sum(held[it] for it in circle):
+                found.inclusive.update(dict.fromkeys(circle, whole))
+                for call, part in self.parted(whole, outer, steps):
+                    found.by_call[call] = part
+                    held[call.caller] += part
         return found
 
     def is_exact(self, calls: Iterable[Call], function: int | None = None) -> bool:

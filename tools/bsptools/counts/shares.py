@@ -10,8 +10,8 @@ WHOLE = 1 << 40
 
 
 def shared(whole: int, weights: Sequence[int]) -> list[int]:
-    """A whole number parted by weights of which not all are 0, or of which there are none: whole numbers whose sum it is, each less than 1 away from its share. The first
-    of those that lose most have what is left over."""
+    """A whole number parted by weights of which not all are 0, or of which there are none: whole numbers whose sum it is, each less than 1
+    away from its share. The first of those that lose most have what is left over."""
     total = sum(weights) or 1
     parts = [whole * it // total for it in weights]
     behind = sorted(range(len(weights)), key=lambda at: (-(whole * weights[at] % total), at))

@@ -45,7 +45,7 @@ def spans(counts: Counts, report: Report, g: int, l: int) -> Iterator[dict[str, 
             at = start
             for name, ticks_of in ((WORK, ticks), (WAIT, superstep.w - ticks), (EXCHANGE, exchange), (END, l)):
                 if ticks_of > 0:
-                    args = {"superstep": superstep.number, **told.costs}
+                    args = {"superstep": told.number, **told.costs}
                     yield {"ph": "X", "pid": 0, "tid": rank, "name": name, "cat": "superstep", "ts": at, "dur": ticks_of, "args": args}
                 at += ticks_of
         start += superstep.w + exchange + l

@@ -38,8 +38,8 @@ class Part(NamedTuple):
 
 
 class Relation(NamedTuple):
-    """The h of a superstep: the lowest rank of which all sent or all received bytes are it, which of the two, and which places asked for how
-    much of it by which kind of call."""
+    """The h of a superstep: the lowest rank of which all sent or all received bytes are it, which of the two, and which places asked for
+    how much of it by which kind of call."""
 
     superstep: int
     h: int

@@ -45,8 +45,8 @@ def arguments(words: list[str]) -> argparse.Namespace:
     add("--sweep", type=target, metavar="FILE", help="of a table: total, speedup and efficiency over the nodes")
     add("--compare", type=target, metavar="FILE", help="of a table: the totals alone, and where one program begins to cost less")
     add("--lines", type=target, metavar="FILE", help="of the costs of lines: the dearest of them")
-    add("--source", dest="page", metavar="FILE", help="of the costs of lines: a page in one file with the source, and beside each line what it"
-        " costs, on which ranks and in which supersteps")  # fmt: skip
+    add("--source", dest="page", metavar="FILE", help="of the costs of lines: a page in one file with the source, and beside each line"
+        " what it costs, on which ranks and in which supersteps")  # fmt: skip
     add("--html", metavar="FILE", help="a page in one file, with the pictures that SOURCE has, its table and its settings")
     parser.add_prices()
     add("--h", type=Reading, choices=list(Reading), default=Reading.OTHERS, metavar="all|others", help="whether h counts what a"

@@ -82,7 +82,7 @@ class Plan:
     def listing(self) -> Listing:
         """The costs of lines."""
         if self.source.listing is None:
-            raise Refused(f"{self.source.name} has no costs of lines: give the file of `bsprun --lines-as json=FILE` for --lines and --source")
+            raise Refused(f"{self.source.name} has no costs of lines: give those of `bsprun --lines-as json=FILE` for --lines and --source")
         return self.source.listing
 
     def dearest(self) -> Picture:

@@ -15,8 +15,8 @@ from . import costs, profile, sweep
 
 @dataclass(frozen=True)
 class Source:
-    """What a file tells. A profile and the costs of lines tell the costs of supersteps too; a report has these alone, and the table of a sweep
-    has none."""
+    """What a file tells. A profile and the costs of lines tell the costs of supersteps too; a report has these alone, and the table of a
+    sweep has none."""
 
     name: str
     costs: list[costs.Cost] = field(default_factory=list)

@@ -76,7 +76,8 @@ class Work:
             made = [it for it in self.graph.calls if it.caller == function]
             name, is_exact = self.names[function], self.graph.is_exact(made, function)
             is_library = function not in self.own
-            found.append(Cost(Place("", 0, name), name, is_library, paid, ranks[function], self.passed.inclusive.get(function, 0), is_exact))
+            inclusive = self.passed.inclusive.get(function, 0)
+            found.append(Cost(Place("", 0, name), name, is_library, paid, ranks[function], inclusive, is_exact))
         return sorted(found, key=lambda it: (-it.paid, -sum(it.ranks), it.place))
 
     @cached_property

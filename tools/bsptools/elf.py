@@ -69,11 +69,11 @@ class Debug:
 
     def pieces(self) -> list[tuple[int, int, str, int]]:
         """Start, end, path and line of each piece of code of which the line is known, by their addresses. Where a function was put into
-        another, it is the line of the inner one."""
+        another, it is the line of the inner one. Units whose source is not here, as those of a C library, are left out."""
         found: list[tuple[int, int, str, int]] = []
         with contextlib.suppress(Exception), bounds.at_most(MOST_MEMORY):
             for unit in self.info.iter_CUs():
-                program = self.info.line_program_for_CU(unit)
+                program = self.info.line_program_for_CU(unit) if is_here(unit) else None
                 found += pieces(unit, program) if program else ()
         return sorted(found)
 
@@ -118,6 +118,12 @@ def row(program: Any, address: int) -> tuple[int, int]:
         if not now.end_sequence and now.address <= address < then.address:
             return now.file, now.line
     return 0, 0
+
+
+def is_here(unit: Any) -> bool:
+    """Whether the source of a unit is here."""
+    folder, file = (unit.get_top_DIE().attributes.get(f"DW_AT_{it}") for it in ("comp_dir", "name"))
+    return file is not None and posixpath.isfile(posixpath.join(folder.value if folder else b"", file.value))
 
 
 def pieces(unit: Any, program: Any) -> Iterator[tuple[int, int, str, int]]:

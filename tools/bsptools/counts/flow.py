@@ -9,7 +9,7 @@ from typing import NamedTuple
 
 from ..run.program import Code, Statement
 from . import table
-from .pointers import Part, matched
+from .pointers import Local, matched
 
 # The registers of return addresses: that of calls, and that of GCC's functions which save registers.
 LINKS = ("x1", "x5")
@@ -94,7 +94,7 @@ class Flow:
         for made in (it.made for it in table.parts(self.counts.path)):
             calls = {it: made[it] for it in sites if it in made}
             if calls:
-                parts.append(Part(calls, {it: more for it in began if (more := self.more(made, it, into[it])) > 0}))
+                parts.append(Local(calls, {it: more for it in began if (more := self.more(made, it, into[it])) > 0}))
         return [Call(it.site, self.functions.of(it.site), it.callee, times, is_sure) for it, (times, is_sure) in matched(parts).items()]
 
     @staticmethod

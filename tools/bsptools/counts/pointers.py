@@ -8,7 +8,7 @@ from typing import Dict, NamedTuple, Tuple
 from .shares import shared
 
 
-class Part(NamedTuple):
+class Local(NamedTuple):
     """One rank's part of a superstep: how often each place called by a pointer, and how often each function began so."""
 
     sites: dict[int, int]
@@ -31,7 +31,7 @@ class Pair(NamedTuple):
 Found = Dict[Pair, Tuple[int, bool]]
 
 
-def matched(parts: list[Part]) -> Found:
+def matched(parts: list[Local]) -> Found:
     """The calls of these parts. In one part a single place called all that began, and a single function was called by all places. Else a
     place is taken to have called the only function that began as often in each such part, if there is one; and what is left, each
     function in proportion."""
@@ -55,7 +55,7 @@ def matched(parts: list[Part]) -> Found:
     return found
 
 
-def next_pair(parts: list[Part]) -> Pair | None:
+def next_pair(parts: list[Local]) -> Pair | None:
     """A place that can have called just one of the functions in all of these parts, and that one."""
     for site in sorted({it for part in parts for it in part.sites}):
         here = [part for part in parts if site in part.sites]

@@ -26,15 +26,15 @@ class Moved(NamedTuple):
     place: Place
 
 
-class Part(NamedTuple):
+class Amount(NamedTuple):
     """Bytes of an h, and the number of requests that move them."""
 
     size: int = 0
     requests: int = 0
 
-    def more(self, size: int, requests: int = 1) -> Part:
+    def more(self, size: int, requests: int = 1) -> Amount:
         """With so many more."""
-        return Part(self.size + size, self.requests + requests)
+        return Amount(self.size + size, self.requests + requests)
 
 
 class Relation(NamedTuple):
@@ -45,7 +45,7 @@ class Relation(NamedTuple):
     h: int
     rank: int
     is_sent: bool
-    parts: dict[tuple[Place, str], Part]
+    parts: dict[tuple[Place, str], Amount]
 
 
 class Traffic:
@@ -91,10 +91,10 @@ class Traffic:
 def relation(number: int, h: int, moved: list[Moved]) -> Iterator[Relation]:
     """The h of a superstep of what was moved from one rank to another."""
     for is_sent in (True, False):
-        sums: dict[int, dict[tuple[Place, str], Part]] = {}
+        sums: dict[int, dict[tuple[Place, str], Amount]] = {}
         for it in moved:
             parts = sums.setdefault(it.source if is_sent else it.target, {})
-            parts[it.place, it.kind] = parts.get((it.place, it.kind), Part()).more(it.size)
+            parts[it.place, it.kind] = parts.get((it.place, it.kind), Amount()).more(it.size)
         for rank, parts in sorted(sums.items()):
             if sum(it.size for it in parts.values()) == h:
                 yield Relation(number, h, rank, is_sent, parts)

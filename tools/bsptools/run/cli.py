@@ -33,8 +33,8 @@ SOURCES = (".c", ".cc", ".cpp", ".cxx", ".C")
 # Options for the compiler, with what each says of a C program.
 COMPILED = {"-D": "define a macro", "-I": "look for headers there too", "-O": "optimize so far", "-l": "link with this library, as -lm"}
 KINDS = ("elf", "asm", "raw", "c")
-# The status of a run in which a rank was stopped.
-STOPPED = 2
+# The statuses of a run in which a rank was stopped, and of one that could not write a file.
+STOPPED, NOT_WRITTEN = 2, 6
 # How a program says at its start that it takes fewer nodes: bsplib/src/bsp.c.
 FEWER = re.compile(rb"^bsp: rank 0: there are more nodes than the program takes in bsp_begin: bsprun -n (\d+) ", re.MULTILINE)
 
@@ -94,6 +94,7 @@ class Job:
     code: Code
     settings: list[str]
     counts: pathlib.Path
+    has_counts: bool = False
 
     def replays(self) -> Replays:
         """The same run, in the debugger, of which places are to be told."""
@@ -104,7 +105,8 @@ class Job:
         """The run itself. The emulator writes either counts or a profile, so that for both it is made twice."""
         if wants_counts(self.options):
             done = self.made("--counts", str(self.counts))
-            if self.options.profile is None or report.part(done.stdout) is None:
+            self.has_counts = done.returncode != NOT_WRITTEN and report.part(done.stdout) is not None
+            if self.options.profile is None or not self.has_counts:
                 return done
         if self.options.profile is None:
             return self.made()
@@ -263,7 +265,7 @@ def deliver(job: Job, done: subprocess.CompletedProcess[bytes]) -> int:
         files.write(options.report, report.spelled_for(options.report, found))
     if options.summary:
         tell(summary(job, found))
-    if wants_counts(options) and job.counts.exists():
+    if job.has_counts:
         show("bsprun: looking for the lines")
         measured = job.measured(found)
         told = measured.tables(options.fold) if options.lines or options.fold else []

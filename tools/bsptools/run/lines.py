@@ -13,7 +13,7 @@ from .. import files
 from ..counts import callgrind, folded, listing, table, trace
 from ..counts.costs import Cost, Work
 from ..counts.source import Place
-from ..counts.traffic import MOST_STOPS, Part, Relation, Traffic
+from ..counts.traffic import Amount, Relation, Traffic
 from ..options import pair
 from ..refusals import counted
 from .calls import Tracer
@@ -109,10 +109,10 @@ class Told:
     def exchanged(self, relations: list[Relation]) -> list[str]:
         """Where h comes from: by line over all supersteps, and superstep by superstep."""
         h = sum(it.costs["h"] for it in self.report.supersteps)
-        sums: dict[tuple[Place, str], Part] = {}
+        sums: dict[tuple[Place, str], Amount] = {}
         for relation in relations:
             for key, part in relation.parts.items():
-                sums[key] = sums.get(key, Part()).more(*part)
+                sums[key] = sums.get(key, Amount()).more(*part)
         rows = [
             self.row([str(part.size), share(part.size, h), counted(part.requests, kind)], self.costs[place])
             for (place, kind), part in sorted(sums.items(), key=lambda it: (-it[1].size, it[0]))
@@ -182,10 +182,12 @@ class Measured:
     def tables(self, is_folded: bool) -> list[str]:
         """What is told of it."""
         told = Told(self.work, self.report)
-        if self.traffic.stops > MOST_STOPS:
-            more = f"bsprun: where h comes from is not told: {self.traffic.stops} calls of BSPlib are more than {MOST_STOPS}"
-            return [*told.lines(is_folded), more]
-        return told.lines(is_folded) + (told.exchanged(self.relations) if self.relations else [])
+        lines = told.lines(is_folded) + (told.exchanged(self.relations) if self.relations else [])
+        missing = sum(it.costs["h"] > 0 for it in self.report.supersteps) - len(self.relations)
+        if missing:
+            why = f"{self.traffic.stops} calls of BSPlib are too many to look at"
+            lines.append(f"bsprun: where h comes from is not told of {counted(missing, 'superstep')}: {why}")
+        return lines
 
     def write(self, kind: str, path: str) -> list[str]:
         """Writes a file of this kind; lines say what is left out."""

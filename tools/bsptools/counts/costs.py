@@ -41,7 +41,7 @@ class Work:
         self.paid, self.made = counts.paid(), counts.by_all()
         self.flow = Flow(code, counts)
         self.names = self.flow.functions.names
-        self.graph = Graph(self.names, self.flow.calls)
+        self.graph = Graph(self.names, self.flow.calls, self.flow.unexplained)
         source = Source(code)
         self.function_of = {address: self.flow.functions.of(address) for address in self.made}
         self.places: dict[int, Place] = {}

@@ -61,7 +61,9 @@ class Flow:
         self.functions = Functions(code, made, called, code.entry)
         ways = [*jumps.items(), *((at, it.end) for at, it in self.statements.items() if it.name not in LEAVING)]
         self.calls = [it for it in (self.call(at, target) for at, target in ways) if it]
-        self.calls += self.by_pointers()
+        by_pointers = self.by_pointers()
+        self.calls += by_pointers
+        self.unexplained = self.begun_otherwise(by_pointers)
 
     def target(self, at: int) -> int | None:
         """Where an instruction jumps to, with a link or without one, if the code tells."""
@@ -112,6 +114,24 @@ class Flow:
                     found[way].append(at)
         return found
 
+    def begun_otherwise(self, by_pointers: list[Call]) -> set[int]:
+        """The functions that may have begun in ways that were not found: more often than is known; or, where places jumped that nothing is
+        known of, by a branch to their start that was not taken."""
+        known = Counter({self.entry: self.made.get(self.entry, 0)})
+        for call in by_pointers:
+            known[call.callee] += call.times
+        into = self.ways_to_starts()
+        found = {it for it, ways in into.items() if self.more(self.made, it, ways) > known[it]}
+        sites = [at for at, it in self.statements.items() if it.name == "jalr" and not self.is_return(it) and self.target(at) is None]
+        if sum(self.made[at] for at in sites) > sum(call.times for call in by_pointers):
+            found |= {it for it, ways in into.items() if any(self.statements[at].name in BRANCHES for at in ways)}
+        return found
+
+    @staticmethod
+    def is_return(it: Statement) -> bool:
+        """Whether a JALR goes back to where a function was called."""
+        return it.operands[0] == "x0" and it.pointer in (1, 5)
+
     def is_by_pointer(self, at: int, it: Statement) -> bool:
         """Whether an instruction calls a function by a pointer: with a link, or as the last of its function, which a jump by the table of
         a `switch` looks like."""
@@ -119,7 +139,7 @@ class Flow:
             return False
         if it.operands[0] in LINKS:
             return True
-        return it.pointer not in (1, 5) and not self.has_table(self.functions.of(at))
+        return not self.is_return(it) and not self.has_table(self.functions.of(at))
 
     def has_table(self, function: int) -> bool:
         """Whether a function made steps at addresses to which no jump of it and no instruction before them led."""

@@ -20,9 +20,11 @@ class Passed(NamedTuple):
 
 
 class Graph:
-    """The functions of a run, each known by its start, and the calls that were made."""
+    """The functions of a run, each known by its start, and the calls that were made. Those that are unexplained may have been called in
+    other ways too."""
 
-    def __init__(self, functions: Iterable[int], calls: Iterable[Call]) -> None:
+    def __init__(self, functions: Iterable[int], calls: Iterable[Call], unexplained: Iterable[int] = ()) -> None:
+        self.unexplained = set(unexplained)
         self.calls = [it for it in calls if it.times > 0]
         self.callees: dict[int, set[int]] = {it: set() for it in functions}
         self.into: dict[int, list[Call]] = {it: [] for it in self.callees}
@@ -88,9 +90,7 @@ class Graph:
         """Whether the work of what is called there is for these calls alone; or for the function that makes them, whoever called it."""
         made = set(calls)
         within = self.reach(it.callee for it in made) | ({function} if function is not None else set())
-        return all(
-            call.is_sure and (call.caller in within or call in made)
-            for it in within
-            if it != function
-            for call in self.into[it]
-        )
+        others = within - {function}
+        if others & self.unexplained:
+            return False
+        return all(call.is_sure and (call.caller in within or call in made) for it in others for call in self.into[it])

@@ -44,6 +44,8 @@ int main(void)
     bsp_sync();
     for (int i = 0; i < COUNT; i++)
         numbers[i] = twice(i * 5 % COUNT);
+    if (s == 0)
+        bsp_hpsend(1, NULL, &word, sizeof word); /* the message */
     qsort(numbers, COUNT, sizeof(int), compare);
     bsp_sync();
     printf("%d %d\n", fib(7), twice(s) + numbers[0]);

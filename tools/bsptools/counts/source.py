@@ -3,10 +3,15 @@
 from __future__ import annotations
 
 import bisect
+import os
 import pathlib
 from typing import NamedTuple
 
 from ..run.program import Code
+
+
+# Headers of the system: a standard library's, which is in a program as a part of its lines.
+SYSTEM = ("/usr/include/", "/usr/lib/")
 
 
 class Place(NamedTuple):
@@ -29,7 +34,7 @@ class Place(NamedTuple):
 
 
 class Source:
-    """The lines of a program, by address. Those of files that are not here, as a C library's, are none."""
+    """The lines of a program, by address. Those of files that are not here, as a C library's, and of headers of the system are none."""
 
     def __init__(self, code: Code) -> None:
         self.pieces: list[tuple[int, int, str, int]] = []
@@ -50,7 +55,7 @@ class Source:
         return Place(path, number) if address < end and self.is_here(path) else None
 
     def is_here(self, path: str) -> bool:
-        """Whether a file is here."""
+        """Whether a file is here, and not a header of the system."""
         if path not in self.here:
-            self.here[path] = pathlib.Path(path).is_file()
+            self.here[path] = not os.path.normpath(path).startswith(SYSTEM) and pathlib.Path(path).is_file()
         return self.here[path]

@@ -36,8 +36,14 @@ NAMES = {
     17: ("write", ("*bytes", "count")),
     18: ("read", ("*bytes", "count")),
 }
-# The library's functions that make the calls of which a trace is asked for.
-FUNCTIONS = {**{number: name for number, (name, _) in NAMES.items()}, WRITE: "bsp_stdio_flush"}
+# The library's functions that make the calls of which a trace is asked for. Into some the compiler has put the one that they call.
+FUNCTIONS = {
+    **{number: (name,) for number, (name, _) in NAMES.items()},
+    PUSH: ("bsp_push_reg", "bsp_pushregister"),
+    POP: ("bsp_pop_reg", "bsp_popregister"),
+    SEND: ("bsp_send", "bsp_hpsend"),
+    WRITE: ("bsp_stdio_flush",),
+}
 
 
 class Call(NamedTuple):
@@ -104,7 +110,7 @@ class Tracer:
 
     def sites(self, numbers: tuple[int, ...]) -> list[int]:
         """The addresses from which these calls are made."""
-        return self.code.calls_of(*(FUNCTIONS[it] for it in numbers))
+        return self.code.calls_of(*(name for it in numbers for name in FUNCTIONS[it]))
 
     def calls(self, rank: int, numbers: tuple[int, ...], superstep: int = 0) -> list[Call]:
         """The calls of these numbers that a rank made from the beginning of a superstep to the run's end."""

@@ -40,6 +40,11 @@ def segments(content: bytes) -> Iterator[tuple[int, memoryview, int]]:
                 yield address, stored, address + memsize
 
 
+def entry(content: bytes) -> int:
+    """Where execution begins; 0 where the file is too short to say."""
+    return int.from_bytes(content[24:28], "little")
+
+
 def names(content: bytes) -> set[str]:
     """The names of an ELF file's symbols; none of a file that has none, or is broken."""
     with contextlib.suppress(struct.error, IndexError):
@@ -79,6 +84,16 @@ class Debug:
             unit = next(it for it in self.info.iter_CUs() if self._has(it.get_top_DIE(), address))
             return list(self._lines(unit, self.info.line_program_for_CU(unit), address))
         return []
+
+    def pieces(self) -> list[tuple[int, int, str, int]]:
+        """Start, end, path and line of each piece of code of which the line is known, by their addresses. Where a function was put into
+        another, it is the line of the inner one. Units whose source is not here, as those of a C library, are left out."""
+        found: list[tuple[int, int, str, int]] = []
+        with contextlib.suppress(Exception), bounds.at_most(MOST_MEMORY):
+            for unit in self.info.iter_CUs():
+                program = self.info.line_program_for_CU(unit) if is_here(unit) else None
+                found += pieces(unit, program) if program else ()
+        return sorted(found)
 
     def _lines(self, unit: Any, program: Any, address: int) -> Iterator[tuple[str, str]]:
         number, line = row(program, address)
@@ -121,6 +136,26 @@ def row(program: Any, address: int) -> tuple[int, int]:
         if not now.end_sequence and now.address <= address < then.address:
             return now.file, now.line
     return 0, 0
+
+
+def is_here(unit: Any) -> bool:
+    """Whether the source of a unit is here."""
+    folder, file = (unit.get_top_DIE().attributes.get(f"DW_AT_{it}") for it in ("comp_dir", "name"))
+    return file is not None and posixpath.isfile(posixpath.join(folder.value if folder else b"", file.value))
+
+
+def pieces(unit: Any, program: Any) -> Iterator[tuple[int, int, str, int]]:
+    """Those of a table of lines, but for code that the linker left out, which begins at address 0."""
+    paths: dict[int, str] = {}
+    is_here = False
+    before = None
+    for now in (entry.state for entry in program.get_entries() if entry.state):
+        is_here = is_here if before else now.address > 0
+        if is_here and before and before.line and before.address < now.address:
+            if before.file not in paths:
+                paths[before.file] = path(unit, program, before.file)
+            yield before.address, now.address, paths[before.file], before.line
+        before = None if now.end_sequence else now
 
 
 def path(unit: Any, program: Any, number: int) -> str:

@@ -12,13 +12,13 @@ import subprocess
 import tempfile
 from typing import Any, Dict, List, Optional
 
-from base import SECONDS, STORED, Check, Parts
+from base import REPO, SECONDS, STORED, Check, Parts
 from checks import Part, Tool
 from pictures import SWEEP
 
 NAMES = ("chromium", "chromium-browser", "google-chrome")
 # The widths of a telephone and of a screen. A page stands in a frame of each.
-WIDTHS = (400, 1400)
+WIDTHS = (400, 1600)
 HEIGHT = 3600
 # What is looked at in the page, by a script that is put into a copy of it: what lies outside the window's width, texts of pictures outside
 # their picture or over one another's middle, texts that are hard to see, and what the page would load from elsewhere.
@@ -48,7 +48,7 @@ window.onload = () => {
   }
   const small = [...document.querySelectorAll('svg text')].filter((it) => it.getBoundingClientRect().height < 8).length;
   const paper = light(getComputedStyle(document.body).backgroundColor);
-  const contrasts = [...document.querySelectorAll('h1, h2, p, th, td')].map((it) => light(getComputedStyle(it).color) / paper);
+  const contrasts = [...document.querySelectorAll('h1, h2, p, th, td, code, .number')].map((it) => light(getComputedStyle(it).color) / paper);
   const found = {
     window: window.innerWidth,
     width: document.documentElement.scrollWidth,
@@ -64,7 +64,7 @@ window.onload = () => {
     names: new Set([...document.querySelectorAll('[id]')].map((it) => it.id)).size,
     named: document.querySelectorAll('[id]').length,
     texts: [...document.querySelectorAll('svg text, td')].map((it) => it.textContent),
-    tags: document.querySelectorAll('b, i').length,
+    tags: document.querySelectorAll('b:not(.source b), i:not(.source i, .legend i)').length,
     loaded: performance.getEntriesByType('resource').length,
   };
   parent.postMessage(JSON.stringify(found), '*');
@@ -81,7 +81,7 @@ window.onmessage = (told) => {
 };
 </script>
 """
-# A program of this name is in the table. It would be parts of a page where it is not escaped.
+# A program of this name is in the table, and one has costs of lines. It would be parts of a page where it is not escaped.
 WILD = '<i>&amp;id="x".s'
 
 
@@ -110,9 +110,11 @@ PAGES = {
     "total_exchange": (OF_PROFILE, 4),
     "table": (["compare", "sweep"], 8),
     "large": (OF_PROFILE, 15),
+    "lines": (["costs", "lines"], 7),
+    "many lines": (["costs", "lines"], 7),
 }
 # Those that are looked at by someone who likes dark pages.
-DARK = ("total_exchange", "large")
+DARK = ("total_exchange", "large", "many lines")
 
 
 def parts(make: Parts) -> List[Part]:
@@ -124,7 +126,8 @@ def load(check: Check, name: str) -> None:
     """Makes a page and loads it."""
     names, rows = PAGES[name]
     path = check.folder / f"{name}.html"
-    words = ["--html", str(path), "--g", "4", "--l", "1000", "--title", f"The page of {name}", "--setting", "program=<b>.c"]
+    kind = "--source" if "lines" in name else "--html"
+    words = [kind, str(path), "--g", "4", "--l", "1000", "--title", f"The page of {name}", "--setting", "program=<b>.c"]
     done = check.tool("bspplot", *words, str(source_of(check, name)))
     check.expect(f"page of {name}, made", done.returncode == 0, done.stderr)
     check.tell(f"page of {name}", faults(browser() or BROWSER.name, path, names, rows, name in DARK))
@@ -138,7 +141,16 @@ def source_of(check: Check, name: str) -> pathlib.Path:
         path = check.folder / "table.csv"
         path.write_text(SWEEP.replace("two.s", '"' + WILD.replace('"', '""') + '"'))
         return path
-    return STORED / f"{name}.csv"
+    return costs_of_lines(check, 20 if name == "many lines" else 4) if "lines" in name else STORED / f"{name}.csv"
+
+
+def costs_of_lines(check: Check, nodes: int) -> pathlib.Path:
+    """The costs of lines of a text whose name and whose lines would be parts of a page."""
+    text = (REPO / "examples/total_exchange.s").read_text()
+    (check.folder / WILD).write_text(f"# <b>{WILD}</b> {'a long line ' * 20}\n{text}")
+    done = check.tool("bsprun", "-n", str(nodes), "--lines-as", "json=lines.json", WILD)
+    check.expect(f"costs of lines on {nodes} nodes", (check.folder / "lines.json").exists(), done.stderr)
+    return check.folder / "lines.json"
 
 
 def large(check: Check) -> pathlib.Path:
@@ -187,6 +199,7 @@ def fault_of(found: Dict[str, Any], names: List[str], rows: int, is_dark: bool) 
         return f"it does not stand in its width, or texts are cut off or small, or it loads more: {found}"
     if found["dark"] != is_dark or (found["page"] < 0.2) != is_dark or found["contrast"] < 4.5 or found["papers"] != ["rgb(255, 255, 255)"]:
         return f"it is hard to read: {found}"
-    if found["tags"] or ("compare" in names and texts.count(WILD) < 3):
+    is_named = texts.count(WILD) > 2 if "compare" in names else "lines" not in names or any(WILD in it for it in texts)
+    if found["tags"] or not is_named:
         return f"a name is not as it is written: {texts}"
     return "" if found["names"] == found["named"] else "two of its parts have one name"

@@ -352,9 +352,11 @@ def refusals(check: Check) -> None:
     tried = {
         ("--timeline", "t.svg", "cut.csv"): "bspplot: cut.csv: line 3: ",
         ("--timeline", "t.svg", "absent.csv"): "bspplot: absent.csv: No such file or directory",
-        ("--costs", "t.svg", "other.csv"): "bspplot: other.csv: this is no profile, no report, and no table of a sweep",
+        ("--costs", "t.svg", "other.csv"): "bspplot: other.csv: this is no profile, no report, no costs of lines, and no table of a sweep",
         ("--timeline", "t.svg", "report.csv"): "bspplot: report.csv has no profile",
         ("--sweep", "t.svg", "report.csv"): "bspplot: report.csv has no sweep",
+        ("--lines", "t.svg", "report.csv"): "bspplot: report.csv has no costs of lines",
+        ("--source", "t.html", "report.csv"): "bspplot: report.csv has no costs of lines",
         ("--costs", "t.svg", "table.csv"): "bspplot: table.csv has no costs of supersteps",
         ("--costs", "t.jpg", "report.csv"): "bspplot: argument --costs: 't.jpg': the name of a picture ends with",
         ("--costs", "absent/t.svg", "report.csv"): "bspplot: absent/t.svg: No such file or directory",

@@ -36,7 +36,7 @@ def arguments(words: list[str]) -> argparse.Namespace:
     parser = Parser(
         "bspplot",
         description="Draws what a run did and what it cost. SOURCE is a profile (`run --profile`), a report (`run --report`, or the CSV"
-        " or JSON of `bsprun --report`), or the table of `bspsweep`. The name of a picture's FILE ends with .svg, .png or .pdf.",
+        " or JSON of `bsprun --report`), the costs of lines (`bsprun --lines-as json=FILE`), or the table of `bspsweep`. The name of a picture's FILE ends with .svg, .png or .pdf.",
     )
     add = parser.add_argument
     add("--timeline", type=target, metavar="FILE", help="of a profile: each rank's work and waiting, the exchange, and l")
@@ -44,6 +44,9 @@ def arguments(words: list[str]) -> argparse.Namespace:
     add("--costs", type=target, metavar="FILE", help="of a profile or a report: each superstep's cost, split into w, g*h and l")
     add("--sweep", type=target, metavar="FILE", help="of a table: total, speedup and efficiency over the nodes")
     add("--compare", type=target, metavar="FILE", help="of a table: the totals alone, and where one program begins to cost less")
+    add("--lines", type=target, metavar="FILE", help="of the costs of lines: the dearest of them")
+    add("--source", dest="page", metavar="FILE", help="of the costs of lines: a page in one file with the source, and beside each line"
+        " what it costs, on which ranks and in which supersteps")  # fmt: skip
     add("--html", metavar="FILE", help="a page in one file, with the pictures that SOURCE has, its table and its settings")
     parser.add_prices()
     add("--h", type=Reading, choices=list(Reading), default=Reading.OTHERS, metavar="all|others", help="whether h counts what a"

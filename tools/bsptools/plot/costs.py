@@ -4,7 +4,7 @@ from __future__ import annotations
 
 from typing import NamedTuple
 
-
+from ..counts.listing import Listing
 from ..run.report import Report
 from .profile import Profile, Reading
 
@@ -43,6 +43,11 @@ def of_profile(profile: Profile, reading: Reading) -> list[Cost]:
 def of_report(report: Report) -> list[Cost]:
     """The costs that a report tells."""
     return [Cost(it.number, it.costs["w"], it.costs["h"]) for it in report.supersteps]
+
+
+def of_listing(listing: Listing) -> list[Cost]:
+    """The costs that a run's costs of lines tell."""
+    return [Cost(number, it.w, it.h) for number, it in enumerate(listing.supersteps)]
 
 
 def total(costs: list[Cost], prices: Prices) -> int:

@@ -3,12 +3,14 @@
 from __future__ import annotations
 
 import argparse
+from collections.abc import Callable
 from dataclasses import dataclass, field
 from typing import TypeVar
 
 from .. import files
+from ..counts.listing import Listing
 from ..refusals import Refused, tell
-from . import matrix, page, series, split, sources, sweep, timeline
+from . import annotated, lines, matrix, page, series, split, sources, sweep, timeline
 from .canvas import Picture, thousands
 from .costs import Cost, Prices, total
 from .profile import Superstep
@@ -16,7 +18,7 @@ from .profile import Superstep
 # A picture has at most so many supersteps, and a timeline so many bars.
 MOST_SUPERSTEPS = 100
 MOST_BARS = 4096
-PICTURES = ("timeline", "matrix", "costs", "sweep", "compare")
+PICTURES = ("timeline", "matrix", "costs", "lines", "sweep", "compare")
 # What has the number of a superstep.
 Shown = TypeVar("Shown", Cost, Superstep)
 
@@ -77,6 +79,16 @@ class Plan:
         """The split of the costs."""
         return split.draw(self.costs(), self.prices, self.title)
 
+    def listing(self) -> Listing:
+        """The costs of lines."""
+        if self.source.listing is None:
+            raise Refused(f"{self.source.name} has no costs of lines: give those of `bsprun --lines-as json=FILE` for --lines and --source")
+        return self.source.listing
+
+    def dearest(self) -> Picture:
+        """The dearest lines."""
+        return lines.draw(self.listing(), self.title)
+
     def lines(self) -> list[sweep.Line]:
         """The lines of a sweep."""
         if not self.source.rows:
@@ -96,8 +108,9 @@ def settings(plan: Plan) -> list[tuple[str, str]]:
     """What stands at the top of a page."""
     source = plan.source
     known = [("source", source.name), *plan.options.setting]
-    if source.profile:
-        known.append(("nodes", str(source.profile.nodes)))
+    ran = source.profile or source.listing
+    if ran:
+        known.append(("nodes", str(ran.nodes)))
     if source.costs:
         whole = f"{thousands(total(source.costs, plan.prices))} ticks in {len(source.costs)} supersteps"
         known += [("g", f"{plan.prices.g} ticks a byte"), ("l", f"{plan.prices.l} ticks a superstep"), ("total", whole)]
@@ -121,27 +134,35 @@ def sections(plan: Plan) -> list[page.Section]:
     return [*found, page.cost_table(plan.source.costs, plan.source.profile, plan.prices, plan.options.h)]
 
 
-def write_page(plan: Plan) -> None:
-    """Writes the page."""
+def source_sections(plan: Plan) -> list[page.Section]:
+    """What a page of a source has."""
+    costs = page.Section("What the supersteps cost", page.COSTS, page.inline(plan.split(), "costs"))
+    dear = page.Section("The dearest lines", page.LINES, page.inline(plan.dearest(), "lines"))
+    return [costs, dear, *annotated.sections(plan.listing())]
+
+
+def write_page(plan: Plan, path: str, made: Callable[[Plan], list[page.Section]], style: str = "") -> None:
+    """Writes a page of these sections."""
     untitled = Plan(argparse.Namespace(**{**vars(plan.options), "title": ""}), plan.source)
-    parts = sections(untitled)
+    parts = made(untitled)
     drawn = [("drawn", note) for note in untitled.notes]
     plan.notes.extend(it for it in untitled.notes if it not in plan.notes)
-    text = page.written(plan.title or plan.source.name, settings(plan) + drawn, parts)
-    files.write(plan.options.html, text)
+    files.write(path, page.written(plan.title or plan.source.name, settings(plan) + drawn, parts, style))
 
 
 def draw(options: argparse.Namespace) -> None:
     """Draws all that was asked for."""
     pictures = [getattr(options, name) for name in PICTURES]
-    files.expect_apart([*pictures, options.html], [options.source])
+    files.expect_apart([*pictures, options.page, options.html], [options.source])
     plan = Plan(options, sources.read(options.source, options.h))
-    asked = {"timeline": plan.timeline, "matrix": plan.matrix, "costs": plan.split, "sweep": plan.sweep, "compare": plan.compare}
-    wanted = {name: make for name, make in asked.items() if getattr(options, name)}
-    if not wanted and not options.html:
-        raise Refused("nothing is asked for: give --timeline, --matrix, --costs, --sweep, --compare or --html")
+    drawers = (plan.timeline, plan.matrix, plan.split, plan.dearest, plan.sweep, plan.compare)
+    wanted = {name: make for name, make in zip(PICTURES, drawers) if getattr(options, name)}
+    if not wanted and not options.page and not options.html:
+        raise Refused("nothing is asked for: give --timeline, --matrix, --costs, --lines, --source, --sweep, --compare or --html")
     for name, make in wanted.items():
         make().save(getattr(options, name))
+    if options.page:
+        write_page(plan, options.page, source_sections, annotated.style(plan.listing()))
     if options.html:
-        write_page(plan)
+        write_page(plan, options.html, sections)
     tell(plan.notes, "bspplot: ")

@@ -24,6 +24,10 @@ TIMELINE = (
     " A line parts two supersteps. Little grey means that the work is shared evenly."
 )
 COSTS = "Each superstep costs w + g·h + l ticks. The greatest of the three parts is the one to make smaller."
+LINES = (
+    "What the dearest lines cost, in steps of the slowest ranks, of which w is made: by themselves (blue), which is exact, and with the"
+    " library functions that they call (grey), whose work is apportioned by numbers of calls where several lines called them."
+)
 MATRIX = (
     "How many bytes went from each rank (row) to each rank (column) in all supersteps together. The bars on the right are what each rank"
     " sent, and those below what each received; the greatest of all is orange. In one superstep it is h: the fullest row or column. In"
@@ -111,13 +115,13 @@ def scrolled(section: Section) -> str:
     return f'<div class="scroll" tabindex="0" role="region" aria-label="{html.escape(section.heading)}">\n{section.body}\n</div>'
 
 
-def written(title: str, settings: list[tuple[str, str]], sections: list[Section]) -> str:
-    """The page."""
+def written(title: str, settings: list[tuple[str, str]], sections: list[Section], style: str = "") -> str:
+    """The page, with more of a style."""
     rows = "".join(f"<tr><th>{html.escape(name)}</th><td>{html.escape(value)}</td></tr>\n" for name, value in settings)
     parts = "".join(f"<h2>{html.escape(it.heading)}</h2>\n<p>{html.escape(it.text)}</p>\n{scrolled(it)}\n" for it in sections)
     return (
         '<!DOCTYPE html>\n<html lang="en">\n<head>\n<meta charset="utf-8">\n'
         '<meta name="viewport" content="width=device-width, initial-scale=1">\n<meta name="color-scheme" content="light dark">\n'
-        f"<title>{html.escape(title)}</title>\n<style>{STYLE}</style>\n</head>\n<body>\n<h1>{html.escape(title)}</h1>\n"
+        f"<title>{html.escape(title)}</title>\n<style>{STYLE}{style}</style>\n</head>\n<body>\n<h1>{html.escape(title)}</h1>\n"
         f'<table class="settings">\n{rows}</table>\n{parts}</body>\n</html>\n'
     )

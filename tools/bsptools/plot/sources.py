@@ -1,10 +1,11 @@
-"""What bspplot draws from: a profile, a report as `run --report` or `bsprun` writes it, or the table of a sweep."""
+"""What bspplot draws from: a profile, a report as `run --report` or `bsprun` writes it, the costs of lines, or the table of a sweep."""
 
 from __future__ import annotations
 
 import pathlib
 from dataclasses import dataclass, field
 
+from ..counts import listing
 from ..files import content_of
 from ..limits import MOST_TABLE
 from ..refusals import Refused, printable
@@ -14,12 +15,14 @@ from . import costs, profile, sweep
 
 @dataclass(frozen=True)
 class Source:
-    """What a file tells. A profile tells the costs too; a report has costs alone, and the table of a sweep neither."""
+    """What a file tells. A profile and the costs of lines tell the costs of supersteps too; a report has these alone, and the table of a
+    sweep has none."""
 
     name: str
     costs: list[costs.Cost] = field(default_factory=list)
     profile: profile.Profile | None = None
     rows: list[sweep.Row] = field(default_factory=list)
+    listing: listing.Listing | None = None
     outcome: str = ""
 
 
@@ -38,14 +41,23 @@ def understood(name: str, content: bytes, reading: profile.Reading) -> Source:
     if profile.is_profile(text):
         found = profile.parse(text)
         return Source(name, costs.of_profile(found, reading), found, outcome=found.outcome())
+    if listing.is_listing(text):
+        lines = listing.parse(text)
+        expect_reading(reading, profile.Reading.OTHERS, "the costs of lines have")
+        return Source(name, costs.of_listing(lines), listing=lines, outcome=lines.outcome)
     if sweep.is_table(text):
         return Source(name, rows=sweep.parse(text))
     known = forms.read(content)
     if known is None:
-        raise Refused("this is no profile, no report, and no table of a sweep")
-    if reading is not reading_of(known):
-        raise Refused(f"a report has one h, and this one's is that of --h {reading_of(known).value}: say so, or give a profile")
+        raise Refused("this is no profile, no report, no costs of lines, and no table of a sweep")
+    expect_reading(reading, reading_of(known), "a report has")
     return Source(name, costs.of_report(known), outcome=known.outcome)
+
+
+def expect_reading(asked: profile.Reading, told: profile.Reading, has: str) -> None:
+    """Refuses another h than the only one that is told."""
+    if asked is not told:
+        raise Refused(f"{has} one h, and this one's is that of --h {told.value}: say so, or give a profile")
 
 
 def reading_of(known: report.Report) -> profile.Reading:

@@ -12,6 +12,7 @@ from ..limits import MOST_WORKERS, WORKERS
 from ..options import Parser
 from ..refusals import BY_SIGNAL, about, show, tell
 from .job import Job, prepared
+from .viewers import form, wants_counts
 from .watch import Done, Fewer, Interrupted, Stopped, Watch
 
 # The status of a run that the clock has ended, as that of timeout(1), and the longest that --wall takes.
@@ -37,6 +38,10 @@ def parser() -> Parser:
     add("--report", metavar="FILE", help="the costs, into FILE: as CSV or JSON where its name says so; - is standard error")
     add("--profile", metavar="FILE", help="what each rank did in each superstep, into FILE as CSV: bspplot draws it")
     add("--summary", action="store_true", help="the totals and the dearest lines of supersteps, on standard error")
+    add("--lines", action="store_true", help="where w and h come from, by line and by function, on standard error")
+    add("--fold", action="store_true", help="as --lines, with the work of library functions at the lines that called them")
+    add("--lines-as", type=form, action="append", default=[], metavar="KIND=FILE", help="that as a file of this kind: callgrind,"
+        " folded (stacks for a flame graph), trace (for Perfetto) or json (for bspplot --source); any number of them")  # fmt: skip
     found.add_number("--fill", what="the byte of fresh memory", least=0, most=255, metavar="BYTE",
         help="the byte that stack and malloc have at first, for a program that reads what it did not write; 0 by default")  # fmt: skip
     add("--warn", action="store_true", help="look for what is likely a mistake, also in a run that ends well; takes long")
@@ -74,7 +79,7 @@ def deliver(job: Job, done: Done) -> int:
         from .noted import tell_noted
 
         tell_noted(job, done.records)
-    if options.summary or options.warn or found.outcome != "ended":
+    if options.summary or options.warn or wants_counts(options) or found.outcome != "ended":
         from .telling import tell_of
 
         tell_of(job, found, parser())
@@ -117,7 +122,7 @@ def run(job: Job) -> int:
 def main(words: list[str]) -> int:
     """Runs a program; the status is the emulator's, or says what ended it."""
     options = arguments(words)
-    outputs = [options.report if options.report != "-" else None, options.profile]
+    outputs = [options.report if options.report != "-" else None, options.profile, *(path for _, path in options.lines_as)]
     files.expect_apart(outputs, [options.program, options.input, *options.file])
     files.expect_writable(outputs)
     if options.out is not None and not os.path.isdir(options.out):

@@ -7,6 +7,7 @@ import pathlib
 import re
 import struct
 import subprocess
+from collections.abc import Iterable, Iterator
 from dataclasses import dataclass, field
 from typing import Any, NamedTuple
 
@@ -67,10 +68,12 @@ class Statement(NamedTuple):
 
 @dataclass
 class Code:
-    """The addresses of a program: its segments, the functions and variables that it names, and the lines of a text."""
+    """The addresses of a program: its segments, where execution begins, the functions and variables that it names, and the lines of a
+    text."""
 
     segments: list[tuple[int, memoryview]] = field(default_factory=list)
     need: int = 0
+    entry: int = 0
     functions: list[tuple[int, int, str]] = field(default_factory=list)
     variables: list[tuple[int, int, str]] = field(default_factory=list)
     names: dict[str, int] = field(default_factory=dict)
@@ -111,14 +114,16 @@ class Code:
         than a function has the first are listed."""
         end = min(end, start + MOST_OF_A_FUNCTION)
         stored = next((content[start - at : end - at] for at, content in self.segments if at <= start < at + len(content)), b"")
-        words = [emulator.emulator(), "list", "-", "--format", "raw"]
-        listed = subprocess.run(words, input=stored, stdout=subprocess.PIPE, check=False).stdout.decode()
-        found = {}
-        for line in listed.splitlines():
-            place, stored_as, name, *operands = line.split("#")[0].replace(",", " ").split()
-            at = start + int(place[:-1], 16)
-            found[at] = Statement(name, operands, at + len(stored_as) // 2, start)
-        return found
+        return {start + place: Statement(name, operands, start + end, start) for place, end, name, operands in listing(stored)}
+
+    def statements_at(self, addresses: Iterable[int]) -> dict[int, Statement]:
+        """The instructions of the image at these addresses, as the emulator lists them one behind another."""
+        stored = {address: code for address in addresses if (code := self.stored(address))}
+        listed = listing(b"".join(stored.values()))
+        return {
+            address: Statement(name, operands, address + end - place, address - place)
+            for address, (place, end, name, operands) in zip(stored, listed)
+        }
 
     def body(self, start: int) -> dict[int, Statement]:
         """The instructions of a function."""
@@ -169,17 +174,27 @@ class Code:
         return found or self.calls()
 
 
+def listing(stored: bytes) -> Iterator[tuple[int, int, str, list[str]]]:
+    """Place, end, name and operands of each instruction of these bytes, as the emulator lists them."""
+    words = [emulator.emulator(), "list", "-", "--format", "raw"]
+    listed = subprocess.run(words, input=stored, stdout=subprocess.PIPE, check=False).stdout.decode()
+    for line in listed.splitlines():
+        place, stored_as, name, *operands = line.split("#")[0].replace(",", " ").split()
+        at = int(place[:-1], 16)
+        yield at, at + len(stored_as) // 2, name, operands
+
+
 def read_elf(content: bytes) -> Code:
     """The code of an ELF file, as far as it can be read."""
-    code = Code(content=content)
+    code = Code(content=content, entry=elf.entry(content))
     for address, stored, end in elf.segments(content):
         code.segments.append((address, stored))
         code.need = max(code.need, end)
     return code
 
 
-def read_text(emulator: list[str], name: str, content: bytes, folder: pathlib.Path) -> Code:
-    """The code of a text of this name: it is assembled with a label at each line, and the words of these labels behind it. None of one that
+def read_text(emulator: list[str], path: str, content: bytes, folder: pathlib.Path) -> Code:
+    """The code of a text of this path: it is assembled with a label at each line, and the words of these labels behind it. None of one that
     would be too long for the assembler with these."""
     if len(content) + content.count(b"\n") * MARKS > MOST_TEXT:
         return Code()
@@ -199,7 +214,7 @@ def read_text(emulator: list[str], name: str, content: bytes, folder: pathlib.Pa
     places = struct.unpack_from(f"<{len(lines)}I", stored, end - start)
     code.segments = [(start, stored[: end - start])]
     code.lines = list(zip(places, range(1, len(lines) + 1)))
-    code.text, code.content = name, b""
+    code.text, code.content = path, b""
     for address, number in code.lines:
         words_of_line = lines[number - 1].split("#")[0].split(":")
         code.functions += [(address, 0, word.strip()) for word in words_of_line[:-1] if word.strip().isidentifier()]

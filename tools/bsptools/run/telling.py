@@ -2,16 +2,20 @@
 
 from __future__ import annotations
 
-from .. import packages
+from .. import children, emulator, packages
 from ..options import Parser
-from ..refusals import show, tell
+from ..refusals import Refused, lines_of, show, tell
 from . import summary
 from .again import findings
 from .calls import Tracer
 from .job import Job, gdb_line
 from .report import Report
+from .viewers import wants_counts
 from .warn import warnings
 from .why import Why
+
+# The status of a run that could not write a file.
+NOT_WRITTEN = 6
 
 
 def tell_of(job: Job, found: Report, parser: Parser) -> None:
@@ -19,6 +23,8 @@ def tell_of(job: Job, found: Report, parser: Parser) -> None:
     options = job.options
     if options.summary:
         tell(summary.lines(job, found))
+    if wants_counts(options):
+        tell_lines(job, found)
     if found.outcome != "ended":
         show("bsprun: looking for the place")
         why = Why(job.code, job.replays(), options.nodes, options.limit, is_patient=options.warn)
@@ -35,3 +41,26 @@ def tell_of(job: Job, found: Report, parser: Parser) -> None:
     missing = packages.missing(packages.ELFTOOLS)
     if job.code.debug and missing:
         tell([f"bsprun: functions and lines are not named: {missing}"])
+
+
+def tell_lines(job: Job, found: Report) -> None:
+    """Tells where the work of a run is, by running it once more with counts: a run that is watched has none, and runs are the same each
+    time."""
+    from .lines import Measured
+
+    options = job.options
+    show("bsprun: looking for the lines")
+    try:
+        with children.folder("bsprun") as folder:
+            counts = folder / "counts"
+            prices = ["--g", str(options.g), "--l", str(options.l)]
+            done = emulator.run([*job.program, "run", *job.settings, *prices, "--report", "--counts", str(counts)])
+            if done.returncode == NOT_WRITTEN or not counts.exists():
+                raise Refused("the costs of lines are not known, since their counts could not be made", *lines_of(done.stderr))
+            trace = Tracer(job.code, job.replays())
+            measured = Measured(counts, options.nodes, trace, found, (options.g, options.l), options.program)
+            told = measured.tables(options.fold) if options.lines or options.fold else []
+            told += [f"bsprun: {line}" for kind, path in options.lines_as for line in measured.write(kind, path)]
+    finally:
+        show("")
+    tell(told)

@@ -17,12 +17,13 @@ from dataclasses import dataclass
 from typing import Callable, Dict, List, Optional, Sequence, Tuple
 
 from bsptools import start
+from bsptools.counts import table
 from bsptools.debug import cli as _debug  # noqa: F401  pylint: disable=unused-import
 from bsptools.plot import profile, sources, sweep
 from bsptools.plot.costs import Prices, total
 from bsptools.refusals import Refused
 from bsptools.run import cli as _run  # noqa: F401  pylint: disable=unused-import
-from bsptools.run import program
+from bsptools.run import program, report
 from bsptools.sweep import cli as _sweep  # noqa: F401  pylint: disable=unused-import
 from bsptools.sweep import job
 from bsptools.sweep.store import Place
@@ -35,6 +36,11 @@ SPACE = 4 << 30
 # The statuses that the pages say, where there is memory and every file can be written: 1 of the tools, and of the emulator a program's
 # outcome.
 STATUSES = {"bspplot": {0, 1}, "bspsweep": {0, 1}, "bsprun": {0, 1, 2, 3, 4}, "bspgdb": {0, 1, 2, 3, 4}}
+# What bspplot is asked for, and the file for it.
+WANTED = [
+    ("--html", "made.html"), ("--costs", "made.svg"), ("--timeline", "made.png"), ("--sweep", "made.pdf"), ("--lines", "made.svg"),
+    ("--source", "made.html"),
+]  # fmt: skip
 # None of these may be told.
 MISTAKES = (b"Traceback", b"this is a mistake of", b"Exception ignored", b"Fatal Python error")
 PACKETS = [
@@ -52,6 +58,8 @@ class Bases:
     profiles: List[bytes]
     reports: List[bytes]
     tables: List[bytes]
+    listings: List[bytes]
+    counts: bytes
     image: bytes
     records: List[bytes]
     key: str
@@ -67,7 +75,7 @@ class Trial:
 
     def source(self) -> bytes:
         """A changed file of those that bspplot draws."""
-        of_kind = self.chance.choice([self.bases.profiles, self.bases.reports, self.bases.tables])
+        of_kind = self.chance.choice([self.bases.profiles, self.bases.reports, self.bases.tables, self.bases.listings])
         return mutated(self.chance.choice(of_kind), self.chance)
 
     def read_source(self) -> str:
@@ -75,6 +83,11 @@ class Trial:
         content = self.source()
         (self.folder / "source").write_bytes(content)
         return quietly(lambda: counted(content))
+
+    def read_counts(self) -> str:
+        """The counts of a run, which are told as those of its report alone."""
+        (self.folder / "counts").write_bytes(mutated(self.bases.counts, self.chance))
+        return quietly(lambda: compared(self.folder / "counts", self.bases.reports[0]))
 
     def read_record(self) -> str:
         """What a sweep keeps: a changed record counts as not made."""
@@ -106,14 +119,14 @@ class Trial:
         (self.folder / "source").write_bytes(self.source())
         most = str((1 << 64) - 1)
         settings: List[List[str]] = [[], [], ["--g", most, "--l", most], ["--h", "all"]]
-        what = self.chance.choice([("--html", "made.html"), ("--costs", "made.svg"), ("--timeline", "made.png"), ("--sweep", "made.pdf")])
+        what = self.chance.choice(WANTED)
         return self.command("bspplot", [*self.chance.choice(settings), *what, "source"], [what[1]])
 
     def run_image(self) -> str:
         """bsprun on a changed executable, which names where it stopped."""
         (self.folder / "p.elf").write_bytes(patched(self.bases.image, self.chance))
-        words = ["--limit", "100000", "-n", "2", "--report", "made.csv", "--summary", "p.elf"]
-        return self.command("bsprun", words, ["made.csv"])
+        words = ["--limit", "100000", "-n", "2", "--report", "made.csv", "--summary", "--lines-as", "json=made.json", "--fold", "p.elf"]
+        return self.command("bsprun", words, ["made.csv", "made.json"])
 
     def sweep(self) -> str:
         """bspsweep on a folder of results that was changed."""
@@ -168,6 +181,15 @@ def counted(content: bytes) -> None:
             assert all(line.efficiency(nodes) >= 0 for line in lines for nodes in line.totals)
 
 
+def compared(path: pathlib.Path, content: bytes) -> None:
+    """Reads counts, and compares them with the report."""
+    told = report.read(content)
+    assert told is not None
+    found = table.read(path, 2, told)
+    assert [it.w for it in found.supersteps] == [it.costs["w"] for it in told.supersteps]
+    assert sum(found.paid().values()) == sum(it.w for it in found.supersteps)
+
+
 def named(content: bytes, chance: random.Random) -> None:
     """Reads an executable, and looks up some addresses."""
     code = program.read_elf(content).know_names()
@@ -179,6 +201,8 @@ def named(content: bytes, chance: random.Random) -> None:
         code.variable(address)
         code.stored(address)
     code.calls()
+    if code.debug:
+        code.debug.pieces()
 
 
 def quietly(call: Callable[[], object]) -> str:

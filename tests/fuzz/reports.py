@@ -1,4 +1,4 @@
-"""The lines of a report and of a profile, as the rules have them, and what has to hold between them."""
+"""The lines of a report, of a profile and of counts, as the rules have them, and what has to hold between them."""
 
 from __future__ import annotations
 
@@ -22,6 +22,7 @@ OUTCOMES = {
 }
 PATTERNS = [(re.compile(pattern.encode()), status) for pattern, status in OUTCOMES.items()]
 HEAD = b"superstep,rank,to,ticks,sent,received,kept,messages,requests,state"
+COUNT = re.compile(f"{NUMBER},{NUMBER},([0-9a-f]{{8}}),([1-9][0-9]*)".encode())
 STATES = ("synced", "ended", "aborted", "exhausted", "faulted")
 REQUESTS = 65_536
 BYTES = 1 << 24
@@ -211,3 +212,21 @@ def fault_of_end(states: List[str], outcome: bytes) -> str:
     else:
         is_right = set(states) == {"ended" if words[0] == "ended" else "synced"}
     return "" if is_right else f"the states {states[:8]} do not lead to {outcome!r}"
+
+
+def fault_of_counts(text: bytes, report: Report) -> str:
+    """What is wrong with counts beside the report of the same run; empty if nothing is."""
+    first, *lines = text.split(b"\n")
+    found = [COUNT.fullmatch(line) for line in lines[:-1]]
+    if first != b"superstep,rank,address,count" or lines[-1:] != [b""] or None in found:
+        return "the counts have other lines than their rules have"
+    counts = [(int(it[1]), int(it[2]), int(it[3], 16), int(it[4])) for it in found if it]
+    places = [count[:3] for count in counts]
+    if places != sorted(set(places)):
+        return "the lines of the counts are not in their order"
+    steps: Dict[int, Dict[int, int]] = {number: {} for number in range(len(report.rows))}
+    for superstep, rank, _, count in counts:
+        ranks = steps.setdefault(superstep, {})
+        ranks[rank] = ranks.get(rank, 0) + count
+    work = [max(steps[number].values(), default=0) for number in sorted(steps)]
+    return "" if work == [row[0] for row in report.rows] else f"the counts add up to {work[:8]}"

@@ -37,6 +37,7 @@ def program(trial: Trial) -> None:
     more = trial.random.randrange(3)
     if more == 0:
         ways.run_profiled(trial, text, machine, run.report)
+        ways.run_counted(trial, text, machine, run.report)
     elif more == 1:
         told, again = (
             trial.run("run", image, *dataclasses.replace(machine, format=form).words(), "--report")

@@ -42,6 +42,8 @@ def run_in_ways(trial: Trial, image: str, machine: Machine, loaded: Image, more:
     for _ in range(more):
         again = trial.run(*words, "--report", *way(trial))
         trial.expect_that(again.same_as(told), "other threads give another answer")
+    live = trial.run(*words, "--report", *way(trial), "--live")
+    trial.expect_that(live.same_as(told), "a run that is told live gives another answer")
     trial.expect_that(plain.status == told.status, f"the status is {plain.status} without a report")
     if plain.status in (1, 5, 6):
         trial.expect("an image that fits has no outcome")
@@ -62,6 +64,12 @@ def run_profiled(trial: Trial, image: str, machine: Machine, report: Report) -> 
     """Runs an image with a profile, which has to tell of the run that the report tells of."""
     trial.run("run", image, *machine.words(), *way(trial), "--profile", "profile")
     trial.expect(reports.fault_of_profile(trial.read("profile") or b"", report, machine))
+
+
+def run_counted(trial: Trial, image: str, machine: Machine, report: Report) -> None:
+    """Runs an image with counts, which have to add up to the work that the report tells of."""
+    trial.run("run", image, *machine.words(), *way(trial), "--counts", "counts")
+    trial.expect(reports.fault_of_counts(trial.read("counts") or b"", report))
 
 
 def debug_to_end(trial: Trial, image: str, machine: Machine, run: Run, lines: bytes) -> None:

@@ -38,7 +38,7 @@ class Line:
     is_refused: bool = False
     image: str = "image"
     input: Optional[str] = None
-    profile: Optional[str] = None
+    beside: Optional[str] = None  # the file of a profile or of counts
 
 
 def option(chance: random.Random, name: str, given: Word) -> List[Word]:
@@ -81,8 +81,11 @@ def files(chance: random.Random, made: Line, parts: List[List[Word]]) -> None:
         made.input = chance.choice(["image", "empty", "absent", "folder", "-", "text"])
         parts.append(option(chance, "input", made.input))
     if made.subcommand == "run" and chance.randrange(4) == 0:
-        made.profile = chance.choice(["profile", "profile", "image", "./image", "folder", "folder/profile", "absent/profile"])
-        parts.append(option(chance, "profile", made.profile))
+        made.beside = chance.choice(["profile", "profile", "image", "./image", "folder", "folder/profile", "absent/profile"])
+        parts.append(option(chance, chance.choice(["profile", "counts"]), made.beside))
+    if made.subcommand == "run" and chance.randrange(6) == 0:
+        parts.append(["--live"])
+        made.is_refused |= made.beside is not None
     if made.subcommand == "run" and chance.randrange(3) == 0:
         parts.append(["--report"])
 
@@ -93,8 +96,8 @@ def refusal_of(made: Line) -> str:
         return IMAGES[made.image]
     if made.input in ("absent", "-"):
         return f"cannot open {made.input}"
-    if made.profile in ("folder", "absent/profile") or is_read(made):
-        return f"cannot open {made.profile}"
+    if made.beside in ("folder", "absent/profile") or is_read(made):
+        return f"cannot open {made.beside}"
     for name in ORDER:
         if made.values.get(name) in REFUSED[name]:
             return f"settings refused: {NAMES[name]}"
@@ -104,10 +107,10 @@ def refusal_of(made: Line) -> str:
 
 
 def is_read(made: Line) -> bool:
-    """Whether the profile's file is the image or the input."""
-    if made.profile is None:
+    """Whether the file of a profile or of counts is the image or the input."""
+    if made.beside is None:
         return False
-    name = made.profile[2:] if made.profile.startswith("./") else made.profile
+    name = made.beside[2:] if made.beside.startswith("./") else made.beside
     return name in (made.image, made.input)
 
 
@@ -137,13 +140,13 @@ def command_line(trial: Trial) -> None:
         trial.expect_that(answer.stderr == f"bspemu: {due}\n".encode(), f"{due!r} is due")
     else:
         trial.expect_that(answer.status in (0, 3), "nothing is wrong with the words")
-    if made.profile not in ("image", "./image"):
+    if made.beside not in ("image", "./image"):
         trial.expect_that(trial.read("image") == image or is_emptied(made), "the image has changed")
 
 
 def is_emptied(made: Line) -> bool:
-    """Whether a profile may stand in the image's file: where neither image nor input is read from it."""
-    return made.profile is not None and made.profile.endswith("image")
+    """Whether a profile or counts may stand in the image's file: where neither image nor input is read from it."""
+    return made.beside is not None and made.beside.endswith("image")
 
 
 def disorder(trial: Trial) -> None:

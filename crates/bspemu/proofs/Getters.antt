@@ -87,3 +87,14 @@ pub no_flag_of_getter : (b : Bool) (found : Found) (id : Text)
     → ((t : Text) → one_text found id ≡ Some t → ReadsOne {E = ParseBoolError} ParsesBool t None) → GivesFlag (one_of id (rows_of found)) b → ⊥
 no_flag_of_getter b found id some flag =
     no_flag_of_text b (one_text found id) some (subst (λ value. GivesFlag value b) (sym (one_text-rows found id)) flag)
+
+-- a value is one flag
+pub one_flag : (a b : Bool) (value : Option Text) → GivesFlag value a → GivesFlag value b → a ≡ b
+one_flag true true value first second = refl
+one_flag false false value first second = refl
+one_flag true false value first second =
+    let bad : codes "true" ≡ codes "false" = same_text (sym first ∙ second) in
+    cc
+one_flag false true value first second =
+    let bad : codes "false" ≡ codes "true" = same_text (sym first ∙ second) in
+    cc

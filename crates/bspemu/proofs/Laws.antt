@@ -3,10 +3,10 @@ use Rattle.std.proofs.Common.{◌≡◌, ap, refl, subst, true, inl, inr, List, 
 use Rattle.clap.specs.Words.{App, HasKind, HasMatchesOf, IsAmong, Text, app_of, fault_of, is_simple, is_simple_and_free, kind_of, subcommand_of, subcommand_rows_of}
 use Rattle.clap.specs.declared.builder.command.Command.{Command}
 use Rattle.clap.specs.declared.error.Error.{Error}
-use Rattle.clap.specs.declared.error.kind.ErrorKind.TheVariants.{MissingSubcommand}
+use Rattle.clap.specs.declared.error.kind.ErrorKind.{ErrorKind}
 use Rattle.clap.specs.declared.parser.matches.ArgMatches.{ArgMatches}
 use Rattle.bspemu.specs.CommandLine.{HasAppOfFormats, NameList, bspemu_app}
-use Rattle.bspemu.specs.Options.{AsksFor, Gives, IsFaultOf, IsNeverMet}
+use Rattle.bspemu.specs.Options.{AsksFor, Gives, IsFaultOf, IsLack, IsNeverMet}
 use Rattle.bspemu.specs.declared.options.Action.{Action}
 
 -- they give its matches and its faults exactly
@@ -32,18 +32,18 @@ asks_of_parse command words m a app faultless matches gives = record {
   gives = subst (λ found. Gives found a) (found_of_parse command words m app matches) gives;
 }
 
--- where they give none, that is the fault
-pub lack_of_parse : (command : Command) (words : List Text) (m : ArgMatches) (e : Error) → HasAppOfFormats command bspemu_app
+-- where they give none, what they lack is the fault
+pub lack_of_parse : (command : Command) (words : List Text) (m : ArgMatches) (kind : ErrorKind) (e : Error) → HasAppOfFormats command bspemu_app
     → fault_of (app_of command) words ≡ [] → HasMatchesOf (app_of command) words m → IsNeverMet (Gives (subcommand_rows_of m))
-    → kind_of e ≡ MissingSubcommand → IsFaultOf words e
-lack_of_parse command words m e app faultless matches never kind = inr (record {
+    → IsLack (subcommand_rows_of m) kind → kind_of e ≡ kind → IsFaultOf words e
+lack_of_parse command words m kind e app faultless matches never lack is = inr (record {
   formats = app.formats;
   listed = app.listed;
-  found = inr (
-    kind,
-    subst (λ (a : App). fault_of a words ≡ []) app.has.is faultless,
-    subst (λ found. IsNeverMet (Gives found)) (found_of_parse command words m app matches) never,
-  );
+  found = inr (record {
+    faultless = subst (λ (a : App). fault_of a words ≡ []) app.has.is faultless;
+    never = subst (λ found. IsNeverMet (Gives found)) (found_of_parse command words m app matches) never;
+    lack = rw is (subst (λ found. IsLack found kind) (found_of_parse command words m app matches) lack);
+  });
 })
 
 -- a parse that fails has a fault of the words, or no memory

@@ -1,3 +1,4 @@
 mod Commands
 mod Getters
 mod Laws
+mod Tellings

@@ -75,8 +75,8 @@ machine_app name formats =
 -- `run IMAGE` with its options
 abbrev pub run_app : NameList → App
 run_app formats =
-    with_rule (with_rule (with_rule (with_rule (machine_app (codes "run") formats) (flag_rule (codes "report"))) workers_rule) slice_rule)
-    (option_rule (codes "profile"))
+    with_rule (with_rule (with_rule (with_rule (with_rule (with_rule (machine_app (codes "run") formats) (flag_rule (codes "report")))
+    (flag_rule (codes "live"))) workers_rule) slice_rule) (option_rule (codes "profile"))) (option_rule (codes "counts"))
 
 -- `debug IMAGE` with its options
 abbrev pub debug_app : NameList → App

@@ -1,9 +1,11 @@
 -- What words ask for.
-use Rattle.std.specs.Prelude.{◌≡◌, ◌⊎◌, ◌<◌, ◌^◌, ℕ, Bool, true, false, List, [], Option, Some, None, option_map, codes}
+use Rattle.std.specs.Prelude.{◌≡◌, ◌⊎◌, ◌<◌, ◌^◌, ◌&&◌, ◌||◌, ℕ, Bool, true, false, List, [], Option, Some, None, is_some, option_map, codes}
+use Rattle.std.specs.Borrow.{Bor}
 use Rattle.std.specs.Str.Parse.{IsNumeral, digits_value, without_leading_plus}
 use Rattle.clap.specs.Words.{Row, Text, first_of, one_of, subcommand_of, fault_of, IsAmong, kind_of}
 use Rattle.clap.specs.declared.error.Error.{Error}
-use Rattle.clap.specs.declared.error.kind.ErrorKind.TheVariants.{MissingSubcommand, OutOfMemory}
+use Rattle.clap.specs.declared.error.kind.ErrorKind.{ErrorKind}
+use Rattle.clap.specs.declared.error.kind.ErrorKind.TheVariants.{ArgumentConflict, MissingSubcommand, OutOfMemory}
 use Rattle.bsp_session.specs.declared.job.Format.{Format}
 use Rattle.bsp_session.specs.declared.job.Format.TheVariants.{Elf, Raw, Asm}
 use Rattle.cost_ledger.specs.declared.LedgerText.{LedgerText}
@@ -11,6 +13,8 @@ use Rattle.cost_ledger.specs.declared.LedgerText.TheVariants.{V1, V2}
 use Rattle.machine_core.specs.declared.settings.Settings.{Settings}
 use Rattle.bspemu.specs.declared.options.MachineOptions.{MachineOptions}
 use Rattle.bspemu.specs.declared.options.RunOptions.{RunOptions}
+use Rattle.bspemu.specs.declared.options.Telling.{Telling}
+use Rattle.bspemu.specs.declared.options.Telling.TheVariants.{AtEnd, Live, WithProfile, WithCounts}
 use Rattle.bspemu.specs.declared.options.DebugOptions.{DebugOptions}
 use Rattle.bspemu.specs.declared.options.ListOptions.{ListOptions}
 use Rattle.bspemu.specs.declared.options.AsmOptions.{AsmOptions}
@@ -55,15 +59,42 @@ number_of_ledger V2 = 2
 abbrev pub GivesLedger : List Row → LedgerText → Type 0
 GivesLedger rows version = GivesNumber 32 (one_of (codes "ledger") rows) (number_of_ledger version)
 
+-- the text of a path that may be there
+abbrev pub text_of : Option (Bor Text) → Option Text
+text_of path = option_map (λ text. text.now) path
+
 -- and these options, whatever the workers, the slice and the report
 pub record GivesMachineOptions (rows : List Row) (o : MachineOptions) : Type 0 where
   pub image : first_of (codes "image") rows ≡ Some o.image.now
-  pub input : first_of (codes "input") rows ≡ option_map (λ path. path.now) o.input
+  pub input : first_of (codes "input") rows ≡ text_of o.input
   pub format : first_of (codes "format") rows ≡ Some (name_of_format o.job.format)
   pub settings : GivesSettings rows o.job.settings
   pub g : GivesNumber 32 (one_of (codes "g") rows) o.job.g
   pub l : GivesNumber 32 (one_of (codes "l") rows) o.job.l
   pub ledger : GivesLedger rows o.job.ledger
+
+-- a flag, the path of a profile and the path of counts ask for this way to tell of a run, and for no other
+abbrev pub Tells : (live : Bool) → (profile counts : Option Text) → Telling → Type 0
+Tells live profile counts AtEnd = (live ≡ false) × (profile ≡ None) × (counts ≡ None)
+Tells live profile counts Live = (live ≡ true) × (profile ≡ None) × (counts ≡ None)
+Tells live profile counts (WithProfile path) = (live ≡ false) × (profile ≡ Some path.now) × (counts ≡ None)
+Tells live profile counts (WithCounts path) = (live ≡ false) × (profile ≡ None) × (counts ≡ Some path.now)
+
+-- so do the matches of `run`
+pub record GivesTelling (rows : List Row) (t : Telling) : Type 0 where
+  pub live : Bool
+  pub flag : GivesFlag (one_of (codes "live") rows) live
+  pub tells : Tells live (first_of (codes "profile") rows) (first_of (codes "counts") rows) t
+
+-- more than one of three
+abbrev pub are_several : Bool → Bool → Bool → Bool
+are_several a b c = (a && (b || c)) || (b && c)
+
+-- they ask for more than one way
+pub record AsksForSeveral (rows : List Row) : Type 0 where
+  pub live : Bool
+  pub flag : GivesFlag (one_of (codes "live") rows) live
+  pub several : are_several live (is_some (first_of (codes "profile") rows)) (is_some (first_of (codes "counts") rows)) ≡ true
 
 -- the matches of `run` give these options
 pub record GivesRunOptions (rows : List Row) (o : RunOptions) : Type 0 where
@@ -71,7 +102,7 @@ pub record GivesRunOptions (rows : List Row) (o : RunOptions) : Type 0 where
   pub workers : GivesNumber 32 (one_of (codes "workers") rows) o.machine.job.workers
   pub slice : GivesNumber 64 (one_of (codes "slice") rows) o.machine.job.slice
   pub report : GivesFlag (one_of (codes "report") rows) o.machine.job.report
-  pub profile : first_of (codes "profile") rows ≡ option_map (λ path. path.now) o.profile
+  pub telling : GivesTelling rows o.telling
 
 -- the matches of `debug` give these options
 pub record GivesDebugOptions (rows : List Row) (o : DebugOptions) : Type 0 where
@@ -111,12 +142,26 @@ pub record AsksFor (words : List Text) (a : Action) : Type 0 where
   pub faultless : fault_of (bspemu_app formats) words ≡ []
   pub gives : Gives (subcommand_of (bspemu_app formats) words) a
 
+-- there is the subcommand `run`, and its matches ask for more than one way to tell of it
+abbrev pub HasConflict : Option (Text × List Row) → Type 0
+HasConflict None = ⊥
+HasConflict (Some (name, rows)) = (name ≡ codes "run") × AsksForSeveral rows
+
+-- the kind of fault where matches give no action: more than one way to tell of a run is asked for, or a value is missing
+abbrev pub IsLack : Option (Text × List Row) → ErrorKind → Type 0
+IsLack found kind = ((kind ≡ ArgumentConflict) × HasConflict found) ⊎ ((kind ≡ MissingSubcommand) × (HasConflict found → ⊥))
+
+-- clap finds none, and the matches still give no action, for this reason
+pub record LacksAction (words : List Text) (formats : NameList) (kind : ErrorKind) : Type 0 where
+  pub faultless : fault_of (bspemu_app formats) words ≡ []
+  pub never : IsNeverMet (Gives (subcommand_of (bspemu_app formats) words))
+  pub lack : IsLack (subcommand_of (bspemu_app formats) words) kind
+
 -- clap finds a fault of this kind in the words, or it finds none and the matches still give no action
 pub record FindsFault (words : List Text) (e : Error) : Type 0 where
   pub formats : NameList
   pub listed : ListsFormats formats
-  pub found : IsAmong (kind_of e) (fault_of (bspemu_app formats) words)
-      ⊎ ((kind_of e ≡ MissingSubcommand) × (fault_of (bspemu_app formats) words ≡ []) × IsNeverMet (Gives (subcommand_of (bspemu_app formats) words)))
+  pub found : IsAmong (kind_of e) (fault_of (bspemu_app formats) words) ⊎ LacksAction words formats (kind_of e)
 
 -- why words ask for nothing: memory ran out, or the words have a fault
 abbrev pub IsFaultOf : List Text → Error → Type 0

@@ -1,5 +1,5 @@
 -- How the program ends (own rules).
-use Rattle.std.specs.Prelude.{◌≡◌, ◌≢◌, ◌⊎◌, ◌++◌, ℕ, Bool, true, false, Option, None, List, Some, MatchOption, Result, Ok, Err, codes}
+use Rattle.std.specs.Prelude.{◌≡◌, ◌≢◌, ◌⊎◌, ◌++◌, ℕ, Bool, true, false, Option, None, List, Some, Result, Ok, Err, codes}
 use Rattle.std.specs.Borrow.{Bor}
 use Rattle.clap.specs.Words.{Text, kind_of}
 use Rattle.clap.specs.declared.error.Error.{Error}
@@ -14,13 +14,16 @@ use Rattle.bsp_session.specs.declared.job.Format.TheVariants.{Asm}
 use Rattle.bsp_session.specs.declared.job.Job.{Job}
 use Rattle.machine_core.specs.declared.outcome.Outcome.{Outcome}
 use Rattle.machine_core.specs.declared.outcome.Outcome.TheVariants.{Ended}
+use Rattle.bsp_session.specs.Counts.{Counts, IsErrorOfCounted}
 use Rattle.bsp_session.specs.Conversion.{AnswersAssembly, AnswersListing, Conversion, IsErrorOfAssembly, IsErrorOfListing}
+use Rattle.bsp_session.specs.Live.{IsErrorOfLive}
 use Rattle.bsp_session.specs.Outcome.{status_of}
 use Rattle.bsp_session.specs.Profiles.{IsErrorOfProfiled, Profiles}
 use Rattle.bsp_session.specs.Session.{IsErrorOf, Reports, Session as BatchSession}
 use Rattle.bsp_session.specs.Streams.{Stream}
 use Rattle.bspemu.specs.declared.options.MachineOptions.{MachineOptions}
-use Rattle.bspemu.specs.declared.options.RunOptions.{RunOptions}
+use Rattle.bspemu.specs.declared.options.Telling.{Telling}
+use Rattle.bspemu.specs.declared.options.Telling.TheVariants.{AtEnd, Live, WithProfile, WithCounts}
 use Rattle.bspemu.specs.declared.options.DebugOptions.{DebugOptions}
 use Rattle.bspemu.specs.declared.options.ListOptions.{ListOptions}
 use Rattle.bspemu.specs.declared.options.AsmOptions.{AsmOptions}
@@ -39,35 +42,31 @@ text_of_error (Session error) = None
 abbrev pub NamesFile : MachineOptions → Bor Text → Type 0
 NamesFile o path = ((o.image.now ≢ codes "-") × (o.image ≡ path)) ⊎ (o.input ≡ Some path)
 
--- an outcome and an error that a session with this job can have, whatever it reads and writes
-abbrev pub IsSessionOutcome : Job → Outcome → Type 0
-IsSessionOutcome job outcome = (s : BatchSession) × (s.job ≡ job) × Reports s outcome
+-- the file beside the output is this one
+abbrev pub TellsTo : Telling → Bor Text → Type 0
+TellsTo (WithProfile file) path = file ≡ path
+TellsTo (WithCounts file) path = file ≡ path
+TellsTo _ path = ⊥
 
-abbrev pub IsSessionError : Job → SessionError → Type 0
-IsSessionError job error = (s : BatchSession) × (s.job ≡ job) × IsErrorOf s error
+-- an outcome that a session can have which tells of its run so
+abbrev pub IsOutcomeOf : Telling → BatchSession → Outcome → Type 0
+IsOutcomeOf AtEnd s outcome = Reports s outcome
+IsOutcomeOf Live s outcome = Reports s outcome
+IsOutcomeOf (WithProfile file) s outcome = (profile : Stream) × Profiles s profile outcome
+IsOutcomeOf (WithCounts file) s outcome = (counts : Stream) × Counts s counts outcome
 
--- the same for a session that also writes a profile
-abbrev pub IsProfiledOutcome : Job → Outcome → Type 0
-IsProfiledOutcome job outcome = (s : BatchSession) × (profile : Stream) × (s.job ≡ job) × Profiles s profile outcome
+-- and an error
+abbrev pub IsErrorTold : Telling → BatchSession → SessionError → Type 0
+IsErrorTold AtEnd s error = IsErrorOf s error
+IsErrorTold Live s error = IsErrorOfLive s error
+IsErrorTold (WithProfile file) s error = (profile : Stream) × IsErrorOfProfiled s profile error
+IsErrorTold (WithCounts file) s error = (counts : Stream) × IsErrorOfCounted s counts error
 
-abbrev pub IsProfiledError : Job → SessionError → Type 0
-IsProfiledError job error = (s : BatchSession) × (profile : Stream) × (s.job ≡ job) × IsErrorOfProfiled s profile error
-
--- an answer that a run without a profile can have
-abbrev pub IsAnswerUnprofiled : MachineOptions → Result Outcome RunError → Type 0
-IsAnswerUnprofiled o (Ok outcome) = IsSessionOutcome o.job outcome
-IsAnswerUnprofiled o (Err (CannotOpen path)) = NamesFile o path
-IsAnswerUnprofiled o (Err (Session error)) = IsSessionError o.job error
-
--- an answer that a run can have whose profile goes to a file
-abbrev pub IsAnswerProfiled : MachineOptions → Bor Text → Result Outcome RunError → Type 0
-IsAnswerProfiled o file (Ok outcome) = IsProfiledOutcome o.job outcome
-IsAnswerProfiled o file (Err (CannotOpen path)) = NamesFile o path ⊎ (file ≡ path)
-IsAnswerProfiled o file (Err (Session error)) = IsProfiledError o.job error
-
--- an answer that a run with these options can have
-abbrev pub IsAnswerOfRun : RunOptions → Result Outcome RunError → Type 0
-IsAnswerOfRun o answer = MatchOption o.profile (IsAnswerUnprofiled o.machine answer) (λ file. IsAnswerProfiled o.machine file answer)
+-- an answer that a run with these options can have which is told so, whatever its session reads and writes
+abbrev pub IsAnswerOfRun : MachineOptions → Telling → Result Outcome RunError → Type 0
+IsAnswerOfRun o telling (Ok outcome) = (s : BatchSession) × (s.job ≡ o.job) × IsOutcomeOf telling s outcome
+IsAnswerOfRun o telling (Err (CannotOpen path)) = NamesFile o path ⊎ TellsTo telling path
+IsAnswerOfRun o telling (Err (Session error)) = (s : BatchSession) × (s.job ≡ o.job) × IsErrorTold telling s error
 
 -- lines were all answered with a debugger of such a job, in frames or not, and an error that this can have, whatever is read and written
 abbrev pub AnswersLines : (framed : Bool) → Job → Type 0
@@ -112,7 +111,7 @@ IsAnswerOfAsm o (Err (Session error)) = IsAsmError error
 
 -- an answer that an action can have
 abbrev pub IsAnswer : Action → Result Outcome RunError → Type 0
-IsAnswer (action.Run o) answer = IsAnswerOfRun o answer
+IsAnswer (action.Run o) answer = IsAnswerOfRun o.machine o.telling answer
 IsAnswer (action.Debug o) answer = IsAnswerOfDebug o answer
 IsAnswer (action.List o) answer = IsAnswerOfList o answer
 IsAnswer (action.Asm o) answer = IsAnswerOfAsm o answer

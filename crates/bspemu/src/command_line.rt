@@ -102,9 +102,11 @@ fn run_command<'a>(alloc: Global, formats: &'a [&'a str]) -> Result<Command<'a>,
         )
         .after_help(STATUSES)
         .arg(report(alloc))?
+        .arg(live(alloc))?
         .arg(workers(alloc))?
         .arg(slice(alloc))?
-        .arg(profile(alloc))
+        .arg(profile(alloc))?
+        .arg(counts(alloc))
 }
 
 fn debug_command<'a>(alloc: Global, formats: &'a [&'a str]) -> Result<Command<'a>, AllocError>
@@ -275,6 +277,15 @@ fn report<'a>(alloc: Global) -> Arg<'a>
         .help("After the output write the costs of the supersteps, their total and the outcome")
 }
 
+fn live<'a>(alloc: Global) -> Arg<'a>
+    ensures { HasRule result (flag_rule (codes "live")) }
+{
+    Arg::new(alloc, "live")
+        .long("live")
+        .action(ArgAction::SetTrue)
+        .help("Write each superstep's output as soon as it is over")
+}
+
 fn profile<'a>(alloc: Global) -> Arg<'a>
     ensures { HasRule result (option_rule (codes "profile")) }
 {
@@ -283,6 +294,17 @@ fn profile<'a>(alloc: Global) -> Arg<'a>
         .value_name("FILE")
         .help(
             "File to write what each rank did in each superstep, as CSV; it is created, or emptied, before the run",
+        )
+}
+
+fn counts<'a>(alloc: Global) -> Arg<'a>
+    ensures { HasRule result (option_rule (codes "counts")) }
+{
+    Arg::new(alloc, "counts")
+        .long("counts")
+        .value_name("FILE")
+        .help(
+            "Write how many steps each address made to FILE, as CSV; the run is made in one thread, whatever --workers says",
         )
 }
 

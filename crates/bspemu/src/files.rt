@@ -134,9 +134,9 @@ pub fn create<'a, R: Files>(
     fs::create(rt, path).map_err(|_| CannotOpen(path))
 }
 
-/// The file at `path` for a profile, to be written: it is created where there is none, and else emptied. It may be neither the
-/// image nor the input, which are still to be read, under whatever name.
-pub fn create_profile<'a, R: Files, I>(
+/// The file at `path` for what a run writes beside its output: it is created where there is none, and else emptied. It may be
+/// neither the image nor the input, which are still to be read, under whatever name.
+pub fn create_beside<'a, R: Files, I>(
     rt: &R,
     path: &'a str,
     image: &Source<R::File, I>,

@@ -1,9 +1,10 @@
 //! What the words of the command line ask for.
 
-ghost use Rattle.std.specs.Prelude.{◌≡◌, IfOk, IfErr, IfNone, IfSome, map};
+ghost use Rattle.std.specs.Prelude.{◌≡◌, IfOk, IfErr, IfNone, IfSome, false, is_some, map, true};
 ghost use Rattle.clap.specs.Words.{found_of, kind_of, rows_of, subcommand_rows_of};
-ghost use Rattle.bspemu.specs.Options.{AsksFor, Gives, GivesAction, GivesAsmOptions, GivesDebugOptions, GivesLedger, GivesListOptions, GivesMachineOptions};
-ghost use Rattle.bspemu.specs.Options.{GivesRunOptions, GivesSettings, IsFaultOf, IsNeverMet, name_of_format, number_of_ledger};
+ghost use Rattle.bspemu.specs.Options.{AsksFor, AsksForSeveral, Gives, GivesAction, GivesAsmOptions, GivesDebugOptions, GivesLedger, GivesListOptions};
+ghost use Rattle.bspemu.specs.Options.{GivesMachineOptions, GivesRunOptions, GivesSettings, GivesTelling, HasConflict, IsFaultOf, IsLack, IsNeverMet, Tells};
+ghost use Rattle.bspemu.specs.Options.{are_several, name_of_format, number_of_ledger, text_of};
 
 use crate::command_line::command;
 use bsp_session::{Format, Job, LedgerText, Settings};
@@ -14,6 +15,13 @@ use std::convert::AsStr;
 
 /// How many steps a node makes before it may go to another thread, where there is no other.
 const SLICE: u64 = 1 << 16;
+
+const LIVE_AND_PROFILE: &str = "the argument '--live' cannot be used with '--profile <FILE>'";
+
+const LIVE_AND_COUNTS: &str = "the argument '--live' cannot be used with '--counts <FILE>'";
+
+const PROFILE_AND_COUNTS: &str =
+    "the argument '--profile <FILE>' cannot be used with '--counts <FILE>'";
 
 /// What `bspemu run` and `bspemu debug` have in common.
 #[derive(Debug, Drop)]
@@ -29,8 +37,20 @@ pub struct MachineOptions<'a> {
 #[derive(Debug, Drop)]
 pub struct RunOptions<'a> {
     pub machine: MachineOptions<'a>,
-    /// The file for the profile of the run; with none no profile is taken.
-    pub profile: Option<&'a str>,
+    pub telling: Telling<'a>,
+}
+
+/// When a run writes its output, and what it writes beside it.
+#[derive(Clone, Copy, Debug)]
+pub enum Telling<'a> {
+    /// All of the output, once the run has ended.
+    AtEnd,
+    /// The output of each superstep, once that is over.
+    Live,
+    /// As at the end, and the profile of the run to this file.
+    WithProfile(&'a str),
+    /// As at the end, and the counts of the run to this file.
+    WithCounts(&'a str),
 }
 
 /// What `bspemu debug` was asked to do.
@@ -84,7 +104,20 @@ pub fn action_of<'a, S: AsStr>(alloc: Global, words: &'a [S]) -> Result<Action<'
     let matches = command(alloc)?.try_get_matches_from(words)?;
     match action_of_matches(&matches) {
         Some(action) => Ok(action),
-        None => Err(refusal(alloc, ErrorKind::MissingSubcommand, "a value is missing")?),
+        None => {
+            let (kind, message) = lack_of_matches(&matches);
+            Err(refusal(alloc, kind, message)?)
+        }
+    }
+}
+
+/// Why matches of [`command`] give no action: two ways of telling a run are asked for, or a value is missing.
+fn lack_of_matches(matches: &ArgMatches<'_>) -> (ErrorKind, &'static str)
+    ensures { IsLack (subcommand_rows_of matches.now) result.0 }
+{
+    match conflict_of_matches(matches) {
+        Some(message) => (ErrorKind::ArgumentConflict, message),
+        None => (ErrorKind::MissingSubcommand, "a value is missing"),
     }
 }
 
@@ -127,8 +160,66 @@ fn options_of_run<'a>(run: &ArgMatches<'a>) -> Option<RunOptions<'a>>
     let report = run.get_one("report")?;
     Some(RunOptions {
         machine: options_of_machine(run, workers, slice, report)?,
-        profile: run.get_str("profile"),
+        telling: telling_of_run(run)?,
     })
+}
+
+/// How a run is told, where no more than one way is asked for.
+fn telling_of_run<'a>(run: &ArgMatches<'a>) -> Option<Telling<'a>>
+    ensures some { IfSome result (GivesTelling (rows_of (found_of run.now))) }
+    ensures none { IfNone result (IsNeverMet (GivesTelling (rows_of (found_of run.now)))) }
+{
+    let is_live = run.get_one("live")?;
+    telling_of(is_live, run.get_str("profile"), run.get_str("counts"))
+}
+
+fn telling_of<'a>(
+    is_live: bool,
+    profile: Option<&'a str>,
+    counts: Option<&'a str>,
+) -> Option<Telling<'a>>
+    ensures some { IfSome result (Tells is_live (text_of profile.entry) (text_of counts.entry)) }
+    ensures none { IfNone result (IsNeverMet (Tells is_live (text_of profile.entry) (text_of counts.entry))) }
+{
+    match (is_live, profile, counts) {
+        (false, None, None) => Some(Telling::AtEnd),
+        (true, None, None) => Some(Telling::Live),
+        (false, Some(path), None) => Some(Telling::WithProfile(path)),
+        (false, None, Some(path)) => Some(Telling::WithCounts(path)),
+        _ => None,
+    }
+}
+
+/// What is said of two ways of telling a run that the matches ask for.
+fn conflict_of_matches(matches: &ArgMatches<'_>) -> Option<&'static str>
+    ensures some { IfSome result (λ message. HasConflict (subcommand_rows_of matches.now)) }
+    ensures none { IfNone result (HasConflict (subcommand_rows_of matches.now) → ⊥) }
+{
+    let (name, found) = matches.subcommand()?;
+    match name {
+        "run" => conflict_of_run(found),
+        _ => None,
+    }
+}
+
+fn conflict_of_run(run: &ArgMatches<'_>) -> Option<&'static str>
+    ensures some { IfSome result (λ message. AsksForSeveral (rows_of (found_of run.now))) }
+    ensures none { IfNone result (AsksForSeveral (rows_of (found_of run.now)) → ⊥) }
+{
+    let is_live = run.get_one("live")?;
+    conflict_of(is_live, run.get_str("profile"), run.get_str("counts"))
+}
+
+fn conflict_of(is_live: bool, profile: Option<&str>, counts: Option<&str>) -> Option<&'static str>
+    ensures some { IfSome result (λ message. are_several is_live (is_some (text_of profile.entry)) (is_some (text_of counts.entry)) ≡ true) }
+    ensures none { IfNone result (are_several is_live (is_some (text_of profile.entry)) (is_some (text_of counts.entry)) ≡ false) }
+{
+    match (is_live, profile, counts) {
+        (true, Some(_), _) => Some(LIVE_AND_PROFILE),
+        (true, None, Some(_)) => Some(LIVE_AND_COUNTS),
+        (false, Some(_), Some(_)) => Some(PROFILE_AND_COUNTS),
+        _ => None,
+    }
 }
 
 /// A debugger has no other thread, and tells costs where a line asks for them.

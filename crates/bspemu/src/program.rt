@@ -3,17 +3,19 @@
 ghost use Rattle.std.specs.Prelude.{◌≡◌, ◌⊎◌, IfErr, OnOk, map};
 ghost use Rattle.clap.specs.Words.{kind_of};
 ghost use Rattle.bspemu.specs.Program.{AnswersLines, Ends, EndsOnItsWords, IsAnswer, IsAnswerOfAsm, IsAnswerOfDebug, IsAnswerOfList, IsDebugError};
-ghost use Rattle.bspemu.specs.Program.{IsAnswerOfRun, IsAnswerProfiled, IsAnswerUnprofiled, IsStatusOfKind, status_of_answer};
+ghost use Rattle.bspemu.specs.Program.{IsAnswerOfRun, IsStatusOfKind, status_of_answer};
 
 use crate::files::{
-    CannotOpen, create, create_profile, open_file, open_image, open_input, open_lines,
+    CannotOpen, create, create_beside, open_file, open_image, open_input, open_lines,
 };
 use crate::options::{
-    Action, AsmOptions, DebugOptions, ListOptions, MachineOptions, RunOptions, action_of, refusal,
+    Action, AsmOptions, DebugOptions, ListOptions, MachineOptions, RunOptions, Telling, action_of,
+    refusal,
 };
 use bsp_console::{debug_dialogue, debug_framed, debug_session};
 use bsp_session::{
-    Outcome, SessionError, asm_session, list_session, profile_session, session, status,
+    Outcome, SessionError, asm_session, counts_session, list_session, live_session,
+    profile_session, session, status,
 };
 use clap::Error;
 use clap::error::ErrorKind;
@@ -136,17 +138,62 @@ fn perform<'a, R: AllocGlobal + Files + Input<Reader: IsTerminal> + Print + Thre
     }
 }
 
-/// Runs the session, with a profile where the options name a file for it.
+/// Runs a session, the one that tells of the run as the options say.
 fn run<'a, R: AllocGlobal + Files + Input + Print + Threads + Wait + Sync>(
     rt: &R,
     options: &RunOptions<'a>,
 ) -> Result<Outcome, RunError<'a>>
-    ensures { IsAnswerOfRun options.now result }
+    ensures { IsAnswerOfRun options.now.machine options.now.telling result }
 {
-    match options.profile {
-        Some(path) => run_profiled(rt, &options.machine, path),
-        None => run_unprofiled(rt, &options.machine),
+    let machine = &options.machine;
+    match options.telling {
+        Telling::AtEnd => run_to_end(rt, machine),
+        Telling::Live => run_live(rt, machine),
+        Telling::WithProfile(path) => run_profiled(rt, machine, path),
+        Telling::WithCounts(path) => run_counted(rt, machine, path),
     }
+}
+
+/// Opens what the options name, first the image, and runs the session that writes at its end.
+fn run_to_end<'a, R: AllocGlobal + Files + Input + Print + Threads + Wait + Sync>(
+    rt: &R,
+    options: &MachineOptions<'a>,
+) -> Result<Outcome, RunError<'a>>
+    ensures { IsAnswerOfRun options.now Telling.AtEnd result }
+{
+    let mut image = Counted::new(open_image(rt, options.image)?);
+    let mut input = Counted::new(open_input(rt, options.input)?);
+    let mut out = Counted::new(io::writer(rt));
+    let outcome = session(
+        rt,
+        rt.alloc(),
+        &mut image,
+        &mut input,
+        &options.job,
+        &mut out,
+    )?;
+    Ok(outcome)
+}
+
+/// The same with the session that writes while the run goes on.
+fn run_live<'a, R: AllocGlobal + Files + Input + Print + Threads + Wait + Sync>(
+    rt: &R,
+    options: &MachineOptions<'a>,
+) -> Result<Outcome, RunError<'a>>
+    ensures { IsAnswerOfRun options.now Telling.Live result }
+{
+    let mut image = Counted::new(open_image(rt, options.image)?);
+    let mut input = Counted::new(open_input(rt, options.input)?);
+    let mut out = Counted::new(io::writer(rt));
+    let outcome = live_session(
+        rt,
+        rt.alloc(),
+        &mut image,
+        &mut input,
+        &options.job,
+        &mut out,
+    )?;
+    Ok(outcome)
 }
 
 /// Opens what the options name, first the image, creates the file of the profile, or empties it, and runs the session. That file may
@@ -156,11 +203,11 @@ fn run_profiled<'a, R: AllocGlobal + Files + Input + Print + Threads + Wait + Sy
     options: &MachineOptions<'a>,
     path: &'a str,
 ) -> Result<Outcome, RunError<'a>>
-    ensures { IsAnswerProfiled options.now path.entry result }
+    ensures { IsAnswerOfRun options.now (Telling.WithProfile path.entry) result }
 {
     let image = open_image(rt, options.image)?;
     let input = open_input(rt, options.input)?;
-    let mut profile = Counted::new(create_profile(rt, path, &image, &input)?);
+    let mut profile = Counted::new(create_beside(rt, path, &image, &input)?);
     let mut image = Counted::new(image);
     let mut input = Counted::new(input);
     let mut out = Counted::new(io::writer(rt));
@@ -176,23 +223,27 @@ fn run_profiled<'a, R: AllocGlobal + Files + Input + Print + Threads + Wait + Sy
     Ok(outcome)
 }
 
-/// Opens what the options name, first the image, and runs the session.
-fn run_unprofiled<'a, R: AllocGlobal + Files + Input + Print + Threads + Wait + Sync>(
+/// The same with the counts of the run, which is made in this thread alone.
+fn run_counted<'a, R: AllocGlobal + Files + Input + Print>(
     rt: &R,
     options: &MachineOptions<'a>,
+    path: &'a str,
 ) -> Result<Outcome, RunError<'a>>
-    ensures { IsAnswerUnprofiled options.now result }
+    ensures { IsAnswerOfRun options.now (Telling.WithCounts path.entry) result }
 {
-    let mut image = Counted::new(open_image(rt, options.image)?);
-    let mut input = Counted::new(open_input(rt, options.input)?);
+    let image = open_image(rt, options.image)?;
+    let input = open_input(rt, options.input)?;
+    let mut counts = Counted::new(create_beside(rt, path, &image, &input)?);
+    let mut image = Counted::new(image);
+    let mut input = Counted::new(input);
     let mut out = Counted::new(io::writer(rt));
-    let outcome = session(
-        rt,
+    let outcome = counts_session(
         rt.alloc(),
         &mut image,
         &mut input,
         &options.job,
         &mut out,
+        &mut counts,
     )?;
     Ok(outcome)
 }

@@ -73,7 +73,7 @@ fn is_read_fault(
     sources: Sources,
 ) -> bool {
     let done = done(rt, alloc, kind, sources);
-    done.answer == Err(SessionError::ReadFault) && done.out.is_empty() && done.profile.is_empty()
+    done.answer == Err(SessionError::ReadFault) && done.out.is_empty() && done.beside.is_empty()
 }
 
 #[test]
@@ -81,7 +81,9 @@ fn one_reader_that_fails_is_a_read_fault(rt: HostRuntime) {
     let alloc = rt.alloc();
     for (kind, reads_input) in [
         (Kind::Runs, true),
+        (Kind::Tells, true),
         (Kind::Profiles, true),
+        (Kind::Counts, true),
         (Kind::Lists, false),
         (Kind::Saves, false),
         (Kind::Debugs, true),

@@ -3,7 +3,8 @@
 use crate::program::{Heap, INPUT, SETTINGS, TEXT};
 use bsp_console::{debug_dialogue, debug_framed, debug_session};
 use bsp_session::{
-    Format, Job, LedgerText, SessionError, asm_session, list_session, profile_session, session,
+    Format, Job, LedgerText, SessionError, asm_session, counts_session, list_session, live_session,
+    profile_session, session,
 };
 use counted_io::Counted;
 use std::alloc::{Allocator, Global};
@@ -16,7 +17,10 @@ use std::thread::Threads;
 #[derive(Clone, Copy, PartialEq, Eq)]
 pub enum Kind {
     Runs,
+    /// A run that is told live.
+    Tells,
     Profiles,
+    Counts,
     Lists,
     Saves,
     /// The debugger, over a script.
@@ -27,7 +31,7 @@ pub enum Kind {
     Frames,
 }
 
-use Kind::{Debugs, Frames, Lists, Profiles, Runs, Saves, Talks};
+use Kind::{Counts, Debugs, Frames, Lists, Profiles, Runs, Saves, Talks, Tells};
 
 /// What a session reads.
 #[derive(Drop)]
@@ -37,12 +41,12 @@ pub struct Readers<I, J, L> {
     pub lines: L,
 }
 
-/// What a session answered and wrote. Its profile stands by itself.
+/// What a session answered and wrote. Its profile or its counts stand by themselves.
 #[derive(Drop)]
 pub struct Done {
     pub answer: Result<(), SessionError>,
     pub out: Vec<u8>,
-    pub profile: Vec<u8>,
+    pub beside: Vec<u8>,
 }
 
 // What a session reads and writes.
@@ -52,7 +56,7 @@ struct Streams<I, J, L> {
     input: Counted<J>,
     lines: Counted<L>,
     out: Counted<Vec<u8>>,
-    profile: Counted<Vec<u8>>,
+    beside: Counted<Vec<u8>>,
 }
 
 /// Makes a session, with memory of `alloc`. What it writes is held by `holder`.
@@ -86,17 +90,17 @@ where
         input: Counted::new(readers.input),
         lines: Counted::new(readers.lines),
         out: Counted::new(Vec::new(holder)),
-        profile: Counted::new(Vec::new(holder)),
+        beside: Counted::new(Vec::new(holder)),
     };
     let answer = match kind {
-        Runs | Profiles => run(rt, alloc, kind, &job, &mut streams),
+        Runs | Tells | Profiles | Counts => run(rt, alloc, kind, &job, &mut streams),
         Lists | Saves => convert(alloc, kind, format, &mut streams),
         Debugs | Talks | Frames => debug(alloc, kind, &job, &mut streams),
     };
     Done {
         answer,
         out: streams.out.into_inner(),
-        profile: streams.profile.into_inner(),
+        beside: streams.beside.into_inner(),
     }
 }
 
@@ -117,13 +121,14 @@ where
         image,
         input,
         out,
-        profile,
+        beside,
         ..
     } = streams;
-    if kind == Profiles {
-        profile_session(rt, alloc, image, input, job, out, profile).map(|_| ())
-    } else {
-        session(rt, alloc, image, input, job, out).map(|_| ())
+    match kind {
+        Tells => live_session(rt, alloc, image, input, job, out).map(|_| ()),
+        Profiles => profile_session(rt, alloc, image, input, job, out, beside).map(|_| ()),
+        Counts => counts_session(alloc, image, input, job, out, beside).map(|_| ()),
+        _ => session(rt, alloc, image, input, job, out).map(|_| ()),
     }
 }
 
@@ -230,6 +235,9 @@ refused: BadRange
 done 0
 ";
 
+// What the nodes of the program write, all of it in superstep 1.
+const OUTPUT: &[u8] = b"01";
+
 // What the program writes in a run, and what is told of its costs.
 const REPORT: &str = "\
 01superstep 0: w 50 h 3 m 1 turned
@@ -248,7 +256,7 @@ struct Row {
     requests: u64,
 }
 
-static ROWS: [Row; 7] = [
+static ROWS: [Row; 9] = [
     Row {
         name: "asm_session",
         kind: Saves,
@@ -268,10 +276,22 @@ static ROWS: [Row; 7] = [
         requests: 68,
     },
     Row {
+        name: "live_session",
+        kind: Tells,
+        format: Format::Elf,
+        requests: 68,
+    },
+    Row {
         name: "profile_session",
         kind: Profiles,
         format: Format::Raw,
         requests: 95,
+    },
+    Row {
+        name: "counts_session",
+        kind: Counts,
+        format: Format::Raw,
+        requests: 76,
     },
     Row {
         name: "debug_session",
@@ -310,6 +330,11 @@ fn lines_of(kind: Kind) -> &'static str {
     }
 }
 
+// Whether a session runs the program to its end, and reports.
+fn is_run(kind: Kind) -> bool {
+    matches!(kind, Runs | Tells | Profiles | Counts)
+}
+
 // Makes the session of a row over the program and the lines.
 fn make_row<T: Threads + Wait + Sync>(
     rt: &T,
@@ -327,19 +352,26 @@ fn make_row<T: Threads + Wait + Sync>(
 }
 
 impl Done {
-    // Whether this is what may come of a session that is refused memory, and else comes to `whole`: all of it, nothing, or some whole
-    // first lines of a listing or of replies.
+    // Whether this is what may come of a session that is refused memory, and else comes to `whole`: all of it, nothing, the output of
+    // some first supersteps of a run that is told live, or some whole first lines of a listing or of replies.
     fn may_come_before(&self, whole: &Done, kind: Kind) -> bool {
-        let may_begin = matches!(kind, Lists | Debugs | Talks | Frames);
         match self.answer {
-            Ok(()) => self.out == whole.out && self.profile == whole.profile,
+            Ok(()) => self.out == whole.out && self.beside == whole.beside,
             Err(SessionError::NoMemory) => {
-                let are_lines = may_begin
-                    && whole.out.starts_with(&self.out)
-                    && self.out.ends_with(b"\n");
-                self.profile.is_empty() && (self.out.is_empty() || are_lines)
+                self.beside.is_empty() && (self.out.is_empty() || self.may_begin(whole, kind))
             }
             Err(_) => false,
+        }
+    }
+
+    // Whether what was written is a part that may stand alone.
+    fn may_begin(&self, whole: &Done, kind: Kind) -> bool {
+        match kind {
+            Tells => self.out.as_slice() == OUTPUT,
+            Lists | Debugs | Talks | Frames => {
+                whole.out.starts_with(&self.out) && self.out.ends_with(b"\n")
+            }
+            Runs | Profiles | Counts | Saves => false,
         }
     }
 }
@@ -379,7 +411,7 @@ fn each_session_may_be_refused_memory(rt: HostRuntime) -> Result<(), Fail> {
         let requests = heap.requests();
         println!(rt; "{requests:4} refused: {}", row.name)?;
         let is_whole = whole.answer == Ok(())
-            && (row.kind != Runs || whole.out.as_slice() == REPORT.as_bytes())
+            && (!is_run(row.kind) || whole.out.as_slice() == REPORT.as_bytes())
             && (row.kind != Frames || whole.out.as_slice() == FRAMED_REPLIES.as_bytes());
         assert!(rt; is_whole && requests == row.requests);
         let wrong = first_wrong(&rt, &heap, rt.alloc(), row, &saved, &whole);

@@ -9,6 +9,8 @@ returns c =
     let made = c.in_ok-machine_command.ensures in
     let named : HasApp c.after_help.result (machine_app (codes "run") c.args.formats) = record { is = search rules; local = search rules } in
     let report = with_arg _ _ _ _ _ c.in_ok-arg.ensures named c.report.ensures in
-    let workers = with_arg _ _ _ _ _ c.in_ok-arg-2.ensures report c.workers.ensures in
-    let slice = with_arg _ _ _ _ _ c.in_ok-arg-3.ensures workers c.slice.ensures in
-    IfOk-weaker c.arg-4.result _ _ (λ r adds. with_arg _ _ _ _ _ adds slice c.profile.ensures) c.arg-4.ensures
+    let live = with_arg _ _ _ _ _ c.in_ok-arg-2.ensures report c.live.ensures in
+    let workers = with_arg _ _ _ _ _ c.in_ok-arg-3.ensures live c.workers.ensures in
+    let slice = with_arg _ _ _ _ _ c.in_ok-arg-4.ensures workers c.slice.ensures in
+    let profile = with_arg _ _ _ _ _ c.in_ok-arg-5.ensures slice c.profile.ensures in
+    IfOk-weaker c.arg-6.result _ _ (λ r adds. with_arg _ _ _ _ _ adds profile c.counts.ensures) c.arg-6.ensures

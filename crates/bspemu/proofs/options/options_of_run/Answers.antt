@@ -1,6 +1,5 @@
-use Rattle.std.proofs.Common.{◌∙◌, codes, sym}
+use Rattle.std.proofs.Common.{codes}
 use Rattle.clap.specs.Words.{found_of}
-use Rattle.clap.proofs.WalkLemmas.{first_value-rows}
 use Rattle.bspemu.proofs.Getters.{flag_of_getter, no_flag_of_getter, no_number_of_getter, number_of_getter}
 use Rattle.bspemu.proofs.options.options_of_run.Goals as goal
 
@@ -13,7 +12,7 @@ returns-clause-some c =
       workers = rw rest.0 (number_of_getter 32 _ found (codes "workers") c.in_ok-workers.ensures.none c.in_ok-workers.ensures.value);
       slice = rw rest.1 (number_of_getter 64 _ found (codes "slice") c.in_ok-slice.ensures.none c.in_ok-slice.ensures.value);
       report = rw rest.2 (flag_of_getter _ found (codes "report") c.in_ok-report.ensures.none c.in_ok-report.ensures.value);
-      profile = sym (c.get_str.ensures ∙ first_value-rows found (codes "profile"));
+      telling = c.in_ok-telling_of_run.ensures.some;
     }
 
 pub returns-in_err-workers-clause-none : goal.returns-in_err-workers-clause-none
@@ -34,3 +33,7 @@ returns-in_err-report-clause-none c =
 pub returns-in_err-options_of_machine-clause-none : goal.returns-in_err-options_of_machine-clause-none
 returns-in_err-options_of_machine-clause-none c =
     rw c.from_residual-in_err-options_of_machine.ensures (λ o gives. c.in_err-options_of_machine.ensures.none o.machine gives.machine)
+
+pub returns-in_err-telling_of_run-clause-none : goal.returns-in_err-telling_of_run-clause-none
+returns-in_err-telling_of_run-clause-none c =
+    rw c.from_residual-in_err-telling_of_run.ensures (λ o gives. c.in_err-telling_of_run.ensures.none o.telling gives.telling)

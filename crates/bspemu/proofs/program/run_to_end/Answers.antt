@@ -1,6 +1,6 @@
 use Rattle.std.proofs.Common.{refl}
 use Rattle.std.proofs.lemmas.Result.{err_from_is_err_and}
-use Rattle.bspemu.proofs.program.run_unprofiled.Goals as goal
+use Rattle.bspemu.proofs.program.run_to_end.Goals as goal
 
 pub returns-in_err-outcome : goal.returns-in_err-outcome
 returns-in_err-outcome g c =

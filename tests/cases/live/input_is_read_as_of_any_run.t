@@ -1,0 +1,3 @@
+  $ printf 'echo' > input
+  $ bspemu run examples/echo.elf --nodes 2 --input input --live
+  echoecho (no-eol)

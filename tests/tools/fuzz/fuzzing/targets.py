@@ -23,7 +23,7 @@ from bsptools.plot import profile, sources, sweep
 from bsptools.plot.costs import Prices, total
 from bsptools.refusals import Refused
 from bsptools.run import cli as _run  # noqa: F401  pylint: disable=unused-import
-from bsptools.run import program, report
+from bsptools.run import forms, program
 from bsptools.sweep import cli as _sweep  # noqa: F401  pylint: disable=unused-import
 from bsptools.sweep import job
 from bsptools.sweep.store import Place
@@ -183,7 +183,7 @@ def counted(content: bytes) -> None:
 
 def compared(path: pathlib.Path, content: bytes) -> None:
     """Reads counts, and compares them with the report."""
-    told = report.read(content)
+    told = forms.read(content)
     assert told is not None
     found = table.read(path, 2, told)
     assert [it.w for it in found.supersteps] == [it.costs["w"] for it in told.supersteps]

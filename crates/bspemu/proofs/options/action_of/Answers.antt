@@ -22,4 +22,4 @@ returns-clause-err g c =
     let app = c.in_ok-command.ensures in
     let simple = ap is_simple_and_free app.has.is ∙ is_free_line app.formats in
     lack_of_parse _ _ _ _ _ app (c.in_ok-matches.ensures.kinds simple) c.in_ok-matches.ensures.matches c.in-None.ensures.none
-    c.lack_of_matches-in-None.ensures c.in_ok-refusal-in-None.ensures
+    c.lack_of_matches-kind.ensures c.in_ok-refusal-in-None.ensures

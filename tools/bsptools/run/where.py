@@ -12,6 +12,8 @@ from .replays import Replays
 
 # A run is followed for so many seconds at the most, and to so many steps of a rank at a time in its last superstep.
 MOST_SECONDS, SLICE = 5.0, 1 << 20
+# Up to how many seconds some supersteps take together.
+PIECE = 0.02
 # Lines are left for the last superstep's steps.
 RESERVE = 1 << 18
 # So many places are told.
@@ -19,26 +21,45 @@ MOST_PLACES = 4
 
 
 class Reached(NamedTuple):
-    """A superstep that a run had come to by a time, and after how many seconds it began."""
+    """A superstep that a run had come to, after how many seconds it began, and whether all that was written was written before it."""
 
     superstep: int
     seconds: float
+    is_far: bool
 
 
-def reached(replays: Replays, seconds: float) -> Reached:
-    """The superstep that a run comes to in so many seconds."""
-    found = Reached(0, 0.0)
+def reached(replays: Replays, seconds: float, written: int) -> Reached:
+    """The superstep that a run comes to in so many seconds, and later where it has to have written so many bytes.
+
+    Short supersteps are gone through some at a time, which makes their steps slower, and saves a line and its reply for each.
+    """
+    superstep, began, count = 0, 0.0, 1
     start = time.monotonic()
     with replays.session() as session:
         while session.room > RESERVE:
-            session.send("phase", "turn")
-            if not session.is_answered(max(start + seconds - time.monotonic(), 0.0)):
+            passed = time.monotonic() - start
+            # What comes from a byte on is refused where there are fewer.
+            is_far = session.ask(f"output {written}").is_done
+            if is_far and passed >= seconds or passed >= MOST_SECONDS:
+                return Reached(superstep, began, is_far)
+            if not has_turned(session, superstep, count, (seconds if is_far else MOST_SECONDS) - passed):
                 break
-            session.reply()
-            if session.reply().lines != ["turned"]:
-                break
-            found = Reached(found.superstep + 1, time.monotonic() - start)
-    return found
+            superstep, began = superstep + count, time.monotonic() - start
+            count = 2 * count if began - passed < PIECE else max(1, count // 2)
+    return Reached(superstep, began, True)
+
+
+def has_turned(session: Session, superstep: int, count: int, seconds: float) -> bool:
+    """Whether a run goes on from the beginning of a superstep to that of a later one in this time."""
+    if count == 1:
+        session.send("phase", "turn")
+        return session.is_answered(seconds) and session.reply().is_done and session.reply().lines == ["turned"]
+    later = superstep + count
+    session.ask(f"break superstep {later}")
+    session.send("go")
+    if not session.is_answered(seconds) or session.reply().lines != [f"stopped at superstep {later}"]:
+        return False
+    return session.ask(f"clear superstep {later}").is_done
 
 
 def nodes_after(session: Session, ranks: int, seconds: float) -> list[Node]:
@@ -58,11 +79,11 @@ def nodes_after(session: Session, ranks: int, seconds: float) -> list[Node]:
     return [found[rank] for rank in range(ranks)]
 
 
-def ranks_at(job: Job, seconds: float) -> str:
-    """The superstep, and for each place the ranks that were there, after a run of so many seconds."""
+def ranks_at(job: Job, seconds: float, written: int) -> str:
+    """The superstep, and for each place the ranks that were there, after a run of so many seconds that has written so many bytes."""
     replays = job.replays()
     wanted = min(seconds, MOST_SECONDS)
-    at = reached(replays, wanted)
+    at = reached(replays, wanted, written)
     texts: dict[str, list[int]] = {}
     with replays.session() as session:
         session.ask_all(replays.begin(at.superstep))
@@ -74,7 +95,7 @@ def ranks_at(job: Job, seconds: float) -> str:
             texts.setdefault(text, []).extend(it.rank for it in nodes)
     told = [f"{numbered(sorted(ranks))} at {text}" for text, ranks in list(texts.items())[:MOST_PLACES]]
     more = sum(len(it) for it in list(texts.values())[MOST_PLACES:])
-    later = " or later" if wanted < seconds else ""
+    later = " or later" if wanted < seconds or not at.is_far else ""
     return f"superstep {at.superstep}{later}: " + "; ".join([*told, *([f"{more} more elsewhere"] if more else [])])
 
 

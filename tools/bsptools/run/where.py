@@ -12,8 +12,8 @@ from .replays import Replays
 
 # A run is followed for so many seconds at the most, and to so many steps of a rank at a time in its last superstep.
 MOST_SECONDS, SLICE = 5.0, 1 << 20
-# Up to how many seconds some supersteps take together.
-PIECE = 0.02
+# Up to how many seconds some supersteps take together, and from how many on one takes long.
+PIECE, LONG = 0.02, 0.5
 # Lines are left for the last superstep's steps.
 RESERVE = 1 << 18
 # So many places are told.
@@ -31,22 +31,40 @@ class Reached(NamedTuple):
 def reached(replays: Replays, seconds: float, written: int) -> Reached:
     """The superstep that a run comes to in so many seconds, and later where it has to have written so many bytes.
 
-    Short supersteps are gone through some at a time, which makes their steps slower, and saves a line and its reply for each.
+    Short supersteps are gone through some at a time, which makes their steps slower, and saves a line and its reply for each. Where one of
+    some takes long, they are gone through one by one.
     """
-    superstep, began, count = 0, 0.0, 1
+    superstep, began, count, is_far = 0, 0.0, 1, False
     start = time.monotonic()
     with replays.session() as session:
         while session.room > RESERVE:
             passed = time.monotonic() - start
-            # What comes from a byte on is refused where there are fewer.
-            is_far = session.ask(f"output {written}").is_done
-            if is_far and passed >= seconds or passed >= MOST_SECONDS:
+            is_far = has_written(session, written)
+            left = (seconds if is_far else 2 * MOST_SECONDS) - passed
+            if left <= 0:
                 return Reached(superstep, began, is_far)
-            if not has_turned(session, superstep, count, (seconds if is_far else MOST_SECONDS) - passed):
+            if not has_turned(session, superstep, count, left if count == 1 else min(left, seconds)):
                 break
             superstep, began = superstep + count, time.monotonic() - start
             count = 2 * count if began - passed < PIECE else max(1, count // 2)
-    return Reached(superstep, began, True)
+    return one_by_one(replays, Reached(superstep, began, is_far), count, written) if count > 1 else Reached(superstep, began, is_far)
+
+
+def one_by_one(replays: Replays, at: Reached, count: int, written: int) -> Reached:
+    """The first superstep that takes long of so many behind one that a run came to."""
+    with replays.session() as session:
+        session.ask_all(replays.begin(at.superstep))
+        for _ in range(count):
+            at = at._replace(is_far=has_written(session, written))
+            if not has_turned(session, at.superstep, 1, LONG):
+                break
+            at = at._replace(superstep=at.superstep + 1)
+    return at
+
+
+def has_written(session: Session, written: int) -> bool:
+    """Whether a run has written so many bytes: what comes from a byte on is refused where there are fewer."""
+    return session.ask(f"output {written}").is_done
 
 
 def has_turned(session: Session, superstep: int, count: int, seconds: float) -> bool:

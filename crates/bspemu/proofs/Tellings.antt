@@ -1,5 +1,5 @@
 -- What the matches of `run` say of how it is told.
-use Rattle.std.proofs.Common.{◌≡◌, ◌∙◌, Bool, true, false, Option, Some, None, List, ap, codes, sym}
+use Rattle.std.proofs.Common.{◌≡◌, ◌∙◌, Bool, true, false, Option, Some, None, List, codes, sym}
 use Rattle.std.specs.Prelude.{IfNone, IfSome, is_some}
 use Rattle.clap.specs.Words.{Row, Text, first_of, one_of}
 use Rattle.bspemu.specs.Options.{AsksForSeveral, GivesFlag, GivesTelling, IsNeverMet, Tells, are_several}

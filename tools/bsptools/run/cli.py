@@ -78,13 +78,13 @@ def deliver(job: Job, done: Done) -> int:
     return done.status
 
 
-def tell_where(job: Job, begin: str, seconds: float) -> None:
-    """Says in a line where the ranks of a run were that was broken off after so long."""
+def tell_where(job: Job, begin: str, stopped: Stopped) -> None:
+    """Says in a line where the ranks of a run were that was broken off."""
     from .where import ranks_at
 
     show("bsprun: looking for where the ranks were: Ctrl-C leaves that out")
     try:
-        line = f"bsprun: {begin} after {seconds:.1f} s, in {ranks_at(job, seconds)}"
+        line = f"bsprun: {begin} after {stopped.seconds:.1f} s, in {ranks_at(job, stopped.seconds, stopped.written)}"
     finally:
         show("")
     tell([line])
@@ -104,10 +104,10 @@ def run(job: Job) -> int:
         children.end_by_signals_again()
         # The terminal shows Ctrl-C in its line.
         show("", "\n" if sys.stderr.isatty() else "")
-        tell_where(job, "ended by Ctrl-C", interrupted.seconds)
+        tell_where(job, "ended by Ctrl-C", interrupted)
         return BY_SIGNAL + signal.SIGINT
     except Stopped as stopped:
-        tell_where(job, "ended by --wall", stopped.seconds)
+        tell_where(job, "ended by --wall", stopped)
         return WALL
 
 

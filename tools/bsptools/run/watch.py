@@ -42,11 +42,11 @@ class Done(NamedTuple):
 
 
 class Stopped(Exception):
-    """The clock has ended a run, after so long."""
+    """The clock has ended a run, after so long. The emulator has written so many bytes up to then."""
 
-    def __init__(self, seconds: float) -> None:
-        super().__init__(seconds)
-        self.seconds = seconds
+    def __init__(self, seconds: float, written: int) -> None:
+        super().__init__(seconds, written)
+        self.seconds, self.written = seconds, written
 
 
 class Interrupted(Stopped):
@@ -66,7 +66,7 @@ class Outputs:
 
     def __init__(self, mark: bytes, nodes: int) -> None:
         self.marks, self.tail = Marks(mark), Tail()
-        self.nodes = nodes
+        self.nodes, self.received = nodes, 0
         self.records: list[Record] = []
         self.kept: list[tuple[bool, bytes]] | None = [] if nodes > 1 else None
         # Whether the last line at the terminal, to which both may go, is a whole one, and whether the time is shown behind it.
@@ -74,6 +74,7 @@ class Outputs:
 
     def take(self, content: bytes) -> None:
         """Writes what has come, but for what may be a mark or the report."""
+        self.received += len(content)
         for kind, piece in self.marks.take(content):
             is_error = kind == ERROR
             # A report is in one piece.
@@ -170,7 +171,8 @@ class Watch:
                 with contextlib.suppress(Fewer):
                     self._follow(child, is_ended=True)
                     self.outputs.end()
-                raise (Interrupted(seconds) if isinstance(ended, children.Ended) else ended) from None
+                kind = Interrupted if isinstance(ended, children.Ended) else Stopped
+                raise kind(seconds, self.outputs.received) from None
             finally:
                 self.outputs.clear()
         return Done(status, self.outputs.end(), bytes(self.said), seconds, self.outputs.records)
@@ -209,6 +211,6 @@ class Watch:
 
     def _look_at_clock(self) -> None:
         if self.wall is not None and self.seconds >= self.wall:
-            raise Stopped(self.seconds)
+            raise Stopped(self.seconds, self.outputs.received)
         if self.seconds >= QUIET_SECONDS:
             self.outputs.show(self.seconds)

@@ -12,6 +12,8 @@ from .replays import Replays
 
 # A run is followed for so many seconds at the most, and to so many steps of a rank at a time in its last superstep.
 MOST_SECONDS, SLICE = 5.0, 1 << 20
+# Up to how many seconds some supersteps take together, and from how many on one takes long.
+PIECE, LONG = 0.02, 0.5
 # Lines are left for the last superstep's steps.
 RESERVE = 1 << 18
 # So many places are told.
@@ -19,26 +21,63 @@ MOST_PLACES = 4
 
 
 class Reached(NamedTuple):
-    """A superstep that a run had come to by a time, and after how many seconds it began."""
+    """A superstep that a run had come to, after how many seconds it began, and whether all that was written was written before it."""
 
     superstep: int
     seconds: float
+    is_far: bool
 
 
-def reached(replays: Replays, seconds: float) -> Reached:
-    """The superstep that a run comes to in so many seconds."""
-    found = Reached(0, 0.0)
+def reached(replays: Replays, seconds: float, written: int) -> Reached:
+    """The superstep that a run comes to in so many seconds, and later where it has to have written so many bytes.
+
+    Short supersteps are gone through some at a time, which makes their steps slower, and saves a line and its reply for each. Where one of
+    some takes long, they are gone through one by one.
+    """
+    superstep, began, count, is_far = 0, 0.0, 1, False
     start = time.monotonic()
     with replays.session() as session:
         while session.room > RESERVE:
-            session.send("phase", "turn")
-            if not session.is_answered(max(start + seconds - time.monotonic(), 0.0)):
+            passed = time.monotonic() - start
+            is_far = has_written(session, written)
+            left = (seconds if is_far else 2 * MOST_SECONDS) - passed
+            if left <= 0:
+                return Reached(superstep, began, is_far)
+            if not has_turned(session, superstep, count, left if count == 1 else min(left, seconds)):
                 break
-            session.reply()
-            if session.reply().lines != ["turned"]:
+            superstep, began = superstep + count, time.monotonic() - start
+            count = 2 * count if began - passed < PIECE else max(1, count // 2)
+    return one_by_one(replays, Reached(superstep, began, is_far), count, written) if count > 1 else Reached(superstep, began, is_far)
+
+
+def one_by_one(replays: Replays, at: Reached, count: int, written: int) -> Reached:
+    """The first superstep that takes long of so many behind one that a run came to."""
+    with replays.session() as session:
+        session.ask_all(replays.begin(at.superstep))
+        for _ in range(count):
+            at = at._replace(is_far=has_written(session, written))
+            if not has_turned(session, at.superstep, 1, LONG):
                 break
-            found = Reached(found.superstep + 1, time.monotonic() - start)
-    return found
+            at = at._replace(superstep=at.superstep + 1)
+    return at
+
+
+def has_written(session: Session, written: int) -> bool:
+    """Whether a run has written so many bytes: what comes from a byte on is refused where there are fewer."""
+    return session.ask(f"output {written}").is_done
+
+
+def has_turned(session: Session, superstep: int, count: int, seconds: float) -> bool:
+    """Whether a run goes on from the beginning of a superstep to that of a later one in this time."""
+    if count == 1:
+        session.send("phase", "turn")
+        return session.is_answered(seconds) and session.reply().is_done and session.reply().lines == ["turned"]
+    later = superstep + count
+    session.ask(f"break superstep {later}")
+    session.send("go")
+    if not session.is_answered(seconds) or session.reply().lines != [f"stopped at superstep {later}"]:
+        return False
+    return session.ask(f"clear superstep {later}").is_done
 
 
 def nodes_after(session: Session, ranks: int, seconds: float) -> list[Node]:
@@ -58,11 +97,11 @@ def nodes_after(session: Session, ranks: int, seconds: float) -> list[Node]:
     return [found[rank] for rank in range(ranks)]
 
 
-def ranks_at(job: Job, seconds: float) -> str:
-    """The superstep, and for each place the ranks that were there, after a run of so many seconds."""
+def ranks_at(job: Job, seconds: float, written: int) -> str:
+    """The superstep, and for each place the ranks that were there, after a run of so many seconds that has written so many bytes."""
     replays = job.replays()
     wanted = min(seconds, MOST_SECONDS)
-    at = reached(replays, wanted)
+    at = reached(replays, wanted, written)
     texts: dict[str, list[int]] = {}
     with replays.session() as session:
         session.ask_all(replays.begin(at.superstep))
@@ -74,7 +113,7 @@ def ranks_at(job: Job, seconds: float) -> str:
             texts.setdefault(text, []).extend(it.rank for it in nodes)
     told = [f"{numbered(sorted(ranks))} at {text}" for text, ranks in list(texts.items())[:MOST_PLACES]]
     more = sum(len(it) for it in list(texts.values())[MOST_PLACES:])
-    later = " or later" if wanted < seconds else ""
+    later = " or later" if wanted < seconds or not at.is_far else ""
     return f"superstep {at.superstep}{later}: " + "; ".join([*told, *([f"{more} more elsewhere"] if more else [])])
 
 

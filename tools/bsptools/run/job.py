@@ -91,7 +91,7 @@ def prepared(options: argparse.Namespace, folder: pathlib.Path, tool: str, is_ma
     elif getattr(options, "portable", False) and CHOICES not in content:
         raise Refused(f"{options.program} takes no choices, as --portable makes: give a program in C, or what bspcc --portable built")
     if kind == "asm":
-        code = read_text(emulate, image.name, content, folder)
+        code = read_text(emulate, str(image), content, folder)
     elif kind == "raw":
         code = Code(segments=[(0, memoryview(content))], need=len(content))
     else:

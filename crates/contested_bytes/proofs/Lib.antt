@@ -1,0 +1,7 @@
+pub mod Added
+pub mod Compared
+pub mod Merged
+pub mod Orders
+pub mod Requested
+pub mod Sorting
+pub mod Swept

@@ -1,0 +1,4 @@
+pub mod Contested
+pub mod Gathered
+pub mod Places
+pub mod Ranges

@@ -3,5 +3,6 @@ pub mod Compared
 pub mod Merged
 pub mod Orders
 pub mod Requested
+pub mod Shared
 pub mod Sorting
 pub mod Swept

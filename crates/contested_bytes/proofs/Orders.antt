@@ -1,17 +1,22 @@
 -- What lands in one order of some landings, and in another.
 use Rattle.std.proofs.Common.{◌≡◌, ℕ, suc, ◌+◌, ◌<◌, ◌==◌, ◌&&◌, inl, inr, Bool, true, false, cond, List, [], ◌∷◌, ◌++◌, length, get_or, map, reverse, refl, sym, ap, ap₂, subst, ◌∙◌, arith, Option, Some, None}
-use Rattle.std.specs.Prelude.{◌≢◌, All, Contains, IsTrue, IsPermutation, find, filter, slice_index}
+use Rattle.std.specs.Prelude.{◌≢◌, All, Contains, IsTrue, find, filter}
 use Rattle.std.specs.List.{range_with_len, remove}
 use Rattle.std.specs.Option.{option_or, option_map_or}
-use Rattle.std.proofs.lemmas.Bool.{cases_Bool, cases_eq, both_ways}
+use Rattle.std.proofs.lemmas.Bool.{cases_eq, both_ways}
 use Rattle.std.proofs.lemmas.List.{reverse-append}
 use Rattle.std.proofs.lemmas.List.Elements.{All-nil, All-cons, All-contains, filter-append}
 use Rattle.std.proofs.lemmas.List.Folds.{find-append}
 use Rattle.std.proofs.lemmas.List.FromFn.{get_or-map-range_with_len}
 use Rattle.std.proofs.lemmas.List.Sorted.{Contains-permutation, IsPermutation-sym, IsPermutation-trans, IsPermutation-remove, IsPermutation-to_front}
 use Rattle.node_memory.specs.Bytes.{byte_at}
-use Rattle.bsp_exchange.specs.Landings.{Landing, covers, landing_byte, landed_byte, memory_after}
-use Rattle.contested_bytes.specs.Contested.{reaches, Differ, IsContested, IsSettled, AreSettled, IsAllowedOrder, memory_in}
+use Rattle.node_core.specs.Hart.{with_memory}
+use Rattle.node_core.specs.Node.{NodeState}
+use Rattle.node_core.specs.Turn.{next_superstep}
+use Rattle.bsp_exchange.specs.Exchange.{exchanged}
+use Rattle.bsp_exchange.specs.Landings.{Landing, covers, landing_byte, landed_byte, landings}
+use Rattle.bsp_exchange.specs.Queues.{queue_after}
+use Rattle.contested_bytes.specs.Contested.{reaches, IsContested, IsSettled, AreSettled, IsAllowedOrder, memory_in, exchanged_node_in, exchanged_in}
 
 -- those of some landings that come into the memory of a rank
 abbrev at_rank : ℕ → List Landing → List Landing
@@ -89,6 +94,15 @@ pub settled_memory : (all one two : List Landing) (rank : ℕ) (memory : List �
 settled_memory all one two rank memory settled first second =
     map-agree (landed_byte (at_rank rank one) memory) (landed_byte (at_rank rank two) memory) (range_with_len 0 (length memory)) (λ addr. settled_byte all one two rank addr memory (settled addr) first second)
 
+pub settled_row : (nodes : List NodeState) (one two : List Landing) → AreSettled (landings nodes) → IsAllowedOrder (landings nodes) one → IsAllowedOrder (landings nodes) two → exchanged_in one nodes ≡ exchanged_in two nodes
+settled_row nodes one two settled first second =
+    map-agree (exchanged_node_in one nodes) (exchanged_node_in two nodes) nodes (λ n.
+      ap (λ (memory : List ℕ). next_superstep (queue_after nodes n.hart.rank) (record n { hart = with_memory memory n.hart }))
+      (settled_memory (landings nodes) one two n.hart.rank n.hart.memory (settled n.hart.rank) first second))
+
+pub own_order : (nodes : List NodeState) → exchanged nodes ≡ exchanged_in (landings nodes) nodes
+own_order nodes = refl
+
 -- ---- a byte that is contested
 
 -- these landings with one of them last
@@ -106,7 +120,7 @@ last_counts all l place rank addr reached =
     ∙ ap (λ o. option_or o (last_at rank addr (remove all place))) (last-one rank addr l (l.rank == rank) ∙ ap (λ b. cond b (Some l) None) reached)
 
 -- what lies at an address of a memory is what landed there
-byte_after : (order : List Landing) (rank addr : ℕ) (memory : List ℕ) → addr < length memory → byte_at (memory_in order rank memory) addr ≡ landed_byte (at_rank rank order) memory addr
+pub byte_after : (order : List Landing) (rank addr : ℕ) (memory : List ℕ) → addr < length memory → byte_at (memory_in order rank memory) addr ≡ landed_byte (at_rank rank order) memory addr
 byte_after order rank addr memory within = get_or-map-range_with_len (landed_byte (at_rank rank order) memory) 0 (length memory) addr addr 0 within (omega arith)
 
 byte_of_last : (all : List Landing) (l : Landing) (place rank addr : ℕ) (memory : List ℕ) → addr < length memory → IsTrue (reaches rank addr l) → byte_at (memory_in (with_last all l place) rank memory) addr ≡ landing_byte addr l
@@ -114,8 +128,8 @@ byte_of_last all l place rank addr memory within reached =
     byte_after (with_last all l place) rank addr memory within
     ∙ ap (λ o. option_map_or (landing_byte addr) o (byte_at memory addr)) (last_counts all l place rank addr reached)
 
-pub contested_byte : (all : List Landing) (rank addr : ℕ) (memory : List ℕ) → addr < length memory → IsContested all rank addr → (one two : List Landing) × IsAllowedOrder all one × IsAllowedOrder all two × (byte_at (memory_in one rank memory) addr ≢ byte_at (memory_in two rank memory) addr)
-contested_byte all rank addr memory within contested =
+pub contested_byte : (all : List Landing) (rank addr : ℕ) (memory : List ℕ) → IsContested all rank addr → addr < length memory → (one two : List Landing) × IsAllowedOrder all one × IsAllowedOrder all two × (byte_at (memory_in one rank memory) addr ≢ byte_at (memory_in two rank memory) addr)
+contested_byte all rank addr memory contested within =
     let a = contested.0 in
     let b = contested.1 in
     let first = contested.2 in

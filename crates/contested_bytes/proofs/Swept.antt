@@ -32,10 +32,10 @@ as_far-trans a b c first second = elim first [
   | inr level ↦ elim second [ inl under ↦ inl (omega (arith, level.0, under)) | inr same ↦ inr (level.0 ∙ same.0, omega (arith, level.1, same.1)) ]
 ]
 
-differ-itself : (rank addr : ℕ) (a : Landing) → Differ rank addr a a → ⊥
+pub differ-itself : (rank addr : ℕ) (a : Landing) → Differ rank addr a a → ⊥
 differ-itself rank addr a differ = differ.bytes refl
 
-differ-sym : (rank addr : ℕ) (a b : Landing) → Differ rank addr a b → Differ rank addr b a
+pub differ-sym : (rank addr : ℕ) (a b : Landing) → Differ rank addr a b → Differ rank addr b a
 differ-sym rank addr a b differ = record { first = differ.second; second = differ.first; bytes = λ same. differ.bytes (sym same) }
 
 pub found-first : (all : List Landing) (found : List ContestedRange) → AreFound all 1 found

@@ -1,7 +1,8 @@
 //! The bytes that a put or a get lands.
 
-ghost use Rattle.std.specs.Prelude.{◌≡◌, ◌+◌, ◌≤◌, ◌<◌, ◌^◌, length, IsTrue};
-ghost use Rattle.bsp_exchange.specs.Landings.{covers, landing_byte};
+ghost use Rattle.std.specs.Prelude.{◌≡◌, ◌+◌, ◌≤◌, ◌<◌, ◌^◌, length, IsPermutation};
+ghost use Rattle.bsp_exchange.specs.Landings.{landing_byte};
+ghost use Rattle.contested_bytes.specs.Places.{ComeInOrder};
 ghost use Rattle.contested_bytes.specs.Ranges.{key_of};
 
 use crate::range::{Contender, Kind};
@@ -67,4 +68,12 @@ impl<A: Allocator> Landing<A> {
             byte,
         }
     }
+}
+
+/// Sorts landings by rank and then by address.
+pub(crate) fn sort_landings<A: Allocator>(all: &mut Vec<Landing<A>, A>)
+    ensures same { IsPermutation all.old.items all.new.items }
+    ensures order { ComeInOrder all.new.items }
+{
+    all.sort_unstable_by_key(|landing| (landing.rank, landing.addr));
 }

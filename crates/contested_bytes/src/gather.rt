@@ -83,7 +83,7 @@ fn put_landing<A: Allocator + Copy>(
     let addr = start_of(nodes, put.target, put.slot, put.offset, put.bytes.len());
     let bytes = put.bytes.try_clone()?;
     Ok(Landing {
-        rank: u32::from(put.target),
+        rank: put.target as u32,
         addr,
         bytes,
         kind: Kind::Put,

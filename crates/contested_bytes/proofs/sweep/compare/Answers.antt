@@ -1,5 +1,6 @@
 use Rattle.std.proofs.Common.{◌≡◌, ℕ, ◌<◌, ◌≤◌, ◌+◌, ◌⊎◌, ◌↔◌, length, sym, ap, subst, ◌∙◌, arith}
-use Rattle.bsp_exchange.specs.Landings.{Landing}
+use Rattle.std.specs.Prelude.{◌≢◌}
+use Rattle.bsp_exchange.specs.Landings.{Landing, landing_byte}
 use Rattle.contested_bytes.specs.Ranges.{Has, IsIn, IsContestedRange}
 use Rattle.contested_bytes.proofs.Compared.{below-same, below-more, below-whole, byte-contested}
 use Rattle.contested_bytes.proofs.sweep.compare.Goals.{then-one-other+in_ok-add_range, else-one-other}
@@ -23,7 +24,7 @@ loop-addr-preserved g c =
       | then-one-other+in_ok-add_range w ↦
           let p = w.contender.result in
           let q = w.contender-then-one-other.result in
-          let apart = λ same. w.if-one-other.true (c.byte-one.ensures ∙ same ∙ sym c.byte-other.ensures) in
+          let apart : landing_byte at a ≢ landing_byte at b = λ same. w.if-one-other.true (c.byte-one.ensures ∙ same ∙ sym c.byte-other.ensures) in
           let added = w.in_ok-add_range.ensures in
           rw w.found-is (record {
             within = added.within;

@@ -84,9 +84,9 @@ below-whole bound a b old found whole before rank addr = (
   λ either. elim either [
     | inl was ↦ (before rank addr).1 (inl was)
     | inr differ ↦ (before rank addr).1 (inr (record {
-        differ = differ;
-        below = omega (arith, whole, reaches-end rank addr a differ.first, reaches-end rank addr b differ.second);
-      }))
+      differ = differ;
+      below = omega (arith, whole, reaches-end rank addr a differ.first, reaches-end rank addr b differ.second);
+    }))
   ],
 )
 

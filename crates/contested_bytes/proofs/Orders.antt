@@ -97,8 +97,8 @@ settled_memory all one two rank memory settled first second =
 pub settled_row : (nodes : List NodeState) (one two : List Landing) → AreSettled (landings nodes) → IsAllowedOrder (landings nodes) one → IsAllowedOrder (landings nodes) two → exchanged_in one nodes ≡ exchanged_in two nodes
 settled_row nodes one two settled first second =
     map-agree (exchanged_node_in one nodes) (exchanged_node_in two nodes) nodes (λ n.
-      ap (λ (memory : List ℕ). next_superstep (queue_after nodes n.hart.rank) (record n { hart = with_memory memory n.hart }))
-      (settled_memory (landings nodes) one two n.hart.rank n.hart.memory (settled n.hart.rank) first second))
+    ap (λ (memory : List ℕ). next_superstep (queue_after nodes n.hart.rank) (record n { hart = with_memory memory n.hart }))
+    (settled_memory (landings nodes) one two n.hart.rank n.hart.memory (settled n.hart.rank) first second))
 
 pub own_order : (nodes : List NodeState) → exchanged nodes ≡ exchanged_in (landings nodes) nodes
 own_order nodes = refl
@@ -133,8 +133,7 @@ contested_byte all rank addr memory contested within =
     let a = contested.0 in
     let b = contested.1 in
     let first = contested.2 in
-    let second = contested.3 in
-    (
+    let second = contested.3 in (
       with_last all a first.0,
       with_last all b second.0,
       last_allowed all a first.0 first.1 first.2,

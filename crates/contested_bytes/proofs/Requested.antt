@@ -102,7 +102,7 @@ gathered-node nodes ps i p all new within is added =
     ap (λ ls. ls ++ landings_of nodes rest) added
     ∙ append_assoc all (landings_of nodes (issued_by p.node)) (landings_of nodes rest)
     ∙ ap (λ ls. all ++ ls) (sym (filter_map-append (λ (q : Issued). landing_of nodes q.rank q.issue q.request) (issued_by p.node) rest)
-      ∙ sym (ap (λ (ns : List NodeState). landings_of nodes (issued ns)) (drop_from (states ps) i p.node (state_here ps i p within is))))
+    ∙ sym (ap (λ (ns : List NodeState). landings_of nodes (issued ns)) (drop_from (states ps) i p.node (state_here ps i p within is))))
 
 pub gathered-nodes : (nodes : List NodeState) (ps : List PreparedNode) (i : ℕ) (all : List Landing) → length ps ≤ i → gathered_rest nodes ps i all ≡ all
 gathered-nodes nodes ps i all past =

@@ -129,7 +129,7 @@ found-whole all at found whole complete sound rank addr = (
 pub order_at : (all : List Landing) (furthest at : ℕ) (x y : Landing) → furthest < at → at < length all → x ≡ get_or all furthest x → y ≡ get_or all at y → ComeInOrder all → x.rank ≡ y.rank → x.addr ≤ y.addr
 order_at all furthest at x y place within first second order ranks =
     let before : IsNoLater x.rank x.addr (get_or all at x).rank (get_or all at x).addr =
-        subst (λ (l : Landing). IsNoLater l.rank l.addr (get_or all at x).rank (get_or all at x).addr) (sym first) (order furthest at x place within) in
+    subst (λ (l : Landing). IsNoLater l.rank l.addr (get_or all at x).rank (get_or all at x).addr) (sym first) (order furthest at x place within) in
     let here : get_or all at x ≡ y = get_or_default all at x y within ∙ sym second in
     let both : IsNoLater x.rank x.addr y.rank y.addr = subst (λ (l : Landing). IsNoLater x.rank x.addr l.rank l.addr) here before in
     elim both [ inl lower ↦ absurd (omega (arith, lower, ranks)) | inr level ↦ level.1 ]

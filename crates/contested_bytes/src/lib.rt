@@ -29,5 +29,5 @@ mod range;
 mod superstep;
 mod sweep;
 
-pub use range::{ContestedRange, Contender, Kind};
+pub use range::{Contender, ContestedRange, Kind};
 pub use superstep::contested_ranges;

@@ -19,7 +19,7 @@ decided-same order m None allowed settled =
     (settled_row m.nodes order (landings m.nodes) (settled refl) allowed (IsPermutation-refl (landings m.nodes)))
 
 turned-same : (order : List Landing) (m : MachineState) → IsAllowedOrder (landings m.nodes) order → (is_none (outcome_of m.nodes) ≡ true → AreSettled (landings m.nodes)) → turned_in order m ≡ turned m
-  unfolding turned
+unfolding turned
 turned-same order m allowed settled = decided-same order (recorded m) (outcome_of m.nodes) allowed settled
 
 superstep-at : (order : List Landing) (m : MachineState) (over : Bool) → is_some m.outcome ≡ over → IsAllowedOrder (next_landings m) order → IsSettledSuperstep m → cond over m (turned_in order (with_phases m)) ≡ cond over m (turned (with_phases m))
@@ -27,7 +27,7 @@ superstep-at order m true is allowed settled = refl
 superstep-at order m false is allowed settled = turned-same order (with_phases m) allowed (settled is)
 
 superstep-same : (order : List Landing) (m : MachineState) → IsAllowedOrder (next_landings m) order → IsSettledSuperstep m → superstep_in order m ≡ superstep m
-  unfolding superstep
+unfolding superstep
 superstep-same order m allowed settled = superstep-at order m (is_some m.outcome) refl allowed settled
 
 pub run-same : (k : ℕ) (m n : MachineState) → IsSettledRun k m → RunsTo k m n → n ≡ iterate superstep k m
@@ -37,7 +37,7 @@ run-same (suc k) m n settled run =
     run-same k (superstep m) n (λ j before. settled (suc j) (omega (arith, before))) (subst (λ (s : MachineState). RunsTo k s n) same run.2)
 
 pub last-same : (m n : MachineState) → IsSettledRun (m.settings.limit + 1) m → RunsTo (m.settings.limit + 1) m n → n ≡ end_of m
-  unfolding end_of
+unfolding end_of
 last-same m n settled run = run-same (m.settings.limit + 1) m n settled run
 
 -- the machine's own order
@@ -46,11 +46,11 @@ own-decided m (Some end) = refl
 own-decided m None = refl
 
 own-turned : (m : MachineState) → turned_in (landings m.nodes) m ≡ turned m
-  unfolding turned
+unfolding turned
 own-turned m = own-decided (recorded m) (outcome_of m.nodes)
 
 own-superstep : (m : MachineState) → superstep_in (next_landings m) m ≡ superstep m
-  unfolding superstep
+unfolding superstep
 own-superstep m = ap (λ (next : MachineState). cond (is_some m.outcome) m next) (own-turned (with_phases m))
 
 pub run-allowed : (k : ℕ) (m : MachineState) → RunsTo k m (iterate superstep k m)

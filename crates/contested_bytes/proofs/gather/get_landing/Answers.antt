@@ -28,4 +28,4 @@ returns g c =
     let nodes = c.args.nodes.now in
     ap (λ (bs : List ℕ). record { rank = c.args.caller; addr = get.dst; bytes = bs; key = get_key c.args.caller c.args.issue })
     (c.in-Ok.ensures.ok
-      ∙ ap₂ (λ (m : List ℕ) (a : ℕ). bytes_at m a get.len) (c.memory-memory.ensures.value ∙ sym (memory_at nodes get.target c.index-nodes-get.result c.requires.target c.index-nodes-get.is)) c.start_of-from.ensures.value)
+    ∙ ap₂ (λ (m : List ℕ) (a : ℕ). bytes_at m a get.len) (c.memory-memory.ensures.value ∙ sym (memory_at nodes get.target c.index-nodes-get.result c.requires.target c.index-nodes-get.is)) c.start_of-from.ensures.value)

@@ -34,9 +34,9 @@ returns-clause-apart g c = λ apart starts.
           let n = c.len-count.result - 1 in
           let count : length found ≡ c.len-count.result = omega (arith, c.len-count.ensures) in
           let last : get_or found (length found - 1) d ≡ w.index.result.now =
-              ap (λ k. get_or found (k - 1) d) count
-              ∙ get_or_default found n d w.index.result.now (omega (arith, c.len-count.ensures, some))
-              ∙ sym w.index.ensures in
+          ap (λ k. get_or found (k - 1) d) count
+          ∙ get_or_default found n d w.index.result.now (omega (arith, c.len-count.ensures, some))
+          ∙ sym w.index.ensures in
           both_ways w.joins.result w.if-joins.false (w.joins.ensures.1 (subst (λ l. Joins l c.args.range) last joins))
       | else-count-gt0-via-else-count-gt0 w ↦ omega (arith, w.if-count-gt0.false, c.len-count.ensures, some)
     ]))

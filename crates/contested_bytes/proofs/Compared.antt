@@ -1,9 +1,9 @@
 -- Two landings compared byte by byte.
-use Rattle.std.proofs.Common.{◌≡◌, ℕ, ◌+◌, ◌<◌, ◌≤◌, ◌⊎◌, ◌↔◌, ◌==◌, ◌&&◌, min, inl, inr, List, length, refl, sym, ap, subst, ◌∙◌, arith}
-use Rattle.std.specs.Prelude.{◌≢◌, All, Contains, IsTrue}
+use Rattle.std.proofs.Common.{◌≡◌, ℕ, ◌+◌, ◌<◌, ◌≤◌, ◌⊎◌, ◌↔◌, min, inl, inr, List, length, refl, sym, ap, subst, ◌∙◌, arith}
+use Rattle.std.specs.Prelude.{◌≢◌, Contains, IsTrue}
 use Rattle.std.proofs.lemmas.Bool.{cases_lt}
 use Rattle.std.proofs.lemmas.Bool.Decides.{nat_tests}
-use Rattle.bsp_exchange.specs.Landings.{Landing, covers, landing_byte}
+use Rattle.bsp_exchange.specs.Landings.{Landing, landing_byte}
 use Rattle.contested_bytes.specs.declared.range.Contender.{Contender}
 use Rattle.contested_bytes.specs.declared.range.ContestedRange.{ContestedRange}
 use Rattle.contested_bytes.specs.Contested.{reaches, Differ}

@@ -1,19 +1,17 @@
 -- Landings gathered request by request.
-use Rattle.std.proofs.Common.{◌≡◌, ℕ, ◌+◌, ◌<◌, ◌≤◌, ◌^◌, ◌⊎◌, inl, inr, zero, suc, Bool, true, false, cond, List, [], ◌∷◌, ◌++◌, length, get_or, map, take, drop, refl, sym, ap, subst, ◌∙◌, arith, append_assoc, Option, Some, None}
+use Rattle.std.proofs.Common.{◌≡◌, ℕ, ◌+◌, ◌<◌, ◌≤◌, ◌⊎◌, inl, inr, zero, suc, Bool, true, false, cond, List, [], ◌∷◌, ◌++◌, length, get_or, map, drop, refl, sym, ap, subst, ◌∙◌, arith, append_assoc, Option, Some, None}
 use Rattle.std.specs.Prelude.{Contains, IsTrue, filter_map, slice_get}
 use Rattle.std.specs.List.{enumerate_from, cons_option}
 use Rattle.std.specs.Option.{option_or}
-use Rattle.std.proofs.lemmas.Bool.{cases_Bool}
 use Rattle.std.proofs.lemmas.Bool.Decides.{nat_tests}
 use Rattle.std.proofs.lemmas.List.{append-nil, drop_all}
 use Rattle.std.proofs.lemmas.List.Elements.{Contains-append_left, Contains-append_right, Contains-append_cases, filter_map-append}
-use Rattle.std.proofs.lemmas.Option.{none-some, same_Some, slice_get_within, slice_get_read, get_or_from_slice_get}
-use Rattle.node_memory.specs.Bytes.{fits, is_memory_size}
+use Rattle.std.proofs.lemmas.Option.{none-some, slice_get_within, get_or_from_slice_get}
+use Rattle.node_memory.specs.Bytes.{is_memory_size}
 use Rattle.bsp_requests.specs.Request.{Asked, asks_put, asks_get, asks_send}
 use Rattle.node_core.specs.Communication.{IsWellAddressed}
 use Rattle.node_core.specs.Hart.{IsHart}
 use Rattle.node_core.specs.Node.{NodeState, PreparedNode}
-use Rattle.bsp_exchange.specs.declared.fault.ExchangeFault.{ExchangeFault}
 use Rattle.bsp_exchange.specs.declared.fault.ExchangeFault.TheVariants.{OutsideArea}
 use Rattle.bsp_exchange.specs.Exchange.{states}
 use Rattle.bsp_exchange.specs.Faults.{first_outside, leaves_area, exchange_fault}

@@ -3,7 +3,7 @@
 -- read, is not defined where they meet, whoever asked for them: neither for two requests of one process, nor for a put and a get. So
 -- each order of what lands is allowed. That a put or a get lands as a whole, with no other between its bytes, is no loss: a byte is that
 -- of one landing in any case.
-use Rattle.std.specs.Prelude.{◌≡◌, ◌≢◌, ℕ, ◌==◌, Bool, ◌&&◌, IsTrue, IsPermutation, List, map, filter, Contains}
+use Rattle.std.specs.Prelude.{◌≢◌, ℕ, ◌==◌, Bool, ◌&&◌, IsTrue, IsPermutation, List, map, filter, Contains}
 use Rattle.node_core.specs.Hart.{with_memory}
 use Rattle.node_core.specs.Node.{NodeState}
 use Rattle.node_core.specs.Turn.{next_superstep}

@@ -1,9 +1,9 @@
-use Rattle.std.proofs.Common.{ℕ, ◌+◌, ◌<◌, List, length, sym, ap, ap₂, subst, ◌∙◌, arith}
+use Rattle.std.proofs.Common.{ℕ, ◌<◌, List, length, sym, ap, ap₂, subst, ◌∙◌}
 use Rattle.bsp_requests.specs.Put.{Put}
 use Rattle.bsp_requests.specs.Request.{asks_put}
 use Rattle.bsp_exchange.specs.Exchange.{states}
 use Rattle.bsp_exchange.specs.Faults.{is_outside, leaves_area}
-use Rattle.bsp_exchange.specs.Landings.{Landing, put_key, put_landing}
+use Rattle.bsp_exchange.specs.Landings.{put_key, put_landing}
 use Rattle.contested_bytes.proofs.gather.put_landing.Goals as goal
 
 pub start_of-addr-requires-clause-target : goal.start_of-addr-requires-clause-target

@@ -1,4 +1,4 @@
-use Rattle.contested_bytes.proofs.Swept.{order_at, contains_at, found-step, contested-more, furthest-more, next_within, found-first, furthest-first, found-whole}
+use Rattle.contested_bytes.proofs.Swept.{order_at, contains_at, found-step, contested-more, furthest-more, next_within, found-whole}
 use Rattle.std.proofs.Common.{arith}
 use Rattle.contested_bytes.proofs.sweep.sweep.Goals as goal
 

@@ -1,5 +1,5 @@
 -- Supersteps in any order that is allowed, one after another.
-use Rattle.std.proofs.Common.{◌≡◌, ℕ, zero, suc, ◌+◌, ◌<◌, Bool, true, false, cond, List, map, refl, sym, ap, subst, ◌∙◌, arith, Option, Some, None}
+use Rattle.std.proofs.Common.{◌≡◌, ℕ, zero, suc, ◌+◌, Bool, true, false, cond, List, map, refl, sym, ap, subst, arith, Option, Some, None}
 use Rattle.std.specs.Prelude.{is_some, is_none}
 use Rattle.std.specs.Fn.{iterate}
 use Rattle.std.proofs.lemmas.List.Sorted.{IsPermutation-refl}

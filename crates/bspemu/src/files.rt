@@ -60,6 +60,7 @@ impl<F, I: IsTerminal> Source<F, I> {
 pub struct CannotOpen<'a>(pub &'a str);
 
 /// The image at `path`; `-` is standard input, and can always be opened.
+#[inline(never)]
 pub fn open_image<'a, R: Files + Input>(
     rt: &R,
     path: &'a str,
@@ -76,6 +77,7 @@ pub fn open_image<'a, R: Files + Input>(
 }
 
 /// The input at `path`, which is a file's even where it is `-`; with no path the input is empty.
+#[inline(never)]
 pub fn open_input<'a, R: Files + Input>(
     rt: &R,
     path: Option<&'a str>,
@@ -136,6 +138,7 @@ pub fn create<'a, R: Files>(
 
 /// The file at `path` for what a run writes beside its output: it is created where there is none, and else emptied. It may be
 /// neither the image nor the input, which are still to be read, under whatever name.
+#[inline(never)]
 pub fn create_beside<'a, R: Files, I>(
     rt: &R,
     path: &'a str,

@@ -155,6 +155,7 @@ fn run<'a, R: AllocGlobal + Files + Input + Print + Threads + Wait + Sync>(
 }
 
 /// Opens what the options name, first the image, and runs the session that writes at its end.
+#[inline(never)]
 fn run_to_end<'a, R: AllocGlobal + Files + Input + Print + Threads + Wait + Sync>(
     rt: &R,
     options: &MachineOptions<'a>,
@@ -176,6 +177,7 @@ fn run_to_end<'a, R: AllocGlobal + Files + Input + Print + Threads + Wait + Sync
 }
 
 /// The same with the session that writes while the run goes on.
+#[inline(never)]
 fn run_live<'a, R: AllocGlobal + Files + Input + Print + Threads + Wait + Sync>(
     rt: &R,
     options: &MachineOptions<'a>,
@@ -198,6 +200,7 @@ fn run_live<'a, R: AllocGlobal + Files + Input + Print + Threads + Wait + Sync>(
 
 /// Opens what the options name, first the image, creates the file of the profile, or empties it, and runs the session. That file may
 /// be neither of the others.
+#[inline(never)]
 fn run_profiled<'a, R: AllocGlobal + Files + Input + Print + Threads + Wait + Sync>(
     rt: &R,
     options: &MachineOptions<'a>,
@@ -224,6 +227,7 @@ fn run_profiled<'a, R: AllocGlobal + Files + Input + Print + Threads + Wait + Sy
 }
 
 /// The same with the counts of the run, which is made in this thread alone.
+#[inline(never)]
 fn run_counted<'a, R: AllocGlobal + Files + Input + Print>(
     rt: &R,
     options: &MachineOptions<'a>,

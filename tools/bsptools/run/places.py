@@ -116,7 +116,12 @@ def users_frames(code: Code, chain: list[int]) -> list[Frame]:
     # A C library's own lines are of files that are not here; those of headers are of files that no user has written.
     written_here = [it for it in known if not is_librarys(it[2])]
     known = [it for it in written_here if code.lines or path_of(it[2]).exists()] or written_here or known
-    return [Frame(function, line, code.name_at(chain[at - 1]) if at > 0 else "") for at, function, line in known]
+    return [Frame(function, line, called_as(code.name_at(chain[at - 1])) if at > 0 else "") for at, function, line in known]
+
+
+def called_as(name: str) -> str:
+    """The name under which a program calls a function."""
+    return name[len(WRAP) :] if name.startswith(WRAP) else name
 
 
 def path_of(line: str) -> pathlib.Path:

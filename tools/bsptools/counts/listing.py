@@ -154,7 +154,7 @@ def line_of(it: Mapping[str, Any]) -> Line:
     """A line of its values by their names."""
     with_calls = it["with_calls"]
     return Line(
-        int(it["file"]),
+        -1 if it["file"] == -1 else whole(it["file"], MOST_COST),
         whole(it["number"], MOST_COST),
         printable(str(it["function"])),
         whole(it["paid"], MOST_SUM),

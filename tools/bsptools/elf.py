@@ -71,9 +71,9 @@ class Debug:
             from elftools.elf.elffile import ELFFile
 
             with contextlib.suppress(Exception), bounds.at_most(MOST_MEMORY):
-                if struct.unpack_from("<H", content, 48)[0] > MOST_SECTIONS:
-                    return
                 file = ELFFile(io.BytesIO(content))
+                if file.num_sections() > MOST_SECTIONS:
+                    return
                 table = file.get_section_by_name(".symtab")
                 self.symbols = list(table.iter_symbols()) if table else []
                 self.info = file.get_dwarf_info()

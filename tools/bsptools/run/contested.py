@@ -2,15 +2,10 @@
 
 from __future__ import annotations
 
-import csv
-import io
 import itertools
-import pathlib
 from collections.abc import Iterator
 from typing import NamedTuple
 
-from .. import emulator
-from ..refusals import Refused
 from .calls import PUTS, REQUESTS, Call, Tracer
 from .warn import TRACED, Landing, Steps, landings_in
 
@@ -35,31 +30,10 @@ class Contested(NamedTuple):
 
 
 class Looked(NamedTuple):
-    """What was found, and how it was looked for: exactly by the emulator, or in pairs of puts, all of them or the first."""
+    """What was found in pairs of puts, and whether all of them were looked at."""
 
     found: list[Contested]
-    is_exact: bool
-    is_whole: bool = True
-
-
-def read(text: str) -> list[Contested]:
-    """The rows of a file of `bspemu run --contested`, by the names of its columns."""
-    columns = ["bytes" if it == "size" else it for it in Contested._fields]
-    try:
-        return [Contested._make(int(row[it]) for it in columns) for row in csv.DictReader(io.StringIO(text))]
-    except (ValueError, TypeError, KeyError) as error:
-        raise Refused(f"the emulator's contested bytes cannot be read: {error}") from error
-
-
-def by_emulator(program: list[str], settings: list[str], folder: pathlib.Path) -> Looked | None:
-    """What the emulator finds in a run; None where it has no such option."""
-    if "--contested" not in emulator.said(*program, "run", "--help"):
-        return None
-    file = folder / "contested.csv"
-    done = emulator.run([*program, "run", *settings, "--contested", str(file)])
-    if not file.exists():
-        raise Refused("the emulator's contested bytes were not written", *done.stderr.decode(errors="replace").splitlines())
-    return Looked(read(file.read_text()), is_exact=True)
+    is_whole: bool
 
 
 def meetings(steps: Steps, last: int) -> Iterator[tuple[int, int, Landing, Landing]]:
@@ -87,7 +61,7 @@ def by_pairs(steps: Steps, last: int) -> Looked:
             first, second = (request_of(steps, it.rank, superstep, it.call) for it in (one, other))
             places = (one.rank, first, other.rank, second)
             found.append(Contested._make((superstep, target, start + at, end - start - at, *places, values[0][at], values[1][at])))
-    return Looked(found, is_exact=False, is_whole=looked <= MOST_PAIRS and steps.is_whole)
+    return Looked(found, is_whole=looked <= MOST_PAIRS and steps.is_whole)
 
 
 def bytes_of(trace: Tracer, rank: int, call: Call, offset: int, count: int) -> bytes:

@@ -38,13 +38,11 @@ class Verdict:
 
     found: list[list[str]] = field(default_factory=list)
     tried: list[str] = field(default_factory=list)
-    exact: str = ""
     notes: list[str] = field(default_factory=list)
 
     def lines(self) -> list[str]:
         """All lines, those of what was found first."""
         told = [line for it in self.found for line in (f"bsprun: not portable: {it[0]}", *(f"  {line}" for line in it[1:]))]
-        told += [f"bsprun: {self.exact}"] if self.exact else []
         told += [f"bsprun: tried: {', '.join(self.tried)}: the same output each time"] if self.tried else []
         return told + [f"bsprun: {it}" for it in self.notes]
 
@@ -156,16 +154,12 @@ class Portable:
             self.verdict.notes.append(f"not tried: {what}, since the memory has no room for them above the program's own")
 
     def contested(self) -> None:
-        """Bytes that two requests of a superstep write."""
-        looked = contested.by_emulator(self.subject.program, self.subject.settings, self.subject.folder)
-        if looked is None and self.has("bsp_put", "__wrap_bsp_hpput"):
-            looked = contested.by_pairs(self.steps, self.ended.last)
-        if looked is None:
+        """Bytes that two puts of a superstep write."""
+        if not self.has("bsp_put", "__wrap_bsp_hpput"):
             return
+        looked = contested.by_pairs(self.steps, self.ended.last)
         if looked.found:
             self.verdict.found.append(told_contested(self.trace, looked.found[0], len(looked.found) - 1))
-        elif looked.is_exact:
-            self.verdict.exact = f"portable: nothing contested in {counted(self.ended.last + 1, 'superstep')} (exact)"
         elif looked.is_whole:
             self.verdict.notes.append("looked at: the puts of each superstep, in pairs: no two write other bytes to one place")
         if not looked.is_whole:

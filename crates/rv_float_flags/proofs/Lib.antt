@@ -1,0 +1,14 @@
+pub mod Fractions
+pub mod Limits
+pub mod Literals
+pub mod Magnitudes
+pub mod Negated
+pub mod Numbers
+pub mod Odd
+pub mod Operations
+pub mod Results
+pub mod Roundings
+pub mod Shifts
+pub mod Signs
+pub mod Sums
+pub mod Tiny

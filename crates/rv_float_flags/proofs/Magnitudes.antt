@@ -1,0 +1,85 @@
+-- The magnitude of a pattern: its digits, at the place of its exponent.
+use Rattle.std.proofs.Common.{◌≡◌, ℕ, zero, suc, ◌+◌, ◌*◌, ◌/◌, ◌%◌, ◌^◌, ◌<◌, Bool, true, false, cond, sym, ap, ◌∙◌, subst, refl, arith}
+use Rattle.std.proofs.lemmas.Bool.{cond-true, cond-false, eq-eqb, ne_eqb}
+use Rattle.std.proofs.lemmas.Nat.{pow-add}
+use Rattle.std.specs.Float.{float_is_finite}
+use Rattle.rv_float_flags.specs.Scaled.{IsMagnitude}
+use Rattle.rv_float_flags.specs.declared.scaled.Scaled.{Scaled}
+use lib.Dec.{eqb, leb}
+use lib.Ieee.{Float, Format, nan, inf, fin, hid, low, odd, of_bits, of_fields, ones, prec, top}
+use lib.Ieee.Exact.{HasValue, odd_sign}
+use lib.Ieee.Positive.{num, den}
+
+-- ---- the value of digits at a place
+
+odd-finite : (d : ℕ) (s : Bool) (q k l : ℕ) → float_is_finite (odd d s q k l) ≡ true
+unfolding odd float_is_finite
+odd-finite d s zero k l = refl
+odd-finite d s (suc q) k l = refl
+
+value : (x : Float) (s : Bool) (a c : ℕ) → HasValue x s a c → num x * c ≡ a * den x
+value nan s a c h = absurd h
+value (inf t) s a c h = absurd h
+value (fin t m e) s a c h = h.1
+
+-- in units of 2 ^ -1074, for a format whose smallest value is 2 ^ j of them
+scaled : (x : Float) (q k l j u : ℕ) → l + j ≡ u → num x * 2 ^ l ≡ q * 2 ^ k * den x → num x * 2 ^ u ≡ q * 2 ^ (k + j) * den x
+scaled x q k l j u e h =
+    let a : 2 ^ u ≡ 2 ^ l * 2 ^ j = ap (λ (z : ℕ). 2 ^ z) (sym e) ∙ pow-add 2 l j in
+    let b : 2 ^ (k + j) ≡ 2 ^ k * 2 ^ j = pow-add 2 k j in
+    ap (λ (z : ℕ). num x * z) a ∙ omega (arith, ap (λ (z : ℕ). z * 2 ^ j) h) ∙ ap (λ (z : ℕ). q * z * den x) (sym b)
+
+-- ---- the fields of a pattern
+
+at_zero : (f : Format) (s : Bool) (t : ℕ) → of_fields f s 0 t ≡ odd (prec f) s t 0 (low f)
+unfolding of_fields
+at_zero f s t = refl
+
+under_ones : (f : Format) (s : Bool) (x t : ℕ) → (suc x ≡ ones f → ⊥) → of_fields f s (suc x) t ≡ odd (prec f) s (hid f + t) x (low f)
+unfolding of_fields
+under_ones f s x t h = cond-false (eqb (suc x) (ones f)) (cond (eqb t 0) (inf s) nan) (odd (prec f) s (hid f + t) x (low f)) (ne_eqb (suc x) (ones f) h)
+
+not_finite : (b s : Bool) → float_is_finite (cond b (inf s) nan) ≡ false
+unfolding float_is_finite
+not_finite true s = refl
+not_finite false s = refl
+
+at_ones : (f : Format) (s : Bool) (x t : ℕ) → suc x ≡ ones f → float_is_finite (of_fields f s (suc x) t) ≡ false
+unfolding of_fields
+at_ones f s x t h =
+    ap float_is_finite (cond-true (eqb (suc x) (ones f)) (cond (eqb t 0) (inf s) nan) (odd (prec f) s (hid f + t) x (low f)) (eq-eqb (suc x) (ones f) h))
+    ∙ not_finite (eqb t 0) s
+
+fields_of : (f : Format) (b x : ℕ) → b % top f / hid f ≡ x → of_bits f b ≡ of_fields f (leb (top f) b) x (b % hid f)
+unfolding of_bits
+fields_of f b x e = ap (λ (z : ℕ). of_fields f (leb (top f) b) z (b % hid f)) e
+
+-- ---- a pattern: not finite, subnormal or zero, normal
+
+pub no_magnitude : (f : Format) (b x : ℕ) → b % top f / hid f ≡ suc x → suc x ≡ ones f → float_is_finite (of_bits f b) ≡ false
+no_magnitude f b x e h = ap float_is_finite (fields_of f b (suc x) e) ∙ at_ones f (leb (top f) b) x (b % hid f) h
+
+digits_at : (f : Format) (v : Float) (s : Bool) (q k j : ℕ) (p : Scaled) → v ≡ odd (prec f) s q k (low f) → low f + j ≡ 1074
+    → p.digits ≡ q → p.place ≡ k + j → q < 2 ^ prec f → k + j < 2046 → IsMagnitude f v p
+digits_at f v s q k j p e l d g n h =
+    let w : num v * 2 ^ low f ≡ q * 2 ^ k * den v =
+    subst (λ (x : Float). num x * 2 ^ low f ≡ q * 2 ^ k * den x) (sym e) (value (odd (prec f) s q k (low f)) s (q * 2 ^ k) (2 ^ low f) (odd_sign (prec f) s q k (low f)))
+    in
+    record {
+      finite = ap float_is_finite e ∙ odd-finite (prec f) s q k (low f);
+      value = scaled v q k (low f) j 1074 l w ∙ ap (λ (z : ℕ). z * 2 ^ (k + j) * den v) (sym d) ∙ ap (λ (z : ℕ). p.digits * 2 ^ z * den v) (sym g);
+      narrow = subst (λ (z : ℕ). z < 2 ^ prec f) (sym d) n;
+      coarse = omega (arith, l, g);
+      low_place = omega (arith, g, h);
+    }
+
+pub subnormal : (f : Format) (b j : ℕ) (p : Scaled) → b % top f / hid f ≡ 0 → low f + j ≡ 1074 → p.digits ≡ b % hid f → p.place ≡ j
+    → b % hid f < 2 ^ prec f → j < 2046 → IsMagnitude f (of_bits f b) p
+subnormal f b j p e l d g n h =
+    let k : p.place ≡ 0 + j = omega (arith, g) in
+    digits_at f (of_bits f b) (leb (top f) b) (b % hid f) 0 j p (fields_of f b 0 e ∙ at_zero f (leb (top f) b) (b % hid f)) l d k n (omega (arith, h))
+
+pub normal : (f : Format) (b x j : ℕ) (p : Scaled) → b % top f / hid f ≡ suc x → (suc x ≡ ones f → ⊥) → low f + j ≡ 1074
+    → p.digits ≡ hid f + b % hid f → p.place ≡ x + j → hid f + b % hid f < 2 ^ prec f → x + j < 2046 → IsMagnitude f (of_bits f b) p
+normal f b x j p e o l d g n h =
+    digits_at f (of_bits f b) (leb (top f) b) (hid f + b % hid f) x j p (fields_of f b (suc x) e ∙ under_ones f (leb (top f) b) x (b % hid f) o) l d g n h

@@ -1,0 +1,10 @@
+use Rattle.std.proofs.Common.{refl}
+use Rattle.rv_float_flags.proofs.Operations.{of_product}
+use Rattle.rv_float_flags.proofs.double.product_flags_d.Goals as goal
+use lib.Ieee.{binary64, of_bits}
+
+pub returns-in-Some-Some : goal.returns-in-Some-Some
+returns-in-Some-Some c =
+    of_product binary64 (of_bits binary64 c.args.a) (of_bits binary64 c.args.b) c.in-Some-Some.p c.in-Some-Some.q c.times.result _ _ _
+    c.in-Some-Some.ensures c.in-Some-Some.ensures' c.times.ensures c.mul_d.ensures c.magnitude_d-in-Some-Some.ensures
+    (λ r. c.sum_rounding.ensures binary64 r (record { digits = refl; place = refl }))

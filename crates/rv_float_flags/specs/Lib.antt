@@ -1,0 +1,5 @@
+pub mod Conversions
+pub mod Exact
+pub mod Flags
+pub mod Operations
+pub mod Scaled

@@ -1,0 +1,154 @@
+//! The flags of a rounding, found by the exact result.
+
+ghost use Rattle.std.specs.Prelude.{◌≡◌, ℕ, ◌+◌, ◌*◌, ◌^◌, ◌<◌, ◌≤◌, ◌&&◌, nat_lt};
+ghost use Rattle.rv_float_flags.specs.Exact.{combined, is_inexact, is_tiny, rounded, Ratio};
+ghost use Rattle.rv_float_flags.specs.Flags.{rounding_flags};
+ghost use Rattle.rv_float_flags.specs.Scaled.{amount, IsFraction, IsLimit, IsMagnitudeOf, IsNarrow};
+ghost use lib.Ieee.{Format};
+
+use crate::flags::Flags;
+use crate::scaled::{Scaled, is_below, is_same, is_sum, sum_is_below};
+
+/// What is below this is tiny: the smallest normal double less a quarter of the smallest positive one, as a multiple of 2^-2148.
+pub(crate) const LIMIT_D: Scaled = Scaled {
+    digits: 0x3f_ffff_ffff_ffff,
+    place: 1072,
+};
+
+/// The same of singles.
+pub(crate) const LIMIT_S: Scaled = Scaled {
+    digits: 0x1ff_ffff,
+    place: 1997,
+};
+
+/// The flags where a sum of multiples of 2^-2148, or their difference, has been rounded to `nearest`, or is infinite.
+pub(crate) fn sum_rounding(
+    a: Scaled,
+    b: Scaled,
+    opposite: bool,
+    nearest: Option<Scaled>,
+    limit: Scaled,
+) -> Flags
+    requires a_narrow { a.digits < 2 ^ 106 }
+    requires b_narrow { b.digits < 2 ^ 106 }
+    requires a_low { a.place < 2 ^ 15 }
+    requires b_low { b.place < 2 ^ 15 }
+    requires b_coarse { limit.place + 2 ≤ b.place }
+    requires limit_narrow { limit.digits < 2 ^ 54 }
+    requires narrow { IsNarrow nearest }
+    ensures { (f : Format) (r : Ratio) → IsLimit f limit → IsFraction r (combined opposite (amount a) (amount b)) 1
+        → IsMagnitudeOf f (rounded f r) nearest → result ≡ rounding_flags f r }
+{
+    let inexact = is_sum_inexact(a, b, opposite, nearest);
+    let underflow = inexact && is_sum_tiny(a, b, opposite, limit);
+    Flags {
+        nv: false,
+        dz: false,
+        of: nearest.is_none(),
+        uf: underflow,
+        nx: inexact,
+    }
+}
+
+fn is_sum_inexact(a: Scaled, b: Scaled, opposite: bool, nearest: Option<Scaled>) -> bool
+    requires a_narrow { a.digits < 2 ^ 106 }
+    requires b_narrow { b.digits < 2 ^ 106 }
+    requires a_low { a.place < 2 ^ 15 }
+    requires b_low { b.place < 2 ^ 15 }
+    requires narrow { IsNarrow nearest }
+    ensures { (f : Format) (r : Ratio) → IsFraction r (combined opposite (amount a) (amount b)) 1 → IsMagnitudeOf f (rounded f r) nearest
+        → result ≡ is_inexact f r }
+{
+    match nearest {
+        Some(z) => !is_sum(
+            a,
+            b,
+            opposite,
+            Scaled {
+                digits: z.digits,
+                place: z.place + 1074,
+            },
+        ),
+        None => true,
+    }
+}
+
+/// Whether a sum that is inexact is tiny. Where both terms are multiples of the format's smallest value, one that is tiny is exact.
+fn is_sum_tiny(a: Scaled, b: Scaled, opposite: bool, limit: Scaled) -> bool
+    requires a_narrow { a.digits < 2 ^ 106 }
+    requires a_low { a.place < 2 ^ 15 }
+    requires b_low { b.place < 2 ^ 15 }
+    requires b_coarse { limit.place + 2 ≤ b.place }
+    requires limit_narrow { limit.digits < 2 ^ 54 }
+    ensures { (f : Format) (r : Ratio) → IsLimit f limit → IsFraction r (combined opposite (amount a) (amount b)) 1
+        → (is_inexact f r && result) ≡ (is_tiny f r && is_inexact f r) }
+{
+    a.place < limit.place + 2 && sum_is_below(a, b, opposite, limit)
+}
+
+/// The flags where a quotient has been rounded to `nearest`, or is infinite.
+pub(crate) fn quotient_rounding(
+    x: Scaled,
+    y: Scaled,
+    nearest: Option<Scaled>,
+    limit: Scaled,
+) -> Flags
+    requires x_narrow { x.digits < 2 ^ 53 }
+    requires y_narrow { y.digits < 2 ^ 53 }
+    requires x_low { x.place < 2 ^ 15 }
+    requires y_low { y.place < 2 ^ 15 }
+    requires limit_narrow { limit.digits < 2 ^ 54 }
+    requires limit_low { limit.place < 2 ^ 15 }
+    requires narrow { IsNarrow nearest }
+    ensures { (f : Format) (r : Ratio) → IsLimit f limit → IsFraction r (x.digits * 2 ^ (x.place + 2148)) (amount y)
+        → IsMagnitudeOf f (rounded f r) nearest → result ≡ rounding_flags f r }
+{
+    let dividend = Scaled {
+        digits: x.digits,
+        place: x.place + 2148,
+    };
+    let inexact = is_quotient_inexact(dividend, y, nearest);
+    let underflow = inexact && is_quotient_below(dividend, y, limit);
+    Flags {
+        nv: false,
+        dz: false,
+        of: nearest.is_none(),
+        uf: underflow,
+        nx: inexact,
+    }
+}
+
+fn is_quotient_inexact(dividend: Scaled, y: Scaled, nearest: Option<Scaled>) -> bool
+    requires y_narrow { y.digits < 2 ^ 53 }
+    requires y_low { y.place < 2 ^ 15 }
+    requires narrow { IsNarrow nearest }
+    ensures { (f : Format) (r : Ratio) → IsFraction r (amount dividend) (amount y) → IsMagnitudeOf f (rounded f r) nearest → result ≡ is_inexact f r }
+{
+    match nearest {
+        Some(z) => !is_same(
+            dividend,
+            Scaled {
+                digits: z.digits * y.digits,
+                place: z.place + y.place + 1074,
+            },
+        ),
+        None => true,
+    }
+}
+
+fn is_quotient_below(dividend: Scaled, y: Scaled, limit: Scaled) -> bool
+    requires narrow { dividend.digits < 2 ^ 53 }
+    requires y_narrow { y.digits < 2 ^ 53 }
+    requires y_low { y.place < 2 ^ 15 }
+    requires limit_narrow { limit.digits < 2 ^ 54 }
+    requires limit_low { limit.place < 2 ^ 15 }
+    ensures { result ≡ nat_lt (amount dividend) (amount limit * amount y) }
+{
+    is_below(
+        dividend,
+        Scaled {
+            digits: limit.digits * y.digits,
+            place: limit.place + y.place,
+        },
+    )
+}

@@ -11,6 +11,7 @@
 //! - After `prepare` a row can be added without being refused, by [`add_prepared`](Ledger::add_prepared).
 //! - A total is exact: under the conditions of `add` no sum of costs passes 128 bits.
 //! - The lines that tell of rows are those of the definitions ([`cost_lines`], [`Ledger::lines`]).
+//! - A total is kept row by row by [`Ledger::total_with`].
 //! - The order of the rows does not change a total ([`total_ignores_order`]), and where no h is more than its `h_all`, no total is
 //!   more than that of the first version ([`total_is_at_most_v1`]).
 #![tactic(auto)]
@@ -149,6 +150,28 @@ impl<A: Allocator> Ledger<A> {
         ensures { result ≡ total_in V1 g l self.now.rows }
     {
         sum_of_costs(LedgerText::V1, &self.rows, g, l)
+    }
+
+    /// The total of all rows and of one more in a version, at `g` a byte and `l` a superstep, where `total` is that of all rows: so it is
+    /// kept row by row, in a time that does not grow with them.
+    #[tactic(auto, using(crate::proofs::Totals::total_with_fits, crate::proofs::Totals::total_more))]
+    pub fn total_with(
+        &self,
+        version: LedgerText,
+        g: u32,
+        l: u32,
+        total: u128,
+        row: &CostRow,
+    ) -> u128
+        requires total { total ≡ total_in version g l self.now.rows }
+        requires bounded { IsBounded row.now }
+        requires few { length self.now.rows < 2 ^ 41 }
+        ensures { result ≡ total_in version g l (self.now.rows ++ row.now ∷ []) }
+    {
+        if self.rows.is_empty() {
+            return row.cost(version, g, l);
+        }
+        total + row.cost(version, g, l)
     }
 
     /// The lines that tell of all rows in a version, and of their total at `g` a byte and `l` a superstep. It is an error only where

@@ -7,7 +7,7 @@ use Rattle.std.specs.Option.{option_map_or}
 use Rattle.std.proofs.lemmas.Bool.{false≢true}
 use Rattle.std.proofs.lemmas.List.Elements.{All-head, All-tail}
 use Rattle.std.proofs.lemmas.List.Sums.{sum_by-cons, sum_by-le}
-use Rattle.node_core.specs.Node.{NodeState, IsNode, is_running, local_step, phase}
+use Rattle.node_core.specs.Node.{NodeState, IsNode, is_running, local_step, phase, with_clock}
 use Rattle.node_core.proofs.Steps.{iterate-add, iterate-fixed}
 use Rattle.node_core.proofs.Sound.{IsLater-local_step, local_step-ticks}
 use Rattle.bsp_exchange.specs.Exchange.{exchanged, exchanged_node}
@@ -15,6 +15,7 @@ use Rattle.machine_core.specs.declared.event.Event.{Event}
 use Rattle.machine_core.specs.declared.event.Event.TheVariants.{Step, Turn}
 use Rattle.machine_core.specs.declared.outcome.Outcome.{Outcome}
 use Rattle.machine_core.specs.declared.settings.Settings.{Settings}
+use Rattle.machine_core.specs.Clock.{closed_by, with_clocks}
 use Rattle.machine_core.specs.Machine.{MachineState}
 use Rattle.machine_core.specs.Turn.{outcome_of, recorded, decided, turned, with_phases, superstep, end_of}
 use Rattle.machine_core.specs.Events.{runs, some_runs, stepped, is_enabled, made, event, after}
@@ -58,11 +59,11 @@ module _ (m : MachineState) where
       by (Some outcome) = refl
 
   -- a turn gives the outcome, or counts an exchange
-  turned-cases : IsSome (turned m).outcome ⊎ (((turned m).exchanges ≡ m.exchanges + 1) × ((turned m).nodes ≡ exchanged m.nodes))
+  turned-cases : IsSome (turned m).outcome ⊎ (((turned m).exchanges ≡ m.exchanges + 1) × ((turned m).nodes ≡ with_clocks m.settings.clock (recorded m).ledger (exchanged m.nodes)))
   unfolding turned
   turned-cases = by (outcome_of m.nodes)
     where
-      by : (o : Option Outcome) → IsSome (decided o (recorded m)).outcome ⊎ (((decided o (recorded m)).exchanges ≡ m.exchanges + 1) × ((decided o (recorded m)).nodes ≡ exchanged m.nodes))
+      by : (o : Option Outcome) → IsSome (decided o (recorded m)).outcome ⊎ (((decided o (recorded m)).exchanges ≡ m.exchanges + 1) × ((decided o (recorded m)).nodes ≡ with_clocks m.settings.clock (recorded m).ledger (exchanged m.nodes)))
       by None = inr (refl, refl)
       by (Some outcome) = inl refl
 
@@ -170,11 +171,11 @@ ticks_left nodes = sum_by (λ (n : NodeState). n.limit - n.ticks) nodes
 ticks_left-cons : (n : NodeState) (rest : List NodeState) → ticks_left (n ∷ rest) ≡ (n.limit - n.ticks) + ticks_left rest
 ticks_left-cons n rest = sum_by-cons (λ (x : NodeState). x.limit - x.ticks) n rest
 
-ticks_left-exchanged : (all nodes : List NodeState) → ticks_left (map (exchanged_node all) nodes) ≡ ticks_left nodes
-ticks_left-exchanged all [] = refl
-ticks_left-exchanged all (n ∷ rest) =
-    ticks_left-cons (exchanged_node all n) (map (exchanged_node all) rest)
-    ∙ ap (λ k. (n.limit - n.ticks) + k) (ticks_left-exchanged all rest)
+ticks_left-begun : (closed : Option ℕ) (all nodes : List NodeState) → ticks_left (map (with_clock closed) (map (exchanged_node all) nodes)) ≡ ticks_left nodes
+ticks_left-begun closed all [] = refl
+ticks_left-begun closed all (n ∷ rest) =
+    ticks_left-cons (with_clock closed (exchanged_node all n)) (map (with_clock closed) (map (exchanged_node all) rest))
+    ∙ ap (λ k. (n.limit - n.ticks) + k) (ticks_left-begun closed all rest)
     ∙ sym (ticks_left-cons n rest)
 
 -- a step takes one of them
@@ -227,7 +228,7 @@ progress m sound open_yet = by (some_runs m.nodes) refl
       | inr more ↦
           let limit = ap (λ (s : Settings). s.limit) (settings-turned m) in
           let within = exchanges-le-limit m sound in
-          let ticks = ticks_left-exchanged m.nodes m.nodes in
+          let ticks = ticks_left-begun (closed_by m.settings.clock (recorded m).ledger) m.nodes m.nodes in
           inr (rw (more.0, more.1, limit, ticks) (omega (arith, within)))
     ])
 

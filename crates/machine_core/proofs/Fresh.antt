@@ -6,15 +6,16 @@ use Rattle.std.proofs.lemmas.List.Elements.{All-map}
 use Rattle.std.proofs.lemmas.List.FromFn.{length-range_with_len, get_or-range_with_len}
 use Rattle.node_memory.specs.Image.{Image}
 use Rattle.node_memory.proofs.ImageBytes.{length-image_bytes}
-use Rattle.node_core.specs.Node.{NodeState, IsSoundNode, start_node}
+use Rattle.node_core.specs.Node.{NodeState, IsSoundNode, start_node, with_clock}
 use Rattle.node_core.proofs.Communications.{IsCommunication-none}
 use Rattle.machine_core.specs.declared.settings.Settings.{Settings}
+use Rattle.machine_core.specs.Clock.{HasClock, closed_by}
 use Rattle.machine_core.specs.Machine.{fresh}
 use Rattle.machine_core.specs.Sound.{AreInRange, IsNodeOf, IsUnderWay, IsSoundMachine}
 
 module _ (image : Image) (s : Settings) where
   abbrev at_start : ℕ → NodeState
-  at_start rank = start_node image rank s.nodes s.memory s.limit
+  at_start rank = with_clock (closed_by s.clock []) (start_node image rank s.nodes s.memory s.limit)
 
   IsSoundNode-start : (rank : ℕ) → AreInRange s → rank < s.nodes → IsSoundNode (at_start rank)
   IsSoundNode-start rank range within = record {
@@ -43,6 +44,10 @@ module _ (image : Image) (s : Settings) where
   IsUnderWay-start from zero = tt
   IsUnderWay-start from (suc n) = (record { exchanged = omega arith; kept = omega arith; waited = λ waits. absurd cc }, IsUnderWay-start (from + 1) n)
 
+  HasClock-start : (from n : ℕ) → AllZip (HasClock s.clock []) (map at_start (range_with_len from n)) (replicate n 0)
+  HasClock-start from zero = tt
+  HasClock-start from (suc n) = (refl, HasClock-start (from + 1) n)
+
   pub IsSoundMachine-fresh : (input : List ℕ) → AreInRange s → IsSoundMachine (fresh image input s)
   IsSoundMachine-fresh input range = record {
     settings = range;
@@ -53,6 +58,7 @@ module _ (image : Image) (s : Settings) where
         let here = get_or-range_with_len 0 s.nodes k d below in
         record { nodes = refl; memory = length-image_bytes image s.memory; limit = refl; sound = IsSoundNode-start (get_or (range_with_len 0 s.nodes) k d) range (omega arith) });
     ticks = IsUnderWay-start 0 s.nodes;
+    clocks = λ _. HasClock-start 0 s.nodes;
     areas = (0, All-map (λ (n : NodeState). length n.hart.communication.registrations.in_effect ≡ 0) at_start (range_with_len 0 s.nodes) (λ k d within. refl));
     outcome = λ over. absurd (false≢true over);
     ledger = refl;

@@ -1,3 +1,5 @@
+pub mod Addresses
+pub mod Clocks
 pub mod Closings
 pub mod Costs
 pub mod Ends

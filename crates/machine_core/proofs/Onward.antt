@@ -1,12 +1,13 @@
 -- Nothing that was done is undone.
 use Rattle.std.proofs.Common.{◌≡◌, ℕ, zero, suc, ◌≤◌, Bool, true, false, List, [], ◌∷◌, ◌++◌, map, Option, Some, None, refl, ap, ◌∙◌, arith, append_assoc}
 use Rattle.std.specs.List.{AllZip}
-use Rattle.node_core.specs.Node.{NodeState, Extends}
+use Rattle.node_core.specs.Node.{NodeState, Extends, with_clock}
 use Rattle.node_core.proofs.Sound.{IsLater-local_step}
 use Rattle.bsp_exchange.specs.Exchange.{exchanged_node}
 use Rattle.machine_core.specs.declared.event.Event.{Event}
 use Rattle.machine_core.specs.declared.event.Event.TheVariants.{Step, Turn}
 use Rattle.machine_core.specs.declared.outcome.Outcome.{Outcome}
+use Rattle.machine_core.specs.Clock.{closed_by}
 use Rattle.machine_core.specs.Machine.{MachineState}
 use Rattle.machine_core.specs.Turn.{outcome_of, decided, recorded, turned, written, cost_row}
 use Rattle.machine_core.specs.Events.{IsOnward, is_enabled, stepped, event, after}
@@ -29,9 +30,9 @@ ticks_stepped input rank [] = tt
 ticks_stepped input zero (n ∷ rest) = ((IsLater-local_step input n).ticks, ticks_same rest)
 ticks_stepped input (suc rank) (n ∷ rest) = rw (stepped-suc input rank n rest) (omega arith, ticks_stepped input rank rest)
 
-ticks_exchanged : (all ns : List NodeState) → AllZip (λ o n. o.ticks ≤ n.ticks) ns (map (exchanged_node all) ns)
-ticks_exchanged all [] = tt
-ticks_exchanged all (n ∷ rest) = (omega arith, ticks_exchanged all rest)
+ticks_begun : (closed : Option ℕ) (all ns : List NodeState) → AllZip (λ o n. o.ticks ≤ n.ticks) ns (map (with_clock closed) (map (exchanged_node all) ns))
+ticks_begun closed all [] = tt
+ticks_begun closed all (n ∷ rest) = (omega arith, ticks_begun closed all rest)
 
 append_nil : {X : Type 0} (xs : List X) → xs ≡ xs ++ []
 append_nil [] = refl
@@ -58,7 +59,7 @@ unfolding turned
 onward_turned m = by (outcome_of m.nodes)
   where
     by : (o : Option Outcome) → IsOnward m (decided o (recorded m))
-    by None = record { settings = refl; input = refl; ticks = ticks_exchanged m.nodes m.nodes; output = (written m.nodes, refl); ledger = (cost_row m ∷ [], refl); exchanges = omega arith }
+    by None = record { settings = refl; input = refl; ticks = ticks_begun (closed_by m.settings.clock (recorded m).ledger) m.nodes m.nodes; output = (written m.nodes, refl); ledger = (cost_row m ∷ [], refl); exchanges = omega arith }
     by (Some o) = record { settings = refl; input = refl; ticks = ticks_same m.nodes; output = (written m.nodes, refl); ledger = (cost_row m ∷ [], refl); exchanges = omega arith }
 
 onward_event : (m : MachineState) (e : Event) → IsOnward m (event m e)

@@ -12,19 +12,23 @@ use Rattle.node_core.specs.declared.state.State.TheVariants.{Running, Synced, En
 use Rattle.node_core.specs.Node.{NodeState, IsNode, IsSoundNode, is_running, state_at, local_step}
 use Rattle.node_core.proofs.Steps.{local_step-stopped}
 use Rattle.node_core.proofs.Sound.{IsSoundNode-local_step, IsLater-local_step, local_step-ticks}
-use Rattle.bsp_exchange.specs.Exchange.{AreAtSync, exchanged_node}
+use Rattle.bsp_exchange.specs.Exchange.{AreAtSync, exchanged, exchanged_node}
 use Rattle.bsp_exchange.specs.Faults.{exchange_fault}
 use Rattle.bsp_exchange.specs.Landings.{landings_at}
 use Rattle.machine_core.specs.declared.event.Event.{Event}
 use Rattle.machine_core.specs.declared.event.Event.TheVariants.{Step, Turn}
 use Rattle.machine_core.specs.declared.outcome.Outcome.{Outcome}
 use Rattle.machine_core.specs.declared.outcome.Outcome.TheVariants.{Refused}
+use Rattle.machine_core.specs.declared.settings.Prices.{Prices}
 use Rattle.machine_core.specs.declared.settings.Settings.{Settings}
+use Rattle.cost_ledger.specs.declared.CostRow.{CostRow}
+use Rattle.machine_core.specs.Clock.{HasClock, closed_by, with_clocks}
 use Rattle.machine_core.specs.Machine.{MachineState}
 use Rattle.machine_core.specs.Turn.{was_stopped, has_ended, is_waiting, lowest, stopped_by, outcome_of, outcome_unstopped, cost_row, recorded, decided, turned, with_phases, superstep}
 use Rattle.machine_core.specs.Events.{some_runs, is_enabled, made, event, after}
 use Rattle.machine_core.specs.Sound.{IsNodeOf, IsUnderWay, IsSoundMachine}
-use Rattle.machine_core.proofs.Exchanged.{IsSoundNode-exchanged, areas-exchanged, length-memory_after, map-exchanged}
+use Rattle.machine_core.proofs.Clocks.{AllZip-clocks, All-clocks, IsNodeOf-clock, HasClock-local_step, map-begun}
+use Rattle.machine_core.proofs.Exchanged.{IsSoundNode-exchanged, areas-exchanged, length-memory_after}
 use Rattle.machine_core.proofs.Options.{cond_none, option_or_none, option_map_none}
 use Rattle.machine_core.proofs.Phases.{All-phases, AllZip-phases, map-phases, some_runs-phases, some_runs-at}
 use Rattle.machine_core.proofs.Rows.{map-stepped, All-stepped, AllZip-stepped}
@@ -104,12 +108,13 @@ in_effect-local_step input count n long = ap length (IsLater-local_step input n)
 
 -- a machine without an outcome whose nodes make steps
 module _ (m : MachineState) where
-  IsSoundMachine-nodes : (nodes : List NodeState) → IsSoundMachine m → is_some m.outcome ≡ false → map (λ n. n.hart.rank) nodes ≡ map (λ n. n.hart.rank) m.nodes → All (IsNodeOf m.settings) nodes → AllZip (IsUnderWay m.exchanges) nodes m.started → HaveAreas nodes → IsSoundMachine (record m { nodes = nodes })
-  IsSoundMachine-nodes nodes sound open_yet ranks of ticks areas = record {
+  IsSoundMachine-nodes : (nodes : List NodeState) → IsSoundMachine m → is_some m.outcome ≡ false → map (λ n. n.hart.rank) nodes ≡ map (λ n. n.hart.rank) m.nodes → All (IsNodeOf m.settings) nodes → AllZip (IsUnderWay m.exchanges) nodes m.started → (m.outcome ≡ None → AllZip (HasClock m.settings.clock m.ledger) nodes m.started) → HaveAreas nodes → IsSoundMachine (record m { nodes = nodes })
+  IsSoundMachine-nodes nodes sound open_yet ranks of ticks clocks areas = record {
     settings = sound.settings;
     ranks = ranks ∙ sound.ranks;
     nodes = of;
     ticks = ticks;
+    clocks = clocks;
     areas = areas;
     outcome = λ over. absurd (false≢true (sym open_yet ∙ over));
     ledger = sound.ledger;
@@ -121,6 +126,7 @@ module _ (m : MachineState) where
       (map-stepped m.input (λ n. n.hart.rank) (IsNodeOf m.settings) (λ n _. (IsLater-local_step m.input n).rank) rank m.nodes sound.nodes)
       (All-stepped m.input (IsNodeOf m.settings) (IsNodeOf-local_step m.settings m.input) rank m.nodes sound.nodes)
       (AllZip-stepped m.input (IsUnderWay m.exchanges) (IsUnderWay-local_step m.input m.exchanges) rank m.nodes m.started sound.ticks)
+      (λ none. AllZip-stepped m.input (HasClock m.settings.clock m.ledger) (HasClock-local_step m.settings.clock m.ledger m.input) rank m.nodes m.started (sound.clocks none))
       (sound.areas.0, All-stepped m.input _ (in_effect-local_step m.input sound.areas.0) rank m.nodes sound.areas.1)
 
   pub IsSoundMachine-phases : IsSoundMachine m → is_some m.outcome ≡ false → IsSoundMachine (with_phases m)
@@ -129,6 +135,7 @@ module _ (m : MachineState) where
       (map-phases m.input (λ n. n.hart.rank) (λ n. (IsLater-local_step m.input n).rank) m.nodes)
       (All-phases m.input (IsNodeOf m.settings) (IsNodeOf-local_step m.settings m.input) m.nodes sound.nodes)
       (AllZip-phases m.input (IsUnderWay m.exchanges) (IsUnderWay-local_step m.input m.exchanges) m.nodes m.started sound.ticks)
+      (λ none. AllZip-phases m.input (HasClock m.settings.clock m.ledger) (HasClock-local_step m.settings.clock m.ledger m.input) m.nodes m.started (sound.clocks none))
       (sound.areas.0, All-phases m.input _ (in_effect-local_step m.input sound.areas.0) m.nodes sound.areas.1)
 
 IsUnderWay-exchanged : (all : List NodeState) (exchanges : ℕ) (nodes : List NodeState) (started : List ℕ) → AllZip (IsUnderWay exchanges) nodes started → All (λ n. n.state ≡ Synced) nodes → AllZip (IsUnderWay (exchanges + 1)) (map (exchanged_node all) nodes) (map (λ (n : NodeState). n.ticks) nodes)
@@ -142,6 +149,10 @@ IsUnderWay-exchanged all exchanges (n ∷ rest) (t ∷ started) under waiting =
       waited = λ waits. absurd (not_synced n.ticks n.limit waits);
     } in
     (first, IsUnderWay-exchanged all exchanges rest started under.1 (λ k d within. waiting (suc k) d (omega arith)))
+
+HasClock-begun : (prices : Option Prices) (rows : List CostRow) (all nodes : List NodeState) → AllZip (HasClock prices rows) (with_clocks prices rows (map (exchanged_node all) nodes)) (map (λ (n : NodeState). n.ticks) nodes)
+HasClock-begun prices rows all [] = tt
+HasClock-begun prices rows all (n ∷ rest) = (refl, HasClock-begun prices rows all rest)
 
 -- a machine without an outcome none of whose nodes runs
 module _ (m : MachineState) where
@@ -157,6 +168,7 @@ module _ (m : MachineState) where
     ranks = sound.ranks;
     nodes = sound.nodes;
     ticks = sound.ticks;
+    clocks = λ none. absurd cc;
     areas = sound.areas;
     outcome = λ _. stopped;
     ledger = length_push m.ledger (cost_row m) ∙ ap (λ k. k + 1) (ledger_open sound open_yet ∙ add-zero m.exchanges);
@@ -167,17 +179,21 @@ module _ (m : MachineState) where
       let few = sound.settings.few in
       let long = length-nodes sound in
       let each : All IsSoundNode m.nodes = All-weaker (IsNodeOf m.settings) IsSoundNode (λ n of. of.sound) m.nodes sound.nodes in
+      let closed = closed_by m.settings.clock (recorded m).ledger in
+      let begun = All-map (IsNodeOf m.settings) (exchanged_node m.nodes) m.nodes (λ k d within. let of = sound.nodes k d within in record {
+        nodes = of.nodes;
+        memory = length-memory_after (landings_at m.nodes (get_or m.nodes k d).hart.rank) (get_or m.nodes k d).hart.memory ∙ of.memory;
+        limit = of.limit;
+        sound = IsSoundNode-exchanged m.nodes (omega arith) each (get_or m.nodes k d) of.sound (can.waiting k d within);
+      }) in
+      let areas = areas-exchanged m.nodes can.fault each sound.areas in
       record {
         settings = sound.settings;
-        ranks = map-exchanged m.nodes (λ n. n.hart.rank) (λ n. refl) m.nodes ∙ sound.ranks;
-        nodes = All-map (IsNodeOf m.settings) (exchanged_node m.nodes) m.nodes (λ k d within. let of = sound.nodes k d within in record {
-          nodes = of.nodes;
-          memory = length-memory_after (landings_at m.nodes (get_or m.nodes k d).hart.rank) (get_or m.nodes k d).hart.memory ∙ of.memory;
-          limit = of.limit;
-          sound = IsSoundNode-exchanged m.nodes (omega arith) each (get_or m.nodes k d) of.sound (can.waiting k d within);
-        });
-        ticks = IsUnderWay-exchanged m.nodes m.exchanges m.nodes m.started sound.ticks can.waiting;
-        areas = areas-exchanged m.nodes can.fault each sound.areas;
+        ranks = map-begun closed m.nodes (λ n. n.hart.rank) (λ n. refl) (λ n. refl) m.nodes ∙ sound.ranks;
+        nodes = All-clocks closed (IsNodeOf m.settings) (IsNodeOf-clock m.settings closed) (exchanged m.nodes) begun;
+        ticks = AllZip-clocks closed (IsUnderWay (m.exchanges + 1)) (λ n t under. record { exchanged = under.exchanged; kept = under.kept; waited = under.waited }) (exchanged m.nodes) _ (IsUnderWay-exchanged m.nodes m.exchanges m.nodes m.started sound.ticks can.waiting);
+        clocks = λ _. HasClock-begun m.settings.clock (recorded m).ledger m.nodes m.nodes;
+        areas = (areas.0, All-clocks closed (λ n. length n.hart.communication.registrations.in_effect ≡ areas.0) (λ n long. long) (exchanged m.nodes) areas.1);
         outcome = λ over. absurd (false≢true (sym open_yet ∙ over));
         ledger = rw open_yet (length_push m.ledger (cost_row m) ∙ ap (λ k. k + 1) (ledger_open sound open_yet ∙ add-zero m.exchanges) ∙ sym (add-zero (m.exchanges + 1)));
       }

@@ -6,10 +6,11 @@ use Rattle.std.proofs.lemmas.List.FromFn.{length-map-range_with_len, get_or-map-
 use Rattle.std.proofs.lemmas.Option.{get_or_from_slice_get}
 use Rattle.node_memory.specs.Image.{Image, is_segment_outside}
 use Rattle.node_core.specs.Hart.{max_nodes}
-use Rattle.node_core.specs.Node.{NodeState, PreparedNode, start_node}
+use Rattle.node_core.specs.Node.{NodeState, PreparedNode, start_node, with_clock}
 use Rattle.bsp_exchange.specs.Exchange.{states}
 use Rattle.cost_ledger.specs.declared.CostRow.{CostRow}
 use Rattle.machine_core.specs.declared.settings.Settings.{Settings}
+use Rattle.machine_core.specs.Clock.{closed_by}
 use Rattle.machine_core.specs.Machine.{MachineState, fresh, settings_fault, machine_fault, start_nodes}
 use Rattle.machine_core.specs.Sound.{AreInRange}
 use Rattle.machine_core.proofs.States.{state_at_place}
@@ -31,7 +32,7 @@ AreInRange-from s good = record {
 
 -- the node of a rank
 abbrev pub new_node : Image → Settings → ℕ → NodeState
-new_node image s rank = start_node image rank s.nodes s.memory s.limit
+new_node image s rank = with_clock (closed_by s.clock []) (start_node image rank s.nodes s.memory s.limit)
 
 -- the nodes of the first ranks
 abbrev pub AreFirst : Image → Settings → List PreparedNode → ℕ → Type 0

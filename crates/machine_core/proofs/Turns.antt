@@ -2,7 +2,7 @@
 use Rattle.std.proofs.Common.{◌≡◌, ℕ, ◌+◌, ◌^◌, ◌<◌, Bool, true, false, List, [], ◌∷◌, ◌++◌, length, map, take, Option, Some, None, refl, sym, ap, ap₂, subst, ◌∙◌, arith}
 use mir.Syntax.{w64}
 use mir.Val.{Fits}
-use Rattle.std.specs.Prelude.{is_some, is_none, if◌then◌else◌}
+use Rattle.std.specs.Prelude.{is_some, is_none, if◌then◌else◌, IfSome}
 use Rattle.std.proofs.Math.Seq.{take-append_seam}
 use Rattle.std.proofs.lemmas.Bool.{false≢true}
 use Rattle.std.proofs.lemmas.Slice.Zip.{AllZip-long}
@@ -11,20 +11,22 @@ use Rattle.bsp_exchange.specs.Exchange.{exchanged}
 use Rattle.bsp_exchange.specs.Parts.{CanExchange}
 use Rattle.bsp_exchange.specs.Traffic.{traffic_of}
 use Rattle.bsp_exchange.specs.declared.traffic.Traffic.{Traffic}
-use Rattle.cost_ledger.specs.CostRow.{IsBounded}
+use Rattle.cost_ledger.specs.CostRow.{IsBounded, total_in}
 use Rattle.cost_ledger.specs.declared.CostRow.{CostRow}
 use Rattle.machine_core.specs.declared.outcome.Outcome.{Outcome}
 use Rattle.machine_core.specs.declared.event.Event.TheVariants.{Turn}
+use Rattle.machine_core.specs.Clock.{first_closed, with_clocks}
 use Rattle.machine_core.specs.Lander.{AwaitsRow}
 use Rattle.machine_core.specs.Machine.{MachineState}
 use Rattle.machine_core.specs.Turn.{outcome_of, written, work, no_traffic, cost_row, recorded, decided, turned}
 use Rattle.machine_core.specs.Events.{is_enabled}
 use Rattle.machine_core.specs.Sound.{IsUnderWay, IsSoundMachine}
+use Rattle.machine_core.proofs.Clocks.{first_closed-is}
 use Rattle.machine_core.proofs.Costs.{IsBounded-cost_row}
 use Rattle.machine_core.proofs.Ends.{exchanges-le-limit, length-ledger}
 use Rattle.machine_core.proofs.Exchanged.{map-exchanged}
 use Rattle.machine_core.proofs.Options.{none_from}
-use Rattle.machine_core.proofs.Sound.{IsSoundMachine-turned, enabled_open, turn_stopped}
+use Rattle.machine_core.proofs.Sound.{IsSoundMachine-turned, enabled_open, length-nodes, turn_stopped}
 
 abbrev pub row_of : ℕ → Traffic → Bool → CostRow
 row_of w moved exchanged = record { w = w; h = moved.h; h_all = moved.h_all; messages = moved.messages; turned = exchanged }
@@ -52,14 +54,22 @@ module _ (m : MachineState) where
       ∙ turned-by m
 
   -- what a lander keeps, with the row that came back
-  pub turned-exchanged : (rest : MachineState) (nodes : List NodeState) (started : List ℕ) (ledger : List CostRow) → outcome_of m.nodes ≡ None → rest ≡ record m { output = m.output ++ written m.nodes } → nodes ≡ exchanged m.nodes → started ≡ map (λ (n : NodeState). n.ticks) nodes → ledger ≡ rest.ledger ++ cost_row m ∷ [] → record rest { nodes = nodes; started = started; ledger = ledger; exchanges = rest.exchanges + 1 } ≡ turned m
+  pub turned-exchanged : (rest : MachineState) (nodes : List NodeState) (started : List ℕ) (ledger : List CostRow) → outcome_of m.nodes ≡ None → rest ≡ record m { output = m.output ++ written m.nodes } → nodes ≡ with_clocks m.settings.clock (m.ledger ++ cost_row m ∷ []) (exchanged m.nodes) → started ≡ map (λ (n : NodeState). n.ticks) (exchanged m.nodes) → ledger ≡ rest.ledger ++ cost_row m ∷ [] → record rest { nodes = nodes; started = started; ledger = ledger; exchanges = rest.exchanges + 1 } ≡ turned m
   turned-exchanged rest nodes started ledger is rest_is nodes_are started_is ledger_is =
-      let ticks : started ≡ map (λ (n : NodeState). n.ticks) m.nodes = started_is ∙ ap (λ (xs : List NodeState). map (λ (n : NodeState). n.ticks) xs) nodes_are ∙ map-exchanged m.nodes (λ (n : NodeState). n.ticks) (λ n. refl) m.nodes in
+      let ticks : started ≡ map (λ (n : NodeState). n.ticks) m.nodes = started_is ∙ map-exchanged m.nodes (λ (n : NodeState). n.ticks) (λ n. refl) m.nodes in
       ap (λ (rs : List CostRow). record rest { nodes = nodes; started = started; ledger = rs; exchanges = rest.exchanges + 1 }) ledger_is
       ∙ ap₂ (λ (xs : List NodeState) (ts : List ℕ). record rest { nodes = xs; started = ts; ledger = rest.ledger ++ cost_row m ∷ []; exchanges = rest.exchanges + 1 }) nodes_are ticks
-      ∙ ap (λ (x : MachineState). record x { nodes = exchanged m.nodes; started = map (λ (n : NodeState). n.ticks) m.nodes; ledger = x.ledger ++ cost_row m ∷ []; exchanges = x.exchanges + 1 }) rest_is
+      ∙ ap (λ (x : MachineState). record x { nodes = with_clocks m.settings.clock (m.ledger ++ cost_row m ∷ []) (exchanged m.nodes); started = map (λ (n : NodeState). n.ticks) m.nodes; ledger = x.ledger ++ cost_row m ∷ []; exchanges = x.exchanges + 1 }) rest_is
       ∙ ap (λ (x : Option Outcome). decided x (recorded m)) (sym is)
       ∙ turned-by m
+
+  -- the first clock of the row that came back counts on from what is kept of the ledger
+  pub closed-known : (rest : MachineState) (nodes : List NodeState) → IsSoundMachine m → m.outcome ≡ None → rest ≡ record m { output = m.output ++ written m.nodes } → nodes ≡ exchanged m.nodes → IfSome rest.settings.clock (λ p. first_closed nodes ≡ total_in p.ledger p.g p.l rest.ledger)
+  closed-known rest nodes sound none rest_is nodes_are =
+      let some : 0 < length m.nodes = omega (arith, length-nodes m sound, sound.settings.some) in
+      let known = first_closed-is m.settings.clock m.ledger m.nodes m.nodes m.started some (sound.clocks none) in
+      let read = subst (λ (ns : List NodeState). IfSome m.settings.clock (λ p. first_closed ns ≡ total_in p.ledger p.g p.l m.ledger)) (sym nodes_are) known in
+      subst (λ (r : MachineState). IfSome r.settings.clock (λ p. first_closed nodes ≡ total_in p.ledger p.g p.l r.ledger)) (sym rest_is) read
 
   -- a machine whose turn is enabled has no outcome
   pub no_outcome : IsSoundMachine m → is_enabled m Turn ≡ true → m.outcome ≡ None

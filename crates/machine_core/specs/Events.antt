@@ -4,6 +4,7 @@ use Rattle.std.specs.Prelude.{◌≡◌, ℕ, ◌≤◌, ◌==◌, Bool, true, f
 use Rattle.std.specs.Fn.{iterate}
 use Rattle.std.specs.List.{AllZip, list_any}
 use Rattle.std.specs.Option.{option_map_or}
+use Rattle.node_core.specs.Addresses.{next_addresses}
 use Rattle.node_core.specs.Node.{NodeState, Extends, MayRefuseStep, is_running, local_step, local_steps}
 use Rattle.machine_core.specs.declared.event.Event.{Event}
 use Rattle.machine_core.specs.declared.event.Event.TheVariants.{Step, Turn}
@@ -32,6 +33,10 @@ stepped input rank nodes = option_map_or (λ n. slice_set nodes rank (local_step
 -- nodes after so many steps of the one of a rank
 abbrev pub stepped_often : List ℕ → ℕ → ℕ → List NodeState → List NodeState
 stepped_often input rank k nodes = iterate (stepped input rank) k nodes
+
+-- the addresses of the next steps of the node of a rank, k of them at most
+abbrev pub next_addresses_at : List ℕ → ℕ → ℕ → List NodeState → List ℕ
+next_addresses_at input rank k nodes = option_map_or (next_addresses input k) (slice_get nodes rank) []
 
 -- a machine after an event that is enabled
 abbrev pub made : MachineState → Event → MachineState

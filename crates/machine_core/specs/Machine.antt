@@ -6,12 +6,13 @@ use Rattle.std.specs.Option.{option_or}
 use Rattle.node_memory.specs.Bytes.{is_memory_size}
 use Rattle.node_memory.specs.Image.{Image, is_segment_outside}
 use Rattle.node_core.specs.Hart.{max_nodes}
-use Rattle.node_core.specs.Node.{NodeState, start_node}
+use Rattle.node_core.specs.Node.{NodeState, start_node, with_clock}
 use Rattle.cost_ledger.specs.declared.CostRow.{CostRow}
 use Rattle.machine_core.specs.declared.error.MachineError.{MachineError}
 use Rattle.machine_core.specs.declared.error.MachineError.TheVariants.{BadNodes, BadMemory, BadLimit, SegmentOutside}
 use Rattle.machine_core.specs.declared.outcome.Outcome.{Outcome}
 use Rattle.machine_core.specs.declared.settings.Settings.{Settings}
+use Rattle.machine_core.specs.Clock.{closed_by}
 
 pub record MachineState : Type 0 where
   pub settings : Settings
@@ -30,9 +31,9 @@ pub record MachineState : Type 0 where
   -- how it ended, if it has
   pub outcome : Option Outcome
 
--- nodes at their start, with the image in each memory
+-- nodes at their start, with the image in each memory, and with clocks where there are prices for them
 abbrev pub start_nodes : Image → Settings → List NodeState
-start_nodes image s = map (λ rank. start_node image rank s.nodes s.memory s.limit) (range_with_len 0 s.nodes)
+start_nodes image s = map (λ rank. with_clock (closed_by s.clock []) (start_node image rank s.nodes s.memory s.limit)) (range_with_len 0 s.nodes)
 
 -- a machine at the start of its first superstep
 abbrev pub fresh : Image → List ℕ → Settings → MachineState

@@ -1,11 +1,12 @@
 -- What always holds of a machine.
-use Rattle.std.specs.Prelude.{◌≡◌, ℕ, ◌+◌, ◌^◌, ◌<◌, ◌≤◌, false, length, map, All, IsTrue, IsSome, is_some, if◌then◌else◌}
+use Rattle.std.specs.Prelude.{◌≡◌, ℕ, ◌+◌, ◌^◌, ◌<◌, ◌≤◌, false, length, map, All, IsTrue, IsSome, is_some, None, if◌then◌else◌}
 use Rattle.std.specs.List.{range_with_len, AllZip}
 use Rattle.node_memory.specs.Bytes.{is_memory_size}
 use Rattle.node_core.specs.declared.state.State.TheVariants.{Synced}
 use Rattle.node_core.specs.Hart.{max_nodes}
 use Rattle.node_core.specs.Node.{NodeState, IsSoundNode}
 use Rattle.machine_core.specs.declared.settings.Settings.{Settings}
+use Rattle.machine_core.specs.Clock.{HasClock}
 use Rattle.machine_core.specs.Machine.{MachineState}
 use Rattle.machine_core.specs.Events.{some_runs}
 
@@ -31,13 +32,15 @@ pub record IsUnderWay (exchanges : ℕ) (n : NodeState) (started : ℕ) : Type 0
   pub kept : started ≤ n.ticks
   pub waited : n.state ≡ Synced → started < n.ticks
 
--- the nodes have their ranks and equally many areas in effect, and their ticks fit the exchanges; a machine with an outcome has no
+-- the nodes have their ranks and equally many areas in effect, and their ticks fit the exchanges; before the outcome each
+-- clock counts on from what the ledger's rows cost, and from its node's ticks when the superstep began; a machine with an outcome has no
 -- node that runs; the ledger has a row for each exchange, and one for the outcome
 pub record IsSoundMachine (m : MachineState) : Type 0 where
   pub settings : AreInRange m.settings
   pub ranks : map (λ n. n.hart.rank) m.nodes ≡ range_with_len 0 m.settings.nodes
   pub nodes : All (IsNodeOf m.settings) m.nodes
   pub ticks : AllZip (IsUnderWay m.exchanges) m.nodes m.started
+  pub clocks : m.outcome ≡ None → AllZip (HasClock m.settings.clock m.ledger) m.nodes m.started
   pub areas : (count : ℕ) × All (λ n. length n.hart.communication.registrations.in_effect ≡ count) m.nodes
   pub outcome : IsSome m.outcome → some_runs m.nodes ≡ false
   pub ledger : length m.ledger ≡ m.exchanges + (if is_some m.outcome then 1 else 0)

@@ -15,6 +15,7 @@ use Rattle.bsp_exchange.specs.declared.traffic.Traffic.{Traffic}
 use Rattle.cost_ledger.specs.declared.CostRow.{CostRow}
 use Rattle.machine_core.specs.declared.outcome.Outcome.{Outcome}
 use Rattle.machine_core.specs.declared.outcome.Outcome.TheVariants as outcome
+use Rattle.machine_core.specs.Clock.{with_clocks}
 use Rattle.machine_core.specs.Machine.{MachineState}
 
 -- stopped by a fault, by its own abort, or by the limit of ticks
@@ -103,10 +104,10 @@ cost_row m = record {
 abbrev pub recorded : MachineState → MachineState
 recorded m = record m { output = m.output ++ written m.nodes; ledger = m.ledger ++ cost_row m ∷ [] }
 
--- a machine after the exchange, in its next superstep
+-- a machine after the exchange, in its next superstep. It has the cost of this one in its ledger, and clocks count on from there
 abbrev pub with_exchange : MachineState → MachineState
 with_exchange m = record m {
-  nodes = exchanged m.nodes;
+  nodes = with_clocks m.settings.clock m.ledger (exchanged m.nodes);
   started = map (λ (n : NodeState). n.ticks) m.nodes;
   exchanges = m.exchanges + 1;
 }

@@ -1,6 +1,7 @@
 //! Laws of the definitions, each the contract of a function that does nothing.
 
 ghost use Rattle.std.specs.Prelude.{◌≡◌, ◌≢◌, ℕ, ◌+◌, ◌*◌, ◌≤◌, false, List, length, slice_get, count_by, option_map, Option, None, IsSome};
+ghost use Rattle.std.specs.List.{AllZip};
 ghost use Rattle.node_memory.specs.Image.{Image};
 ghost use Rattle.node_core.specs.Node.{NodeState, local_steps};
 ghost use Rattle.bsp_exchange.specs.Exchange.{AreAtSync};
@@ -8,6 +9,7 @@ ghost use Rattle.cost_ledger.specs.declared.LedgerText.TheVariants.{V1, V2};
 ghost use Rattle.cost_ledger.specs.CostRow.{AreAtMostV1, IsBounded, total_in};
 ghost use Rattle.machine_core.specs.declared.event.Event.{Event};
 ghost use Rattle.machine_core.specs.declared.settings.Settings.{Settings};
+ghost use Rattle.machine_core.specs.Clock.{HasClock};
 ghost use Rattle.machine_core.specs.Machine.{MachineState, fresh};
 ghost use Rattle.machine_core.specs.Turn.{was_stopped, has_ended, lowest, cost_row, turned, with_phases, superstep, end_of};
 ghost use Rattle.machine_core.specs.Events.{event, after, some_runs, is_step_of, HaveStepped, MakeNoTurn, IsOnward};
@@ -95,6 +97,14 @@ pub fn every_machine_ends()
         → (events : List Event)
         × (length events ≤ m.settings.nodes * m.settings.limit + m.settings.limit + 1)
         × IsSome (after m events).outcome }
+{}
+
+/// Whatever events were made, before the outcome each clock counts on from what the ledger's rows cost at the prices of the settings, and from
+/// the ticks that its own node had made when the superstep began. Without prices there are no clocks.
+pub fn clocks_count_on_from_what_is_over()
+    ensures { (image : Image) (input : List ℕ) (settings : Settings) (events : List Event) → AreInRange settings
+        → let m = after (fresh image input settings) events in
+        m.outcome ≡ None → AllZip (HasClock settings.clock m.ledger) m.nodes m.started }
 {}
 
 /// Supersteps are few and their costs small: a sound machine has made at most `limit` exchanges, has a row of costs for at most

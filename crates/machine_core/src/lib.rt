@@ -11,8 +11,8 @@
 //! - A machine is always sound, as `IsSoundMachine` says.
 //! - [`Machine::apply`] makes an event, or changes nothing where it is not enabled. [`Machine::run_plain`] leaves the machine at its
 //!   end, and [`Machine::run_phase_plain`] at the end of its nodes' local parts.
-//! - Only these three, [`Machine::run_node`], [`Machine::turn`], [`Machine::begin_turn`] and [`Machine::new`] take memory, and after the
-//!   outcome none of them but `new` does. An event that is refused memory has changed nothing of the record. A run that is refused keeps
+//! - Only these three, [`Machine::run_node`], [`Machine::run_node_traced`], [`Machine::turn`], [`Machine::begin_turn`] and
+//!   [`Machine::new`] take memory, and after the outcome none of them but `new` does. An event that is refused memory has changed nothing of the record. A run that is refused keeps
 //!   the events that it made, and the call made again leaves what it would have left.
 //! - [`Machine::new`] lays the image once: the memory of rank 0 has it, and those of the others begin as shares of that one. A node gets
 //!   a copy of a page when it first writes there. No clause says that pages are shared; the record has bytes alone.
@@ -23,12 +23,15 @@
 //!   receives, for threads to prepare the nodes and then to land the parts. The [`Lander`] that stays takes the row back once each part
 //!   has landed, and the machine is as [`Machine::turn`] leaves it. Where a node was refused memory for which it was prepared, the
 //!   `Lander` calls the turn off, and the machine is as it was. It has no other end.
+//! - Where its settings have prices for clocks, each node has a clock, which counts on from what the ledger's rows cost at these prices
+//!   and from its ticks when the superstep began. They are set as a superstep begins, so they are no meeting of nodes between turns.
 //! - Whether memory was refused is all that no clause says: the tests refuse each request in turn.
 //!
 //! [`laws`] has what holds of every machine, and first that order does not matter: whatever events are made, a machine has the
 //! same end, which is that of the run superstep by superstep.
 #![tactic(auto)]
 
+mod clock;
 mod closing;
 mod error;
 mod event;
@@ -43,4 +46,4 @@ pub use error::MachineError;
 pub use event::Event;
 pub use machine::{Begun, Lander, Landing, Lender, Machine};
 pub use outcome::Outcome;
-pub use settings::Settings;
+pub use settings::{Prices, Settings};

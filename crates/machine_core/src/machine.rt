@@ -25,6 +25,7 @@ use std::marker::Model;
 
 mod lander;
 mod lender;
+mod traced;
 mod turn;
 
 pub use lander::Lander;

@@ -1,11 +1,11 @@
 //! The row of nodes, each at the place of its rank.
 
-ghost use Rattle.std.specs.Prelude.{◌≡◌, ℕ, ◌<◌, ◌++◌, length, map, false, slice_get, IfOk, OnOk, OnErr, IsSomeAnd};
+ghost use Rattle.std.specs.Prelude.{◌≡◌, ℕ, ◌<◌, ◌≤◌, ◌++◌, length, map, take, false, slice_get, IfOk, OnOk, OnErr, IsSomeAnd};
 ghost use Rattle.std.specs.Option.{option_map_or};
 ghost use Rattle.node_core.specs.Node.{NodeState, MayRefuseStep};
 ghost use Rattle.bsp_exchange.specs.Exchange.{states};
 ghost use Rattle.bsp_exchange.specs.Parts.{EachKeepsOwn};
-ghost use Rattle.machine_core.specs.Events.{runs, some_runs as some_runs_of, stepped, stepped_often};
+ghost use Rattle.machine_core.specs.Events.{next_addresses_at, runs, some_runs as some_runs_of, stepped, stepped_often};
 ghost use Rattle.machine_core.specs.Turn.{written, most_ticks};
 
 use node_core::Node;
@@ -65,6 +65,30 @@ pub(crate) fn run_at<A: Allocator + Copy>(
         (IsSomeAnd (slice_get (states nodes.new) rank) (λ n. MayRefuseStep input.now n)) }
 {
     nodes[rank].run(input, most)
+}
+
+/// Makes at most as many steps of the node of a rank as `pcs` has places, as long as it runs, with their addresses. How many.
+///
+/// # Errors
+/// Where memory is refused in a step. The steps before it are made.
+pub(crate) fn run_traced_at<A: Allocator + Copy>(
+    nodes: &mut [Node<A>],
+    rank: usize,
+    pcs: &mut [u32],
+    input: &[u8],
+) -> Result<usize, AllocError>
+    requires { rank < length nodes.old }
+    ensures ok { OnOk result
+        (states nodes.new ≡ stepped_often input.now rank (length pcs.old) (states nodes.old)) }
+    ensures few { IfOk result (λ made. made ≤ length pcs.old) }
+    ensures addresses { IfOk result (λ made.
+        take made pcs.new ≡ next_addresses_at input.now rank (length pcs.old) (states nodes.old)) }
+    ensures err { OnErr result
+        ((k : ℕ) × (k < length pcs.old) × (states nodes.new ≡ stepped_often input.now rank k (states nodes.old))) }
+    ensures refuses { OnErr result
+        (IsSomeAnd (slice_get (states nodes.new) rank) (λ n. MayRefuseStep input.now n)) }
+{
+    nodes[rank].run_traced(input, pcs)
 }
 
 /// The most ticks that a node has made beyond those in `started`.

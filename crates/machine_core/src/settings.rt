@@ -1,10 +1,22 @@
 //! What a machine is made of.
 
 use crate::error::MachineError;
+use cost_ledger::LedgerText;
 use node_memory::is_memory_size;
 
 /// The most nodes of a machine (own limit).
 const MAX_NODES: u32 = 1_024;
+
+/// The prices at which clocks count what supersteps cost.
+#[derive(Clone, Copy, Debug, PartialEq, Eq)]
+pub struct Prices {
+    /// The version of the ledger, which says what h counts.
+    pub ledger: LedgerText,
+    /// The price of a byte of the h-relation, in ticks.
+    pub g: u32,
+    /// The price of a superstep's end, in ticks.
+    pub l: u32,
+}
 
 /// How many nodes there are, and what each of them has. The ranges are own rules.
 #[derive(Clone, Copy, Debug, PartialEq, Eq)]
@@ -15,6 +27,8 @@ pub struct Settings {
     pub memory: u32,
     /// How many ticks, each of one step, a node may make: 1 to 2^40.
     pub limit: u64,
+    /// At which prices the nodes' clocks count. With none the nodes have no clocks, and the call that reads one is unknown.
+    pub clock: Option<Prices>,
 }
 
 impl Settings {

@@ -1,10 +1,11 @@
 //! The start of a machine.
 
-ghost use Rattle.std.specs.Prelude.{◌≡◌, ◌≢◌, ◌↔◌, ◌<◌, ◌⊎◌, map, false, true, Some, None, IfOk, IfErr, OnOk, IsErrOf};
+ghost use Rattle.std.specs.Prelude.{◌≡◌, ◌≢◌, ◌↔◌, ◌<◌, ◌⊎◌, [], map, false, true, Some, None, IfOk, IfErr, OnOk, IsErrOf};
 ghost use Rattle.std.specs.List.{range_with_len};
 ghost use Rattle.node_memory.specs.Image.{is_segment_outside};
-ghost use Rattle.node_core.specs.Node.{start_node};
+ghost use Rattle.node_core.specs.Node.{start_node, with_clock};
 ghost use Rattle.bsp_exchange.specs.Exchange.{states};
+ghost use Rattle.machine_core.specs.Clock.{closed_by};
 ghost use Rattle.machine_core.specs.Machine.{settings_fault, start_nodes as start_nodes_of};
 
 use crate::error::MachineError;
@@ -45,7 +46,7 @@ fn first_node<A: Allocator + Copy>(
 ) -> Result<Node<A>, MachineError>
     requires { settings_fault settings.now ≡ None }
     ensures ok { let s = settings.now in
-        IfOk result (λ node. node.node ≡ start_node image.now 0 s.nodes s.memory s.limit) }
+        IfOk result (λ node. node.node ≡ with_clock (closed_by s.clock []) (start_node image.now 0 s.nodes s.memory s.limit)) }
     ensures fits { OnOk result (is_segment_outside image.now settings.now.memory ≡ false) }
     ensures outside { IsErrOf result MachineError.SegmentOutside
         ↔ (is_segment_outside image.now settings.now.memory ≡ true) }
@@ -61,9 +62,22 @@ fn first_node<A: Allocator + Copy>(
         settings.limit,
     );
     match made {
-        Ok(node) => Ok(node),
+        Ok(mut node) => {
+            node.set_clock(closed_at_start(settings));
+            Ok(node)
+        }
         Err(MemoryError::BadSize) => unreachable!(),
         Err(MemoryError::SegmentOutside) => Err(MachineError::SegmentOutside),
         Err(MemoryError::NoMemory) => Err(MachineError::NoMemory),
+    }
+}
+
+/// What the supersteps cost that are over before the first, if there are prices for clocks: nothing.
+fn closed_at_start(settings: &Settings) -> Option<u128>
+    ensures { result ≡ closed_by settings.now.clock [] }
+{
+    match settings.clock {
+        Some(_) => Some(0),
+        None => None,
     }
 }

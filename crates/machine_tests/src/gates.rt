@@ -88,6 +88,7 @@ fn come_to_their_end(
         nodes: row.nodes,
         memory: 0x1000,
         limit: 10,
+        clock: None,
     };
     let mut machine = Machine::new(alloc, &image(alloc, ENDS)?, b"", settings)?;
     let gate = OrderGate {

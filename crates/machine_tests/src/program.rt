@@ -64,6 +64,7 @@ pub const SETTINGS: Settings = Settings {
     nodes: NODES,
     memory: MEMORY,
     limit: LIMIT,
+    clock: None,
 };
 
 /// The input of each node.

@@ -3,8 +3,8 @@
 use crate::program::{Heap, INPUT, SETTINGS, TEXT};
 use bsp_console::{debug_dialogue, debug_framed, debug_session};
 use bsp_session::{
-    Format, Job, LedgerText, SessionError, asm_session, counts_session, list_session, live_session,
-    profile_session, session,
+    Format, Job, LedgerText, SessionError, asm_session, contested_session, counts_session,
+    list_session, live_session, profile_session, session,
 };
 use counted_io::Counted;
 use std::alloc::{Allocator, Global};
@@ -21,6 +21,7 @@ pub enum Kind {
     Tells,
     Profiles,
     Counts,
+    Contests,
     Lists,
     Saves,
     /// The debugger, over a script.
@@ -31,7 +32,7 @@ pub enum Kind {
     Frames,
 }
 
-use Kind::{Counts, Debugs, Frames, Lists, Profiles, Runs, Saves, Talks, Tells};
+use Kind::{Contests, Counts, Debugs, Frames, Lists, Profiles, Runs, Saves, Talks, Tells};
 
 /// What a session reads.
 #[derive(Drop)]
@@ -41,7 +42,7 @@ pub struct Readers<I, J, L> {
     pub lines: L,
 }
 
-/// What a session answered and wrote. Its profile or its counts stand by themselves.
+/// What a session answered and wrote. Its profile, its counts or what it tells of contested bytes stand by themselves.
 #[derive(Drop)]
 pub struct Done {
     pub answer: Result<(), SessionError>,
@@ -93,7 +94,7 @@ where
         beside: Counted::new(Vec::new(holder)),
     };
     let answer = match kind {
-        Runs | Tells | Profiles | Counts => run(rt, alloc, kind, &job, &mut streams),
+        Runs | Tells | Profiles | Counts | Contests => run(rt, alloc, kind, &job, &mut streams),
         Lists | Saves => convert(alloc, kind, format, &mut streams),
         Debugs | Talks | Frames => debug(alloc, kind, &job, &mut streams),
     };
@@ -128,6 +129,7 @@ where
         Tells => live_session(rt, alloc, image, input, job, out).map(|_| ()),
         Profiles => profile_session(rt, alloc, image, input, job, out, beside).map(|_| ()),
         Counts => counts_session(alloc, image, input, job, out, beside).map(|_| ()),
+        Contests => contested_session(rt, alloc, image, input, job, out, beside).map(|_| ()),
         _ => session(rt, alloc, image, input, job, out).map(|_| ()),
     }
 }
@@ -256,7 +258,7 @@ struct Row {
     requests: u64,
 }
 
-static ROWS: [Row; 9] = [
+static ROWS: [Row; 10] = [
     Row {
         name: "asm_session",
         kind: Saves,
@@ -292,6 +294,12 @@ static ROWS: [Row; 9] = [
         kind: Counts,
         format: Format::Raw,
         requests: 76,
+    },
+    Row {
+        name: "contested_session",
+        kind: Contests,
+        format: Format::Raw,
+        requests: 79,
     },
     Row {
         name: "debug_session",
@@ -332,7 +340,7 @@ fn lines_of(kind: Kind) -> &'static str {
 
 // Whether a session runs the program to its end, and reports.
 fn is_run(kind: Kind) -> bool {
-    matches!(kind, Runs | Tells | Profiles | Counts)
+    matches!(kind, Runs | Tells | Profiles | Counts | Contests)
 }
 
 // Makes the session of a row over the program and the lines.
@@ -371,7 +379,7 @@ impl Done {
             Lists | Debugs | Talks | Frames => {
                 whole.out.starts_with(&self.out) && self.out.ends_with(b"\n")
             }
-            Runs | Profiles | Counts | Saves => false,
+            Runs | Profiles | Counts | Contests | Saves => false,
         }
     }
 }

@@ -1,6 +1,8 @@
+pub mod Addresses
 pub mod Answered
 pub mod Bytes
 pub mod Calls
+pub mod Clocks
 pub mod CodePages
 pub mod Communications
 pub mod Decoded
@@ -18,3 +20,4 @@ pub mod Room
 pub mod Signed
 pub mod Sound
 pub mod Steps
+pub mod Straight

@@ -4,9 +4,11 @@ use Rattle.bsp_requests.specs.Message.{Message}
 use Rattle.node_core.specs.declared.state.State.{State}
 use Rattle.node_core.specs.declared.state.State.TheVariants.{Running, Synced}
 use Rattle.node_core.specs.Hart.{After, IsHart}
+use Rattle.node_core.specs.Clock.{clocked, time_at}
 use Rattle.node_core.specs.Effects.{executed}
 use Rattle.node_core.specs.Node.{NodeState, IsNode, IsSoundNode, IsLater, is_running, state_at, ticked, local_step, local_steps, phase}
 use Rattle.node_core.specs.Turn.{next_superstep}
+use Rattle.node_core.proofs.Clocks.{Keeps-clocked}
 use Rattle.node_core.proofs.Effects.{Keeps-executed}
 use Rattle.node_core.proofs.Harts.{Keeps, Keeps-same, Extends-then}
 use Rattle.node_core.proofs.Steps.{local_step-stopped, local_steps-stopped, local_steps-suc, local_steps-zero}
@@ -34,7 +36,14 @@ IsNode-next queue s sound waits = record {
   is_fresh = λ none. absurd (omega (arith, none, sound.has_stepped (rw waits refl)));
 }
 
-pub local_step-running : (input : List ℕ) (s : NodeState) → is_running s.state ≡ true → local_step input s ≡ ticked (executed input s.hart) s
+-- what the instruction at pc comes to
+abbrev pub made : List ℕ → NodeState → After
+made input s = clocked (time_at s.clock s.ticks) (executed input s.hart)
+
+Keeps-made : (input : List ℕ) (s : NodeState) → Keeps s.hart (made input s).hart
+Keeps-made input s = Keeps-clocked s.hart (time_at s.clock s.ticks) (executed input s.hart) (Keeps-executed s.hart input)
+
+pub local_step-running : (input : List ℕ) (s : NodeState) → is_running s.state ≡ true → local_step input s ≡ ticked (made input s) s
 unfolding local_step
 local_step-running input s runs = rw runs refl
 
@@ -42,12 +51,13 @@ local_step-running input s runs = rw runs refl
 pub local_step-ticks : (input : List ℕ) (s : NodeState) → is_running s.state ≡ true → (local_step input s).ticks ≡ s.ticks + 1
 local_step-ticks input s runs = rw (local_step-running input s runs) refl
 
-IsLater-from : (s t : NodeState) → Keeps s.hart t.hart → t.limit ≡ s.limit → s.ticks ≤ t.ticks → IsLater s t
-IsLater-from s t keeps limit ticks = record {
+IsLater-from : (s t : NodeState) → Keeps s.hart t.hart → t.limit ≡ s.limit → t.clock ≡ s.clock → s.ticks ≤ t.ticks → IsLater s t
+IsLater-from s t keeps limit clock ticks = record {
   rank = keeps.rank;
   nprocs = keeps.nprocs;
   memory_size = keeps.memory_size;
   limit = limit;
+  clock = clock;
   in_effect = keeps.communication.in_effect;
   tag_size = keeps.communication.tag_size;
   changes = keeps.communication.changes;
@@ -62,6 +72,7 @@ IsLater-then a b c first second = record {
   nprocs = second.nprocs ∙ first.nprocs;
   memory_size = second.memory_size ∙ first.memory_size;
   limit = second.limit ∙ first.limit;
+  clock = second.clock ∙ first.clock;
   in_effect = second.in_effect ∙ first.in_effect;
   tag_size = second.tag_size ∙ first.tag_size;
   changes = Extends-then a.hart.communication.registrations.changes b.hart.communication.registrations.changes c.hart.communication.registrations.changes first.changes second.changes;
@@ -71,13 +82,13 @@ IsLater-then a b c first second = record {
 }
 
 IsLater-same : (s : NodeState) → IsLater s s
-IsLater-same s = IsLater-from s s (Keeps-same s.hart) refl (omega arith)
+IsLater-same s = IsLater-from s s (Keeps-same s.hart) refl refl (omega arith)
 
 IsLater-ticked : (after : After) (s : NodeState) → Keeps s.hart after.hart → IsLater s (ticked after s)
-IsLater-ticked after s keeps = IsLater-from s (ticked after s) keeps refl (omega arith)
+IsLater-ticked after s keeps = IsLater-from s (ticked after s) keeps refl refl (omega arith)
 
 later_by : (runs : Bool) (input : List ℕ) (s : NodeState) → is_running s.state ≡ runs → IsLater s (local_step input s)
-later_by true input s is = rw (local_step-running input s is) (IsLater-ticked (executed input s.hart) s (Keeps-executed s.hart input))
+later_by true input s is = rw (local_step-running input s is) (IsLater-ticked (made input s) s (Keeps-made input s))
 later_by false input s is = rw (local_step-stopped input s is) (IsLater-same s)
 
 pub IsLater-local_step : (input : List ℕ) (s : NodeState) → IsLater s (local_step input s)
@@ -88,11 +99,11 @@ IsLater-local_steps input zero s = rw (local_steps-zero input s) (IsLater-same s
 IsLater-local_steps input (suc n) s = rw (local_steps-suc input n s) (IsLater-then s (local_step input s) (local_steps input n (local_step input s)) (IsLater-local_step input s) (IsLater-local_steps input n (local_step input s)))
 
 hart_by : (runs : Bool) (input : List ℕ) (s : NodeState) → is_running s.state ≡ runs → IsHart s.hart → IsHart (local_step input s).hart
-hart_by true input s is sound = rw (local_step-running input s is) ((Keeps-executed s.hart input).sound sound)
+hart_by true input s is sound = rw (local_step-running input s is) ((Keeps-made input s).sound sound)
 hart_by false input s is sound = rw (local_step-stopped input s is) sound
 
 sound_by : (runs : Bool) (input : List ℕ) (s : NodeState) → is_running s.state ≡ runs → IsNode s → IsNode (local_step input s)
-sound_by true input s is sound = rw (local_step-running input s is) (IsNode-ticked (executed input s.hart) s sound is)
+sound_by true input s is sound = rw (local_step-running input s is) (IsNode-ticked (made input s) s sound is)
 sound_by false input s is sound = rw (local_step-stopped input s is) sound
 
 pub IsNode-local_step : (input : List ℕ) (s : NodeState) → IsNode s → IsNode (local_step input s)

@@ -1,5 +1,7 @@
+pub mod Addresses
 pub mod Arithmetic
 pub mod Calls
+pub mod Clock
 pub mod Communication
 pub mod Decoded
 pub mod Effects
@@ -7,4 +9,5 @@ pub mod Hart
 pub mod Inside
 pub mod Names
 pub mod Node
+pub mod Straight
 pub mod Turn

@@ -27,6 +27,9 @@ pub enum Call {
     Read,
 }
 
+/// The number of the call that reads the clock. A node that has one answers it, and no hart knows it: ticks are its node's.
+pub(crate) const CLOCK: u32 = 19;
+
 impl Call {
     /// The call of a number (own rule), which an ECALL finds in a7.
     pub fn of_number(number: u32) -> Option<Call>

@@ -17,6 +17,7 @@
 //! - A node that has made its last tick and still runs is [`Exhausted`](State::Exhausted); one that stops by that very
 //!   step keeps the state in which it stopped.
 //! - `step` and `run` answer `Ok` for a node that does not run, and change nothing.
+//! - [`Node::run_traced`] is `run` that tells at which addresses the steps were made. After a refusal its addresses say nothing.
 //! - Memory is refused at stores and at the calls marked (m) alone, after all their checks. The step that needed it has then
 //!   changed nothing of the record, ticks included, and can be made again; a run keeps the steps that it made before.
 //! - A store takes memory where a page of its range is shared, for a copy of it. A page that is the memory's own stays so, and
@@ -55,6 +56,7 @@
 //! | 16 | `abort(addr, n)` (m) | range, room | the n bytes at addr go to the end of the output; the node is `Aborted` |
 //! | 17 | `write(addr, n)` (m) | range, room | the n bytes at addr go to the end of the output |
 //! | 18 | `read(addr, n)` (m) | range of k | the next k bytes of the input go to addr; a0 is k |
+//! | 19 | the clock's, where the node has one | | a0 is the low word of what the clock shows, a1 the high one |
 //!
 //! - range: the bytes lie in the memory, else `RangeOutside`. A range of no bytes may begin at its end.
 //! - rank: there is a node of that rank, else `BadRank`.
@@ -66,7 +68,7 @@
 //! - k is n, or what is left where that is less: of the first payload, or of the input, which has 0 bytes left where the
 //!   cursor is past its end.
 //!
-//! Any other number is `UnknownCall`. Where two stores of one call overlap, the later named lands over the earlier.
+//! Any other number is `UnknownCall`, and so is 19 on a node without a clock. Where two stores of one call overlap, the later named lands over the earlier.
 //!
 //! Sources: The RISC-V Instruction Set Manual, Volume I: Unprivileged ISA, 20191213, chapters 2, 3, 7 and 16, for
 //! the instructions; BSPlib (Hill and others, 1998) for the calls but `write` and `read`; `abort` stops its own node alone, and
@@ -75,6 +77,7 @@
 
 mod arithmetic;
 mod call;
+mod clock;
 mod code_memory;
 mod code_pages;
 mod entry;
@@ -84,5 +87,6 @@ mod node;
 mod state;
 
 pub use call::Call;
+pub use clock::Clock;
 pub use node::Node;
 pub use state::{Fault, State};

@@ -38,7 +38,7 @@ pub fn are_same_rows<A: Allocator + Copy>(
     Ok(nodes.len() == others.len())
 }
 
-/// Whether two nodes have the same rank, registers, pc, ticks, state, place in the input and tag sizes.
+/// Whether two nodes have the same rank, registers, pc, ticks, state, clock, place in the input and tag sizes.
 fn have_same_harts<A: Allocator>(node: &Node<A>, other: &Node<A>) -> bool {
     for n in 0..32u8 {
         if node.reg(n) != other.reg(n) {
@@ -47,7 +47,7 @@ fn have_same_harts<A: Allocator>(node: &Node<A>, other: &Node<A>) -> bool {
     }
     (node.rank(), node.nprocs(), node.pc(), node.ticks())
         == (other.rank(), other.nprocs(), other.pc(), other.ticks())
-        && node.state() == other.state()
+        && (node.state(), node.clock()) == (other.state(), other.clock())
         && (node.cursor(), node.tag_size(), node.next_tag_size())
             == (other.cursor(), other.tag_size(), other.next_tag_size())
 }

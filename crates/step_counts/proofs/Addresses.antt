@@ -1,36 +1,23 @@
 -- The addresses of a node's steps, one after another.
-use Rattle.std.proofs.Common.{◌≡◌, ℕ, zero, suc, ◌+◌, ◌-◌, ◌%◌, ◌^◌, ◌≤◌, ◌==◌, Bool, true, false, cond, List, [], ◌∷◌, length, refl, ap, ◌∙◌, arith}
+use Rattle.std.proofs.Common.{◌≡◌, ℕ, zero, suc, ◌+◌, ◌-◌, ◌%◌, ◌^◌, ◌≤◌, ◌==◌, Bool, true, false, cond, List, [], ◌∷◌, ◌++◌, length, refl, sym, ap, subst, ◌∙◌, arith}
 use Rattle.std.specs.Prelude.{if◌then◌else◌}
 use Rattle.std.proofs.lemmas.Bool.{lt-leb}
 use Rattle.std.proofs.lemmas.List.Sums.{sum_by-cons, count_by-le-length}
 use Rattle.rv_tables.specs.declared.code.Code.{Code}
 use Rattle.std.proofs.Common.{Option, None}
-use Rattle.node_core.specs.declared.state.Fault.TheVariants.{Misaligned}
+use Rattle.node_core.specs.declared.state.Fault.{Fault}
+use Rattle.node_core.specs.declared.state.Fault.TheVariants.{Misaligned, FetchOutside}
+use Rattle.node_core.specs.Addresses.{next_addresses}
+use Rattle.node_core.specs.Clock.{clocked, is_of_call, time_at}
 use Rattle.node_core.specs.Effects.{executed, code_effect, fetched}
-use Rattle.node_core.specs.Hart.{Hart, faults}
-use Rattle.node_core.specs.Node.{NodeState, IsNode, is_running, state_at, ticked, local_step, phase}
-use Rattle.node_core.proofs.Sound.{IsLater-local_step, local_step-running, local_step-ticks, IsNode-local_step}
-use Rattle.node_core.proofs.Steps.{local_steps-stopped}
+use Rattle.node_core.specs.Hart.{Hart, After, faults}
+use Rattle.node_core.specs.Node.{NodeState, IsNode, is_running, ticked, local_step, local_steps, phase}
+use Rattle.node_core.proofs.Addresses.{next-few, next-running, next-stopped, next-zero}
+use Rattle.node_core.proofs.Clocks.{clocked-fault}
+use Rattle.node_core.proofs.Sound.{made, IsLater-local_step, local_step-running, local_step-ticks, IsNode-local_step}
+use Rattle.node_core.proofs.Steps.{local_steps-stopped, local_steps-suc, local_steps-zero}
 use Rattle.machine_core.proofs.Phases.{phase-local_step}
-use Rattle.step_counts.specs.Counts.{next_addresses, addresses, count_in}
-
-next-stopped : (input : List ℕ) (k : ℕ) (n : NodeState) → is_running n.state ≡ false → next_addresses input k n ≡ []
-unfolding next_addresses
-next-stopped input zero n stopped = refl
-next-stopped input (suc k) n stopped = ap (λ b. if b then n.hart.pc ∷ next_addresses input k (local_step input n) else []) stopped
-
-next-running : (input : List ℕ) (k : ℕ) (n : NodeState) → is_running n.state ≡ true → next_addresses input (suc k) n ≡ n.hart.pc ∷ next_addresses input k (local_step input n)
-unfolding next_addresses
-next-running input k n runs = ap (λ b. if b then n.hart.pc ∷ next_addresses input k (local_step input n) else []) runs
-
-next-few : (input : List ℕ) (k : ℕ) (n : NodeState) → length (next_addresses input k n) ≤ k
-unfolding next_addresses
-next-few input zero n = omega arith
-next-few input (suc k) n = by (is_running n.state) (next-few input k (local_step input n))
-  where
-    by : (b : Bool) → length (next_addresses input k (local_step input n)) ≤ k → length (if b then n.hart.pc ∷ next_addresses input k (local_step input n) else []) ≤ suc k
-    by true few = omega (arith, few)
-    by false few = omega arith
+use Rattle.step_counts.specs.Counts.{addresses, count_in}
 
 -- a node that does not run makes no step
 pub addresses-stopped : (input : List ℕ) (n : NodeState) → is_running n.state ≡ false → addresses input n ≡ []
@@ -47,6 +34,24 @@ addresses-running input n sound runs =
     ap (λ k. next_addresses input k n) all
     ∙ next-running input (n.limit - (n.ticks + 1)) n runs
     ∙ ap (λ k. n.hart.pc ∷ next_addresses input k (local_step input n)) (let back : n.limit - (n.ticks + 1) ≡ (local_step input n).limit - (local_step input n).ticks = omega (arith, left) in back)
+
+-- those of the next k steps, and then those that are left
+pub addresses-split : (input : List ℕ) (k : ℕ) (n : NodeState) → IsNode n → addresses input n ≡ next_addresses input k n ++ addresses input (local_steps input k n)
+addresses-split input zero n sound =
+    ap (addresses input) (sym (local_steps-zero input n)) ∙ ap (λ xs. xs ++ addresses input (local_steps input 0 n)) (sym (next-zero input n))
+addresses-split input (suc k) n sound = by (is_running n.state) refl (addresses-split input k (local_step input n) (IsNode-local_step input n sound))
+  where
+    by : (b : Bool) → is_running n.state ≡ b
+        → addresses input (local_step input n) ≡ next_addresses input k (local_step input n) ++ addresses input (local_steps input k (local_step input n))
+        → addresses input n ≡ next_addresses input (suc k) n ++ addresses input (local_steps input (suc k) n)
+    by true is rest =
+        addresses-running input n sound is ∙ ap (λ xs. n.hart.pc ∷ xs) rest
+        ∙ ap (λ xs. xs ++ addresses input (local_steps input k (local_step input n))) (sym (next-running input k n is))
+        ∙ ap (λ x. next_addresses input (suc k) n ++ addresses input x) (sym (local_steps-suc input k n))
+    by false is rest =
+        addresses-stopped input n is
+        ∙ sym (addresses-stopped input (local_steps input (suc k) n) (ap (λ (x : NodeState). is_running x.state) (local_steps-stopped input (suc k) n is) ∙ is))
+        ∙ ap (λ xs. xs ++ addresses input (local_steps input (suc k) n)) (sym (next-stopped input (suc k) n is))
 
 pub addresses-few : (input : List ℕ) (n : NodeState) → IsNode n → length (addresses input n) ≤ 2 ^ 40
 addresses-few input n sound = omega (arith, next-few input (n.limit - n.ticks) n, sound.limited)
@@ -97,8 +102,28 @@ stops-outside input n runs past = ap (λ (x : NodeState). is_running x.state) (l
     none : fetched h ≡ None
     none = rw (lt-leb (h.pc + 2) (length h.memory) (omega (arith, past))) refl
 
-    by : (even : Bool) → (h.pc % 2 == 0) ≡ even → is_running (ticked (executed input h) n).state ≡ false
-    by false is = ap (λ b. is_running (state_at (if b then code_effect (fetched h) input h else faults Misaligned h).state (n.ticks + 1) n.limit)) is
-    by true is =
-        ap (λ b. is_running (state_at (if b then code_effect (fetched h) input h else faults Misaligned h).state (n.ticks + 1) n.limit)) is
-        ∙ ap (λ (o : Option Code). is_running (state_at (code_effect o input h).state (n.ticks + 1) n.limit)) none
+    stops : (f : Fault) → executed input h ≡ faults f h → is_of_call f ≡ false → is_running (ticked (made input n) n).state ≡ false
+    stops f is other =
+        ap (λ (a : After). is_running (ticked (clocked (time_at n.clock n.ticks) a) n).state) is
+        ∙ ap (λ (a : After). is_running (ticked a n).state) (clocked-fault (time_at n.clock n.ticks) f h other)
+
+    by : (even : Bool) → (h.pc % 2 == 0) ≡ even → is_running (ticked (made input n) n).state ≡ false
+    by false is = stops Misaligned (ap (λ b. if b then code_effect (fetched h) input h else faults Misaligned h) is) refl
+    by true is = stops FetchOutside (ap (λ b. if b then code_effect (fetched h) input h else faults Misaligned h) is ∙ ap (λ (o : Option Code). code_effect o input h) none) refl
+
+-- of some addresses only the last one may lie past the memory
+abbrev pub LastOutside : ℕ → List ℕ → Type 0
+LastOutside memory [] = Unit {0}
+LastOutside memory (a ∷ rest) = (memory ≤ a → rest ≡ []) × LastOutside memory rest
+
+pub last-outside : (input : List ℕ) (k memory : ℕ) (n : NodeState) → length n.hart.memory ≡ memory → LastOutside memory (next_addresses input k n)
+last-outside input zero memory n size = subst (LastOutside memory) (sym (next-zero input n)) tt
+last-outside input (suc k) memory n size =
+    by (is_running n.state) refl (last-outside input k memory (local_step input n) ((IsLater-local_step input n).memory_size ∙ size))
+  where
+    by : (b : Bool) → is_running n.state ≡ b → LastOutside memory (next_addresses input k (local_step input n)) → LastOutside memory (next_addresses input (suc k) n)
+    by true is rest =
+        let first : memory ≤ n.hart.pc → next_addresses input k (local_step input n) ≡ [] =
+        λ past. next-stopped input k (local_step input n) (stops-outside input n is (omega (arith, size, past))) in
+        subst (LastOutside memory) (sym (next-running input k n is)) (first, rest)
+    by false is rest = subst (LastOutside memory) (sym (next-stopped input (suc k) n is)) tt

@@ -1,31 +1,35 @@
 -- The steps of a rank, counted one after another.
-use Rattle.std.proofs.Common.{◌≡◌, ℕ, zero, suc, ◌+◌, ◌<◌, ◌≤◌, ◌^◌, ◌==◌, Bool, true, false, cond, List, [], ◌∷◌, length, Option, Some, None, option_map, inl, inr, refl, sym, ap, ap₂, ◌∙◌, arith, suc-add}
-use Rattle.std.specs.Prelude.{slice_get, is_some, if◌then◌else◌}
-use Rattle.std.specs.Option.{option_map_or, option_and_then}
-use Rattle.std.proofs.lemmas.Bool.{false≢true, cases_lt}
+use Rattle.std.proofs.Common.{◌≡◌, ℕ, zero, suc, ◌+◌, ◌-◌, ◌<◌, ◌≤◌, ◌^◌, ◌==◌, true, false, cond, List, [], ◌∷◌, ◌++◌, length, drop, get_or, take, Option, Some, None, inl, inr, refl, sym, ap, subst, ◌∙◌, arith, suc-add, zero-add}
+use Rattle.std.specs.Prelude.{slice_get, if◌then◌else◌}
+use Rattle.std.specs.Option.{option_map_or}
+use Rattle.std.proofs.lemmas.Bool.{cases_lt, false≢true}
+use Rattle.std.proofs.lemmas.List.{drop_more, get_or-take, length-append, length-take-le}
 use Rattle.std.proofs.lemmas.Option.{slice_get_within, get_or_from_slice_get}
-use Rattle.node_core.specs.Node.{NodeState, is_running, local_step}
+use Rattle.node_core.specs.Addresses.{next_addresses}
+use Rattle.node_core.specs.Node.{NodeState, local_step, local_steps}
+use Rattle.node_core.proofs.Addresses.{next-running}
 use Rattle.machine_core.specs.declared.event.Event.TheVariants.{Step}
 use Rattle.machine_core.specs.Machine.{MachineState}
-use Rattle.machine_core.specs.Events.{runs, is_enabled, event, after}
+use Rattle.machine_core.specs.Events.{runs, is_enabled, event, after, next_addresses_at, stepped_often}
 use Rattle.machine_core.specs.Sound.{IsNodeOf, IsSoundMachine}
-use Rattle.machine_core.proofs.Rows.{slice_get-stepped}
 use Rattle.machine_core.proofs.Runs.{steps_of, after-often}
 use Rattle.machine_core.proofs.Sound.{IsSoundMachine-after}
-use Rattle.machine_core.proofs.Steps.{after-nil, after-cons, event-step}
+use Rattle.machine_core.proofs.States.{often-found, often-none, slice_get-slice_set}
+use Rattle.machine_core.proofs.Steps.{after-nil, after-cons}
 use Rattle.step_counts.specs.Counts.{addresses, count_in}
-use Rattle.step_counts.specs.Parts.{next_address, addresses_at}
+use Rattle.step_counts.specs.Parts.{addresses_at}
 use Rattle.step_counts.specs.Table.{TableState, told, IsEmpty}
-use Rattle.step_counts.proofs.Addresses.{addresses-few, addresses-running, addresses-stopped, count_in-cons, count_in-le, stops-outside}
+use Rattle.step_counts.proofs.Addresses.{LastOutside, addresses-few, addresses-split, addresses-stopped, count_in-cons, count_in-le, last-outside}
 
--- the last of k + 1 steps
-after-last : (k : ℕ) (m : MachineState) (rank : ℕ) → after m (steps_of rank (k + 1)) ≡ event (after m (steps_of rank k)) (Step rank)
-after-last zero m rank =
-    after-cons m (Step rank) [] ∙ after-nil (event m (Step rank)) ∙ ap (λ (x : MachineState). event x (Step rank)) (sym (after-nil m))
-after-last (suc k) m rank =
-    ap (λ n. after m (steps_of rank n)) (suc-add k 1)
-    ∙ after-cons m (Step rank) (steps_of rank (k + 1)) ∙ after-last k (event m (Step rank)) rank
-    ∙ ap (λ (x : MachineState). event x (Step rank)) (sym (after-cons m (Step rank) (steps_of rank k)))
+-- j steps, and then k
+pub after-more : (j k : ℕ) (m : MachineState) (rank : ℕ) → after (after m (steps_of rank j)) (steps_of rank k) ≡ after m (steps_of rank (j + k))
+after-more zero k m rank =
+    ap (λ (x : MachineState). after x (steps_of rank k)) (after-nil m) ∙ ap (λ n. after m (steps_of rank n)) (sym (zero-add k))
+after-more (suc j) k m rank =
+    ap (λ (x : MachineState). after x (steps_of rank k)) (after-cons m (Step rank) (steps_of rank j))
+    ∙ after-more j k (event m (Step rank)) rank
+    ∙ sym (after-cons m (Step rank) (steps_of rank (j + k)))
+    ∙ ap (λ n. after m (steps_of rank n)) (sym (suc-add j k))
 
 -- the node of a rank of a sound machine
 node-of : (m : MachineState) (rank : ℕ) (n : NodeState) → IsSoundMachine m → slice_get m.nodes rank ≡ Some n → IsNodeOf m.settings n
@@ -41,37 +45,12 @@ few-at m rank sound = by (slice_get m.nodes rank) refl
     by None is = omega arith
     by (Some n) is = addresses-few m.input n (node-of m rank n sound is).sound.node
 
--- a step of a rank that runs
-record Steps (m : MachineState) (rank address : ℕ) : Type 0 where
-  pub node : NodeState
-  pub found : slice_get m.nodes rank ≡ Some node
-  pub runs : is_running node.state ≡ true
-  pub at : node.hart.pc ≡ address
-
-steps-from : (m : MachineState) (rank address : ℕ) → next_address m rank ≡ Some address → Steps m rank address
-steps-from m rank address is = by (slice_get m.nodes rank) refl is
+last-at : (m : MachineState) (rank : ℕ) → IsSoundMachine m → LastOutside m.settings.memory (addresses_at m rank)
+last-at m rank sound = by (slice_get m.nodes rank) refl
   where
-    at : (n : NodeState) → slice_get m.nodes rank ≡ Some n → (b : Bool) → is_running n.state ≡ b → (if b then Some n.hart.pc else None) ≡ Some address → Steps m rank address
-    at n found true running here = record { node = n; found = found; runs = running; at = (let same : n.hart.pc ≡ address = cc in same) }
-    at n found false running here = absurd (let never : ⊥ = cc in never)
-
-    by : (o : Option NodeState) → slice_get m.nodes rank ≡ o → option_and_then (λ (n : NodeState). if is_running n.state then Some n.hart.pc else None) o ≡ Some address → Steps m rank address
-    by None found here = absurd (let never : ⊥ = cc in never)
-    by (Some n) found here = at n found (is_running n.state) refl here
-
-pub enabled-next : (m : MachineState) (rank : ℕ) → is_some (next_address m rank) ≡ is_enabled m (Step rank)
-enabled-next m rank = by (slice_get m.nodes rank)
-  where
-    at : (n : NodeState) (b : Bool) → is_some (if b then Some n.hart.pc else None) ≡ b
-    at n true = refl
-    at n false = refl
-
-    by : (o : Option NodeState) → is_some (option_and_then (λ (n : NodeState). if is_running n.state then Some n.hart.pc else None) o) ≡ option_map_or runs o false
-    by None = refl
-    by (Some n) = at n (is_running n.state)
-
-pub stopped-next : (m : MachineState) (rank : ℕ) → next_address m rank ≡ None → is_enabled m (Step rank) ≡ false
-stopped-next m rank none = sym (enabled-next m rank) ∙ ap is_some none
+    by : (o : Option NodeState) → slice_get m.nodes rank ≡ o → LastOutside m.settings.memory (option_map_or (λ (n : NodeState). addresses m.input n) o [])
+    by None is = tt
+    by (Some n) is = last-outside m.input (n.limit - n.ticks) m.settings.memory n (node-of m rank n sound is).memory
 
 none-left : (m : MachineState) (rank : ℕ) → is_enabled m (Step rank) ≡ false → addresses_at m rank ≡ []
 none-left m rank off = by (slice_get m.nodes rank) off
@@ -80,92 +59,118 @@ none-left m rank off = by (slice_get m.nodes rank) off
     by None off = refl
     by (Some n) off = addresses-stopped m.input n off
 
-module _ (m : MachineState) (rank address : ℕ) (sound : IsSoundMachine m) (steps : Steps m rank address) where
-  next-found : slice_get (event m (Step rank)).nodes rank ≡ Some (local_step m.input steps.node)
-  next-found = ap (λ (x : MachineState). slice_get x.nodes rank) (event-step m rank) ∙ slice_get-stepped m.input rank m.nodes ∙ ap (option_map (local_step m.input)) steps.found
+-- a rank that runs makes a step
+some-next : (m : MachineState) (rank k : ℕ) → 0 < k → is_enabled m (Step rank) ≡ true → 0 < length (next_addresses_at m.input rank k m.nodes)
+some-next m rank zero some on = absurd (omega (arith, some))
+some-next m rank (suc k) some on = by (slice_get m.nodes rank) on
+  where
+    by : (o : Option NodeState) → option_map_or runs o false ≡ true → 0 < length (option_map_or (next_addresses m.input (suc k)) o [])
+    by None on = absurd (false≢true on)
+    by (Some n) on =
+        let one : length (next_addresses m.input (suc k) n) ≡ suc (length (next_addresses m.input k (local_step m.input n))) = ap length (next-running m.input k n on) in
+        omega (arith, one)
 
-  next-input : (event m (Step rank)).input ≡ m.input
-  next-input = ap (λ (x : MachineState). x.input) (event-step m rank)
+-- the addresses of the next k steps, and then those that are left
+left-after : (m : MachineState) (rank k : ℕ) → IsSoundMachine m → addresses_at m rank ≡ next_addresses_at m.input rank k m.nodes ++ addresses_at (after m (steps_of rank k)) rank
+left-after m rank k sound = by (slice_get m.nodes rank) refl ∙ ap (λ xs. next_addresses_at m.input rank k m.nodes ++ xs) (sym next)
+  where
+    all : List ℕ → Option NodeState → List ℕ
+    all input o = option_map_or (λ (n : NodeState). addresses input n) o []
 
-  left-next : addresses_at m rank ≡ address ∷ addresses_at (event m (Step rank)) rank
-  left-next =
-      ap (λ (o : Option NodeState). option_map_or (λ (n : NodeState). addresses m.input n) o []) steps.found
-      ∙ addresses-running m.input steps.node (node-of m rank steps.node sound steps.found).sound.node steps.runs
-      ∙ ap₂ (λ (a : ℕ) (xs : List ℕ). a ∷ xs) steps.at
-      (sym (ap₂ (λ (i : List ℕ) (o : Option NodeState). option_map_or (λ (n : NodeState). addresses i n) o []) next-input next-found))
+    next : addresses_at (after m (steps_of rank k)) rank ≡ all m.input (slice_get (stepped_often m.input rank k m.nodes) rank)
+    next = ap (λ (x : MachineState). addresses_at x rank) (after-often k m rank)
 
-  off-outside : m.settings.memory ≤ address → is_enabled (event m (Step rank)) (Step rank) ≡ false
-  off-outside past =
-      let size = (node-of m rank steps.node sound steps.found).memory in
-      ap (λ (o : Option NodeState). option_map_or runs o false) next-found
-      ∙ stops-outside m.input steps.node steps.runs (omega (arith, size, past, steps.at))
+    by : (o : Option NodeState) → slice_get m.nodes rank ≡ o
+        → all m.input (slice_get m.nodes rank) ≡ next_addresses_at m.input rank k m.nodes ++ all m.input (slice_get (stepped_often m.input rank k m.nodes) rank)
+    by None is =
+        let none = often-none m.input k rank m.nodes is in
+        rw (is, none) refl
+    by (Some n) is =
+        let found : slice_get (stepped_often m.input rank k m.nodes) rank ≡ Some (local_steps m.input k n) =
+        ap (λ (xs : List NodeState). slice_get xs rank) (often-found m.input k rank m.nodes n is) ∙ slice_get-slice_set m.nodes rank n (local_steps m.input k n) is in
+        rw (is, found) (addresses-split m.input k n (node-of m rank n sound is).sound.node)
+
+-- of these steps some are left, and the table has the others
+pub record Counted (steps left : List ℕ) (t : TableState) : Type 0 where
+  pub told : (address : ℕ) → told t address + count_in left address ≡ count_in steps address
+  pub few : length steps ≤ 2 ^ 40
+  pub last : LastOutside t.memory left
+  pub inside : 0 < length left → t.outside ≡ None
+
+pub all-told : (steps : List ℕ) (t : TableState) → Counted steps [] t → (address : ℕ) → told t address ≡ count_in steps address
+all-told steps t done address = omega (arith, done.told address)
+
+module _ (steps left : List ℕ) (first : ℕ) (t : TableState) (so_far : Counted steps (first ∷ left) t) where
+  -- there is room for one more
+  pub few-told : told t first < 2 ^ 63
+  few-told = omega (arith, so_far.told first, count_in-le steps first, so_far.few)
+
+  pub none-outside : t.outside ≡ None
+  none-outside = so_far.inside (omega arith)
+
+  pub Counted-next : (u : TableState) → ((other : ℕ) → told u other ≡ told t other + (if first == other then 1 else 0)) → u.memory ≡ t.memory
+      → (first < t.memory → u.outside ≡ t.outside) → Counted steps left u
+  Counted-next u more memory inside = record {
+    told = λ other.
+        let one : told u other ≡ told t other + cond (first == other) 1 0 = more other in
+        omega (arith, so_far.told other, count_in-cons first left other, one);
+    few = so_far.few;
+    last = rw memory so_far.last.1;
+    inside = λ some. elim (cases_lt first t.memory) [
+      | inl within ↦ inside within ∙ none-outside
+      | inr past ↦ absurd (let none : length left ≡ 0 = ap length (so_far.last.0 past) in omega (arith, none, some))
+    ];
+  }
 
 -- so many steps of a rank were made, and the table has them
 pub record Counting (old new : MachineState) (rank : ℕ) (t : TableState) : Type 0 where
   pub count : ℕ
   pub is : new ≡ after old (steps_of rank count)
-  pub told : (address : ℕ) → told t address + count_in (addresses_at new rank) address ≡ count_in (addresses_at old rank) address
-  pub inside : is_enabled new (Step rank) ≡ true → t.outside ≡ None
-  pub size : length t.cells ≡ old.settings.memory
+  pub counted : Counted (addresses_at old rank) (addresses_at new rank) t
 
-pub Counting-start : (m : MachineState) (rank : ℕ) (t : TableState) → IsEmpty t → length t.cells ≡ m.settings.memory → Counting m m rank t
-Counting-start m rank t empty size = record {
+pub Counting-start : (m : MachineState) (rank : ℕ) (t : TableState) → IsSoundMachine m → IsEmpty t → t.memory ≡ m.settings.memory → Counting m m rank t
+Counting-start m rank t sound empty memory = record {
   count = 0;
   is = sym (after-nil m);
-  told = λ address. omega (arith, empty.none address);
-  inside = λ on. empty.outside;
-  size = size;
+  counted = record {
+    told = λ address. omega (arith, empty.none address);
+    few = few-at m rank sound;
+    last = rw memory (last-at m rank sound);
+    inside = λ some. empty.outside;
+  };
 }
 
 module _ (old new : MachineState) (rank : ℕ) (t : TableState) (sound : IsSoundMachine old) (so_far : Counting old new rank t) where
-  pub still-sound : IsSoundMachine new
+  still-sound : IsSoundMachine new
   still-sound = rw so_far.is (IsSoundMachine-after old (steps_of rank so_far.count) sound)
 
-  same-memory : new.settings.memory ≡ old.settings.memory
-  same-memory = ap (λ (x : MachineState). x.settings.memory) (so_far.is ∙ after-often so_far.count old rank)
-
-  module _ (address : ℕ) (here : next_address new rank ≡ Some address) where
-    on : is_enabled new (Step rank) ≡ true
-    on = sym (enabled-next new rank) ∙ ap is_some here
-
-    steps : Steps new rank address
-    steps = steps-from new rank address here
-
-    left : (other : ℕ) → count_in (addresses_at new rank) other ≡ cond (address == other) 1 0 + count_in (addresses_at (event new (Step rank)) rank) other
-    left other = ap (λ (xs : List ℕ). count_in xs other) (left-next new rank address still-sound steps) ∙ count_in-cons address (addresses_at (event new (Step rank)) rank) other
-
-    -- there is room for one more
-    pub few-told : told t address < 2 ^ 63
-    few-told = omega (arith, so_far.told address, count_in-le (addresses_at old rank) address, few-at old rank sound)
-
-    pub none-outside : length t.cells ≤ address → t.outside ≡ None
-    none-outside past = so_far.inside on
-
-    -- fewer are left
-    pub fewer : (next : MachineState) → next ≡ event new (Step rank) → length (addresses_at next rank) < length (addresses_at new rank)
-    fewer next made =
-        let same = ap (λ (x : MachineState). length (addresses_at x rank)) made in
-        let one : length (addresses_at new rank) ≡ suc (length (addresses_at (event new (Step rank)) rank)) = ap length (left-next new rank address still-sound steps) in
-        omega (arith, same, one)
-
-    pub Counting-next : (next : MachineState) (u : TableState) → next ≡ event new (Step rank) → ((other : ℕ) → told u other ≡ told t other + (if address == other then 1 else 0))
-        → length u.cells ≡ length t.cells → (address < length t.cells → u.outside ≡ t.outside) → Counting old next rank u
-    Counting-next next u made more size inside = record {
-      count = so_far.count + 1;
-      is = made ∙ ap (λ (x : MachineState). event x (Step rank)) so_far.is ∙ sym (after-last so_far.count old rank);
-      told = λ other.
-          let rest : count_in (addresses_at next rank) other ≡ count_in (addresses_at (event new (Step rank)) rank) other = ap (λ (x : MachineState). count_in (addresses_at x rank) other) made in
-          let one : told u other ≡ told t other + cond (address == other) 1 0 = more other in
-          omega (arith, so_far.told other, left other, rest, one);
-      inside = λ goes. elim (cases_lt address (length t.cells)) [
-        | inl within ↦ inside within ∙ so_far.inside on
-        | inr past ↦ absurd (false≢true (sym (off-outside new rank address still-sound steps (omega (arith, past, so_far.size, same-memory))) ∙ ap (λ (x : MachineState). is_enabled x (Step rank)) (sym made) ∙ goes))
-      ];
-      size = size ∙ so_far.size;
-    }
-
   -- once the rank has stopped, the table has all of them
-  pub all-told : is_enabled new (Step rank) ≡ false → (address : ℕ) → told t address ≡ count_in (addresses_at old rank) address
-  all-told off address =
-      let none : count_in (addresses_at new rank) address ≡ 0 = ap (λ (xs : List ℕ). count_in xs address) (none-left new rank off) in
-      omega (arith, so_far.told address, none)
+  pub stopped-told : is_enabled new (Step rank) ≡ false → (address : ℕ) → told t address ≡ count_in (addresses_at old rank) address
+  stopped-told off = all-told (addresses_at old rank) t (subst (λ xs. Counted (addresses_at old rank) xs t) (none-left new rank off) so_far.counted)
+
+  module _ (next : MachineState) (k : ℕ) (made : next ≡ after new (steps_of rank k)) where
+    pub made-more : (n : ℕ) × (next ≡ after old (steps_of rank n))
+    made-more = (so_far.count + k, made ∙ ap (λ (x : MachineState). after x (steps_of rank k)) so_far.is ∙ after-more so_far.count k old rank)
+
+    -- steps that were made and are not counted yet
+    split : addresses_at new rank ≡ next_addresses_at new.input rank k new.nodes ++ addresses_at next rank
+    split = left-after new rank k still-sound ∙ ap (λ (x : MachineState). next_addresses_at new.input rank k new.nodes ++ addresses_at x rank) (sym made)
+
+    pub Counted-made : (made_at : List ℕ) → made_at ≡ next_addresses_at new.input rank k new.nodes → Counted (addresses_at old rank) (made_at ++ addresses_at next rank) t
+    Counted-made made_at is = subst (λ xs. Counted (addresses_at old rank) xs t) (split ∙ ap (λ xs. xs ++ addresses_at next rank) (sym is)) so_far.counted
+
+  -- fewer are left
+  pub fewer : (next : MachineState) (k : ℕ) → 0 < k → is_enabled new (Step rank) ≡ true → next ≡ after new (steps_of rank k) → length (addresses_at next rank) < length (addresses_at new rank)
+  fewer next k some on made =
+      let both = ap length (split next k made) ∙ length-append (next_addresses_at new.input rank k new.nodes) (addresses_at next rank) in
+      omega (arith, both, some-next new rank k some on)
+
+  -- once all that were made are counted
+  pub Counting-more : (next : MachineState) (k : ℕ) (u : TableState) → next ≡ after new (steps_of rank k) → Counted (addresses_at old rank) (addresses_at next rank) u → Counting old next rank u
+  Counting-more next k u made counted = record { count = (made-more next k made).0; is = (made-more next k made).1; counted = counted }
+
+-- the next address of those that are left
+pub next_left : (pcs rest : List ℕ) (made place : ℕ) → place < made → made ≤ length pcs → drop place (take made pcs) ++ rest ≡ get_or pcs place 0 ∷ drop (place + 1) (take made pcs) ++ rest
+next_left pcs rest made place below within =
+    let long = length-take-le made pcs within in
+    ap (λ xs. xs ++ rest) (drop_more (take made pcs) place 0 (omega (arith, below, long)) ∙ ap (λ x. x ∷ drop (place + 1) (take made pcs)) (get_or-take made pcs place 0 below))

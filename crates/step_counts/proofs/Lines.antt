@@ -1,5 +1,5 @@
 -- The lines of counts, by parts of the addresses.
-use Rattle.std.proofs.Common.{◌≡◌, ℕ, zero, suc, ◌+◌, ◌-◌, ◌<◌, ◌≤◌, List, [], ◌∷◌, ◌++◌, length, take, Option, Some, None, codes, inl, inr, sym, ap, ap₂, ◌∙◌, refl, arith, append_assoc, append-nil}
+use Rattle.std.proofs.Common.{◌≡◌, ℕ, zero, suc, ◌+◌, ◌-◌, ◌<◌, ◌≤◌, List, [], ◌∷◌, ◌++◌, take, Option, Some, None, codes, inl, inr, sym, ap, ap₂, ◌∙◌, refl, arith, append_assoc, append-nil}
 use Rattle.std.specs.Prelude.{slice_get, slice_index, flat_map, if◌then◌else◌}
 use Rattle.std.specs.List.{range_with_len}
 use Rattle.std.proofs.lemmas.Bool.{lt-ltb, le-ltb, eq-eqb, ne_eqb, cases_lt}
@@ -85,24 +85,23 @@ below-same (suc bound) number rank f g same =
 
 -- what a table tells
 module _ (t : TableState) (table : IsTable t) where
-  told-cell : (address : ℕ) → address < length t.cells → told t address ≡ slice_index t.cells address
-  told-cell address within = ap (λ b. if b then slice_index t.cells address else told_outside t.outside address) (lt-ltb address (length t.cells) within)
+  told-cell : (address : ℕ) → address < t.memory → told t address ≡ slice_index t.cells address
+  told-cell address within = ap (λ b. if b then slice_index t.cells address else told_outside t.outside address) (lt-ltb address t.memory within)
 
-  told-past : (address : ℕ) → length t.cells ≤ address → told t address ≡ told_outside t.outside address
-  told-past address past = ap (λ b. if b then slice_index t.cells address else told_outside t.outside address) (le-ltb address (length t.cells) past)
+  told-past : (address : ℕ) → t.memory ≤ address → told t address ≡ told_outside t.outside address
+  told-past address past = ap (λ b. if b then slice_index t.cells address else told_outside t.outside address) (le-ltb address t.memory past)
 
   pub told-at : (address : ℕ) → address < t.high → slice_index t.cells address ≡ told t address
-  told-at address within = sym (told-cell address (omega (arith, within, table.high)))
+  told-at address within = sym (told-cell address (omega (arith, within, table.high, table.within)))
 
   -- before `low`
   pub told-below : (address : ℕ) → address < t.low → told t address ≡ 0
   told-below address before =
-      let within : address < length t.cells = omega (arith, before, table.low) in
-      told-cell address within ∙ table.below address before within
+      told-cell address (omega (arith, before, table.low)) ∙ table.below address before
 
   -- from `high` on, where no step was made past the memory
   pub told-above : (none : t.outside ≡ None) (address : ℕ) → t.high ≤ address → told t address ≡ 0
-  told-above none address from = elim (cases_lt address (length t.cells)) [
+  told-above none address from = elim (cases_lt address t.memory) [
     | inl within ↦ told-cell address within ∙ table.above address from
     | inr past ↦ told-past address past ∙ ap (λ (o : Option ℕ). told_outside o address) none
   ]
@@ -114,7 +113,7 @@ module _ (t : TableState) (table : IsTable t) where
         told-past there (table.outside there is).0 ∙ ap (λ (o : Option ℕ). told_outside o there) is ∙ ap (λ b. if b then 1 else 0) (eq-eqb there there refl)
 
     pub told-others : (address : ℕ) → t.high ≤ address → (there ≡ address → ⊥) → told t address ≡ 0
-    told-others address from other = elim (cases_lt address (length t.cells)) [
+    told-others address from other = elim (cases_lt address t.memory) [
       | inl within ↦ told-cell address within ∙ table.above address from
       | inr past ↦ told-past address past ∙ ap (λ (o : Option ℕ). told_outside o address) is ∙ ap (λ b. if b then 1 else 0) (ne_eqb there address other)
     ]

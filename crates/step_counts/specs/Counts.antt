@@ -1,21 +1,16 @@
 -- Where the work of a run is: how many instructions each rank makes at each address in each superstep, and the lines that tell of it (own
 -- format: comma-separated values).
-use Rattle.std.specs.Prelude.{◌≡◌, ℕ, ◌+◌, ◌-◌, ◌^◌, ◌==◌, zero, suc, nat_lt, List, [], ◌∷◌, ◌++◌, codes, count_by, flat_map, map, if◌then◌else◌, is_some}
+use Rattle.std.specs.Prelude.{◌≡◌, ℕ, ◌+◌, ◌-◌, ◌^◌, ◌==◌, zero, suc, nat_lt, List, [], ◌++◌, codes, count_by, flat_map, map, if◌then◌else◌, is_some}
 use Rattle.std.specs.Fmt.{decimal}
 use Rattle.std.specs.List.{range_with_len}
 use Rattle.rv_listing.specs.Numerals.{eight_digits}
-use Rattle.node_core.specs.Node.{NodeState, is_running, local_step}
+use Rattle.node_core.specs.Addresses.{next_addresses}
+use Rattle.node_core.specs.Node.{NodeState}
 use Rattle.machine_core.specs.Machine.{MachineState}
 use Rattle.machine_core.specs.Turn.{superstep}
 
--- the addresses of a node's next steps, in their order, k of them at most and only as long as it runs. The address of a step is pc before
--- it, that of the first byte of its instruction. A step that ends in a fault, and a call, is a step as any other
-unfoldable pub next_addresses : List ℕ → ℕ → NodeState → List ℕ
-next_addresses input zero n = []
-next_addresses input (suc k) n =
-    if is_running n.state then n.hart.pc ∷ next_addresses input k (local_step input n) else []
-
--- those of its local part of the superstep, in which it steps until it does not run. It has no more ticks left than these
+-- the addresses of the steps of a node's local part of the superstep, in which it steps until it does not run. It has no more ticks left
+-- than these
 abbrev pub addresses : List ℕ → NodeState → List ℕ
 addresses input n = next_addresses input (n.limit - n.ticks) n
 

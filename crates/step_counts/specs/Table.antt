@@ -3,7 +3,9 @@
 use Rattle.std.specs.Prelude.{◌≡◌, ℕ, ◌^◌, ◌<◌, ◌≤◌, ◌==◌, nat_lt, List, length, slice_index, Option, Some, None, if◌then◌else◌}
 
 pub record TableState : Type 0 where
-  -- a count for each address of the memory
+  -- how many bytes the memory has
+  pub memory : ℕ
+  -- a count for each address up to some one of the memory; those behind it have none
   pub cells : List ℕ
   -- no address before `low`, and none from `high` on, has a count
   pub low : ℕ
@@ -18,7 +20,7 @@ told_outside (Some there) address = if there == address then 1 else 0
 
 -- the count of an address
 abbrev pub told : TableState → ℕ → ℕ
-told t address = if nat_lt address (length t.cells) then slice_index t.cells address else told_outside t.outside address
+told t address = if nat_lt address t.memory then slice_index t.cells address else told_outside t.outside address
 
 -- no step is counted
 pub record IsEmpty (t : TableState) : Type 0 where
@@ -26,9 +28,10 @@ pub record IsEmpty (t : TableState) : Type 0 where
   pub outside : t.outside ≡ None
 
 pub record IsTable (t : TableState) : Type 0 where
-  pub few : length t.cells ≤ 2 ^ 32
-  pub low : t.low ≤ length t.cells
+  pub few : t.memory ≤ 2 ^ 32
+  pub within : length t.cells ≤ t.memory
+  pub low : t.low ≤ t.memory
   pub high : t.high ≤ length t.cells
-  pub below : (k : ℕ) → k < t.low → k < length t.cells → slice_index t.cells k ≡ 0
+  pub below : (k : ℕ) → k < t.low → slice_index t.cells k ≡ 0
   pub above : (k : ℕ) → t.high ≤ k → slice_index t.cells k ≡ 0
-  pub outside : (address : ℕ) → t.outside ≡ Some address → (length t.cells ≤ address) × (address < 2 ^ 32)
+  pub outside : (address : ℕ) → t.outside ≡ Some address → (t.memory ≤ address) × (address < 2 ^ 32)

@@ -1,6 +1,6 @@
 //! Where the work of a run is: how many instructions each rank made at each address in each superstep.
 //!
-//! [`run`] is one more scheduler over single events of a machine: it makes a step of a rank, and counts it at the address where it was made.
+//! [`run`] is one more scheduler over the events of a machine: it makes steps of a rank, and counts each at the address where it was made.
 //! The text that it answers is the lines of a table of comma-separated values. No other run knows of counts.
 //!
 //! What callers may rely on:
@@ -9,7 +9,7 @@
 //!   the supersteps that were made, and no others.
 //! - Where memory is refused there is no text, and the machine is one that events lead to: any run can go on with it.
 //! - The counts of a rank in a superstep add up to its ticks in that superstep ([`laws`]).
-//! - A run takes eight bytes for each byte of one node's memory, beside the text.
+//! - A run takes eight bytes for each address up to the highest page in which a step is made, once for all nodes, beside the text.
 #![tactic(auto)]
 
 pub mod laws;

@@ -1,28 +1,30 @@
-//! The local parts of a superstep, step by step, and their counts.
+//! The local parts of a superstep, and the counts of their steps.
 
-ghost use Rattle.std.specs.Prelude.{◌≡◌, ℕ, ◌^◌, ◌++◌, false, length, replicate, string_bytes, OnErr, OnOk};
+ghost use Rattle.std.specs.Prelude.{◌≡◌, ℕ, ◌^◌, ◌++◌, false, replicate, string_bytes, OnErr, OnOk};
 ghost use Rattle.machine_core.specs.declared.event.Event.TheVariants.{Step as step_of};
 ghost use Rattle.machine_core.specs.Events.{after, is_enabled};
 ghost use Rattle.machine_core.specs.Sound.{IsSoundMachine};
 ghost use Rattle.machine_core.specs.Turn.{with_phases};
 ghost use Rattle.machine_core.specs.Walk.{IsOnPhase};
 ghost use Rattle.step_counts.specs.Counts.{count_in, lines_below, superstep_lines};
-ghost use Rattle.step_counts.specs.Parts.{addresses_at, next_address as next_address_of};
+ghost use Rattle.step_counts.specs.Parts.{addresses_at};
 ghost use Rattle.step_counts.specs.Table.{told, IsEmpty};
 
 use crate::table::Table;
-use machine_core::{Event, Machine};
+use machine_core::Machine;
 use std::alloc::{AllocError, Allocator};
 
-/// The address of the next step of a rank, if it runs.
-fn next_address<A: Allocator>(machine: &Machine<A>, rank: u32) -> Option<u32>
-    ensures { result ≡ next_address_of machine.now rank }
+/// So many addresses are taken from the machine at a time.
+// Their slice lies in the frame.
+const MANY: usize = 256;
+
+/// Whether a rank runs.
+fn runs<A: Allocator>(machine: &Machine<A>, rank: u32) -> bool
+    ensures { result ≡ is_enabled machine.now (step_of rank) }
 {
-    let node = machine.node(rank)?;
-    if node.state().is_running() {
-        Some(node.pc())
-    } else {
-        None
+    match machine.node(rank) {
+        Some(node) => node.state().is_running(),
+        None => false,
     }
 }
 
@@ -36,16 +38,19 @@ fn count_steps<A: Allocator + Copy>(
     table: &mut Table<A>,
 ) -> Result<(), AllocError>
     requires sound { IsSoundMachine machine.old }
-    requires size { length table.old.cells ≡ machine.old.settings.memory }
+    requires memory { table.old.memory ≡ machine.old.settings.memory }
     requires empty { IsEmpty table.old }
     ensures made { (k : ℕ) × (machine.new ≡ after machine.old (replicate k (step_of rank))) }
     ensures stopped { OnOk result (is_enabled machine.new (step_of rank) ≡ false) }
     ensures told { OnOk result ((address : ℕ) → told table.new address ≡ count_in (addresses_at machine.old rank) address) }
-    ensures size { length table.new.cells ≡ length table.old.cells }
+    ensures memory { table.new.memory ≡ table.old.memory }
 {
-    while let Some(address) = next_address(machine, rank) {
-        machine.apply(Event::Step(rank))?;
-        table.add(address);
+    let mut pcs = [0; MANY];
+    while runs(machine, rank) {
+        let made = machine.run_node_traced(rank, &mut pcs)?;
+        for place in 0..made {
+            table.add(pcs[place])?;
+        }
     }
     Ok(())
 }
@@ -61,12 +66,12 @@ fn count_part<A: Allocator + Copy>(
     text: &mut String<A>,
 ) -> Result<(), AllocError>
     requires sound { IsSoundMachine machine.old }
-    requires size { length table.old.cells ≡ machine.old.settings.memory }
+    requires memory { table.old.memory ≡ machine.old.settings.memory }
     ensures made { (k : ℕ) × (machine.new ≡ after machine.old (replicate k (step_of rank))) }
     ensures stopped { OnOk result (is_enabled machine.new (step_of rank) ≡ false) }
     ensures text { OnOk result (string_bytes text.new ≡ string_bytes text.old
         ++ lines_below (2 ^ 32) machine.old.exchanges rank (count_in (addresses_at machine.old rank))) }
-    ensures size { length table.new.cells ≡ length table.old.cells }
+    ensures memory { table.new.memory ≡ table.old.memory }
 {
     table.clear();
     count_steps(machine, rank, table)?;
@@ -82,11 +87,11 @@ pub(crate) fn count_parts<A: Allocator + Copy>(
     table: &mut Table<A>,
     text: &mut String<A>,
 ) -> Result<(), AllocError>
-    requires size { length table.old.cells ≡ machine.old.settings.memory }
+    requires memory { table.old.memory ≡ machine.old.settings.memory }
     ensures ok { OnOk result (machine.new ≡ with_phases machine.old) }
     ensures text { OnOk result (string_bytes text.new ≡ string_bytes text.old ++ superstep_lines machine.old) }
     ensures err { OnErr result (IsOnPhase machine.old machine.new) }
-    ensures size { length table.new.cells ≡ length table.old.cells }
+    ensures memory { table.new.memory ≡ table.old.memory }
 {
     for rank in 0..machine.settings().nodes {
         count_part(machine, rank, table, text)?;

@@ -23,7 +23,7 @@ pub fn run<A: Allocator + Copy>(alloc: A, machine: &mut Machine<A>) -> Result<St
     ensures counts { IfOk result (λ text. string_bytes text ≡ counts_of machine.old) }
     ensures err { OnErr result ((k : ℕ) × (machine.new ≡ walked k machine.old)) }
 {
-    let mut table = Table::new(alloc, machine.settings().memory)?;
+    let mut table = Table::new(alloc, machine.settings().memory);
     let mut text = String::from_str(alloc, HEADER)?;
     while machine.outcome().is_none() {
         count_parts(machine, &mut table, &mut text)?;

@@ -6,6 +6,7 @@ ghost use Rattle.machine_core.specs.declared.event.Event.TheVariants.{Turn as th
 ghost use Rattle.machine_core.specs.Events.{event as event_of};
 ghost use Rattle.machine_core.specs.Landing.{row_landed};
 
+use crate::clock::{closed_with, set_clocks};
 use crate::machine::Machine;
 use crate::row;
 use crate::settings::Settings;
@@ -51,7 +52,7 @@ impl<A: Allocator> Model for Lander<A> {
 impl<A: Allocator> Lander<A> {
     /// The machine after its turn. The caller's condition is that each part has landed in its node; by whom, and in which order of the
     /// nodes, does not matter. No memory is taken.
-    pub fn finish(self, row: Vec<Node<A>, A>) -> Machine<A>
+    pub fn finish(self, mut row: Vec<Node<A>, A>) -> Machine<A>
         requires { states row.items ≡ row_landed self.nodes }
         ensures turned { result ≡ event_of self the_turn }
         ensures going { result.outcome ≡ None }
@@ -68,8 +69,10 @@ impl<A: Allocator> Lander<A> {
             cost,
             before: _,
         } = self;
+        let closed = closed_with(settings.clock, &ledger, &cost, &row);
         ledger.add_prepared(cost);
         row::note_ticks(&row, &mut started);
+        set_clocks(&mut row, closed);
         Machine {
             alloc,
             settings,

@@ -7,7 +7,7 @@ ghost use Rattle.std.specs.Prelude.{◌≡◌, [], IfOk, OnErr};
 ghost use Rattle.node_memory.specs.Pages.{KeepsOwn};
 
 use super::Hart;
-use crate::call::Call;
+use crate::call::{CLOCK, Call};
 use crate::state::{Fault, State};
 use bsp_requests::MAX_BYTES;
 use node_memory::WriteError;
@@ -32,6 +32,7 @@ const ECALL_BYTES: u32 = 4;
 impl<A: Allocator + Copy> Hart<A> {
     ghost use Rattle.node_core.specs.Hart.{advanced, goes_on, room_after};
     ghost use Rattle.node_core.specs.Calls.{named_call, call_effect, ecall_effect, answers, output_checks, output_effect, checked};
+    ghost use Rattle.node_core.specs.Clock.{clocked, tells};
     ghost use Rattle.node_core.specs.Calls.{MayRefuseCall, MayRefuseEcall, HaveNoFault};
 
     /// The call whose number is in a7.
@@ -101,6 +102,36 @@ impl<A: Allocator + Copy> Hart<A> {
     {
         self.advance();
         after
+    }
+
+    /// What the instruction at pc comes to that has left the hart in the state `after`, where the node's clock shows this time, if it
+    /// has one: the call that reads the clock is answered, by the low word of the time in a0 and the high one in a1.
+    // For speed: out of line, since few instructions stop a node.
+    #[cold]
+    #[inline(never)]
+    pub(crate) fn clocked(&mut self, after: State, time: Option<u64>) -> State
+        ensures hart { clocked time (record { hart = self.old.hart; state = after })
+            ≡ record { hart = self.new.hart; state = result } }
+        ensures communication { self.new.hart.communication ≡ self.old.hart.communication }
+        ensures rest { self.new ≡ record self.old { hart = self.new.hart } }
+    {
+        match time {
+            Some(time) if after == State::Faulted(Fault::UnknownCall) && self.reg(A7) == CLOCK => {
+                self.tell(time)
+            }
+            _ => after,
+        }
+    }
+
+    /// Goes on after the ECALL, with the low word of `time` in a0 and the high one in a1.
+    fn tell(&mut self, time: u64) -> State
+        ensures hart { tells time self.old.hart ≡ record { hart = self.new.hart; state = result } }
+        ensures communication { self.new.hart.communication ≡ self.old.hart.communication }
+        ensures rest { self.new ≡ record self.old { hart = self.new.hart } }
+    {
+        self.set_reg(A0, (time % 0x1_0000_0000) as u32);
+        self.set_reg(A1, (time / 0x1_0000_0000) as u32);
+        self.advance()
     }
 
     /// The calls that append a1 bytes at a0 to the output, and leave the node in the state `after`.

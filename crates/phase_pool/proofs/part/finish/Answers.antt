@@ -1,8 +1,17 @@
-use Rattle.std.proofs.Common.{◌+◌, ◌||◌, sym, ap₂, ◌∙◌, arith}
+use Rattle.std.proofs.Common.{◌+◌, ◌||◌, refl, sym, ap₂, ◌∙◌, arith}
+use Rattle.std.proofs.lemmas.List.Elements.{All-nil}
 use Rattle.std.proofs.lemmas.List.{drop-set-lt, length-set}
 use Rattle.phase_pool.proofs.Refusals.{none_of, on_ok_unless}
 use Rattle.phase_pool.proofs.Works.{IsWorked-next, IsWorked-all, drop_one_more}
 use Rattle.phase_pool.proofs.part.finish.Goals as goal
+
+pub loop-place-init : goal.loop-place-init
+loop-place-init g c = record {
+  work = record { stepped = tt; ok = λ fine. All-nil _; come = All-nil _ };
+  rest = refl;
+  length = refl;
+  no_worker = refl;
+}
 
 pub loop-place-preserved : goal.loop-place-preserved
 loop-place-preserved g c =

@@ -10,7 +10,7 @@ use Rattle.step_counts.proofs.Parting.{Parting-done, Parting-more, Parting-start
 use Rattle.step_counts.proofs.parts.count_parts.Goals as goal
 
 pub loop-rank-init : goal.loop-rank-init
-loop-rank-init g c = record { parting = Parting-start c.args.machine.now c.settings-rank-end.ensures.sound; text = sym (append-nil (string_bytes c.args.text.now)); size = refl }
+loop-rank-init g c = record { parting = Parting-start c.args.machine.now c.settings-rank-end.ensures.sound; text = sym (append-nil (string_bytes c.args.text.now)); memory = refl }
 
 pub returns-in_err-count_part-clause-err : goal.returns-in_err-count_part-clause-err
 returns-in_err-count_part-clause-err g c =
@@ -33,7 +33,7 @@ loop-rank-preserved g c =
       parting = Parting-more old m c.count_part.new.machine rank so_far.parting made.0 made.1 c.in_ok-count_part.ensures.stopped;
       text = next_piece (node_lines old) old.nodes rank node.0 (string_bytes c.args.text.now) (string_bytes c.loop-rank.text) (string_bytes c.count_part.new.text) node.1 so_far.text
           (c.in_ok-count_part.ensures.text ∙ ap (λ (ls : List ℕ). string_bytes c.loop-rank.text ++ ls) (lines-at old m c.count_part.new.machine rank so_far.parting node.0 sound node.1));
-      size = c.count_part.ensures.size ∙ so_far.size;
+      memory = c.count_part.ensures.memory ∙ so_far.memory;
     }
 
 pub returns-clause-ok : goal.returns-clause-ok

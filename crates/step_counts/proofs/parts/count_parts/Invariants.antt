@@ -1,4 +1,4 @@
-use Rattle.std.proofs.Common.{◌≡◌, ◌++◌, take, length, string_bytes}
+use Rattle.std.proofs.Common.{◌≡◌, ◌++◌, take, string_bytes}
 use Rattle.std.specs.Prelude.{flat_map}
 use Rattle.step_counts.specs.Counts.{node_lines}
 use Rattle.step_counts.proofs.Parting.{Parting}
@@ -8,5 +8,5 @@ abbrev pub invariant-loop-rank : goal.invariant-loop-rank
 invariant-loop-rank g l = record {
   parting : Parting l.initial.machine l.machine l.rank;
   text : string_bytes l.text ≡ string_bytes l.initial.text ++ flat_map (node_lines l.initial.machine) (take l.rank l.initial.machine.nodes);
-  size : length l.table.cells ≡ length l.initial.table.cells;
+  memory : l.table.memory ≡ l.initial.table.memory;
 }

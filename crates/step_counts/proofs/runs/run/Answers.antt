@@ -14,14 +14,9 @@ use Rattle.step_counts.specs.Counts.{lines_of}
 use Rattle.step_counts.proofs.Rest.{lines_appended, lines_over}
 use Rattle.step_counts.proofs.runs.run.Goals as goal
 
-pub returns-in_err-table-clause-err : goal.returns-in_err-table-clause-err
-returns-in_err-table-clause-err g c =
-    let p = err_from_is_err_and c.from_residual.result c.from_residual.ensures.1 in
-    rw p.1 (0, sym (walked-zero c.args.machine.now))
-
 pub returns-in_err-text-clause-err : goal.returns-in_err-text-clause-err
 returns-in_err-text-clause-err g c =
-    let p = err_from_is_err_and c.from_residual-in_err-text.result c.from_residual-in_err-text.ensures.1 in
+    let p = err_from_is_err_and c.from_residual.result c.from_residual.ensures.1 in
     rw p.1 (0, sym (walked-zero c.args.machine.now))
 
 pub loop-machine-init : goal.loop-machine-init
@@ -29,7 +24,7 @@ loop-machine-init g c = record {
   so_far = (0, sym (walked-zero c.args.machine.now));
   same_end = refl;
   lines = refl;
-  size = c.in_ok-table.ensures ∙ ap (λ (s : Settings). s.memory) c.settings.ensures.value;
+  memory = c.new-table.ensures ∙ ap (λ (s : Settings). s.memory) c.settings.ensures.value;
 }
 
 pub returns-in_err-count_parts-clause-err : goal.returns-in_err-count_parts-clause-err
@@ -57,7 +52,7 @@ loop-machine-preserved g c =
       so_far = IsWalked-superstep c.args.machine.now m c.turn.new.self sound open_yet so_far.so_far turned;
       same_end = ap end_of made ∙ end_of-superstep m sound ∙ so_far.same_end;
       lines = lines_appended m c.turn.new.self (string_bytes c.loop-machine.text) (string_bytes c.count_parts.new.text) _ sound open_yet made c.in_ok-count_parts.ensures.text so_far.lines;
-      size = c.count_parts.ensures.size ∙ so_far.size ∙ sym (ap (λ (x : MachineState). x.settings.memory) made ∙ ap (λ (s : Settings). s.memory) (settings-superstep m));
+      memory = c.count_parts.ensures.memory ∙ so_far.memory ∙ sym (ap (λ (x : MachineState). x.settings.memory) made ∙ ap (λ (s : Settings). s.memory) (settings-superstep m));
     }
 
 pub returns-in_err-turn-clause-err : goal.returns-in_err-turn-clause-err

@@ -9,7 +9,7 @@ invariant-loop-machine g l = record {
   so_far : IsWalked l.initial.machine l.machine;
   same_end : end_of l.machine ≡ end_of l.initial.machine;
   lines : string_bytes l.text ++ lines_of l.machine ≡ string_bytes l.initial.text ++ lines_of l.initial.machine;
-  size : length l.table.cells ≡ l.machine.settings.memory;
+  memory : l.table.memory ≡ l.machine.settings.memory;
 }
 
 abbrev pub decreases-loop-machine : goal.decreases-loop-machine

@@ -4,7 +4,6 @@ use Rattle.node_memory.specs.Bytes.{fits}
 use Rattle.node_core.specs.Calls.{first_message}
 use Rattle.node_core.specs.Hart.{After}
 use Rattle.node_core.specs.Inside.{hart_view}
-use Rattle.node_core.proofs.Answered.{on_err}
 use Rattle.node_core.proofs.Harts.{Keeps-memory, Keeps-taken}
 use Rattle.node_core.proofs.Moves.{IsMove, IsMove-read, move-none, move-outside, move-refuses, move-done}
 use Rattle.node_core.proofs.NotWritten.{not_written-ok, not_written-refuses, true-unless}

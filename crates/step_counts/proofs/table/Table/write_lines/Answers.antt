@@ -1,5 +1,5 @@
 -- The addresses within the memory, and then the one past it.
-use Rattle.std.proofs.Common.{◌≡◌, ◌<◌, ◌∙◌, ◌++◌, ◌^◌, List, ℕ, None, Some, length, get_or, ap, sym, subst, arith, append_assoc, append-nil, string_bytes}
+use Rattle.std.proofs.Common.{◌≡◌, ◌+◌, ◌<◌, ◌≤◌, ◌∙◌, ◌++◌, ◌^◌, List, ℕ, None, Some, length, get_or, ap, sym, subst, arith, append_assoc, append-nil, string_bytes}
 use Rattle.std.proofs.lemmas.List.{get_or_default}
 use Rattle.step_counts.specs.Counts.{line_of, lines_below}
 use Rattle.step_counts.specs.Table.{TableState, IsTable, told}
@@ -30,10 +30,11 @@ loop-address-preserved g c =
     let n = c.index.result.now in
     let below : address < t.high = omega (arith, c.loop-address-test.true, high) in
     let inside : address < length t.cells = omega (arith, below, table.high) in
+    let address_within : address + 1 ≤ t.memory = omega (arith, inside, table.within) in
     let is : n ≡ told t address =
     c.index.ensures ∙ ap (λ (cs : List ℕ). get_or cs address n) cells ∙ get_or_default t.cells address n 0 inside ∙ told-at t table address below in
     record {
-      within = omega (arith, inside);
+      within = address_within;
       text = next_below c.args.superstep c.args.rank (told t) address n (string_bytes c.args.text.now) (string_bytes c.loop-address.text) (string_bytes c.write_count.new.text)
           is c.loop-address.invariant.text c.in_ok-write_count.ensures;
     }

@@ -1,4 +1,4 @@
-use Rattle.std.proofs.Common.{◌≡◌, ◌≤◌, ◌++◌, length, string_bytes}
+use Rattle.std.proofs.Common.{◌≡◌, ◌≤◌, ◌++◌, string_bytes}
 use Rattle.step_counts.specs.Counts.{lines_below}
 use Rattle.step_counts.specs.Table.{told}
 use Rattle.step_counts.proofs.table.Table.write_lines.Given as goal
@@ -6,6 +6,6 @@ use Rattle.step_counts.proofs.table.Table.write_lines.Given as goal
 -- the lines of the addresses below this one are written
 abbrev pub invariant-loop-address : goal.invariant-loop-address
 invariant-loop-address g l = record {
-  within : l.address ≤ length l.self.cells;
+  within : l.address ≤ l.self.memory;
   text : string_bytes l.text ≡ string_bytes l.initial.text ++ lines_below l.address l.superstep l.rank (told l.self);
 }

@@ -1,0 +1,37 @@
+use Rattle.std.proofs.Common.{◌≡◌, length, sym, ap, ◌∙◌, arith}
+use Rattle.std.proofs.lemmas.List.{length-map}
+use Rattle.node_core.specs.Node.{PreparedNode}
+use Rattle.machine_core.specs.Machine.{MachineState}
+use Rattle.machine_core.proofs.Addresses.{addresses-absent}
+use Rattle.machine_core.proofs.Runs.{steps-absent}
+use Rattle.machine_core.proofs.machine.Machine.run_node_traced.Goals as goal
+
+pub returns-then-rank-len-clause-ok : goal.returns-then-rank-len-clause-ok
+returns-then-rank-len-clause-ok g c =
+    let long : c.len.result ≡ length c.args.self.now.nodes =
+    c.len.ensures ∙ c.self.inside.nodes.ok.0 ∙ sym (length-map c.self.inside.nodes.items (λ (p : PreparedNode). p.node)) ∙ ap (λ (m : MachineState). length m.nodes) c.self.view_is in
+    steps-absent (length c.args.pcs.now) c.args.self.now c.args.rank (omega (arith, long, c.if-rank-len.true))
+
+pub run_traced_at-requires : goal.run_traced_at-requires
+run_traced_at-requires g c =
+    let long : c.len.result ≡ length c.args.self.now.nodes =
+    c.len.ensures ∙ c.self.inside.nodes.ok.0 ∙ sym (length-map c.self.inside.nodes.items (λ (p : PreparedNode). p.node)) ∙ ap (λ (m : MachineState). length m.nodes) c.self.view_is in
+    omega (arith, long, c.if-rank-len.false)
+
+pub returns-clause-ok : goal.returns-clause-ok
+returns-clause-ok g c = c.run_traced_at.ensures.ok
+
+pub returns-clause-err : goal.returns-clause-err
+returns-clause-err g c = c.run_traced_at.ensures.err
+
+pub returns-clause-refuses : goal.returns-clause-refuses
+returns-clause-refuses g c = c.run_traced_at.ensures.refuses
+
+pub returns-then-rank-len-clause-addresses : goal.returns-then-rank-len-clause-addresses
+returns-then-rank-len-clause-addresses g c =
+    let long : c.len.result ≡ length c.args.self.now.nodes =
+    c.len.ensures ∙ c.self.inside.nodes.ok.0 ∙ sym (length-map c.self.inside.nodes.items (λ (p : PreparedNode). p.node)) ∙ ap (λ (m : MachineState). length m.nodes) c.self.view_is in
+    sym (addresses-absent c.args.self.now.input c.args.rank (length c.args.pcs.now) c.args.self.now.nodes (omega (arith, long, c.if-rank-len.true)))
+
+pub returns-clause-addresses : goal.returns-clause-addresses
+returns-clause-addresses g c = c.run_traced_at.ensures.addresses

@@ -1,0 +1,63 @@
+use Rattle.std.proofs.Common.{◌≡◌, ℕ, List, length, sym, ap, ap₂, ◌∙◌, arith}
+use Rattle.std.proofs.lemmas.List.{length-map, with_items_is}
+use Rattle.std.proofs.lemmas.Result.{on_ok_weaker, on_err_weaker}
+use Rattle.node_core.specs.Node.{NodeState, PreparedNode}
+use Rattle.bsp_exchange.specs.Exchange.{states}
+use Rattle.machine_core.specs.Events.{after, next_addresses_at}
+use Rattle.machine_core.specs.Inside.{machine_view}
+use Rattle.machine_core.specs.Machine.{MachineState}
+use Rattle.machine_core.proofs.Addresses.{if_ok_weaker}
+use Rattle.machine_core.proofs.Runs.{steps_of, with-steps, sound-steps, may_refuse}
+use Rattle.machine_core.proofs.machine.Machine.run_traced_at.Goals as goal
+
+pub run_traced_at-requires : goal.run_traced_at-requires
+run_traced_at-requires g c =
+    let long : length c.args.self.now.nodes ≡ length c.deref_mut.result.now =
+    ap (λ (m : MachineState). length m.nodes) (sym c.self.view_is) ∙ length-map c.self.inside.nodes.items (λ (p : PreparedNode). p.node) ∙ sym (ap length c.deref_mut.ensures.value) in
+    rw (← long) c.requires
+
+pub invariant_of-self : goal.invariant_of-self
+invariant_of-self g c =
+    let row = with_items_is c.self.inside.nodes c.run_traced_at.new.nodes (omega arith) in
+    sound-steps (machine_view c.self.inside) c.deref.result.now (states c.deref_mut.result.now) (states c.run_traced_at.new.nodes) _ c.args.rank
+    c.deref.ensures.value (ap states c.deref_mut.ensures.value) (ap states row)
+    c.run_traced_at.result (length c.args.pcs.now) c.self.invariant c.run_traced_at.ensures.ok c.run_traced_at.ensures.err
+
+pub returns-clause-ok : goal.returns-clause-ok
+returns-clause-ok g c =
+    let row = with_items_is c.self.inside.nodes c.run_traced_at.new.nodes (omega arith) in
+    on_ok_weaker c.run_traced_at.result
+    (λ made. with-steps (machine_view c.self.inside) c.deref.result.now (states c.deref_mut.result.now) (states c.run_traced_at.new.nodes) _ c.args.rank
+    c.deref.ensures.value (ap states c.deref_mut.ensures.value) (ap states row) (length c.args.pcs.now) made
+    ∙ ap (λ (m : MachineState). after m (steps_of c.args.rank (length c.args.pcs.now))) c.self.view_is)
+    c.run_traced_at.ensures.ok
+
+pub returns-clause-err : goal.returns-clause-err
+returns-clause-err g c =
+    let row = with_items_is c.self.inside.nodes c.run_traced_at.new.nodes (omega arith) in
+    on_err_weaker c.run_traced_at.result
+    (λ made. (
+      made.0,
+      made.1,
+      with-steps (machine_view c.self.inside) c.deref.result.now (states c.deref_mut.result.now) (states c.run_traced_at.new.nodes) _ c.args.rank
+          c.deref.ensures.value (ap states c.deref_mut.ensures.value) (ap states row) made.0 made.2
+          ∙ ap (λ (m : MachineState). after m (steps_of c.args.rank made.0)) c.self.view_is,
+    ))
+    c.run_traced_at.ensures.err
+
+pub returns-clause-refuses : goal.returns-clause-refuses
+returns-clause-refuses g c =
+    let row = with_items_is c.self.inside.nodes c.run_traced_at.new.nodes (omega arith) in
+    on_err_weaker c.run_traced_at.result
+    (λ may. may_refuse c.deref.result.now _ (states c.run_traced_at.new.nodes) _ c.args.rank c.deref.ensures.value (ap states row) may)
+    c.run_traced_at.ensures.refuses
+
+pub returns-clause-addresses : goal.returns-clause-addresses
+returns-clause-addresses g c =
+    let rank = c.args.rank in
+    let k = length c.args.pcs.now in
+    if_ok_weaker c.run_traced_at.result _ _
+    (λ made those. those
+    ∙ ap₂ (λ (i : List ℕ) (xs : List NodeState). next_addresses_at i rank k xs) c.deref.ensures.value (ap states c.deref_mut.ensures.value)
+    ∙ ap (λ (m : MachineState). next_addresses_at m.input rank k m.nodes) c.self.view_is)
+    c.run_traced_at.ensures.addresses

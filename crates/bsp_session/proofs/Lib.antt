@@ -1,3 +1,4 @@
+pub mod ContestedErrors
 pub mod Conversions
 pub mod CountedErrors
 pub mod Jobs

@@ -1,5 +1,5 @@
 -- The errors of a session that writes while the run goes on, by the stage that ended it.
-use Rattle.std.proofs.Common.{◌≡◌, ◌⊎◌, ℕ, inl, inr, ◌+◌, ◌<◌, ◌≤◌, List, [], ◌++◌, length, take, Option, Some, None, Result, Ok, Err, refl, sym, ap, subst, ◌∙◌, arith, true, append_assoc, append-nil, length-append}
+use Rattle.std.proofs.Common.{◌≡◌, ◌⊎◌, ℕ, inl, inr, ◌+◌, ◌<◌, ◌≤◌, List, [], ◌++◌, length, take, Option, Some, None, Result, Ok, Err, refl, sym, ap, ◌∙◌, arith, true, append_assoc, append-nil, length-append}
 use Rattle.std.specs.Prelude.{IfErr, IfOk, IsErrOf, ◌↔◌}
 use Rattle.std.specs.Fn.{iterate}
 use Rattle.std.specs.Io.KnownBytes.{Appends}
@@ -19,7 +19,7 @@ use Rattle.bsp_session.specs.Live.{AppendsSome, FailsAt, IsErrorOfLive, IsErrorO
 use Rattle.bsp_session.specs.Outcome.{error_of_pool}
 use Rattle.bsp_session.specs.Profiles.{StartsAt}
 use Rattle.bsp_session.specs.Report.{report_lines, report_of}
-use Rattle.bsp_session.specs.Session.{IsErrorOf, IsErrorOfFiles, IsErrorOfRun, ReadsBoth, Session, job_fault}
+use Rattle.bsp_session.specs.Session.{IsErrorOfFiles, IsErrorOfRun, ReadsBoth, Session, job_fault}
 use Rattle.bsp_session.specs.Streams.{IsUntouched, Stream}
 use Rattle.bsp_session.proofs.Supersteps.{extends-end, output-open}
 use Rattle.bsp_session.proofs.Outputs.{HasRisen-above}

@@ -1,3 +1,4 @@
+pub mod Contested
 pub mod Conversion
 pub mod Counts
 pub mod Images

@@ -8,7 +8,7 @@ use Rattle.clap.specs.Words.{ReadsOne, Row, one_of, one_text, Text, rows_of}
 use Rattle.clap.specs.declared.parser.matches.Found.{Found}
 use Rattle.clap.proofs.WalkLemmas.{one_text-rows}
 use Rattle.cost_ledger.specs.declared.LedgerText.{LedgerText}
-use Rattle.bspemu.specs.Options.{GivesFlag, GivesLedger, GivesNumber, IsNeverMet, number_of_ledger}
+use Rattle.bspemu.specs.Options.{GivesClock, GivesFlag, GivesLedger, GivesNumber, GivesPrices, IsNeverMet, number_of_ledger}
 
 pub none≢some : {t : Text} → ◌≡◌ {A = Option Text} None (Some t) → ⊥
 none≢some e = cc
@@ -98,3 +98,14 @@ one_flag true false value first second =
 one_flag false true value first second =
     let bad : codes "false" ≡ codes "true" = same_text (sym first ∙ second) in
     cc
+
+-- where there is no flag, or no prices beside one that is set, there is no clock
+pub no_clock_for_flag : (rows : List Row) → ((b : Bool) → GivesFlag (one_of (codes "clock") rows) b → ⊥) → IsNeverMet (GivesClock rows)
+no_clock_for_flag rows none None gives = none false gives
+no_clock_for_flag rows none (Some p) gives = none true gives.0
+
+pub no_clock_for_prices : (rows : List Row) → GivesFlag (one_of (codes "clock") rows) true → IsNeverMet (GivesPrices rows) → IsNeverMet (GivesClock rows)
+no_clock_for_prices rows flag never None gives =
+    let bad : true ≡ false = one_flag true false (one_of (codes "clock") rows) flag gives in
+    cc
+no_clock_for_prices rows flag never (Some p) gives = never p gives.1

@@ -65,18 +65,19 @@ workers_rule = checked_rule (codes "workers") in_32_bits (codes "1")
 abbrev pub slice_rule : Rule
 slice_rule = checked_rule (codes "slice") (Unsigned 0 18446744073709551615) (codes "65536")
 
--- `NAME IMAGE` with what a machine is made of, and the prices of its costs and the version in which they are told
+-- `NAME IMAGE` with what a machine is made of, the prices of its costs, the version in which they are told, and whether there are clocks
 abbrev pub machine_app : Text → NameList → App
 machine_app name formats =
-    with_rule (with_rule (with_rule (with_rule (with_rule (with_rule (with_rule (with_rule (with_rule (new_app name)
+    with_rule (with_rule (with_rule (with_rule (with_rule (with_rule (with_rule (with_rule (with_rule (with_rule (new_app name)
     (file_rule (codes "image"))) (format_rule formats)) nodes_rule) memory_rule) limit_rule) (option_rule (codes "input")))
-    g_rule) l_rule) ledger_rule
+    g_rule) l_rule) ledger_rule) (flag_rule (codes "clock"))
 
 -- `run IMAGE` with its options
 abbrev pub run_app : NameList → App
 run_app formats =
-    with_rule (with_rule (with_rule (with_rule (with_rule (with_rule (machine_app (codes "run") formats) (flag_rule (codes "report")))
-    (flag_rule (codes "live"))) workers_rule) slice_rule) (option_rule (codes "profile"))) (option_rule (codes "counts"))
+    with_rule (with_rule (with_rule (with_rule (with_rule (with_rule (with_rule (machine_app (codes "run") formats)
+    (flag_rule (codes "report"))) (flag_rule (codes "live"))) workers_rule) slice_rule) (option_rule (codes "profile")))
+    (option_rule (codes "counts"))) (option_rule (codes "contested"))
 
 -- `debug IMAGE` with its options
 abbrev pub debug_app : NameList → App

@@ -10,11 +10,12 @@ use Rattle.bsp_session.specs.declared.job.Format.{Format}
 use Rattle.bsp_session.specs.declared.job.Format.TheVariants.{Elf, Raw, Asm}
 use Rattle.cost_ledger.specs.declared.LedgerText.{LedgerText}
 use Rattle.cost_ledger.specs.declared.LedgerText.TheVariants.{V1, V2}
+use Rattle.machine_core.specs.declared.settings.Prices.{Prices}
 use Rattle.machine_core.specs.declared.settings.Settings.{Settings}
 use Rattle.bspemu.specs.declared.options.MachineOptions.{MachineOptions}
 use Rattle.bspemu.specs.declared.options.RunOptions.{RunOptions}
 use Rattle.bspemu.specs.declared.options.Telling.{Telling}
-use Rattle.bspemu.specs.declared.options.Telling.TheVariants.{AtEnd, Live, WithProfile, WithCounts}
+use Rattle.bspemu.specs.declared.options.Telling.TheVariants.{AtEnd, Live, WithProfile, WithCounts, WithContested}
 use Rattle.bspemu.specs.declared.options.DebugOptions.{DebugOptions}
 use Rattle.bspemu.specs.declared.options.ListOptions.{ListOptions}
 use Rattle.bspemu.specs.declared.options.AsmOptions.{AsmOptions}
@@ -44,12 +45,6 @@ abbrev pub GivesFlag : Option Text → Bool → Type 0
 GivesFlag value true = value ≡ Some (codes "true")
 GivesFlag value false = value ≡ Some (codes "false")
 
--- the matches of a subcommand over a machine give these settings, each from the value of its own id
-pub record GivesSettings (rows : List Row) (s : Settings) : Type 0 where
-  pub nodes : GivesNumber 32 (one_of (codes "nodes") rows) s.nodes
-  pub memory : GivesNumber 32 (one_of (codes "memory") rows) s.memory
-  pub limit : GivesNumber 64 (one_of (codes "limit") rows) s.limit
-
 -- the number of a version of the ledger
 abbrev pub number_of_ledger : LedgerText → ℕ
 number_of_ledger V1 = 1
@@ -58,6 +53,24 @@ number_of_ledger V2 = 2
 -- they give this version
 abbrev pub GivesLedger : List Row → LedgerText → Type 0
 GivesLedger rows version = GivesNumber 32 (one_of (codes "ledger") rows) (number_of_ledger version)
+
+-- they give these prices, which are those of the costs
+pub record GivesPrices (rows : List Row) (p : Prices) : Type 0 where
+  pub g : GivesNumber 32 (one_of (codes "g") rows) p.g
+  pub l : GivesNumber 32 (one_of (codes "l") rows) p.l
+  pub ledger : GivesLedger rows p.ledger
+
+-- they ask for clocks at these prices, or for none
+abbrev pub GivesClock : List Row → Option Prices → Type 0
+GivesClock rows None = GivesFlag (one_of (codes "clock") rows) false
+GivesClock rows (Some p) = GivesFlag (one_of (codes "clock") rows) true × GivesPrices rows p
+
+-- the matches of a subcommand over a machine give these settings, each from the value of its own id
+pub record GivesSettings (rows : List Row) (s : Settings) : Type 0 where
+  pub nodes : GivesNumber 32 (one_of (codes "nodes") rows) s.nodes
+  pub memory : GivesNumber 32 (one_of (codes "memory") rows) s.memory
+  pub limit : GivesNumber 64 (one_of (codes "limit") rows) s.limit
+  pub clock : GivesClock rows s.clock
 
 -- the text of a path that may be there
 abbrev pub text_of : Option (Bor Text) → Option Text
@@ -73,28 +86,33 @@ pub record GivesMachineOptions (rows : List Row) (o : MachineOptions) : Type 0 w
   pub l : GivesNumber 32 (one_of (codes "l") rows) o.job.l
   pub ledger : GivesLedger rows o.job.ledger
 
--- a flag, the path of a profile and the path of counts ask for this way to tell of a run, and for no other
-abbrev pub Tells : (live : Bool) → (profile counts : Option Text) → Telling → Type 0
-Tells live profile counts AtEnd = (live ≡ false) × (profile ≡ None) × (counts ≡ None)
-Tells live profile counts Live = (live ≡ true) × (profile ≡ None) × (counts ≡ None)
-Tells live profile counts (WithProfile path) = (live ≡ false) × (profile ≡ Some path.now) × (counts ≡ None)
-Tells live profile counts (WithCounts path) = (live ≡ false) × (profile ≡ None) × (counts ≡ Some path.now)
+-- a flag, and the paths of a profile, of counts and of what is contested, ask for this way to tell of a run, and for no other
+abbrev pub Tells : (live : Bool) → (profile counts contested : Option Text) → Telling → Type 0
+Tells live profile counts contested AtEnd = (live ≡ false) × (profile ≡ None) × (counts ≡ None) × (contested ≡ None)
+Tells live profile counts contested Live = (live ≡ true) × (profile ≡ None) × (counts ≡ None) × (contested ≡ None)
+Tells live profile counts contested (WithProfile path) =
+    (live ≡ false) × (profile ≡ Some path.now) × (counts ≡ None) × (contested ≡ None)
+Tells live profile counts contested (WithCounts path) =
+    (live ≡ false) × (profile ≡ None) × (counts ≡ Some path.now) × (contested ≡ None)
+Tells live profile counts contested (WithContested path) =
+    (live ≡ false) × (profile ≡ None) × (counts ≡ None) × (contested ≡ Some path.now)
 
 -- so do the matches of `run`
 pub record GivesTelling (rows : List Row) (t : Telling) : Type 0 where
   pub live : Bool
   pub flag : GivesFlag (one_of (codes "live") rows) live
-  pub tells : Tells live (first_of (codes "profile") rows) (first_of (codes "counts") rows) t
+  pub tells : Tells live (first_of (codes "profile") rows) (first_of (codes "counts") rows) (first_of (codes "contested") rows) t
 
--- more than one of three
-abbrev pub are_several : Bool → Bool → Bool → Bool
-are_several a b c = (a && (b || c)) || (b && c)
+-- more than one of four
+abbrev pub are_several : Bool → Bool → Bool → Bool → Bool
+are_several a b c d = (a && (b || c || d)) || (b && (c || d)) || (c && d)
 
 -- they ask for more than one way
 pub record AsksForSeveral (rows : List Row) : Type 0 where
   pub live : Bool
   pub flag : GivesFlag (one_of (codes "live") rows) live
-  pub several : are_several live (is_some (first_of (codes "profile") rows)) (is_some (first_of (codes "counts") rows)) ≡ true
+  pub several : are_several live (is_some (first_of (codes "profile") rows)) (is_some (first_of (codes "counts") rows))
+      (is_some (first_of (codes "contested") rows)) ≡ true
 
 -- the matches of `run` give these options
 pub record GivesRunOptions (rows : List Row) (o : RunOptions) : Type 0 where

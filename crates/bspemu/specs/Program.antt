@@ -14,6 +14,7 @@ use Rattle.bsp_session.specs.declared.job.Format.TheVariants.{Asm}
 use Rattle.bsp_session.specs.declared.job.Job.{Job}
 use Rattle.machine_core.specs.declared.outcome.Outcome.{Outcome}
 use Rattle.machine_core.specs.declared.outcome.Outcome.TheVariants.{Ended}
+use Rattle.bsp_session.specs.Contested.{Contests, IsErrorOfContested}
 use Rattle.bsp_session.specs.Counts.{Counts, IsErrorOfCounted}
 use Rattle.bsp_session.specs.Conversion.{AnswersAssembly, AnswersListing, Conversion, IsErrorOfAssembly, IsErrorOfListing}
 use Rattle.bsp_session.specs.Live.{IsErrorOfLive}
@@ -23,7 +24,7 @@ use Rattle.bsp_session.specs.Session.{IsErrorOf, Reports, Session as BatchSessio
 use Rattle.bsp_session.specs.Streams.{Stream}
 use Rattle.bspemu.specs.declared.options.MachineOptions.{MachineOptions}
 use Rattle.bspemu.specs.declared.options.Telling.{Telling}
-use Rattle.bspemu.specs.declared.options.Telling.TheVariants.{AtEnd, Live, WithProfile, WithCounts}
+use Rattle.bspemu.specs.declared.options.Telling.TheVariants.{AtEnd, Live, WithProfile, WithCounts, WithContested}
 use Rattle.bspemu.specs.declared.options.DebugOptions.{DebugOptions}
 use Rattle.bspemu.specs.declared.options.ListOptions.{ListOptions}
 use Rattle.bspemu.specs.declared.options.AsmOptions.{AsmOptions}
@@ -46,6 +47,7 @@ NamesFile o path = ((o.image.now ≢ codes "-") × (o.image ≡ path)) ⊎ (o.in
 abbrev pub TellsTo : Telling → Bor Text → Type 0
 TellsTo (WithProfile file) path = file ≡ path
 TellsTo (WithCounts file) path = file ≡ path
+TellsTo (WithContested file) path = file ≡ path
 TellsTo _ path = ⊥
 
 -- an outcome that a session can have which tells of its run so
@@ -54,6 +56,7 @@ IsOutcomeOf AtEnd s outcome = Reports s outcome
 IsOutcomeOf Live s outcome = Reports s outcome
 IsOutcomeOf (WithProfile file) s outcome = (profile : Stream) × Profiles s profile outcome
 IsOutcomeOf (WithCounts file) s outcome = (counts : Stream) × Counts s counts outcome
+IsOutcomeOf (WithContested file) s outcome = (contested : Stream) × Contests s contested outcome
 
 -- and an error
 abbrev pub IsErrorTold : Telling → BatchSession → SessionError → Type 0
@@ -61,6 +64,7 @@ IsErrorTold AtEnd s error = IsErrorOf s error
 IsErrorTold Live s error = IsErrorOfLive s error
 IsErrorTold (WithProfile file) s error = (profile : Stream) × IsErrorOfProfiled s profile error
 IsErrorTold (WithCounts file) s error = (counts : Stream) × IsErrorOfCounted s counts error
+IsErrorTold (WithContested file) s error = (contested : Stream) × IsErrorOfContested s contested error
 
 -- an answer that a run with these options can have which is told so, whatever its session reads and writes
 abbrev pub IsAnswerOfRun : MachineOptions → Telling → Result Outcome RunError → Type 0

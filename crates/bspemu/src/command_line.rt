@@ -106,7 +106,8 @@ fn run_command<'a>(alloc: Global, formats: &'a [&'a str]) -> Result<Command<'a>,
         .arg(workers(alloc))?
         .arg(slice(alloc))?
         .arg(profile(alloc))?
-        .arg(counts(alloc))
+        .arg(counts(alloc))?
+        .arg(contested(alloc))
 }
 
 fn debug_command<'a>(alloc: Global, formats: &'a [&'a str]) -> Result<Command<'a>, AllocError>
@@ -138,7 +139,8 @@ fn machine_command<'a>(
         .arg(input(alloc))?
         .arg(byte_price(alloc))?
         .arg(superstep_price(alloc))?
-        .arg(ledger(alloc))
+        .arg(ledger(alloc))?
+        .arg(clock(alloc))
 }
 
 fn list_command<'a>(alloc: Global, formats: &'a [&'a str]) -> Result<Command<'a>, AllocError>
@@ -308,6 +310,17 @@ fn counts<'a>(alloc: Global) -> Arg<'a>
         )
 }
 
+fn contested<'a>(alloc: Global) -> Arg<'a>
+    ensures { HasRule result (option_rule (codes "contested")) }
+{
+    Arg::new(alloc, "contested")
+        .long("contested")
+        .value_name("FILE")
+        .help(
+            "Write the bytes to which puts or gets of one superstep bring different values to FILE, as CSV; BSPlib leaves open which of them stay",
+        )
+}
+
 fn interactive<'a>(alloc: Global) -> Arg<'a>
     ensures { HasRule result (flag_rule (codes "interactive")) }
 {
@@ -365,6 +378,17 @@ fn ledger<'a>(alloc: Global) -> Arg<'a>
         "2",
         "Version of the ledger: 2, in which h leaves out what a rank moves to itself and m counts messages, or 1, in which h counts it",
     )
+}
+
+fn clock<'a>(alloc: Global) -> Arg<'a>
+    ensures { HasRule result (flag_rule (codes "clock")) }
+{
+    Arg::new(alloc, "clock")
+        .long("clock")
+        .action(ArgAction::SetTrue)
+        .help(
+            "Give each node a clock, which call 19 reads: the cost of the supersteps that are over, and its own ticks in this one",
+        )
 }
 
 fn workers<'a>(alloc: Global) -> Arg<'a>

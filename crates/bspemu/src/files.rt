@@ -93,6 +93,7 @@ pub fn open_input<'a, R: Files + Input>(
 }
 
 /// The lines that a debugger answers, where the image is at `path`: standard input, or nothing where that is the image.
+#[inline(never)]
 pub fn open_lines<R: Files + Input>(rt: &R, path: &str) -> Source<R::File, R::Reader>
     ensures { place_of result ≡ lines_place path.now }
 {

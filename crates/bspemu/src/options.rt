@@ -2,12 +2,12 @@
 
 ghost use Rattle.std.specs.Prelude.{◌≡◌, IfOk, IfErr, IfNone, IfSome, false, is_some, map, true};
 ghost use Rattle.clap.specs.Words.{found_of, kind_of, rows_of, subcommand_rows_of};
-ghost use Rattle.bspemu.specs.Options.{AsksFor, AsksForSeveral, Gives, GivesAction, GivesAsmOptions, GivesDebugOptions, GivesLedger, GivesListOptions};
-ghost use Rattle.bspemu.specs.Options.{GivesMachineOptions, GivesRunOptions, GivesSettings, GivesTelling, HasConflict, IsFaultOf, IsLack, IsNeverMet, Tells};
+ghost use Rattle.bspemu.specs.Options.{AsksFor, AsksForSeveral, Gives, GivesAction, GivesAsmOptions, GivesClock, GivesDebugOptions, GivesLedger, GivesListOptions};
+ghost use Rattle.bspemu.specs.Options.{GivesMachineOptions, GivesPrices, GivesRunOptions, GivesSettings, GivesTelling, HasConflict, IsFaultOf, IsLack, IsNeverMet, Tells};
 ghost use Rattle.bspemu.specs.Options.{are_several, name_of_format, number_of_ledger, text_of};
 
 use crate::command_line::command;
-use bsp_session::{Format, Job, LedgerText, Settings};
+use bsp_session::{Format, Job, LedgerText, Prices, Settings};
 use clap::error::ErrorKind;
 use clap::{ArgMatches, Error};
 use std::alloc::{AllocError, Global};
@@ -20,8 +20,16 @@ const LIVE_AND_PROFILE: &str = "the argument '--live' cannot be used with '--pro
 
 const LIVE_AND_COUNTS: &str = "the argument '--live' cannot be used with '--counts <FILE>'";
 
+const LIVE_AND_CONTESTED: &str = "the argument '--live' cannot be used with '--contested <FILE>'";
+
 const PROFILE_AND_COUNTS: &str =
     "the argument '--profile <FILE>' cannot be used with '--counts <FILE>'";
+
+const PROFILE_AND_CONTESTED: &str =
+    "the argument '--profile <FILE>' cannot be used with '--contested <FILE>'";
+
+const COUNTS_AND_CONTESTED: &str =
+    "the argument '--counts <FILE>' cannot be used with '--contested <FILE>'";
 
 /// What `bspemu run` and `bspemu debug` have in common.
 #[derive(Debug, Drop)]
@@ -51,6 +59,8 @@ pub enum Telling<'a> {
     WithProfile(&'a str),
     /// As at the end, and the counts of the run to this file.
     WithCounts(&'a str),
+    /// As at the end, and what is contested in the run to this file.
+    WithContested(&'a str),
 }
 
 /// What `bspemu debug` was asked to do.
@@ -170,22 +180,29 @@ fn telling_of_run<'a>(run: &ArgMatches<'a>) -> Option<Telling<'a>>
     ensures none { IfNone result (IsNeverMet (GivesTelling (rows_of (found_of run.now)))) }
 {
     let is_live = run.get_one("live")?;
-    telling_of(is_live, run.get_str("profile"), run.get_str("counts"))
+    telling_of(
+        is_live,
+        run.get_str("profile"),
+        run.get_str("counts"),
+        run.get_str("contested"),
+    )
 }
 
 fn telling_of<'a>(
     is_live: bool,
     profile: Option<&'a str>,
     counts: Option<&'a str>,
+    contested: Option<&'a str>,
 ) -> Option<Telling<'a>>
-    ensures some { IfSome result (Tells is_live (text_of profile.entry) (text_of counts.entry)) }
-    ensures none { IfNone result (IsNeverMet (Tells is_live (text_of profile.entry) (text_of counts.entry))) }
+    ensures some { IfSome result (Tells is_live (text_of profile.entry) (text_of counts.entry) (text_of contested.entry)) }
+    ensures none { IfNone result (IsNeverMet (Tells is_live (text_of profile.entry) (text_of counts.entry) (text_of contested.entry))) }
 {
-    match (is_live, profile, counts) {
-        (false, None, None) => Some(Telling::AtEnd),
-        (true, None, None) => Some(Telling::Live),
-        (false, Some(path), None) => Some(Telling::WithProfile(path)),
-        (false, None, Some(path)) => Some(Telling::WithCounts(path)),
+    match (is_live, profile, counts, contested) {
+        (false, None, None, None) => Some(Telling::AtEnd),
+        (true, None, None, None) => Some(Telling::Live),
+        (false, Some(path), None, None) => Some(Telling::WithProfile(path)),
+        (false, None, Some(path), None) => Some(Telling::WithCounts(path)),
+        (false, None, None, Some(path)) => Some(Telling::WithContested(path)),
         _ => None,
     }
 }
@@ -207,17 +224,32 @@ fn conflict_of_run(run: &ArgMatches<'_>) -> Option<&'static str>
     ensures none { IfNone result (AsksForSeveral (rows_of (found_of run.now)) → ⊥) }
 {
     let is_live = run.get_one("live")?;
-    conflict_of(is_live, run.get_str("profile"), run.get_str("counts"))
+    conflict_of(
+        is_live,
+        run.get_str("profile"),
+        run.get_str("counts"),
+        run.get_str("contested"),
+    )
 }
 
-fn conflict_of(is_live: bool, profile: Option<&str>, counts: Option<&str>) -> Option<&'static str>
-    ensures some { IfSome result (λ message. are_several is_live (is_some (text_of profile.entry)) (is_some (text_of counts.entry)) ≡ true) }
-    ensures none { IfNone result (are_several is_live (is_some (text_of profile.entry)) (is_some (text_of counts.entry)) ≡ false) }
+fn conflict_of(
+    is_live: bool,
+    profile: Option<&str>,
+    counts: Option<&str>,
+    contested: Option<&str>,
+) -> Option<&'static str>
+    ensures some { IfSome result (λ message. are_several is_live (is_some (text_of profile.entry))
+        (is_some (text_of counts.entry)) (is_some (text_of contested.entry)) ≡ true) }
+    ensures none { IfNone result (are_several is_live (is_some (text_of profile.entry))
+        (is_some (text_of counts.entry)) (is_some (text_of contested.entry)) ≡ false) }
 {
-    match (is_live, profile, counts) {
-        (true, Some(_), _) => Some(LIVE_AND_PROFILE),
-        (true, None, Some(_)) => Some(LIVE_AND_COUNTS),
-        (false, Some(_), Some(_)) => Some(PROFILE_AND_COUNTS),
+    match (is_live, profile, counts, contested) {
+        (true, Some(_), _, _) => Some(LIVE_AND_PROFILE),
+        (true, None, Some(_), _) => Some(LIVE_AND_COUNTS),
+        (true, None, None, Some(_)) => Some(LIVE_AND_CONTESTED),
+        (false, Some(_), Some(_), _) => Some(PROFILE_AND_COUNTS),
+        (false, Some(_), None, Some(_)) => Some(PROFILE_AND_CONTESTED),
+        (false, None, Some(_), Some(_)) => Some(COUNTS_AND_CONTESTED),
         _ => None,
     }
 }
@@ -291,6 +323,31 @@ fn settings_of_machine(found: &ArgMatches<'_>) -> Option<Settings>
         nodes: found.get_one("nodes")?,
         memory: found.get_one("memory")?,
         limit: found.get_one("limit")?,
+        clock: clock_of(found)?,
+    })
+}
+
+/// The prices at which clocks count, which are those of the costs, or none where no clocks are asked for.
+fn clock_of(found: &ArgMatches<'_>) -> Option<Option<Prices>>
+    ensures some { IfSome result (GivesClock (rows_of (found_of found.now))) }
+    ensures none { IfNone result (IsNeverMet (GivesClock (rows_of (found_of found.now)))) }
+{
+    let is_on: bool = found.get_one("clock")?;
+    if is_on {
+        Some(Some(prices_of(found)?))
+    } else {
+        Some(None)
+    }
+}
+
+fn prices_of(found: &ArgMatches<'_>) -> Option<Prices>
+    ensures some { IfSome result (GivesPrices (rows_of (found_of found.now))) }
+    ensures none { IfNone result (IsNeverMet (GivesPrices (rows_of (found_of found.now)))) }
+{
+    Some(Prices {
+        ledger: ledger_of(found)?,
+        g: found.get_one("g")?,
+        l: found.get_one("l")?,
     })
 }
 

@@ -14,8 +14,8 @@ use crate::options::{
 };
 use bsp_console::{debug_dialogue, debug_framed, debug_session};
 use bsp_session::{
-    Outcome, SessionError, asm_session, counts_session, list_session, live_session,
-    profile_session, session, status,
+    Outcome, SessionError, asm_session, contested_session, counts_session, list_session,
+    live_session, profile_session, session, status,
 };
 use clap::Error;
 use clap::error::ErrorKind;
@@ -151,6 +151,7 @@ fn run<'a, R: AllocGlobal + Files + Input + Print + Threads + Wait + Sync>(
         Telling::Live => run_live(rt, machine),
         Telling::WithProfile(path) => run_profiled(rt, machine, path),
         Telling::WithCounts(path) => run_counted(rt, machine, path),
+        Telling::WithContested(path) => run_contested(rt, machine, path),
     }
 }
 
@@ -252,8 +253,36 @@ fn run_counted<'a, R: AllocGlobal + Files + Input + Print>(
     Ok(outcome)
 }
 
+/// The same with what is contested in the run.
+#[inline(never)]
+fn run_contested<'a, R: AllocGlobal + Files + Input + Print + Threads + Wait + Sync>(
+    rt: &R,
+    options: &MachineOptions<'a>,
+    path: &'a str,
+) -> Result<Outcome, RunError<'a>>
+    ensures { IsAnswerOfRun options.now (Telling.WithContested path.entry) result }
+{
+    let image = open_image(rt, options.image)?;
+    let input = open_input(rt, options.input)?;
+    let mut contested = Counted::new(create_beside(rt, path, &image, &input)?);
+    let mut image = Counted::new(image);
+    let mut input = Counted::new(input);
+    let mut out = Counted::new(io::writer(rt));
+    let outcome = contested_session(
+        rt,
+        rt.alloc(),
+        &mut image,
+        &mut input,
+        &options.job,
+        &mut out,
+        &mut contested,
+    )?;
+    Ok(outcome)
+}
+
 /// Opens what the options name, first the image, and answers the lines of standard input: as they come where they are typed at a
 /// terminal, or the options say so. Whether there is a standard input shows only before a file is open.
+#[inline(never)]
 fn debug<'a, R: AllocGlobal + Files + Input<Reader: IsTerminal> + Print>(
     rt: &R,
     options: &DebugOptions<'a>,
@@ -261,9 +290,8 @@ fn debug<'a, R: AllocGlobal + Files + Input<Reader: IsTerminal> + Print>(
     ensures { IsAnswerOfDebug options.now result }
 {
     let machine = &options.machine;
-    let lines = open_lines(rt, machine.image);
-    let at_terminal = lines.is_terminal();
-    let mut lines = Counted::new(lines);
+    let mut lines = Counted::new(open_lines(rt, machine.image));
+    let at_terminal = lines.inner().is_terminal();
     let mut image = Counted::new(open_image(rt, machine.image)?);
     let mut input = Counted::new(open_input(rt, machine.input)?);
     let mut out = Counted::new(io::writer(rt));
@@ -305,6 +333,7 @@ fn answer_lines<I: Read, R: Read, C: Read, W: Write>(
 }
 
 /// Opens the image, and writes its listing.
+#[inline(never)]
 fn list<'a, R: AllocGlobal + Files + Input + Print>(
     rt: &R,
     options: &ListOptions<'a>,
@@ -318,6 +347,7 @@ fn list<'a, R: AllocGlobal + Files + Input + Print>(
 }
 
 /// Opens the text, creates the file of the image, or empties it, and saves the text's image there. The two may not be one file.
+#[inline(never)]
 fn assemble<'a, R: AllocGlobal + Files + Input>(
     rt: &R,
     options: &AsmOptions<'a>,

@@ -8,6 +8,7 @@ use Rattle.bsp_exchange.specs.Landings.{Landing, landings}
 use Rattle.contested_bytes.specs.Contested.{AreSettled, IsAllowedOrder}
 use Rattle.contested_bytes.proofs.Orders.{settled_row}
 use Rattle.machine_core.specs.declared.outcome.Outcome.{Outcome}
+use Rattle.machine_core.specs.Clock.{with_clocks}
 use Rattle.machine_core.specs.Machine.{MachineState}
 use Rattle.machine_core.specs.Turn.{outcome_of, decided, recorded, turned, with_phases, superstep, end_of}
 use Rattle.settled_runs.specs.Orders.{decided_in, turned_in, superstep_in, next_landings, RunsTo, IsSettledSuperstep, IsSettledRun}
@@ -15,7 +16,7 @@ use Rattle.settled_runs.specs.Orders.{decided_in, turned_in, superstep_in, next_
 decided-same : (order : List Landing) (m : MachineState) (o : Option Outcome) → IsAllowedOrder (landings m.nodes) order → (is_none o ≡ true → AreSettled (landings m.nodes)) → decided_in order o m ≡ decided o m
 decided-same order m (Some end) allowed settled = refl
 decided-same order m None allowed settled =
-    ap (λ (nodes : List NodeState). record m { nodes = nodes; started = map (λ (n : NodeState). n.ticks) m.nodes; exchanges = m.exchanges + 1 })
+    ap (λ (nodes : List NodeState). record m { nodes = with_clocks m.settings.clock m.ledger nodes; started = map (λ (n : NodeState). n.ticks) m.nodes; exchanges = m.exchanges + 1 })
     (settled_row m.nodes order (landings m.nodes) (settled refl) allowed (IsPermutation-refl (landings m.nodes)))
 
 turned-same : (order : List Landing) (m : MachineState) → IsAllowedOrder (landings m.nodes) order → (is_none (outcome_of m.nodes) ≡ true → AreSettled (landings m.nodes)) → turned_in order m ≡ turned m

@@ -6,13 +6,14 @@ use Rattle.node_core.specs.Node.{NodeState}
 use Rattle.bsp_exchange.specs.Landings.{Landing, landings}
 use Rattle.contested_bytes.specs.Contested.{AreSettled, IsAllowedOrder, exchanged_in}
 use Rattle.machine_core.specs.declared.outcome.Outcome.{Outcome}
+use Rattle.machine_core.specs.Clock.{with_clocks}
 use Rattle.machine_core.specs.Machine.{MachineState}
 use Rattle.machine_core.specs.Turn.{outcome_of, makes_exchange, recorded, with_phases, superstep}
 
 -- a machine after the exchange in which landings come in this order
 abbrev pub with_exchange_in : List Landing → MachineState → MachineState
 with_exchange_in order m = record m {
-  nodes = exchanged_in order m.nodes;
+  nodes = with_clocks m.settings.clock m.ledger (exchanged_in order m.nodes);
   started = map (λ (n : NodeState). n.ticks) m.nodes;
   exchanges = m.exchanges + 1;
 }

@@ -1,16 +1,14 @@
 -- What a superstep added to the output is what its nodes wrote.
-use Rattle.std.proofs.Common.{◌≡◌, ◌≤◌, ◌<◌, ◌∙◌, ◌++◌, ℕ, List, length, drop, Err, false, refl, sym, ap, subst, arith, length-append}
+use Rattle.std.proofs.Common.{◌≡◌, ◌∙◌, Err, false, refl, ap}
 use Rattle.std.specs.Prelude.{is_some}
-use Rattle.std.specs.Io.KnownBytes.{Appends}
 use Rattle.std.proofs.lemmas.Result.{err_from_is_err_and}
 use Rattle.machine_core.specs.declared.event.Event.TheVariants.{Turn}
 use Rattle.machine_core.specs.Events.{event}
 use Rattle.machine_core.specs.Machine.{MachineState}
-use Rattle.machine_core.specs.Turn.{superstep, with_phases, written}
+use Rattle.machine_core.specs.Turn.{with_phases, written}
 use Rattle.machine_core.proofs.Sound.{length-nodes}
 use Rattle.machine_core.proofs.Supersteps.{superstep-made}
 use Rattle.phase_pool.specs.declared.error.PoolError.{PoolError}
-use Rattle.bsp_session.specs.Live.{AppendsSome}
 use Rattle.bsp_session.specs.Streams.{stream}
 use Rattle.bsp_session.proofs.Supersteps.{added-part, output-made, reaches}
 use Rattle.bsp_session.proofs.LiveErrors.{IsErrorOfSuperstep-of_pool}

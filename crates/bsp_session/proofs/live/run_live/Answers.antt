@@ -1,5 +1,5 @@
 -- Each superstep is made, and written, after those before it.
-use Rattle.std.proofs.Common.{◌≡◌, ◌≤◌, ◌∙◌, suc, not, Option, None, List, ℕ, refl, sym, ap, subst, arith}
+use Rattle.std.proofs.Common.{◌≡◌, ◌∙◌, suc, not, refl, sym, ap, subst, arith}
 use Rattle.std.specs.Prelude.{is_some}
 use Rattle.std.specs.Io.KnownBytes.{Appends}
 use Rattle.std.proofs.KnownBytes.{Appends-nil, Appends-trans}

@@ -16,4 +16,5 @@ returns c =
     let input = with_arg _ _ _ _ _ c.in_ok-arg-6.ensures limit c.input.ensures in
     let g = with_arg _ _ _ _ _ c.in_ok-arg-7.ensures input c.byte_price.ensures in
     let l = with_arg _ _ _ _ _ c.in_ok-arg-8.ensures g c.superstep_price.ensures in
-    IfOk-weaker c.arg-9.result _ _ (λ r adds. with_arg _ _ _ _ _ adds l c.ledger.ensures) c.arg-9.ensures
+    let ledger = with_arg _ _ _ _ _ c.in_ok-arg-9.ensures l c.ledger.ensures in
+    IfOk-weaker c.arg-10.result _ _ (λ r adds. with_arg _ _ _ _ _ adds ledger c.clock.ensures) c.arg-10.ensures

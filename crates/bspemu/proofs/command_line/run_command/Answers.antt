@@ -13,4 +13,5 @@ returns c =
     let workers = with_arg _ _ _ _ _ c.in_ok-arg-3.ensures live c.workers.ensures in
     let slice = with_arg _ _ _ _ _ c.in_ok-arg-4.ensures workers c.slice.ensures in
     let profile = with_arg _ _ _ _ _ c.in_ok-arg-5.ensures slice c.profile.ensures in
-    IfOk-weaker c.arg-6.result _ _ (λ r adds. with_arg _ _ _ _ _ adds profile c.counts.ensures) c.arg-6.ensures
+    let counts = with_arg _ _ _ _ _ c.in_ok-arg-6.ensures profile c.counts.ensures in
+    IfOk-weaker c.arg-7.result _ _ (λ r adds. with_arg _ _ _ _ _ adds counts c.contested.ensures) c.arg-7.ensures

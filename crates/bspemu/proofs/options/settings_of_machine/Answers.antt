@@ -10,6 +10,7 @@ returns-clause-some c =
       nodes = number_of_getter 32 _ found (codes "nodes") c.in_ok-get_one.ensures.none c.in_ok-get_one.ensures.value;
       memory = number_of_getter 32 _ found (codes "memory") c.in_ok-get_one-2.ensures.none c.in_ok-get_one-2.ensures.value;
       limit = number_of_getter 64 _ found (codes "limit") c.in_ok-get_one-3.ensures.none c.in_ok-get_one-3.ensures.value;
+      clock = c.in_ok-clock_of.ensures.some;
     }
 
 pub returns-in_err-get_one-clause-none : goal.returns-in_err-get_one-clause-none
@@ -26,3 +27,7 @@ pub returns-in_err-get_one-3-clause-none : goal.returns-in_err-get_one-3-clause-
 returns-in_err-get_one-3-clause-none c =
     rw c.from_residual-in_err-get_one-3.ensures
     (λ s gives. no_number_of_getter 64 s.limit (found_of c.args.found.now) (codes "limit") c.in_err-get_one-3.ensures.value gives.limit)
+
+pub returns-in_err-clock_of-clause-none : goal.returns-in_err-clock_of-clause-none
+returns-in_err-clock_of-clause-none c =
+    rw c.from_residual-in_err-clock_of.ensures (λ s gives. c.in_err-clock_of.ensures.none s.clock gives.clock)

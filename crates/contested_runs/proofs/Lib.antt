@@ -1,0 +1,3 @@
+pub mod Rest
+pub mod Settled
+pub mod Turns

@@ -1,0 +1,52 @@
+//! A run of which is told what is contested.
+
+ghost use Rattle.std.specs.Prelude.{◌≡◌, ◌↔◌, ◌<◌, Some, IfOk, IsSome, OnOk, OnErr, IsErrOf, length, string_bytes};
+ghost use Rattle.machine_core.specs.Turn.{end_of};
+ghost use Rattle.phase_pool.specs.Numbers.{numbers_fault};
+ghost use Rattle.phase_pool.specs.Phases.{LeadsTo};
+ghost use Rattle.contested_runs.specs.Runs.{TellsContested};
+
+use crate::turn::write_turn;
+use machine_core::Machine;
+use phase_pool::{PoolError, check_numbers, run_phase_sparing};
+use std::alloc::Allocator;
+use std::sync::Wait;
+use std::thread::Threads;
+
+/// The names of the columns.
+const HEADER: &str =
+    "superstep,rank,address,bytes,first_kind,first_rank,first_request,first_byte,second_kind,second_rank,second_request,second_byte\n";
+
+/// Runs a machine to its outcome as [`phase_pool::run_sparing`] does, and answers which bytes were contested in each superstep.
+///
+/// # Errors
+/// As [`phase_pool::run_sparing`]; [`PoolError::NoMemory`] is also answered where memory was refused for what is told. What was made
+/// before it stands, and any run can go on with the machine.
+pub fn run<R: Threads + Wait + Sync, A: Allocator + Copy + Send + Sync>(
+    rt: &R,
+    alloc: A,
+    machine: &mut Machine<A>,
+    workers: u32,
+    slice: u64,
+) -> Result<String<A>, PoolError>
+    ensures ok { OnOk result (machine.new ≡ end_of machine.old) }
+    ensures over { OnOk result (IsSome machine.new.outcome) }
+    ensures told { IfOk result (λ text. TellsContested machine.old (string_bytes text)) }
+    ensures bad_workers { IsErrOf result PoolError.BadWorkers
+        ↔ (numbers_fault workers slice ≡ Some PoolError.BadWorkers) }
+    ensures bad_slice { IsErrOf result PoolError.BadSlice
+        ↔ (numbers_fault workers slice ≡ Some PoolError.BadSlice) }
+    ensures unchanged { IsSome (numbers_fault workers slice) → machine.new ≡ machine.old }
+    ensures no_worker { IsErrOf result PoolError.NoWorker
+        → (1 < workers) × (1 < length machine.old.nodes) }
+    ensures err { OnErr result (LeadsTo machine.old machine.new) }
+{
+    check_numbers(workers, slice)?;
+    let mut text = String::from_str(alloc, HEADER)?;
+    while machine.outcome().is_none() {
+        run_phase_sparing(rt, machine, workers, slice)?;
+        write_turn(alloc, machine, &mut text)?;
+        machine.turn()?;
+    }
+    Ok(text)
+}

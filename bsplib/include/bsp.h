@@ -15,8 +15,9 @@
  * - bsp_hpmove copies too, into a buffer of this library which it takes from malloc. What it gave can be read and
  *   written until the next bsp_sync.
  * - bsp_abort stops its own node; the others run on to the end of the superstep, in which the run is then stopped.
- * - bsp_time answers 0, and the compiler warns of each call, since the machine has no clock: the report gives the cost of
- *   each superstep. A node that reads it more than 32 times gets later times, so that a loop which waits ends.
+ * - bsp_time is no time of a host: it tells what the supersteps before have cost by the model, w + g h + l each, and then how many
+ *   instructions this rank has made in this one, over a rate of instructions a second. bsprun has --g, --l and --rate. Where the
+ *   nodes have no clock, as under bspemu run alone, it answers 0, and later times from the 33rd reading on.
  * - bsp_hpsend copies as bsp_send does. bsp_pushregister, bsp_popregister and bsp_dtime are the Oxford toolset's names.
  * - Counts and sizes may be size_t where BSPlib has int: bsp_qsize, bsp_get_tag and bsp_set_tagsize take pointers to both.
  * - A negative size is refused: bsp_move aborts, bsp_set_tagsize stops the node with fault BadSize, and every other
@@ -94,17 +95,16 @@ void bsp_get_tag(bsp_number status, void *tag);
 void bsp_move(void *payload, int reception_nbytes);
 int bsp_hpmove(void **tag_ptr, void **payload_ptr);
 
-/* 0, but where they are read over and over. */
-__attribute__((warning("the machine has no clock, so this answers 0: the report gives the cost of each superstep")))
+/* Seconds of the model: what the run has cost so far, in ticks, over a rate; and since the last call. */
 double bsp_time(void);
-__attribute__((warning("the machine has no clock, so this answers 0: the report gives the cost of each superstep")))
 double bsp_dtime(void);
 
 #ifdef __cplusplus
 }
 
 #if __cplusplus >= 201103L
-/* The same with pointers to other whole numbers of 32 bits. */
+/* The same with pointers to other whole numbers of 32 bits. Programs include this within extern "C" too. */
+extern "C++" {
 template <class Number> inline int *bsp_number_at(Number *at)
 {
     static_assert(sizeof(Number) == sizeof(int) && Number(1) / 2 == 0, "this has to point to a whole number of 32 bits");
@@ -117,6 +117,7 @@ template <class Number> inline void bsp_qsize(decltype(nullptr), Number *accum_n
 template <class Number, class Other> inline void bsp_qsize(Number *nmessages, Other *accum_nbytes)
 {
     bsp_qsize(bsp_number_at(nmessages), bsp_number_at(accum_nbytes));
+}
 }
 #endif
 #endif

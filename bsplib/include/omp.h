@@ -26,9 +26,7 @@ static inline void omp_set_lock(omp_lock_t *lock) { *lock = 1; }
 static inline void omp_unset_lock(omp_lock_t *lock) { *lock = 0; }
 static inline int omp_test_lock(omp_lock_t *lock) { return *lock ? 0 : (*lock = 1); }
 
-__attribute__((warning("the machine has no clock, so this answers 0: the report gives the cost of each superstep")))
 double omp_get_wtime(void);
-__attribute__((warning("the machine has no clock, so this answers 0: the report gives the cost of each superstep")))
 double omp_get_wtick(void);
 
 #ifdef __cplusplus

@@ -1,4 +1,4 @@
-/* picolibc's time.h, and warnings of what a machine without a clock answers. time has none: it is a fixed number, as srand wants. */
+/* picolibc's time.h, with what follows the machine's clock. */
 #ifndef BSP_LIBC_TIME_H
 #define BSP_LIBC_TIME_H
 
@@ -22,15 +22,12 @@
 extern "C" {
 #endif
 
-__attribute__((warning("the machine has no clock, so this answers -1: the report gives the cost of each superstep")))
 clock_t clock(void);
 
 /* A node has no time to wait for: it goes on at once. */
 int nanosleep(const struct timespec *, struct timespec *);
 
-__attribute__((warning("the machine has no clock, so this answers time 0: the report gives the cost of each superstep")))
 int clock_gettime(clockid_t, struct timespec *);
-__attribute__((warning("the machine has no clock, so this answers time 0: the report gives the cost of each superstep")))
 int clock_getres(clockid_t, struct timespec *);
 
 #ifdef __cplusplus

@@ -1,5 +1,6 @@
 /* What a program of bspcc --check calls where C leaves open what it does: a line with the superstep, the place and the operands, and the
-   node stops. The compiler makes these calls, and lays out what they are given. */
+   node stops. Of bspcc --check=long the calls have no `_abort` in their names: what does not fit into 32 bits, and may fit into 64, is noted for
+   bsprun, once for each place, and the node goes on. The compiler makes these calls, and lays out what they are given. */
 #include <stdint.h>
 
 #include "machine.h"
@@ -21,13 +22,14 @@ struct type {
 /* A value that fits a word stands by itself, and any other where it points to. */
 typedef uintptr_t value;
 
-/* The line that is being made. */
+/* The line that is being made, and how many of its bytes stand before the place. */
 static struct {
-    char text[400];
-    unsigned count;
+    char text[MOST_RECORD_BYTES];
+    unsigned count, place;
 } line;
 
-static void add(const char *text)
+/* It stays a function: put into others, it would have addresses behind the end of a text, of which the linker makes wrong ones. */
+__attribute__((noinline)) static void add(const char *text)
 {
     while (*text != '\0' && line.count < sizeof line.text - 1)
         line.text[line.count++] = *text++;
@@ -82,6 +84,7 @@ static void begin(const struct place *place)
     add("superstep ");
     add_number((unsigned)bsp_superstep, 10);
     add(", ");
+    line.place = line.count;
     if (place->file != NULL) {
         add(place->file);
         add(":");
@@ -96,12 +99,27 @@ __attribute__((noreturn)) static void end(void)
     bsp_stop(line.text);
 }
 
+static void note(const struct place *place, unsigned column)
+{
+    line.text[line.count] = '\0';
+    bsp_note(NOTE_LONG, __builtin_return_address(0), place->line, column, line.text + line.place);
+}
+
+/* The column of a place of which a note is to be made now, or 0 where one was made, or the type has not just 32 bits. */
+static unsigned take_column(struct place *place, const struct type *type)
+{
+    unsigned column = type->kind == WHOLE && bits_of(type) == 32 ? place->column : 0;
+    if (column != 0)
+        place->column = 0;
+    return column;
+}
+
 struct typed {
     struct place place;
     const struct type *type;
 };
 
-__attribute__((noreturn)) static void does_not_fit(const struct typed *at, const char *sign, value left, value right)
+static void overflow(const struct typed *at, value left, const char *sign, value right)
 {
     begin(&at->place);
     add_value(at->type, left);
@@ -109,45 +127,97 @@ __attribute__((noreturn)) static void does_not_fit(const struct typed *at, const
     add_value(at->type, right);
     add(" does not fit into ");
     add_type(at->type);
-    end();
+}
+
+static void note_overflow(struct typed *at, value left, const char *sign, value right)
+{
+    unsigned column = take_column(&at->place, at->type);
+    if (column != 0) {
+        overflow(at, left, sign, right);
+        note(&at->place, column);
+    }
 }
 
 void __ubsan_handle_add_overflow_abort(const struct typed *at, value left, value right)
 {
-    does_not_fit(at, " + ", left, right);
+    overflow(at, left, " + ", right);
+    end();
+}
+
+void __ubsan_handle_add_overflow(struct typed *at, value left, value right)
+{
+    note_overflow(at, left, " + ", right);
 }
 
 void __ubsan_handle_sub_overflow_abort(const struct typed *at, value left, value right)
 {
-    does_not_fit(at, " - ", left, right);
+    overflow(at, left, " - ", right);
+    end();
+}
+
+void __ubsan_handle_sub_overflow(struct typed *at, value left, value right)
+{
+    note_overflow(at, left, " - ", right);
 }
 
 void __ubsan_handle_mul_overflow_abort(const struct typed *at, value left, value right)
 {
-    does_not_fit(at, " * ", left, right);
+    overflow(at, left, " * ", right);
+    end();
 }
 
-void __ubsan_handle_negate_overflow_abort(const struct typed *at, value of)
+void __ubsan_handle_mul_overflow(struct typed *at, value left, value right)
+{
+    note_overflow(at, left, " * ", right);
+}
+
+static void negation(const struct typed *at, value of)
 {
     begin(&at->place);
     add("-(");
     add_value(at->type, of);
     add(") does not fit into ");
     add_type(at->type);
+}
+
+void __ubsan_handle_negate_overflow_abort(const struct typed *at, value of)
+{
+    negation(at, of);
     end();
+}
+
+void __ubsan_handle_negate_overflow(struct typed *at, value of)
+{
+    unsigned column = take_column(&at->place, at->type);
+    if (column != 0) {
+        negation(at, of);
+        note(&at->place, column);
+    }
+}
+
+static int is_divided_by_0(const struct typed *at, value right)
+{
+    return at->type->kind != WHOLE || whole_of(at->type, right) == 0;
 }
 
 void __ubsan_handle_divrem_overflow_abort(const struct typed *at, value left, value right)
 {
-    if (at->type->kind == WHOLE && whole_of(at->type, right) != 0)
-        does_not_fit(at, " / ", left, right);
-    begin(&at->place);
-    if (at->type->kind == WHOLE)
-        add_value(at->type, left);
-    else
-        add("a number");
-    add(" is divided by 0");
+    if (is_divided_by_0(at, right)) {
+        begin(&at->place);
+        if (at->type->kind == WHOLE)
+            add_value(at->type, left);
+        else
+            add("a number");
+        add(" is divided by 0");
+    } else
+        overflow(at, left, " / ", right);
     end();
+}
+
+void __ubsan_handle_divrem_overflow(struct typed *at, value left, value right)
+{
+    if (!is_divided_by_0(at, right))
+        note_overflow(at, left, " / ", right);
 }
 
 struct shift {
@@ -155,7 +225,7 @@ struct shift {
     const struct type *left, *right;
 };
 
-void __ubsan_handle_shift_out_of_bounds_abort(const struct shift *at, value left, value right)
+static void shifted(const struct shift *at, value left, value right)
 {
     int64_t count = whole_of(at->right, right);
     begin(&at->place);
@@ -167,7 +237,30 @@ void __ubsan_handle_shift_out_of_bounds_abort(const struct shift *at, value left
     else
         add(", as ");
     add_type(at->left);
+}
+
+void __ubsan_handle_shift_out_of_bounds_abort(const struct shift *at, value left, value right)
+{
+    shifted(at, left, right);
     end();
+}
+
+/* A negative number that is shifted to the left is C's concern, and comes to the same elsewhere. */
+static int is_right_in_64_bits(const struct shift *at, value left, value right)
+{
+    int64_t number = whole_of(at->left, left), count = whole_of(at->right, right);
+    if (count < 0 || count > 63)
+        return 0;
+    return count > 31 ? number != 0 : (int64_t)((uint64_t)number << count) != (int32_t)((uint32_t)number << count);
+}
+
+void __ubsan_handle_shift_out_of_bounds(struct shift *at, value left, value right)
+{
+    unsigned column = is_right_in_64_bits(at, left, right) ? take_column(&at->place, at->left) : 0;
+    if (column != 0) {
+        shifted(at, left, right);
+        note(&at->place, column);
+    }
 }
 
 struct index {
@@ -235,19 +328,20 @@ struct cast {
     const struct type *from, *to;
 };
 
-void __ubsan_handle_float_cast_overflow_abort(const struct cast *at, value from)
+static double number_of(const struct type *type, value it)
 {
-    double number = 0.0;
+    union {
+        uint32_t bits;
+        float number;
+    } as = {(uint32_t)it};
+    if (bits_of(type) == 64)
+        return *(const double *)it;
+    return bits_of(type) == 32 ? (double)as.number : 0.0;
+}
+
+static void cast(const struct cast *at, double number)
+{
     begin(&at->place);
-    if (bits_of(at->from) == 64)
-        number = *(const double *)from;
-    else if (bits_of(at->from) == 32) {
-        union {
-            uint32_t bits;
-            float number;
-        } as = {(uint32_t)from};
-        number = as.number;
-    }
     add(number != number ? "no number" : number < 0 ? "a number below 0" : "a number");
     if (number > -1e18 && number < 1e18) {
         add(" near ");
@@ -256,5 +350,22 @@ void __ubsan_handle_float_cast_overflow_abort(const struct cast *at, value from)
     }
     add(" does not fit into ");
     add_type(at->to);
+}
+
+void __ubsan_handle_float_cast_overflow_abort(const struct cast *at, value from)
+{
+    cast(at, number_of(at->from, from));
     end();
+}
+
+void __ubsan_handle_float_cast_overflow(struct cast *at, value from)
+{
+    int has_sign = at->to->info & WITH_SIGN;
+    double number = number_of(at->from, from);
+    double least = has_sign ? -0x1p63 : 0.0, end_of_64_bits = has_sign ? 0x1p63 : 0x1p64;
+    unsigned column = number >= least && number < end_of_64_bits ? take_column(&at->place, at->to) : 0;
+    if (column != 0) {
+        cast(at, number);
+        note(&at->place, column);
+    }
 }

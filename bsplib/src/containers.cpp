@@ -1,6 +1,8 @@
-/* What the headers of GCC's standard library want linked for map and set, which are red-black trees, and for their unordered kinds, which
-   are tables of a prime number of lists. */
+/* What the headers of GCC's standard library want linked for map and set, which are red-black trees, for their unordered kinds, which are
+   tables of a prime number of lists, for lists and for shared pointers. */
+#include <list>
 #include <map>
+#include <memory>
 #include <unordered_map>
 
 namespace std {
@@ -180,7 +182,69 @@ size_t _Hash_bytes(const void *bytes, size_t count, size_t seed)
     return hash;
 }
 
+/* Without names of types there is one kind of tag. */
+bool _Sp_make_shared_tag::_S_eq(const type_info &) noexcept { return true; }
+
 namespace __detail {
+
+/* A list is a ring of nodes, of which one stands for its end. */
+void _List_node_base::_M_hook(_List_node_base *const behind) noexcept
+{
+    _M_next = behind;
+    _M_prev = behind->_M_prev;
+    behind->_M_prev->_M_next = this;
+    behind->_M_prev = this;
+}
+
+void _List_node_base::_M_unhook() noexcept
+{
+    _M_prev->_M_next = _M_next;
+    _M_next->_M_prev = _M_prev;
+}
+
+/* Takes the nodes from `first` up to the one before `last` out of their ring, and puts them before this one. */
+void _List_node_base::_M_transfer(_List_node_base *const first, _List_node_base *const last) noexcept
+{
+    if (this == last)
+        return;
+    _List_node_base *final = last->_M_prev, *before = first->_M_prev;
+    before->_M_next = last;
+    last->_M_prev = before;
+    first->_M_prev = _M_prev;
+    _M_prev->_M_next = first;
+    final->_M_next = this;
+    _M_prev = final;
+}
+
+void _List_node_base::_M_reverse() noexcept
+{
+    _List_node_base *node = this;
+    do {
+        _List_node_base *after = node->_M_next;
+        node->_M_next = node->_M_prev;
+        node->_M_prev = after;
+        node = after;
+    } while (node != this);
+}
+
+/* Puts a ring, of which this node is the end, behind another end. */
+static void move_ring(_List_node_base &from, _List_node_base &to)
+{
+    to = from;
+    from._M_next = from._M_prev = &from;
+    if (to._M_next == &from)
+        to._M_next = to._M_prev = &to;
+    else
+        to._M_next->_M_prev = to._M_prev->_M_next = &to;
+}
+
+void _List_node_base::swap(_List_node_base &one, _List_node_base &other) noexcept
+{
+    _List_node_base kept;
+    move_ring(one, kept);
+    move_ring(other, one);
+    move_ring(kept, other);
+}
 
 static bool is_prime(size_t number)
 {

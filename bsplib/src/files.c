@@ -376,26 +376,30 @@ WEAK int isatty(int file)
     return 0;
 }
 
-/* clock says that there is none, for as long as the time stands still. */
+/* One reading is that of a seed, and no measure. */
 WEAK time_t time(time_t *to)
 {
-    time_t now = bsp_clock();
+    static int is_read = 0;
+    time_t now = (time_t)(is_read ? bsp_clock() : bsp_clock_untold());
+    is_read = 1;
     if (to != NULL)
         *to = now;
     return now;
 }
 
+/* Without a clock it says so, for as long as the time stands still. */
 WEAK clock_t clock(void)
 {
-    unsigned now = bsp_clock();
-    return now == 0 ? (clock_t)-1 : (clock_t)now * CLOCKS_PER_SEC;
+    double now = bsp_clock();
+    return now == 0 && !bsp_has_clock() ? (clock_t)-1 : (clock_t)(now * CLOCKS_PER_SEC);
 }
 
 WEAK int gettimeofday(struct timeval *restrict to, void *restrict zone)
 {
     (void)zone;
-    to->tv_sec = bsp_clock();
-    to->tv_usec = 0;
+    double now = bsp_clock();
+    to->tv_sec = (time_t)now;
+    to->tv_usec = (suseconds_t)((now - (double)to->tv_sec) * 1e6);
     return 0;
 }
 

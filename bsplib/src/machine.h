@@ -6,7 +6,8 @@
 
 enum {
     CALL_END = 1, CALL_NPROCS, CALL_PID, CALL_SYNC, CALL_PUSH_REG, CALL_POP_REG, CALL_PUT, CALL_GET, CALL_HPPUT,
-    CALL_HPGET, CALL_SET_TAGSIZE, CALL_SEND, CALL_QSIZE, CALL_GET_TAG, CALL_MOVE, CALL_ABORT, CALL_WRITE, CALL_READ
+    CALL_HPGET, CALL_SET_TAGSIZE, CALL_SEND, CALL_QSIZE, CALL_GET_TAG, CALL_MOVE, CALL_ABORT, CALL_WRITE, CALL_READ,
+    CALL_CLOCK
 };
 
 /* A call reads and writes memory that its operands name, so the compiler has to have everything in its place. */
@@ -37,6 +38,16 @@ static inline int machine_call_2(int number, long a, long b)
     register long a7 __asm__("a7") = number;
     __asm__ volatile("ecall" : "+r"(a0) : "r"(a1), "r"(a7) : "memory");
     return a0;
+}
+
+/* What the machine's clock shows, in ticks. A node without one faults. */
+static inline unsigned long long machine_clock(void)
+{
+    register unsigned long a0 __asm__("a0");
+    register unsigned long a1 __asm__("a1");
+    register long a7 __asm__("a7") = CALL_CLOCK;
+    __asm__ volatile("ecall" : "=r"(a0), "=r"(a1) : "r"(a7) : "memory");
+    return (unsigned long long)a1 << 32 | a0;
 }
 
 /* Standard output and standard error have a buffer each, which goes to the machine at the end of each line, where it is full, and before
@@ -122,8 +133,12 @@ extern int bsp_memory_size;
 /* Where the program is: before bsp_begin, between it and bsp_end, or after that. */
 extern enum bsp_part { BSP_BEFORE, BSP_WITHIN, BSP_AFTER } bsp_part;
 
-/* The time in seconds: 0, but where a program reads it over and over. */
-unsigned bsp_clock(void);
+/* The time in seconds, where the node has a clock: else 0, but where a program reads it over and over. Whether it has one, and how long
+   a tick takes. bsprun tells of a program that reads the clock what its seconds are, but for readings that are made untold. */
+double bsp_clock(void);
+double bsp_clock_untold(void);
+int bsp_has_clock(void);
+double bsp_tick(void);
 
 /* The superstep, from 0 on. */
 extern int bsp_superstep;
@@ -148,9 +163,15 @@ enum {
     NOTE_LOST = 'l', /* the name of a file that was written and is to be read, of which there was no memory to keep its bytes */
     NOTE_PENDING = 'p', /* of requests before the end, the place of the last one */
     NOTE_EMPTY = 'i', /* a number was read from an input of no bytes */
-    NOTE_CLOCK = 'c' /* the clock was read over and over */
+    NOTE_CLOCK = 'c', /* the clock is read */
+    NOTE_STATUS = 's', /* the status other than 0 that the program ended with by exit */
+    NOTE_READ = 'd', /* the digits of a number that is read and does not fit into 32 bits, and the function */
+    NOTE_LONG = 'o' /* line and column of what does not fit into 32 bits; file, line and what it is */
 };
 void bsp_note(int what, const void *place, unsigned one, unsigned other, const char *text);
+
+/* Notes that a function reads this number into a `long`, which it does not fit, once for each node. Each may be the negative of one. */
+__attribute__((cold)) void bsp_note_read(const char *function, unsigned long long number, int is_negative);
 
 /* Writes what open files hold back, or NULL where the program has opened none. */
 extern void (*bsp_flush_files)(void);

@@ -111,7 +111,7 @@ WEAK int sched_yield(void)
 WEAK clock_t times(struct tms *to)
 {
     enum { TICKS = 100 };
-    clock_t now = (clock_t)bsp_clock() * TICKS;
+    clock_t now = (clock_t)(bsp_clock() * TICKS);
     if (to != NULL) {
         memset(to, 0, sizeof *to);
         to->tms_utime = now;
@@ -122,24 +122,35 @@ WEAK clock_t times(struct tms *to)
 WEAK int getrusage(int who, struct rusage *to)
 {
     (void)who;
+    double now = bsp_clock();
     memset(to, 0, sizeof *to);
-    to->ru_utime.tv_sec = bsp_clock();
+    to->ru_utime.tv_sec = (time_t)now;
+    to->ru_utime.tv_usec = (suseconds_t)((now - (double)to->ru_utime.tv_sec) * 1e6);
     return 0;
 }
 
 WEAK int clock_gettime(clockid_t clock, struct timespec *to)
 {
     (void)clock;
+    double now = bsp_clock();
     memset(to, 0, sizeof *to);
-    to->tv_sec = bsp_clock();
+    to->tv_sec = (time_t)now;
+    to->tv_nsec = (long)((now - (double)to->tv_sec) * 1e9);
     return 0;
 }
 
+/* A tick, and no less than a timespec has: 0 where there is no clock. */
 WEAK int clock_getres(clockid_t clock, struct timespec *to)
 {
     (void)clock;
-    if (to != NULL)
+    if (to != NULL) {
         memset(to, 0, sizeof *to);
+        if (bsp_has_clock()) {
+            double tick = bsp_tick();
+            to->tv_sec = (time_t)tick;
+            to->tv_nsec = tick < 1e-9 ? 1 : (long)((tick - (double)to->tv_sec) * 1e9);
+        }
+    }
     return 0;
 }
 
@@ -150,7 +161,7 @@ WEAK double omp_get_wtime(void)
 
 WEAK double omp_get_wtick(void)
 {
-    return 0.0;
+    return bsp_has_clock() ? bsp_tick() : 0.0;
 }
 
 /* Files that bsprun gave, or that the program wrote, are there, and nothing else. */

@@ -32,3 +32,22 @@ void bsp_note(int what, const void *place, unsigned one, unsigned other, const c
     size_t size = strlen(text);
     bsp_record(RECORD_NOTE, words, MOST_RECORD_WORDS, text, size < MOST_RECORD_BYTES ? (int)size : MOST_RECORD_BYTES);
 }
+
+void bsp_note_read(const char *function, unsigned long long number, int is_negative)
+{
+    static int is_told = 0;
+    char text[64];
+    unsigned size = (unsigned)strlen(function), at = sizeof text - 1 - size;
+    if (is_told || !(bsp_settings.flags & BSP_RECORDS))
+        return;
+    is_told = 1;
+    memcpy(text + at, function, size + 1);
+    text[--at] = ' ';
+    do {
+        text[--at] = (char)('0' + number % 10);
+        number /= 10;
+    } while (number > 0);
+    if (is_negative)
+        text[--at] = '-';
+    bsp_note(NOTE_READ, __builtin_return_address(0), 0, 0, text + at);
+}

@@ -351,6 +351,14 @@ static void store_whole(void *to, int size, uint64_t number)
     }
 }
 
+/* Notes a number that fits 64 bits alone. */
+__attribute__((cold, noinline)) static void look_at_long(const struct conversion *how, uint64_t number, int is_negative)
+{
+    uint64_t most = how->letter == 'd' || how->letter == 'i' ? (uint64_t)INT32_MAX + (unsigned)is_negative : UINT32_MAX;
+    if (number > most)
+        bsp_note_read("scanf", number, is_negative);
+}
+
 static int scan_whole(struct source *from, const struct conversion *how, void *to)
 {
     int base = how->letter == 'o' ? 8 : how->letter == 'x' || how->letter == 'X' || how->letter == 'p' ? 16 : 10;
@@ -369,8 +377,11 @@ static int scan_whole(struct source *from, const struct conversion *how, void *t
     }
     for (; value_of(look(from), base) >= 0; digits++)
         number = number * (unsigned)base + (unsigned)value_of(take(from), base);
-    if (digits > 0 && to != NULL)
+    if (digits > 0 && to != NULL) {
+        if (number > INT32_MAX && how->size == 4)
+            look_at_long(how, number, is_negative);
         store_whole(to, how->size, is_negative ? 0 - number : number);
+    }
     return digits > 0;
 }
 

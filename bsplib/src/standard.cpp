@@ -1,5 +1,11 @@
 /* What the headers of C++'s standard library want linked: texts, the standard streams, and a line in the place of each exception. */
+/* Where nothing can be read, operator>> leaves what it is given as it is. */
+#pragma GCC diagnostic ignored "-Wmaybe-uninitialized"
+#include <complex>
+#include <cstdarg>
+#include <cstdio>
 #include <iostream>
+#include <new>
 #include <string>
 
 extern "C" __attribute__((noreturn)) void bsp_stop(const char *text);
@@ -15,15 +21,29 @@ void __throw_domain_error(const char *text) { bsp_stop(text); }
 void __throw_invalid_argument(const char *text) { bsp_stop(text); }
 void __throw_length_error(const char *text) { bsp_stop(text); }
 void __throw_out_of_range(const char *text) { bsp_stop(text); }
-void __throw_out_of_range_fmt(const char *text, ...) { bsp_stop(text); }
+void __throw_out_of_range_fmt(const char *form, ...)
+{
+    char text[200];
+    va_list values;
+    va_start(values, form);
+    vsnprintf(text, sizeof text, form, values);
+    va_end(values);
+    bsp_stop(text);
+}
 void __throw_runtime_error(const char *text) { bsp_stop(text); }
 void __throw_range_error(const char *text) { bsp_stop(text); }
 void __throw_overflow_error(const char *text) { bsp_stop(text); }
 void __throw_underflow_error(const char *text) { bsp_stop(text); }
 
+const nothrow_t nothrow{};
+
 template class basic_string<char>;
+template ostream &operator<<(ostream &, const complex<float> &);
+template ostream &operator<<(ostream &, const complex<double> &);
+template istream &operator>>(istream &, complex<float> &);
+template istream &operator>>(istream &, complex<double> &);
 
 ostream cout(stdout), cerr(stderr), clog(stderr);
-istream cin;
+istream cin(stdin);
 
 } // namespace std

@@ -157,11 +157,16 @@ static void begin_line(void)
     put_text(": ");
 }
 
+__attribute__((noreturn)) static void abort_node(void)
+{
+    for (;;)
+        machine_call_2(CALL_ABORT, 0, 0);
+}
+
 __attribute__((noreturn)) static void end_line(void)
 {
     bsp_error_put('\n');
-    for (;;)
-        machine_call_2(CALL_ABORT, 0, 0);
+    abort_node();
 }
 
 void bsp_stop(const char *text)
@@ -303,13 +308,22 @@ __attribute__((noreturn)) void bsp_start(void)
     end_of_main(main(argc, argv));
 }
 
+/* A status that the program chose. bsprun ends with it, and without bsprun it is told. */
+__attribute__((noreturn)) static void end_with(int status)
+{
+    if (!(bsp_settings.flags & BSP_RECORDS))
+        bsp_stop_with("the program ended with status ", status, "");
+    bsp_note(NOTE_STATUS, NULL, (unsigned)status, 0, "");
+    abort_node();
+}
+
 __attribute__((noreturn)) void _exit(int status)
 {
     bsp_look_at_guards();
     if (bsp_flush_files != NULL)
         bsp_flush_files();
     if (status != 0)
-        bsp_stop_with("the program ended with status ", status, "");
+        end_with(status);
     if (bsp_part == BSP_WITHIN)
         bsp_stop("the program ended between bsp_begin and bsp_end");
     bsp_stdio_flush();

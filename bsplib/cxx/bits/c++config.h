@@ -2,3 +2,5 @@
 #pragma GCC system_header
 #include_next <bits/c++config.h>
 #undef _GLIBCXX_HAS_GTHREADS
+#undef _GLIBCXX_HAVE_TIMESPEC_GET
+#undef _GLIBCXX_HAVE_LINUX_FUTEX

@@ -1,4 +1,4 @@
-/* picolibc's sys/time.h, and a warning of what a machine without a clock answers. */
+/* picolibc's sys/time.h, with what follows the machine's clock. */
 #ifndef BSP_LIBC_SYS_TIME_H
 #define BSP_LIBC_SYS_TIME_H
 
@@ -10,7 +10,6 @@
 extern "C" {
 #endif
 
-__attribute__((warning("the machine has no clock, so this answers time 0: the report gives the cost of each superstep")))
 int gettimeofday(struct timeval *__restrict, void *__restrict);
 
 #ifdef __cplusplus

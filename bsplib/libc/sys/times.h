@@ -1,4 +1,4 @@
-/* picolibc's sys/times.h, and a warning of what a machine without a clock answers. */
+/* picolibc's sys/times.h, with what follows the machine's clock. */
 #ifndef BSP_LIBC_SYS_TIMES_H
 #define BSP_LIBC_SYS_TIMES_H
 
@@ -10,7 +10,6 @@
 extern "C" {
 #endif
 
-__attribute__((warning("the machine has no clock, so this answers time 0: the report gives the cost of each superstep")))
 clock_t times(struct tms *);
 
 #ifdef __cplusplus

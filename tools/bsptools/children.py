@@ -13,6 +13,10 @@ from collections.abc import Iterator, Sequence
 from typing import Any, NoReturn
 
 PR_SET_PDEATHSIG = 1
+# Of a signal that no process has sent.
+SI_KERNEL = 0x80
+# For how many seconds a process may go on that was told to end.
+PATIENCE = 1
 # What ends a tool from outside. Each comes to the same end as Ctrl-C: temporary folders are removed, and children are ended.
 SIGNALS = (signal.SIGTERM, signal.SIGHUP, signal.SIGQUIT)
 _LIBC = ctypes.CDLL(None, use_errno=True)
@@ -87,10 +91,50 @@ def running(words: Sequence[str], by: int = signal.SIGKILL, **given: Any) -> Ite
         end(child, by)
 
 
+def at_terminal(words: Sequence[str]) -> int:
+    """Runs a process that has this one's terminal, and gets Ctrl-C by itself. What ends this one ends it, also where the terminal has stopped
+    it, as one in the background: this one is not stopped so. Answers what it ended with, as Popen has it."""
+    parent, waited = os.getpid(), {signal.SIGCHLD, *_taken}
+    mask = signal.pthread_sigmask(signal.SIG_BLOCK, {signal.SIGTTIN, signal.SIGTTOU, *waited})
+
+    def prepare() -> None:
+        end_with_parent(signal.SIGKILL, parent)
+        signal.pthread_sigmask(signal.SIG_SETMASK, mask)
+
+    try:
+        with subprocess.Popen(list(words), preexec_fn=prepare) as child:
+            while child.poll() is None:
+                got = signal.sigwaitinfo(waited)
+                if got.si_signo in (signal.SIGINT, signal.SIGQUIT):
+                    # That of a terminal comes to both.
+                    if got.si_code != SI_KERNEL:
+                        child.send_signal(got.si_signo)
+                elif got.si_signo != signal.SIGCHLD:
+                    _end_stopped(child)
+                    raise Ended(got.si_signo)
+            return child.returncode
+    finally:
+        # Those that came are dropped.
+        for number in (signal.SIGTTIN, signal.SIGTTOU):
+            signal.signal(number, signal.SIG_IGN)
+            signal.signal(number, signal.SIG_DFL)
+        signal.pthread_sigmask(signal.SIG_SETMASK, mask)
+
+
+def _end_stopped(child: subprocess.Popen[bytes]) -> None:
+    """Ends a process that may be stopped, or may not take notice."""
+    for number in (signal.SIGTERM, signal.SIGCONT):
+        child.send_signal(number)
+    try:
+        child.wait(PATIENCE)
+    except subprocess.TimeoutExpired:
+        child.kill()
+        child.wait()
+
+
 @contextlib.contextmanager
-def folder(name: str, is_inherited: bool = False) -> Iterator[pathlib.Path]:
-    """A folder for a while. A shell waits until this process closes a pipe, and removes it: also where this one is killed. Where the
-    folder is inherited, it stays as well for what this process becomes by exec."""
+def folder(name: str) -> Iterator[pathlib.Path]:
+    """A folder for a while. A shell waits until this process closes a pipe, and removes it: also where this one is killed."""
     # A signal that comes between the two would leave the folder.
     mask = signal.pthread_sigmask(signal.SIG_BLOCK, (signal.SIGINT, *SIGNALS))
     try:
@@ -98,8 +142,6 @@ def folder(name: str, is_inherited: bool = False) -> Iterator[pathlib.Path]:
         words = ["sh", "-c", 'read -r _; exec rm -rf -- "$1"', "sh", path]
         try:
             keeper = subprocess.Popen(words, stdin=subprocess.PIPE, start_new_session=True)
-            assert keeper.stdin is not None
-            os.set_inheritable(keeper.stdin.fileno(), is_inherited)
         except (OSError, subprocess.SubprocessError):
             os.rmdir(path)
             raise
@@ -110,15 +152,25 @@ def folder(name: str, is_inherited: bool = False) -> Iterator[pathlib.Path]:
 
 
 @contextlib.contextmanager
-def kept(child: subprocess.Popen[bytes]) -> Iterator[None]:
-    """A block during which a shell waits, which ends a child with its group where this process is killed: a compiler has children."""
-    words = ["sh", "-c", 'read -r word; [ -n "$word" ] || exec kill -KILL -- "-$1"', "sh", str(child.pid)]
+def _waiting(command: str, what: str) -> Iterator[None]:
+    """A block during which a shell waits, which does this to something where this process is killed."""
+    words = ["sh", "-c", f'read -r word; [ -n "$word" ] || exec {command} -- "$1"', "sh", what]
     with subprocess.Popen(words, stdin=subprocess.PIPE, stderr=subprocess.DEVNULL, start_new_session=True) as keeper:
         try:
             yield
         finally:
             assert keeper.stdin is not None
             keeper.stdin.write(b"over\n")
+
+
+def kept(child: subprocess.Popen[bytes]) -> contextlib.AbstractContextManager[None]:
+    """A block at whose end nothing of a child's group is left also where this process is killed: a compiler has children."""
+    return _waiting("kill -KILL", f"-{child.pid}")
+
+
+def removed(path: str) -> contextlib.AbstractContextManager[None]:
+    """A block during which a file is written, which goes where this process is killed."""
+    return _waiting("rm -f", path)
 
 
 def call(words: Sequence[str], by: int = signal.SIGTERM, **given: Any) -> subprocess.CompletedProcess[bytes]:

@@ -12,6 +12,8 @@ MOST_TICKS = 1 << 40
 WORKERS, MOST_WORKERS = 1, 64
 # Ticks for a byte of h, and for the end of a superstep.
 G, L, MOST_PRICE = 1, 0, (1 << 64) - 1
+# Instructions a second, by which a program's clock counts seconds.
+RATE, MOST_RATE = 1e9, 1e18
 # Bytes of an input, with what stands in front of it.
 MOST_INPUT = 1 << 24
 # Bytes of a program: of an ELF file, which is the largest of all kinds, and of a text of assembly.

@@ -14,7 +14,16 @@ from .refusals import Refused, printable
 MOST_LISTED = 10_000
 UNITS = {"K": 1 << 10, "M": 1 << 20}
 # Options for the compiler, with what each says of a C program.
-COMPILED = {"-D": "define a macro", "-I": "look for headers there too", "-O": "optimize so far", "-l": "link with this library, as -lm"}
+COMPILED = {
+    "-D": "define a macro",
+    "-I": "look for headers there too",
+    "-O": "optimize so far",
+    "-l": "link with this library, as -lm",
+    "-W": "warn of this, as -Wall",
+    "-f": "compile so, as -fopenmp",
+    "-m": "compile for this, as -march=rv32im",
+    "-std": "take this standard, as -std=c99",
+}
 KINDS = ("elf", "asm", "raw", "c")
 
 
@@ -30,7 +39,8 @@ class Compiled(argparse.Action):
     """Keeps an option for the compiler, in the order in which they stand."""
 
     def __call__(self, _parser: argparse.ArgumentParser, found: argparse.Namespace, value: Any, option: str | None = None) -> None:
-        found.compiled = [*(found.compiled or []), f"{option}{value}"]
+        word = f"{option}={value}" if option == "-std" else f"{option}{value}"
+        found.compiled = [*(found.compiled or []), word]
 
 
 class Parser(argparse.ArgumentParser):
@@ -92,6 +102,11 @@ class Parser(argparse.ArgumentParser):
         self.add_argument("--g", type=G, default=limits.G, metavar="TICKS", help="the price of a byte of h, 1 by default")
         self.add_argument("--l", type=L, default=limits.L, metavar="TICKS", help="the price of a superstep's end, 0 by default")
 
+    def add_rate(self) -> None:
+        """How many instructions a program's second has."""
+        self.add_argument("--rate", type=rate, default=limits.RATE, metavar="COUNT", help="instructions a second, by which bsp_time counts, 1e9 by"
+            " default")  # fmt: skip
+
 
 def number(what: str, least: int, most: int, unit: int = 1, is_size: bool = False) -> Callable[[str], int]:
     """A reader of whole numbers of this range, multiples of a unit, which says the range where it refuses. A size may end with K or M."""
@@ -101,7 +116,8 @@ def number(what: str, least: int, most: int, unit: int = 1, is_size: bool = Fals
     def read(text: str) -> int:
         times = UNITS.get(text[-1:].upper(), 1) if is_size else 1
         try:
-            value = int(text[:-1] if times > 1 else text, 0) * times
+            # Digits of other scripts, and what stands between digits, are Python's.
+            value = int(text[:-1] if times > 1 else text, 0) * times if text.isascii() and "_" not in text else least - 1
         except ValueError:
             value = least - 1
         if not least <= value <= most or value % unit:
@@ -114,6 +130,17 @@ def number(what: str, least: int, most: int, unit: int = 1, is_size: bool = Fals
 G = number("the price of a byte", 0, limits.MOST_PRICE)
 L = number("the price of a superstep's end", 0, limits.MOST_PRICE)
 P = number("the number of nodes", 1, limits.MOST_NODES)
+
+
+def rate(text: str) -> float:
+    """Instructions a second."""
+    try:
+        value = float(text)
+    except ValueError:
+        value = 0.0
+    if not 1 <= value <= limits.MOST_RATE:
+        raise argparse.ArgumentTypeError(f"{text!r}: the rate is a number of instructions a second from 1 to 1e18, as 1e9")
+    return value
 
 
 def listed(one: Callable[[str], int]) -> Callable[[str], list[int]]:

@@ -71,6 +71,8 @@ def prepare() -> None:
             os.dup2(opened, number, inheritable=True)
             if opened != number:
                 os.close(opened)
+    # Python has none where it was closed.
+    sys.stdin = sys.stdin or open(STDIN, encoding="utf-8", errors="surrogateescape", closefd=False)  # pylint: disable=consider-using-with
     output = io.BufferedWriter(Output(STDOUT, "w", closefd=False))
     sys.stdout = io.TextIOWrapper(output, encoding="utf-8", errors="surrogateescape", line_buffering=output.isatty())
     # TextIOWrapper wants no more of what is below it than that it can be written to.
@@ -80,4 +82,9 @@ def prepare() -> None:
 
 def drop_output() -> None:
     """Leaves out what was not written on standard output, which Python would try to write once more."""
-    os.dup2(os.open(os.devnull, os.O_WRONLY), STDOUT)
+    # The number that this frees is the next one to be taken: there may be no other.
+    os.close(STDOUT)
+    opened = os.open(os.devnull, os.O_WRONLY)
+    if opened != STDOUT:
+        os.dup2(opened, STDOUT)
+        os.close(opened)

@@ -11,11 +11,12 @@ import shutil
 import signal
 import subprocess
 import sys
-from typing import List, NoReturn, Sequence
+from typing import List, Sequence
 
 from .. import children, emulator
+from ..machines import Take
 from ..options import Parser
-from ..refusals import Refused, tell
+from ..refusals import BY_SIGNAL, Refused, tell
 from ..run.job import Job, prepared
 from . import server
 from .packets import Closed, Connection
@@ -38,10 +39,14 @@ def arguments(words: Sequence[str]) -> argparse.Namespace:
     parser.add_program()
     parser.add_machine()
     parser.add_prices()
+    parser.add_rate()
+    parser.add_argument("--machine", action=Take, metavar="NAME", help="nodes, prices and rate of a machine of the literature, as bsprun has it")
     parser.add_argument("--server", action="store_true", help="no gdb is started: one session is served on a Unix socket, which none but"
         " this user can reach; a line says where")  # fmt: skip
     parser.add_number("--tcp", what="a port", least=0, most=65535, metavar="PORT", help="as --server, but on this port of 127.0.0.1, which"
         " every user of this host can reach; 0 is any that is free")  # fmt: skip
+    parser.add_argument("--stdio", action="store_true", help="as --server, but on standard input and output, for gdb's"
+        " `target remote | bspgdb --stdio ..`")  # fmt: skip
     parser.add_argument("--bspemu", metavar="PATH", help="the emulator, if it is another than bspemu beside this")
     asked = parser.parse_args(words[:end])
     asked.gdb_options = list(words[end + 1 :])
@@ -51,7 +56,7 @@ def arguments(words: Sequence[str]) -> argparse.Namespace:
 
 def command(job: Job) -> List[str]:
     """The command that starts the debugger."""
-    return [*job.program, "debug", *job.settings, "--g", str(job.options.g), "--l", str(job.options.l)]
+    return [*job.program, "debug", *job.settings]
 
 
 def main(words: Sequence[str]) -> int:
@@ -59,15 +64,17 @@ def main(words: Sequence[str]) -> int:
     if words[:1] == [PIPE]:
         return bridge(words[1:])
     asked = arguments(words)
-    with children.folder("bspgdb", is_inherited=True) as folder:
+    with children.folder("bspgdb") as folder:
         job = prepared(asked, folder, "bspgdb")
         check(job)
-        if asked.tcp is not None:
+        if asked.stdio:
+            bridge(command(job))
+        elif asked.tcp is not None:
             server.serve(command(job), server.Loopback(asked.tcp))
         elif asked.server:
             server.serve(command(job), server.LocalSocket(folder / "socket"))
         else:
-            start_gdb(job)
+            return start_gdb(job)
     return 0
 
 
@@ -86,11 +93,12 @@ def check(job: Job) -> None:
         sys.exit(status)
 
 
-def start_gdb(job: Job) -> NoReturn:
-    """Becomes gdb, on the program, with a bridge at the other end of a pipe. The folder of the job goes when both have ended."""
+def start_gdb(job: Job) -> int:
+    """Runs gdb on the program, with a bridge at the other end of a pipe. Answers its exit status."""
     if shutil.which(GDB) is None:
         raise Refused(f"{GDB} is missing: install the package {GDB}")
     pipe = shlex.join([emulator.program("bspgdb"), PIPE, *command(job)])
     words = [GDB, "-q", "-x", str(SETTINGS), "-ex", f"target remote | {pipe}", *job.options.gdb_options]
     words += [str(job.image)] if job.is_for_gdb else []
-    os.execvp(GDB, words)
+    status = children.at_terminal(words)
+    return status if status >= 0 else BY_SIGNAL - status

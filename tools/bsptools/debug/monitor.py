@@ -9,8 +9,9 @@ from ..refusals import printable
 from .runner import Runner
 
 HELP = """\
-monitor superstep K  stop where superstep K begins: a point, to which continue goes
+monitor superstep K  stop where superstep K begins: a point, to which continue goes, and reverse-continue
 monitor superstep    the superstep that has begun
+monitor end          stop where the run ends, from where one can go back, before gdb's program ends
 monitor turn         end the superstep, if no rank runs any more: make the exchange
 monitor queue R      the messages that rank R has received and not moved yet
 monitor costs        what the supersteps that are over cost
@@ -29,10 +30,13 @@ def answer(runner: Runner, command: str) -> bytes:
         return _add_superstep(runner, int(operands[0]))
     if name == "queue" and _are_numbers(operands, 1) and int(operands[0]) < machine.ranks:
         return _text(machine.queue(int(operands[0])))
-    if operands or name not in ("superstep", "turn", "costs", "output", "help"):
+    if operands or name not in ("superstep", "end", "turn", "costs", "output", "help"):
         return f"bspgdb: no such command: monitor {printable(command)}\n{HELP}".encode()
     if name == "superstep":
         return _text([f"superstep {machine.superstep}"])
+    if name == "end":
+        runner.stops_at_end = True
+        return _text(["continue stops where the run ends"])
     if name == "turn":
         return _text([runner.turn()])
     if name == "costs":
@@ -45,9 +49,9 @@ def _are_numbers(operands: List[str], count: int) -> bool:
 
 
 def _add_superstep(runner: Runner, superstep: int) -> bytes:
-    if superstep <= runner.machine.superstep:
-        return _text([f"superstep {superstep} has begun already"])
     runner.supersteps.add(superstep)
+    if superstep <= runner.machine.superstep:
+        return _text([f"superstep {superstep} has begun already: reverse-continue stops where it began"])
     return _text([f"continue stops where superstep {superstep} begins"])
 
 

@@ -1,24 +1,26 @@
-"""How the machine goes on as gdb says, to where gdb is told that it has stopped."""
+"""How the machine goes on or back as gdb says, to where gdb is told that it has stopped."""
 
 from __future__ import annotations
 
+import contextlib
 import time
 from dataclasses import dataclass, field
 from typing import Callable, Iterable, List, NamedTuple, Optional, Set, Union
 
 from ..debugger import ALL, Node
-from ..limits import MOST_POINTS
+from ..refusals import Refused
 from . import words
-from .machine import Arrival, AtRank, AtSuperstep, BrokenOff, Machine, Over, Point
+from .history import BEGIN, Goal, History
+from .machine import LONG, MOST_BREAKPOINTS, Arrival, AtRank, AtSuperstep, BrokenOff, Interrupted, Machine, Over, Point
 
-# How many addresses may have breakpoints: beside these a superstep and a rank are points of the bridge's own.
-MOST_BREAKPOINTS = MOST_POINTS - 2
-# For how many seconds an interrupt waits for the superstep's end, and for how many a rank then goes on step by step.
-PATIENCE, LOOK = 0.5, 0.5
+# For how many seconds an interrupt waits for the superstep's end, and for how many the ranks then go on a little.
+PATIENCE, LOOK = 0.15, 0.1
 # How far a rank goes on after an interrupt where there is no breakpoint that it could pass.
 FAR = 1_000_000
+# From how many seconds on one of some supersteps takes so long that they are made singly, for an interrupt to find the spare machine there.
+SINGLY = 0.5
 # Up to how many seconds some supersteps take together before output and interrupts are looked at again.
-PIECE = 0.05
+PIECE = 0.01
 
 
 class Stop(NamedTuple):
@@ -27,6 +29,7 @@ class Stop(NamedTuple):
     rank: int
     signal: int
     is_breakpoint: bool = False
+    is_begin: bool = False
 
 
 class Exit(NamedTuple):
@@ -43,7 +46,7 @@ class Runner:
     """Makes a machine go on.
 
     `show` shows bytes on gdb's console, and `is_interrupted` asks whether gdb wants a run to be broken off. What is kept here is gdb's:
-    where its breakpoints are, at which supersteps it wants to stop, and how much of the output it has been shown.
+    where its breakpoints are, at which supersteps it wants to stop, and whether at the end, and how much of the output it has been shown.
     """
 
     machine: Machine
@@ -51,10 +54,19 @@ class Runner:
     is_interrupted: Callable[[], bool]
     breakpoints: Set[int] = field(default_factory=set)
     supersteps: Set[int] = field(default_factory=set)
+    stops_at_end: bool = False
     _shown: int = 0
     # Until when an interrupt waits, and whether it is already known that some superstep takes longer.
     _deadline: Optional[float] = None
     _is_searching: bool = False
+    # How many seconds have gone by as it went on; of how many supersteps the last piece is, and when and in which of them it was begun.
+    _seconds: float = 0.0
+    _count: int = 1
+    _started: float = 0.0
+    _superstep: int = 0
+
+    def __post_init__(self) -> None:
+        self._history = History(self.machine, self.is_interrupted)
 
     # What gdb can say.
 
@@ -103,6 +115,42 @@ class Runner:
             if self.is_interrupted():
                 return Stop(rank, words.INTERRUPTED)
 
+    def step_back(self, rank: int) -> Halt:
+        """A rank goes an instruction back, and where it has made none in this superstep, all go back over the turn."""
+        try:
+            return Stop(rank, words.TRAP, is_begin=not self._history.step_back(rank))
+        except (Interrupted, Refused) as fault:
+            return self._stay(rank, fault)
+
+    def go_back(self, rank: Optional[int], current: int) -> Halt:
+        """All ranks go back, or one alone, to the last breakpoint, the last beginning of a superstep that is wanted, or the start."""
+        try:
+            hit = self._history.go_back(Goal(frozenset(self.breakpoints), frozenset(self.supersteps), rank))
+        except (Interrupted, Refused) as fault:
+            return self._stay(current, fault)
+        if hit is None:
+            return Stop(current, words.TRAP, is_begin=True)
+        if hit.rank != BEGIN:
+            return Stop(hit.rank, words.TRAP, is_breakpoint=True)
+        self.show(f"superstep {hit.superstep} begins\n".encode())
+        return Stop(current, words.NONE)
+
+    def settle(self, current: int) -> Optional[Halt]:
+        """To be called before anything goes on: what stands where it has gone back to is made to go on from there. Answers where it is
+        not."""
+        try:
+            self.machine.settle(self.is_interrupted)
+        except (Interrupted, Refused) as fault:
+            return self._stay(current, fault)
+        return None
+
+    def _stay(self, current: int, fault: Exception) -> Halt:
+        """What gdb is told where it was broken off that a machine comes to another place, or another process was not to be had."""
+        if isinstance(fault, Refused):
+            self.show(f"bspgdb: it stays where it is: {fault}\n".encode())
+            return Stop(current, words.NONE)
+        return Stop(current, words.INTERRUPTED)
+
     def turn(self) -> str:
         """Makes the turn, if no rank runs. Answers the debugger's line."""
         line = self.machine.turn()
@@ -115,14 +163,14 @@ class Runner:
         """All ranks go on for up to so many supersteps. Answers nothing where there is nothing to stop for."""
         if self.machine.outcome is not None:
             return Exit(words.status_of(self.machine.outcome))
-        before = self.machine.superstep
+        before, self._count = self.machine.superstep, count
         if len(self.breakpoints) * self.machine.ranks <= MOST_BREAKPOINTS:
             ahead = [superstep for superstep in self.supersteps if superstep > before]
             arrival = self._go_to(self._points(range(self.machine.ranks)) + [min([before + count] + ahead)])
         else:
             arrival = self._go_by_windows(before)
         if isinstance(arrival, BrokenOff) and count > 1:
-            return self._search(count, current)
+            return self._go_singly(count, current) if self._deadline is None else self._search(count, current)
         halt = self._halt_of(arrival, current)
         if isinstance(arrival, Over) or self.machine.superstep > before:
             self._show_output()
@@ -152,17 +200,30 @@ class Runner:
         The debugger's `go` begins with the lowest rank. So another machine at the same place tells how far it is: there `go` takes the
         lower ranks first, past all points, and as ranks do not meet before the turn, this one makes the same steps there as here.
         """
-        scout = self.machine.at(self.machine.place())
         try:
-            points = self._points([rank]) + [scout.superstep + 1]
-            arrival = scout.go(points, self._must_break_off)
-            count = scout.node(rank).ticks - nodes[rank].ticks if isinstance(arrival, AtRank) else ALL
-        finally:
-            scout.close()
-        if isinstance(arrival, BrokenOff):
+            count = self._count_alone(nodes, rank)
+        except Interrupted:
             return self._look_on(rank)
-        self.machine.step(rank, count)
+        made = 0
+        while made < count and self.machine.node(rank).runs:
+            made += self.machine.step(rank, min(FAR, count - made))
+            if self.is_interrupted():
+                return Stop(rank, words.INTERRUPTED)
         return Stop(rank, words.TRAP, is_breakpoint=True) if count != ALL else self._stop_at(rank)
+
+    def _count_alone(self, nodes: List[Node], rank: int) -> int:
+        """How many instructions a rank makes up to a breakpoint; all, where it meets none."""
+        with contextlib.closing(self.machine.at(self.machine.place(), self._must_break_off)) as scout:
+            arrival = scout.advance(self._points([rank]) + [scout.superstep + 1], self._must_break_off)
+            return scout.node(rank).ticks - nodes[rank].ticks if isinstance(arrival, AtRank) else ALL
+
+    def _go_singly(self, count: int, current: int) -> Optional[Halt]:
+        """Goes on for so many supersteps, one by one."""
+        for _ in range(count):
+            halt = self._go_piece(1, current)
+            if halt is not None:
+                return halt
+        return None
 
     def _search(self, count: int, current: int) -> Halt:
         """After an interrupt in some supersteps of which one takes long: goes on to that one."""
@@ -170,12 +231,22 @@ class Runner:
         try:
             for _ in range(count):
                 self._deadline = time.monotonic() + PATIENCE
-                halt = self._go_piece(1, current)
+                halt = None if self.breakpoints else self._creep(self._deadline)
+                halt = halt or self._go_piece(1, current)
                 if halt is not None:
                     return halt
         finally:
             self._is_searching = False
         return Stop(current, words.INTERRUPTED)
+
+    def _creep(self, until: float) -> Optional[Halt]:
+        """All ranks go on to the superstep's end, where there are no breakpoints, for no longer than this. Answers where that ends it."""
+        for rank in range(self.machine.ranks):
+            while self.machine.node(rank).runs:
+                if time.monotonic() > until:
+                    return Stop(rank, words.INTERRUPTED)
+                self.machine.step(rank, FAR)
+        return None
 
     def _look_on(self, rank: int) -> Halt:
         """After an interrupt, with the machine where it stood before: a rank that runs goes on a little, for gdb to show where it is."""
@@ -193,7 +264,23 @@ class Runner:
         return [(rank, addr) for rank in ranks for addr in self.breakpoints]
 
     def _go_to(self, points: List[Point]) -> Arrival:
-        return self.machine.go(points, self._must_break_off)
+        self._started, self._superstep = time.monotonic(), self.machine.superstep
+        arrival = self.machine.go(points, self._must_break_piece)
+        self._seconds += time.monotonic() - self._started
+        if not isinstance(arrival, Over):
+            self.machine.spare.follow(self.machine.superstep)
+        return arrival
+
+    def _must_break_piece(self) -> bool:
+        """Whether a piece is to be broken off: by an interrupt, or as one of its supersteps takes long. The spare machine, which is for that,
+        is sent to where the piece began."""
+        seconds = time.monotonic() - self._started
+        spare = self.machine.spare
+        spare.is_wanted = spare.is_wanted or self._seconds + seconds > LONG
+        spare.follow(self._superstep)
+        if self._must_break_off():
+            return True
+        return self._deadline is None and self._count > 1 and seconds > SINGLY and spare.stands_at(self._superstep)
 
     def _must_break_off(self) -> bool:
         """Whether a run was to be interrupted, and has not come to the end of a superstep for a while since."""
@@ -219,7 +306,7 @@ class Runner:
 
     def _halt_of_outcome(self, outcome: str, current: int) -> Halt:
         if outcome == "ended":
-            return Exit(words.ENDED)
+            return Stop(current, words.NONE) if self.stops_at_end else Exit(words.ENDED)
         rank = words.rank_of(outcome, current)
         return Stop(rank, words.signal_of(outcome.partition("stopped: ")[2]) if "stopped" in outcome else words.NONE)
 

@@ -15,3 +15,58 @@ set remotetimeout 3600
 define target hookpost-remote
 set scheduler-locking step
 end
+
+# As it goes back, gdb does not say which rank it looks at, unless it has just read something there.
+define hook-reverse-continue
+if $_thread && *(char *)0
+end
+end
+
+# The functions of the library have no debugging information. Where one is about to return, gdb would look for its caller by the room on the
+# stack that it has already given back, and so reverse-next would stop there. This is last: a gdb without Python reads no further.
+python
+import gdb
+import gdb.unwinder
+
+
+class FrameId:
+    """What tells a frame from others: the stack behind it, and its function."""
+
+    def __init__(self, sp, pc):
+        self.sp, self.pc = sp, pc
+
+
+class Returning(gdb.unwinder.Unwinder):
+    """The innermost frame, where it is of a function without lines, and its next instruction is RET."""
+
+    RET = (bytes.fromhex("8280"), bytes.fromhex("67800000"))
+    SAVED = ["sp"] + ["s%d" % number for number in range(12)]
+
+    def __init__(self):
+        super().__init__("returning")
+
+    def __call__(self, frame):
+        word = gdb.lookup_type("unsigned int")
+        pc = int(frame.read_register("pc").cast(word))
+        # Before gdb 11 frames do not tell their level.
+        level = frame.level() if hasattr(frame, "level") else 0
+        if level > 0 or gdb.find_pc_line(pc).line or not self.returns_at(pc):
+            return None
+        symbol = gdb.execute("info symbol %d" % pc, to_string=True).split()
+        if symbol[1:2] != ["+"]:
+            return None
+        info = frame.create_unwind_info(FrameId(frame.read_register("sp"), gdb.Value(pc - int(symbol[2])).cast(word)))
+        info.add_saved_register("pc", frame.read_register("ra"))
+        for name in self.SAVED:
+            info.add_saved_register(name, frame.read_register(name))
+        return info
+
+    def returns_at(self, pc):
+        try:
+            return gdb.selected_inferior().read_memory(pc, 4).tobytes().startswith(self.RET)
+        except gdb.error:
+            return False
+
+
+gdb.unwinder.register_unwinder(None, Returning(), replace=True)
+end

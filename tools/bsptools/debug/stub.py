@@ -3,21 +3,27 @@
 from __future__ import annotations
 
 import re
+import time
 from typing import Callable, Dict, List, Optional, Tuple
 
 from . import monitor, numbers, words
-from .machine import Machine
+from .machine import MOST_BREAKPOINTS, Machine
 from .packets import INTERRUPT, PACKET_SIZE, Closed, Connection, escape, hexadecimal
-from .runner import MOST_BREAKPOINTS, Exit, Halt, Runner, Stop
+from .runner import Exit, Halt, Runner, Stop
 
 OK = b"OK"
 # What the protocol has for a packet that is not known.
 UNKNOWN = b""
 BAD = b"E01"
 READ_ONLY = b"E.memory and registers are read only"
-FEATURES = f"PacketSize={PACKET_SIZE:x};QStartNoAckMode+;qXfer:features:read+;qXfer:threads:read+;swbreak+;hwbreak+;vContSupported+"
+FEATURES = (
+    f"PacketSize={PACKET_SIZE:x};QStartNoAckMode+;qXfer:features:read+;qXfer:threads:read+;swbreak+;hwbreak+;vContSupported+"
+    ";ReverseStep+;ReverseContinue+"
+)
 # Bytes of output that one packet shows.
 CHUNK = 4096
+# For how many seconds an interrupt stands that came after a stop was told. gdb goes on by itself after most steps, and at once.
+LATE = 0.5
 
 _ACTION = re.compile(r"[cs]|[CS][0-9a-fA-F]{2}|r[0-9a-fA-F]+,[0-9a-fA-F]+")
 
@@ -36,6 +42,7 @@ class Stub:
         self._halt: Halt = Stop(0, words.TRAP)
         self._is_hardware: Dict[int, bool] = {}
         self._is_over = False
+        self._interrupted_at: Optional[float] = None
         self._exact = self._answers_to_words()
         self._beginning = self._answers_to_beginnings()
 
@@ -48,6 +55,8 @@ class Stub:
             "qC": lambda _: b"QC%x" % (self._current + 1),
             "D": self._end,
             "vCont?": lambda _: b"vCont;c;C;s;S;r",
+            "bs": self._step_back,
+            "bc": self._go_back,
             "?": lambda _: self._told(self._halt),
             "g": lambda _: b"".join(map(_register, self._registers())),
         }
@@ -91,7 +100,7 @@ class Stub:
             if packet == b"k":
                 return
             if packet == INTERRUPT:
-                # Nothing goes on that it could interrupt.
+                self._interrupted_at = time.monotonic()
                 continue
             self._connection.send(self._answer(packet.decode("latin-1")))
 
@@ -219,14 +228,35 @@ class Stub:
         return self._go_on("c", self._resumed)
 
     def _go_on(self, action: str, rank: Optional[int]) -> bytes:
+        if self._is_interrupted_late():
+            return self._tell(Stop(self._current, words.INTERRUPTED))
+        halt = self._runner.settle(self._current)
+        if halt is not None:
+            return self._tell(halt)
         if rank is None:
-            halt = self._runner.go(self._current)
-        elif action[0] in "cC":
-            halt = self._runner.go_alone(rank)
-        elif action[0] == "r":
-            halt = self._runner.step_range(rank, *numbers.pair(action[1:]))
-        else:
-            halt = self._runner.step(rank)
+            return self._tell(self._runner.go(self._current))
+        if action[0] in "cC":
+            return self._tell(self._runner.go_alone(rank))
+        if action[0] == "r":
+            return self._tell(self._runner.step_range(rank, *numbers.pair(action[1:])))
+        return self._tell(self._runner.step(rank))
+
+    def _step_back(self, _: str) -> bytes:
+        rank = self._current if self._resumed is None else self._resumed
+        return self._tell(Stop(rank, words.INTERRUPTED) if self._is_interrupted_late() else self._runner.step_back(rank))
+
+    def _go_back(self, _: str) -> bytes:
+        """All ranks go back, or that which an old `c` would resume."""
+        is_late = self._is_interrupted_late()
+        return self._tell(Stop(self._current, words.INTERRUPTED) if is_late else self._runner.go_back(self._resumed, self._current))
+
+    def _is_interrupted_late(self) -> bool:
+        """Whether an interrupt has come just after a stop was told, behind which gdb goes on by itself."""
+        at, self._interrupted_at = self._interrupted_at, None
+        return at is not None and time.monotonic() - at < LATE
+
+    def _tell(self, halt: Halt) -> bytes:
+        """The reply that tells gdb of a stop that is new."""
         self._halt = halt
         if isinstance(halt, Stop):
             self._current = halt.rank
@@ -242,6 +272,8 @@ class Stub:
         parts.append(b"thread:%x" % (halt.rank + 1))
         if halt.is_breakpoint:
             parts.append(b"hwbreak:" if self._is_hardware.get(node.pc) else b"swbreak:")
+        if halt.is_begin:
+            parts.append(b"replaylog:begin")
         return b"T%02x" % halt.signal + b"".join(part + b";" for part in parts)
 
 

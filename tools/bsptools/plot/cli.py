@@ -5,12 +5,13 @@ from __future__ import annotations
 import argparse
 import contextlib
 import importlib
+import logging
 import os
 import pathlib
 from collections.abc import Iterator
 
-from .. import packages
-from ..options import Parser, pair
+from .. import children, packages
+from ..options import Parser, pair, rate
 from ..refusals import printable
 from .kinds import KINDS
 from .profile import Reading
@@ -49,6 +50,7 @@ def arguments(words: list[str]) -> argparse.Namespace:
         " what it costs, on which ranks and in which supersteps")  # fmt: skip
     add("--html", metavar="FILE", help="a page in one file, with the pictures that SOURCE has, its table and its settings")
     parser.add_prices()
+    add("--rate", type=rate, metavar="COUNT", help="with --compare: instructions a second, by which the totals are seconds too")
     add("--h", type=Reading, choices=list(Reading), default=Reading.OTHERS, metavar="all|others", help="whether h counts what a"
         " rank moves to itself, as the report of `--ledger 1` does (all), or not (others, the default)")  # fmt: skip
     add("--supersteps", type=span, default=(0, None), metavar="A:B", help="these supersteps alone; one as A, all from A on as A:")
@@ -70,12 +72,29 @@ def inside(folder: pathlib.Path) -> Iterator[None]:
         os.close(here)
 
 
+@contextlib.contextmanager
+def matplotlibs_folder() -> Iterator[None]:
+    """Where matplotlib keeps what it knows of fonts: a folder of the person's, or one for a while where none can be written. Of that it says
+    nothing."""
+    logging.getLogger("matplotlib").setLevel(logging.ERROR)
+    variable, home = "MPLCONFIGDIR", os.environ.get("XDG_CACHE_HOME") or os.path.expanduser("~/.cache")
+    path = os.environ.get(variable) or os.path.join(home, "matplotlib")
+    with contextlib.ExitStack() as stack:
+        with contextlib.suppress(OSError):
+            os.makedirs(path, exist_ok=True)
+        if not os.access(path, os.W_OK | os.X_OK):
+            path = str(stack.enter_context(children.folder("bspplot")))
+        os.environ[variable] = path
+        yield
+
+
 def main(words: list[str]) -> int:
     """Draws; the status is 1 where something could not be drawn."""
     asked = arguments(words)
     packages.expect(packages.MATPLOTLIB)
-    # matplotlib takes its settings from the folder that it is imported in. Here they are the same for everybody.
-    with inside(pathlib.Path(__file__).parent):
-        drawing = importlib.import_module(".drawing", __package__)
-    drawing.draw(asked)
+    with matplotlibs_folder():
+        # matplotlib takes its settings from the folder that it is imported in. Here they are the same for everybody.
+        with inside(pathlib.Path(__file__).parent):
+            drawing = importlib.import_module(".drawing", __package__)
+        drawing.draw(asked)
     return 0

@@ -101,7 +101,7 @@ class Plan:
 
     def compare(self) -> Picture:
         """Programs against one another."""
-        return series.compare(self.lines(), self.title)
+        return series.compare(self.lines(), self.title, self.options.rate)
 
 
 def settings(plan: Plan) -> list[tuple[str, str]]:

@@ -52,14 +52,16 @@ def ideal(made: Picture, axes: Axes, them: list[Line]) -> None:
         made.mark(line, f"ideal-{fewest}", f"ideal: on {most} nodes speedup {figures(most / fewest)}")
 
 
-def compare(them: list[Line], title: str) -> Picture:
-    """The totals alone, with the crossings of programs that differ in nothing else."""
+def compare(them: list[Line], title: str, rate: float | None = None) -> Picture:
+    """The totals alone, with the crossings of programs that differ in nothing else; at a rate they are seconds too."""
     made = picture(4.0, title, foot(len(them)))
     axes = made.figure.add_subplot(made.body)
     names = labels(them)
     plot(made, axes, "total", them, names, lambda line, nodes: line.totals[nodes], ALONE)
     powers(axes)
     axes.set_ylabel("total, in ticks (logarithmic)")
+    if rate is not None:
+        seconds(axes, rate)
     found = crossings(them)
     for i, crossing in enumerate(found):
         show(made, axes, i, crossing, looks(them)[them.index(crossing.cheaper)]["color"])
@@ -68,6 +70,15 @@ def compare(them: list[Line], title: str) -> Picture:
         axes.set_title("\n".join([*map(str, found[:MOST_CROSSINGS]), *more]), fontsize=SMALL + 1)
     made.legend(keys(them), names, 2)
     return made
+
+
+def seconds(axes: Axes, rate: float) -> None:
+    """A second scale, of the seconds that the totals along the first one are at a rate."""
+    other = axes.secondary_yaxis("right", functions=(lambda total: total / rate, lambda time: time * rate))
+    other.yaxis.set_major_locator(FixedLocator([it / rate for it in axes.get_yticks()]))
+    other.yaxis.set_major_formatter(FuncFormatter(lambda value, _: f"{value:.3g}"))
+    other.yaxis.set_minor_locator(NullLocator())
+    other.set_ylabel(f"seconds, at {rate:,.10g} a second (logarithmic)")
 
 
 def foot(names: int) -> float:

@@ -9,8 +9,12 @@ from typing import NamedTuple
 
 from .. import children
 from . import records
+from .choices import Choices
 from .job import Job
 from .parting import ERROR, OUTPUT, Marks
+from .partings import first_parting
+from .program import Code
+from .replays import Replays
 from .report import Report, part
 from .why import Why
 
@@ -25,6 +29,29 @@ class Run(NamedTuple):
 
     output: bytes
     outcome: str
+
+
+class Filled(NamedTuple):
+    """Runs with these settings of the program's library."""
+
+    job: Job
+    flags: int
+    fill: int | None
+
+    @property
+    def code(self) -> Code:
+        """What is known of the code."""
+        return self.job.code
+
+    @property
+    def nodes(self) -> int:
+        """The number of nodes."""
+        return int(self.job.options.nodes)
+
+    def replays(self, _choices: Choices) -> Replays:
+        """The run in the debugger, up to the next one that is asked for."""
+        self.job.set(self.flags, self.fill)
+        return self.job.replays()
 
 
 def overruns(again: Run, where: list[str]) -> list[str]:
@@ -50,9 +77,18 @@ def reads(first: Run, again: Run, fill: int) -> list[str]:
     return [f"{begin}, line {at + 1} of the output is {texts[1]}, and else {texts[0]}"]
 
 
+def parted(one: Filled, other: Filled) -> str:
+    """Where two runs part whose outputs differ: the first call of a rank that is another one."""
+    found = first_parting((one, Choices()), (other, Choices()))
+    if found is None:
+        return ""
+    what = found.one.told.partition(",")[0]
+    return f"; first in {what} of rank {found.rank} in superstep {found.one.superstep}, at {found.where}"
+
+
 def run_of(job: Job, flags: int, fill: int | None) -> tuple[Run, Report] | None:
     """A run with these settings of the program's library: what it wrote, also on standard error, and its report."""
-    job.set(flags, fill)
+    job.set(flags, fill, is_timed=False)
     done = children.call([*job.program, "run", *job.settings, "--report"], stdout=subprocess.PIPE, stderr=subprocess.DEVNULL)
     parted = part(done.stdout)
     if parted is None:
@@ -76,5 +112,7 @@ def findings(job: Job) -> dict[str, list[str]]:
         overrun, read = found
         found[overrun] = overruns(again[0], where)
         found[read] = [] if found[overrun] else reads(first[0], again[0], fill)
+        if found[read]:
+            found[read][0] += parted(Filled(job, 0, options.fill), Filled(job, records.LOOKS, fill))
     job.set(0, options.fill)
     return found

@@ -36,6 +36,7 @@ NAMES = {
     16: ("bsp_abort", ("*text", "nbytes")),
     17: ("write", ("*bytes", "count")),
     18: ("read", ("*bytes", "count")),
+    19: ("bsp_time", ()),
 }
 # The library's functions that make the calls of which a trace is asked for.
 FUNCTIONS: dict[int, tuple[str, ...]] = {**{number: (name,) for number, (name, _) in NAMES.items()}, WRITE: ("bsp_stdio_flush",)}

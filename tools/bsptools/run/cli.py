@@ -3,15 +3,19 @@
 from __future__ import annotations
 
 import argparse
+import contextlib
 import os
 import signal
 import sys
 
 from .. import children, files, streams
 from ..limits import MOST_WORKERS, WORKERS
+from ..machines import Take
 from ..options import Parser
-from ..refusals import BY_SIGNAL, about, show, tell
+from ..refusals import BY_SIGNAL, REFUSED, about, show, tell
+from .given import files_read
 from .job import Job, prepared
+from .longs import Beside
 from .viewers import form, wants_counts
 from .watch import Done, Fewer, Interrupted, Stopped, Watch
 
@@ -34,6 +38,8 @@ def parser() -> Parser:
     found.add_program()
     found.add_machine()
     found.add_prices()
+    found.add_rate()
+    add("--machine", action=Take, metavar="NAME", help="nodes, prices and rate of a machine of the literature, as t3e-8; options behind it count")
     add("--out", metavar="DIR", help="where files go that the program writes; without it there are none")
     add("--report", metavar="FILE", help="the costs, into FILE: as CSV or JSON where its name says so; - is standard error")
     add("--profile", metavar="FILE", help="what each rank did in each superstep, into FILE as CSV: bspplot draws it")
@@ -42,6 +48,7 @@ def parser() -> Parser:
     add("--fold", action="store_true", help="as --lines, with the work of library functions at the lines that called them")
     add("--lines-as", type=form, action="append", default=[], metavar="KIND=FILE", help="that as a file of this kind: callgrind,"
         " folded (stacks for a flame graph), trace (for Perfetto) or json (for bspplot --source); any number of them")  # fmt: skip
+    add("--no-check", action="store_true", help="leave out the look at what does not fit into a long, which goes beside a .c program's run")
     found.add_number("--fill", what="the byte of fresh memory", least=0, most=255, metavar="BYTE",
         help="the byte that stack and malloc have at first, for a program that reads what it did not write; 0 by default")  # fmt: skip
     add("--warn", action="store_true", help="look for what is likely a mistake, also in a run that ends well; takes long")
@@ -66,6 +73,11 @@ def deliver(job: Job, done: Done) -> int:
     # Also where the report is whole: a profile is written after it.
     tell(done.said.decode(errors="replace").splitlines())
     found, options = done.report, job.options
+    if done.status < 0:
+        why = signal.strsignal(-done.status) or f"signal {-done.status}"
+        why += ", as by a host that has no memory left" if -done.status == signal.SIGKILL else ""
+        tell([f"bsprun: the emulator was ended after {done.seconds:.1f} s: {why}"])
+        return BY_SIGNAL - done.status
     if found is None:
         return done.status
     # What has no part in most runs is loaded where it is wanted, so that these begin sooner.
@@ -75,15 +87,22 @@ def deliver(job: Job, done: Done) -> int:
         from .forms import spelled_for
 
         files.write(options.report, spelled_for(options.report, found))
+    chosen, is_whole = None, True
     if done.records or options.out is not None:
+        from .chosen import chosen_status
         from .noted import tell_noted
+        from .notes import STATUS
 
-        tell_noted(job, done.records)
-    if options.summary or options.warn or wants_counts(options) or found.outcome != "ended":
+        chosen = chosen_status(job, found, done.records)
+        is_whole = tell_noted(job, done.records, found, untold=STATUS if chosen is not None else "")
+    if options.summary or options.warn or wants_counts(options) or (found.outcome != "ended" and chosen is None):
         from .telling import tell_of
 
-        tell_of(job, found, parser())
-    return done.status
+        tell_of(job, found, parser(), is_chosen=chosen is not None)
+    if options.portable and found.outcome != "ended":
+        tell(["bsprun: not tried: other choices, since the run does not end well as it is"])
+    status = done.status if chosen is None else chosen
+    return status if is_whole else status or REFUSED
 
 
 def tell_where(job: Job, begin: str, stopped: Stopped) -> None:
@@ -98,24 +117,33 @@ def tell_where(job: Job, begin: str, stopped: Stopped) -> None:
     tell([line])
 
 
-def run(job: Job) -> int:
-    """Runs a job; the status is that of the emulator, unless the clock or Ctrl-C has ended it."""
-    watch = Watch(job, job.options.wall)
+def run(job: Job, beside: Beside) -> int:
+    """Runs a job, with what goes beside it; the status is that of the emulator, unless the clock or Ctrl-C has ended it."""
+    beside.run(job)
+    watch = Watch(job, job.options.wall, beside)
     try:
-        return deliver(job, watch.run())
+        done = watch.run()
+        status = deliver(job, done)
+        beside.wait(done.seconds)
+        tell(beside.lines())
+        return status
     except Fewer as fewer:
         count, nodes = fewer.count, job.options.nodes
         tell([f"bsprun: the program takes {count} nodes in bsp_begin, and so it has these, and not {nodes}"])
         job.give_nodes(count)
-        return run(job)
+        return run(job, beside)
     except Interrupted as interrupted:
         children.end_by_signals_again()
+        beside.close()
         # The terminal shows Ctrl-C in its line.
         show("", "\n" if sys.stderr.isatty() else "")
         tell_where(job, "ended by Ctrl-C", interrupted)
+        tell(beside.lines())
         return BY_SIGNAL + signal.SIGINT
     except Stopped as stopped:
+        beside.close()
         tell_where(job, "ended by --wall", stopped)
+        tell(beside.lines())
         return WALL
 
 
@@ -123,18 +151,16 @@ def main(words: list[str]) -> int:
     """Runs a program; the status is the emulator's, or says what ended it."""
     options = arguments(words)
     outputs = [options.report if options.report != "-" else None, options.profile, *(path for _, path in options.lines_as)]
-    files.expect_apart(outputs, [options.program, options.input, *options.file])
+    files.expect_apart(outputs, files_read(options))
     files.expect_writable(outputs)
     if options.out is not None and not os.path.isdir(options.out):
         with about(options.out):
             os.mkdir(options.out)
-    with children.folder("bsprun") as folder:
-        job = prepared(options, folder, "bsprun", is_marked=True)
-        status = run(job)
-        if options.portable and status in (2, 3, 4):
-            tell(["bsprun: not tried: other choices, since the run does not end well as it is"])
-        elif options.portable and status == 0:
+    with children.folder("bsprun") as folder, contextlib.closing(Beside(folder)) as beside:
+        job = prepared(options, folder, "bsprun", is_marked=True, beside=beside.build)
+        status = run(job, beside)
+        if options.portable and status == 0:
             from .portable import is_portable
 
-            return 0 if is_portable(options, job.program, job.settings, folder) else OTHERWISE
+            return 0 if is_portable(job, folder) else OTHERWISE
         return status

@@ -21,18 +21,20 @@ def take_sources(options: argparse.Namespace) -> None:
         options.sources.append(options.args.pop(0))
 
 
-def compiled(options: argparse.Namespace, target: pathlib.Path, *more: str) -> list[str]:
-    """Makes an executable of the sources, with more options for bspcc. Answers what was said of them. What a compiler leaves that was
+def command(options: argparse.Namespace, target: pathlib.Path, *more: str) -> tuple[list[str], dict[str, str]]:
+    """The words that make an executable of the sources, with more options for bspcc, and their environment. What a compiler leaves that was
     killed stands beside the executable."""
     room = options.stack or (STACK if options.memory >= MEMORY_OF_STACK else COMPILED_STACK)
-    stack = ["--stack", str(room)]
     places = [os.path.abspath(it) for it in options.sources]
-    before = [*stack, *(["--check"] if options.check else []), *more, "-o", str(target)]
-    given = [*before, *places, *(options.compiled or []), "-lm"]
-    environment = {**os.environ, "TMPDIR": str(target.parent)}
-    words = [emulator.program("bspcc"), "-g", *given]
+    words = [emulator.program("bspcc"), *more, "--stack", str(room), "-o", str(target), *places, *(options.compiled or []), "-lm"]
+    return words, {**os.environ, "TMPDIR": str(target.parent)}
+
+
+def compiled(options: argparse.Namespace, target: pathlib.Path, *more: str) -> list[str]:
+    """Makes an executable of the sources, with more options for bspcc. Answers what was said of them."""
+    words, environment = command(options, target, "-g", *(["--check"] if options.check else []), *more)
     done = children.call(words, stdout=subprocess.PIPE, stderr=subprocess.STDOUT, env=environment)
-    said = lines_of(done.stdout, *places)
+    said = lines_of(done.stdout, *(os.path.abspath(it) for it in options.sources))
     if done.returncode != 0:
         tell(said)
         raise Refused(f"{' '.join(options.sources)} was not compiled")

@@ -1,74 +1,119 @@
-"""Bytes that two requests of a superstep write, each with another value: in which order they land is open."""
+"""Bytes to which two requests of a superstep bring different values, as `run --contested` tells of them: in which order these land is open."""
 
 from __future__ import annotations
 
-import itertools
+import os
+import pathlib
+import re
 from collections.abc import Iterator
 from typing import NamedTuple
 
-from .calls import PUTS, REQUESTS, Call, Tracer
-from .warn import TRACED, Landing, Steps, landings_in
+from .. import emulator
+from ..files import whole
+from ..limits import MOST_MEMORY, MOST_NODES, MOST_REQUESTS
+from ..refusals import Refused, about, lines_of
+from .report import MOST_COST
 
-# How many puts that meet are looked at.
-MOST_PAIRS = 64
+COLUMNS = ("kind", "rank", "request", "byte")
+HEADER = ",".join(["superstep", "rank", "address", "bytes", *(f"{which}_{it}" for which in ("first", "second") for it in COLUMNS)])
+HEXADECIMAL = re.compile(r"(?:[0-9a-f]{2}){1,4}")
+# Of a file of contested bytes, and of its longest line.
+MOST_BYTES, MOST_LINE = 1 << 30, 128
+
+
+class Request(NamedTuple):
+    """A put or a get: the rank that asks for it, its number among the requests of that rank in the superstep, and the first of the contested
+    bytes that it brings."""
+
+    kind: str
+    rank: int
+    number: int
+    byte: int
 
 
 class Contested(NamedTuple):
-    """Bytes of a rank's memory, from an address on, that two requests of a superstep write: of each its rank, its number among the requests
-    that this rank makes in the superstep, and the byte that it writes to the first of them."""
+    """Bytes of a rank's memory, from an address on, and two requests that bring different values to the first of them."""
 
     superstep: int
     rank: int
     address: int
     size: int
-    first_rank: int
-    first_request: int
-    second_rank: int
-    second_request: int
-    first_byte: int
-    second_byte: int
+    first: Request
+    second: Request
 
 
-class Looked(NamedTuple):
-    """What was found in pairs of puts, and whether all of them were looked at."""
+class Found(NamedTuple):
+    """What is contested in a run: how many places, and the first of them."""
 
-    found: list[Contested]
-    is_whole: bool
-
-
-def meetings(steps: Steps, last: int) -> Iterator[tuple[int, int, Landing, Landing]]:
-    """A superstep, a target's rank, and two puts that write the same byte of it."""
-    for superstep, landings in landings_in(steps, last, PUTS):
-        for i, (target, one) in enumerate(landings):
-            for other_target, other in itertools.islice(landings, i + 1, None):
-                if other_target != target or other.start >= one.end:
-                    break
-                yield superstep, target, one, other
+    places: int
+    first: Contested | None
 
 
-def by_pairs(steps: Steps, last: int) -> Looked:
-    """Puts of a superstep that write another byte to the same place."""
-    found: list[Contested] = []
-    looked = 0
-    for superstep, target, one, other in meetings(steps, last):
-        looked += 1
-        if looked > MOST_PAIRS:
-            break
-        start, end = other.start, min(one.end, other.end)
-        values = [bytes_of(steps.trace, it.rank, it.call, start - it.start, end - start) for it in (one, other)]
-        at = next((i for i, (a, b) in enumerate(zip(*values)) if a != b), None)
-        if at is not None:
-            first, second = (request_of(steps, it.rank, superstep, it.call) for it in (one, other))
-            places = (one.rank, first, other.rank, second)
-            found.append(Contested._make((superstep, target, start + at, end - start - at, *places, values[0][at], values[1][at])))
-    return Looked(found, is_whole=looked <= MOST_PAIRS and steps.is_whole)
+def read(path: str | os.PathLike[str], nodes: int, last: int) -> Found:
+    """What is contested in a run of so many nodes, of which this is the last superstep, by its file. What no emulator writes is refused."""
+    first: Contested | None = None
+    before: Contested | None = None
+    places = 0
+    try:
+        for it in rows(path):
+            if it.superstep >= last or max(it.rank, it.first.rank, it.second.rank) >= nodes or (before and not is_behind(before, it)):
+                raise ValueError(f"superstep {it.superstep}, rank {it.rank}, address {it.address:#x} is not in its place")
+            places, first, before = places + 1, first or it, it
+    except ValueError as error:
+        raise Refused(f"the contested bytes are not those of the run: {error}") from error
+    return Found(places, first)
 
 
-def bytes_of(trace: Tracer, rank: int, call: Call, offset: int, count: int) -> bytes:
-    """Bytes of the source of a put, as they are at the call."""
-    return trace.replays.bytes(trace.up_to(rank, TRACED, 0, call), rank, call.operand("src") + offset, count)
+def rows(path: str | os.PathLike[str]) -> Iterator[Contested]:
+    """The rows of a file of contested bytes; what is none raises ValueError."""
+    with about(path), open(path, encoding="ascii", errors="replace", newline="") as file:
+        if os.fstat(file.fileno()).st_size > MOST_BYTES:
+            raise Refused(f"the contested bytes have more than {MOST_BYTES} bytes of lines: take fewer nodes, or fewer supersteps")
+        if file.readline(2 * MOST_LINE) != HEADER + "\n":
+            raise ValueError("it does not begin as contested bytes do")
+        while line := file.readline(MOST_LINE):
+            cells = line[:-1].split(",")
+            if not line.endswith("\n") or len(cells) != 4 + 2 * len(COLUMNS):
+                raise ValueError(f"{line[:40]!r} is no line of contested bytes")
+            yield row_of(cells)
 
 
-def request_of(steps: Steps, rank: int, superstep: int, call: Call) -> int:
-    """Which request of its rank in a superstep a call is."""
-    return [it.stop for it in steps.of(rank, superstep) if it.number in REQUESTS].index(call.stop)
+def row_of(cells: list[str]) -> Contested:
+    """A row of its columns."""
+    superstep, rank = whole(cells[0], MOST_COST), whole(cells[1], MOST_NODES - 1)
+    address, size = digits(cells[2], 8), whole(cells[3], MOST_MEMORY)
+    it = Contested(superstep, rank, address, size, request_of(cells[4:8]), request_of(cells[8:]))
+    if size < 1 or address + size > MOST_MEMORY or it.first.byte == it.second.byte or it.first[1:3] == it.second[1:3]:
+        raise ValueError(f"no requests contest {size} bytes at address {address:#x}: {it.first}, {it.second}")
+    if any(asked.kind == "get" and asked.rank != rank for asked in (it.first, it.second)):
+        raise ValueError(f"a get of another rank brings nothing to rank {rank}")
+    return it
+
+
+def request_of(cells: list[str]) -> Request:
+    """A request of its columns."""
+    kind, rank, number, byte = cells
+    if kind not in ("get", "put"):
+        raise ValueError(f"{kind!r} is neither get nor put")
+    return Request(kind, whole(rank, MOST_NODES - 1), whole(number, MOST_REQUESTS - 1), digits(byte, 2))
+
+
+def digits(text: str, count: int) -> int:
+    """A number in so many hexadecimal digits."""
+    if len(text) != count or HEXADECIMAL.fullmatch(text) is None:
+        raise ValueError(f"{text!r} is no number in {count} hexadecimal digits")
+    return int(text, 16)
+
+
+def is_behind(one: Contested, other: Contested) -> bool:
+    """Whether bytes come behind others: in a later superstep, or by rank and address with a settled byte between."""
+    return one[:2] < other[:2] or (one[:2] == other[:2] and one.address + one.size < other.address)
+
+
+def in_run(program: list[str], settings: list[str], nodes: int, last: int, folder: pathlib.Path) -> Found:
+    """What is contested in a run with these settings, which goes to this superstep."""
+    file = folder / "contested.csv"
+    done = emulator.run([*program, "run", *settings, "--contested", str(file)])
+    if done.returncode != 0 or not file.exists():
+        raise Refused("what is contested in the run is not told", *lines_of(done.stderr))
+    return read(file, nodes, last)

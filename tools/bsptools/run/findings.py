@@ -20,6 +20,7 @@ from .remote import Touched
 from .replays import Replays
 from .trials import Ending, Stop, Trials, least, looked, memory_of, stops
 from .warn import TRACED
+from .written import shown as shown_name
 
 # What the linker calls in the place of these functions, in a program that has them.
 TAKING = ("__wrap_bsp_move", "__wrap_bsp_hpmove")
@@ -173,18 +174,18 @@ class Findings:
 
 
 def told_contested(trace: Tracer, it: Contested, others: int) -> list[str]:
-    """Two requests that write another byte to one place, and how many more there are."""
+    """Two requests that bring different values to one place, and how many more places there are."""
     variable = trace.code.variable(it.address)
     named = f" ({variable})" if variable else ""
     end = f" to {it.address + it.size - 1:#x}" if it.size > 1 else ""
     lines = ["two requests of a superstep write other bytes to one place"]
     lines.append(f"superstep {it.superstep}, rank {it.rank}: byte {it.address:#x}{named}{end}")
-    for rank, request, byte in (it.first_rank, it.first_request, it.first_byte), (it.second_rank, it.second_request, it.second_byte):
+    for _, rank, number, byte in sorted((it.first, it.second), key=lambda asked: asked[1:3]):
         made = trace.calls_in(rank, REQUESTS, it.superstep)
-        if request < len(made):
-            where = trace.place_of(rank, REQUESTS, it.superstep, made[request])
-            lines.append(f"{byte:02x}     by rank {rank} at {where}: {spelled(trace.code, made[request].node)}")
-    return [*lines, *([f"and    {counted(others, 'more pair')} of requests"] if others else []), f"why    {WHY_PUTS}"]
+        if number < len(made):
+            where = trace.place_of(rank, REQUESTS, it.superstep, made[number])
+            lines.append(f"{byte:02x}     by rank {rank} at {where}: {spelled(trace.code, made[number].node)}")
+    return [*lines, *([f"and    {counted(others, 'more place')}"] if others else []), f"why    {WHY_PUTS}"]
 
 
 def differing(one: bytes, other: bytes) -> str:
@@ -214,7 +215,16 @@ def parted(one: Ending, other: Ending) -> str:
     """In what two ends differ."""
     if one.outcome != other.outcome:
         return f"the outcome is {other.outcome!r}, and not {one.outcome!r}"
-    here, there = one.output.split(b"\n"), other.output.split(b"\n")
+    if one.output != other.output:
+        return parted_text("the output", one.output, other.output)
+    files = [{it[:2]: it[2] for it in of.files} for of in (one, other)]
+    rank, name = next(it for it in sorted(files[0].keys() | files[1].keys()) if files[0].get(it) != files[1].get(it))
+    return parted_text(f"{shown_name(name)}, which rank {rank} writes,", *(of.get((rank, name), b"") for of in files))
+
+
+def parted_text(what: str, one: bytes, other: bytes) -> str:
+    """In which line two texts differ."""
+    here, there = one.split(b"\n"), other.split(b"\n")
     at = next((i for i, (a, b) in enumerate(zip(here, there)) if a != b), min(len(here), len(there)))
     texts = [repr(it[at][:60].decode(errors="replace")) if at < len(it) else "not there" for it in (here, there)]
-    return f"line {at + 1} of the output is {texts[1]}, and not {texts[0]}"
+    return f"line {at + 1} of {what} is {texts[1]}, and not {texts[0]}"

@@ -32,6 +32,12 @@ def given_files(options: argparse.Namespace) -> list[tuple[bytes, bytes]]:
     return found
 
 
+def files_read(options: argparse.Namespace) -> list[str]:
+    """All files that a run reads: the program, with more sources of it, its input, and what it is given."""
+    names = [options.program, *filter(None, [options.input]), *options.file, *filter(os.path.isfile, options.args)]
+    return [*names, *(it for folder in options.files for it in files_of(folder))]
+
+
 def files_of(folder: str) -> list[str]:
     """The files of a folder, and none of those below it."""
     with about(folder), os.scandir(folder) as entries:

@@ -8,6 +8,7 @@ import pathlib
 import shlex
 import shutil
 import sys
+from collections.abc import Callable
 from dataclasses import dataclass
 from typing import TYPE_CHECKING
 
@@ -19,6 +20,7 @@ from ..refusals import Refused, about, tell
 from . import records, sizes
 from .block import MAGIC, block
 from .choices import MAGIC as CHOICES
+from .clock import timed
 from .compiling import compiled, take_sources
 from .given import TOO_LONG, given_files
 from .parting import marked
@@ -27,10 +29,10 @@ from .program import Code, kind_of, read_elf, read_text
 if TYPE_CHECKING:
     from .replays import Replays
 
-# Functions that are in a program which may read its input; those of them that read nothing else; and one that is where it opens files, with
-# which some of the others come too.
+# Functions that are in a program which may read its input; names that are in one which reads it and nothing else by them, the last of which
+# is std::cin; and one that is where it opens files, with which some of the others come too.
 READ = {"bsp_stdio_get", "read"}
-READ_INPUT = {"scanf", "vscanf", "getchar"}
+READ_INPUT = {"scanf", "vscanf", "getchar", "_ZSt3cin"}
 OPEN = "open"
 
 
@@ -62,11 +64,13 @@ class Job:
         self.code.know_names()
         return Replays([*self.program, "debug", *self.settings], self.options.memory, self.options.nodes)
 
-    def set(self, flags: int, fill: int | None) -> None:
-        """Writes the image with settings for the program's library, and a byte of fresh memory where there is one."""
+    def set(self, flags: int, fill: int | None, is_timed: bool = True) -> None:
+        """Writes the image with settings for the program's library, with a byte of fresh memory where there is one. Runs that are compared
+        read no time, which is that of one run."""
         flags |= records.RECORDS | (records.WRITES_FILES if self.options.out is not None else 0)
         flags |= records.FILLED if fill is not None else 0
-        self.image.write_bytes(records.settings_in(self.content, flags, fill or 0, self.mark))
+        content = records.settings_in(self.content, flags, fill or 0, self.mark)
+        self.image.write_bytes(timed(content, self.options.rate) if is_timed else content)
 
     def give_nodes(self, count: int) -> None:
         """Has this job run on so many nodes."""
@@ -74,8 +78,11 @@ class Job:
         self.settings[self.settings.index("--nodes") + 1] = str(count)
 
 
-def prepared(options: argparse.Namespace, folder: pathlib.Path, tool: str, is_marked: bool = False) -> Job:
-    """Finds out for a tool what the program is, and makes all files that its run wants. A job that is marked writes standard error apart."""
+def prepared(
+    options: argparse.Namespace, folder: pathlib.Path, tool: str, is_marked: bool = False, beside: Callable[[argparse.Namespace], None] | None = None
+) -> Job:
+    """Finds out for a tool what the program is, and makes all files that its run wants. A job that is marked writes standard error apart.
+    What goes beside the compiler begins as the sources of a program in C are known."""
     content = content_of(options.program, MOST_PROGRAM)
     kind = options.format or kind_of(pathlib.Path(options.program), content)
     emulate = [options.bspemu or emulator.emulator()]
@@ -85,6 +92,8 @@ def prepared(options: argparse.Namespace, folder: pathlib.Path, tool: str, is_ma
     options.sources = []
     if kind == "c":
         take_sources(options)
+        if beside is not None:
+            beside(options)
         image = folder / "program.elf"
         tell(compiled(options, image))
         content, kind = content_of(image, MOST_PROGRAM), "elf"
@@ -103,13 +112,14 @@ def prepared(options: argparse.Namespace, folder: pathlib.Path, tool: str, is_ma
     run, mark = marked(content, given or b"") if is_marked else (content, b"")
     if is_marked and options.out is not None and (not mark or records.PLACE not in content):
         raise Refused(f"{options.program} writes no files: it was not built by this bspcc")
-    if mark or not is_text(image):
+    whole = timed(run, options.rate)
+    if mark or whole != content or not is_text(image):
         # The emulator takes no name that is no text.
         image = folder / "image"
         with about(image):
-            image.write_bytes(run)
+            image.write_bytes(whole)
     settings = [str(image), "--format", kind, "--nodes", str(options.nodes), "--memory", str(options.memory)]
-    settings += ["--limit", str(options.limit)]
+    settings += ["--limit", str(options.limit), "--clock", "--g", str(options.g), "--l", str(options.l)]
     if given is not None:
         with about(folder / "input"):
             (folder / "input").write_bytes(given)
@@ -166,7 +176,7 @@ def words_of(job: Job, parser: Parser) -> list[str]:
     options = job.options
     words = ["-n", str(options.nodes)] if options.nodes != NODES else []
     words += ["--input", "FILE"] if job.is_typed else []
-    for name in ("--input", "--argv0", "--limit", "--memory", "--stack", "--g", "--l", "--format"):
+    for name in ("--input", "--argv0", "--limit", "--memory", "--stack", "--g", "--l", "--rate", "--format"):
         value = getattr(options, name.strip("-"))
         words += [name, str(value)] if value != parser.get_default(name.strip("-")) else []
     words += [it for name in options.file for it in ("--file", name)]

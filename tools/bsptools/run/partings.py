@@ -4,13 +4,15 @@ from __future__ import annotations
 
 import itertools
 from collections.abc import Iterator
-from typing import NamedTuple
+from typing import NamedTuple, Protocol
 
 from ..debugger import Node, signed
 from .calls import NAMES, PUTS, REQUESTS, SEND, SYNC, WRITE
 from .choices import Choices
 from .places import place
-from .trials import Stop, Trials, stops
+from .program import Code
+from .replays import Replays
+from .trials import Stop, stops
 
 TRACED = (*REQUESTS, WRITE, SYNC)
 # Functions of bsplib/ with environment calls that ask and change nothing.
@@ -18,6 +20,21 @@ ASKING = ("bsp_start", "bsp_begin", "bsp_nprocs", "bsp_pid", "bsp_input_read", "
 # How many calls of a run are compared.
 MOST_CALLS = 20_000
 MOST_POINTS = 1000
+
+
+class Runs(Protocol):
+    """Runs of a program under choices."""
+
+    @property
+    def code(self) -> Code:
+        """What is known of its code."""
+
+    @property
+    def nodes(self) -> int:
+        """The number of nodes."""
+
+    def replays(self, choices: Choices) -> Replays:
+        """The run under these choices in the debugger, up to the next one that is asked for."""
 
 
 class Deed(NamedTuple):
@@ -59,7 +76,7 @@ def read_by(node: Node) -> tuple[int, int]:
     return (x[12], signed(x[13])) if number == SEND else (x[10], signed(x[11])) if number == WRITE else (0, 0)
 
 
-def calls_of(trials: Trials, choices: Choices) -> Iterator[Stop]:
+def calls_of(trials: Runs, choices: Choices) -> Iterator[Stop]:
     """The calls of the lower ranks of a run, in the run's order."""
     trials.code.know_names()
     sites = [it for it in trials.code.calls() if trials.code.name_at(it) not in ASKING]
@@ -67,7 +84,7 @@ def calls_of(trials: Trials, choices: Choices) -> Iterator[Stop]:
     return itertools.islice(stops(trials.replays(choices), trials.code, [], points, read_by), MOST_CALLS)
 
 
-def deeds(trials: Trials, choices: Choices) -> dict[int, list[tuple[Deed, Node]]]:
+def deeds(trials: Runs, choices: Choices) -> dict[int, list[tuple[Deed, Node]]]:
     """The calls of each rank, with where it stands at each."""
     found: dict[int, list[tuple[Deed, Node]]] = {}
     supersteps: dict[int, int] = {}
@@ -82,7 +99,7 @@ def deeds(trials: Trials, choices: Choices) -> dict[int, list[tuple[Deed, Node]]
     return found
 
 
-def first_parting(one: tuple[Trials, Choices], other: tuple[Trials, Choices]) -> Parting | None:
+def first_parting(one: tuple[Runs, Choices], other: tuple[Runs, Choices]) -> Parting | None:
     """Where two runs of a program part: in the first superstep, and in it the lowest rank."""
     here, there = deeds(*one), deeds(*other)
     found: list[Parting] = []

@@ -2,7 +2,6 @@
 
 from __future__ import annotations
 
-import argparse
 import functools
 import pathlib
 import re
@@ -12,11 +11,12 @@ from dataclasses import dataclass, field
 from ..files import content_of
 from ..limits import MOST_NODES, MOST_PROGRAM
 from ..refusals import Refused, counted, show, tell
-from . import contested, remote, variables
+from . import contested, records, remote, variables
 from .calls import Tracer
 from .choices import EARLY, LATE, REVERSED, SHUFFLED, WATCHED, Choices, Point
 from .compiling import compiled
 from .findings import CALLS, QUEUE, Findings, Other, described, parted, told_contested, told_variable
+from .job import Job
 from .program import read_elf
 from .replays import Replays
 from .trials import Ending, NoRoom, Subject, Trials
@@ -34,15 +34,17 @@ MORE_NODES = b"there are more nodes than the program takes in bsp_begin"
 
 @dataclass
 class Verdict:
-    """What was found, a list of lines for each thing, what was tried without a difference, and what else is told."""
+    """What was found, a list of lines for each thing, what is known exactly, what was tried without a difference, and what else is told."""
 
     found: list[list[str]] = field(default_factory=list)
+    exact: str = ""
     tried: list[str] = field(default_factory=list)
     notes: list[str] = field(default_factory=list)
 
     def lines(self) -> list[str]:
         """All lines, those of what was found first."""
         told = [line for it in self.found for line in (f"bsprun: not portable: {it[0]}", *(f"  {line}" for line in it[1:]))]
+        told += [f"bsprun: {'' if self.found else 'portable: '}{self.exact}"] if self.exact else []
         told += [f"bsprun: tried: {', '.join(self.tried)}: the same output each time"] if self.tried else []
         return told + [f"bsprun: {it}" for it in self.notes]
 
@@ -76,7 +78,7 @@ class Portable:
     @property
     def is_silent(self) -> bool:
         """Whether the program writes nothing, so that its variables stand for what it comes to."""
-        return not self.ended.output
+        return not self.ended.output and not self.ended.files
 
     def has(self, *names: str) -> bool:
         """Whether the program has one of these functions, as far as its names tell."""
@@ -154,16 +156,15 @@ class Portable:
             self.verdict.notes.append(f"not tried: {what}, since the memory has no room for them above the program's own")
 
     def contested(self) -> None:
-        """Bytes that two puts of a superstep write."""
-        if not self.has("bsp_put", "__wrap_bsp_hpput"):
-            return
-        looked = contested.by_pairs(self.steps, self.ended.last)
-        if looked.found:
-            self.verdict.found.append(told_contested(self.trace, looked.found[0], len(looked.found) - 1))
-        elif looked.is_whole:
-            self.verdict.notes.append("looked at: the puts of each superstep, in pairs: no two write other bytes to one place")
-        if not looked.is_whole:
-            self.verdict.notes.append("looked at: the first puts that meet, since there are too many for all")
+        """Bytes to which two requests of a superstep bring different values, in the run as it is."""
+        show("bsprun: looking for contested bytes")
+        workers = ["--workers", str(self.subject.options.workers)]
+        settings = [*self.subject.settings, *workers]
+        found = contested.in_run(self.subject.program, settings, self.trials.nodes, self.ended.last, self.subject.folder)
+        if found.first is not None:
+            self.verdict.found.append(told_contested(self.trace, found.first, found.places - 1))
+        else:
+            self.verdict.exact = f"nothing contested in {counted(self.ended.last + 1, 'superstep')} (exact)"
 
     def messages(self) -> None:
         """Messages in other orders."""
@@ -237,17 +238,22 @@ def built(subject: Subject, ticks: int, *options: str) -> tuple[Trials, list[str
     """A build of a program in C that takes choices, and what was said of it."""
     target = subject.folder / "portable.elf"
     said = compiled(subject.options, target, "--portable", *options)
-    content = content_of(target, MOST_PROGRAM)
+    content = with_records(content_of(target, MOST_PROGRAM), subject.mark)
     return Trials(subject, content, read_elf(content), ticks), said
 
 
-def is_portable(options: argparse.Namespace, program: list[str], settings: list[str], folder: pathlib.Path) -> bool:
-    """Tries a program whose run with these settings has ended well. Tells what was found and what was tried; answers whether nothing was
-    found."""
-    content = content_of(folder / "program.elf" if options.sources else options.program, MOST_PROGRAM)
+def with_records(content: bytes, mark: bytes) -> bytes:
+    """An image that writes records of its files behind this mark, where there is one."""
+    return records.settings_in(content, records.RECORDS | records.WRITES_FILES, 0, mark) if mark else content
+
+
+def is_portable(job: Job, folder: pathlib.Path) -> bool:
+    """Tries a program whose run as a job has ended well. Tells what was found and what was tried; answers whether nothing was found."""
+    options, mark = job.options, job.mark if job.options.out is not None else b""
+    content = with_records(content_of(folder / "program.elf" if options.sources else options.program, MOST_PROGRAM), mark)
     image = folder / "plain.elf"
     image.write_bytes(content)
-    subject = Subject(options, program, read_elf(content), [str(image), *settings[1:]], folder)
+    subject = Subject(options, job.program, read_elf(content), [str(image), *job.settings[1:]], folder, mark)
     ended = subject.run(options.nodes, options.limit)
     if ended.outcome != "ended":
         tell(["bsprun: not tried: other choices, since the program by itself does not end well"])

@@ -5,6 +5,7 @@ from __future__ import annotations
 from typing import NamedTuple
 
 from ..debugger import Node, node_of
+from ..limits import RATE
 from ..refusals import counted
 from . import report
 from .job import Job
@@ -76,6 +77,8 @@ def lines(job: Job, found: report.Report) -> list[str]:
     totals = {name: sum(it.costs[name] for it in found.supersteps) for name in found.supersteps[0].costs}
     costs = ", ".join(f"{name} {value}" for name, value in totals.items())
     told = [f"bsprun: {counted(len(found.supersteps), 'superstep')}, {costs} in all, total {found.total}; {found.outcome}"]
+    if job.options.rate != RATE:
+        told.append(f"  {found.total / job.options.rate:.6g} s, at {job.options.rate:,.10g} instructions a second")
     replays = job.replays()
     made = groups(found, ends(job.code, replays, min(len(found.supersteps), MOST_SUPERSTEPS)), g, l)
     for it in made[:DEAREST]:

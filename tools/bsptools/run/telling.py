@@ -18,14 +18,14 @@ from .why import Why
 NOT_WRITTEN = 6
 
 
-def tell_of(job: Job, found: Report, parser: Parser) -> None:
-    """Tells all that there is to tell."""
+def tell_of(job: Job, found: Report, parser: Parser, is_chosen: bool) -> None:
+    """Tells all that there is to tell. An end that the program chose is none to be told."""
     options = job.options
     if options.summary:
         tell(summary.lines(job, found))
     if wants_counts(options):
         tell_lines(job, found)
-    if found.outcome != "ended":
+    if found.outcome != "ended" and not is_chosen:
         show("bsprun: looking for the place")
         why = Why(job.code, job.replays(), options.nodes, options.limit, is_patient=options.warn)
         try:
@@ -53,8 +53,7 @@ def tell_lines(job: Job, found: Report) -> None:
     try:
         with children.folder("bsprun") as folder:
             counts = folder / "counts"
-            prices = ["--g", str(options.g), "--l", str(options.l)]
-            done = emulator.run([*job.program, "run", *job.settings, *prices, "--report", "--counts", str(counts)])
+            done = emulator.run([*job.program, "run", *job.settings, "--report", "--counts", str(counts)])
             if done.returncode == NOT_WRITTEN or not counts.exists():
                 raise Refused("the costs of lines are not known, since their counts could not be made", *lines_of(done.stderr))
             trace = Tracer(job.code, job.replays())

@@ -14,10 +14,12 @@ from .. import emulator
 from ..debugger import Node, Session
 from ..limits import MOST_MEMORY, MOST_POINTS, MOST_TICKS
 from ..refusals import Refused, lines_of, show
-from . import report
+from . import records, report
 from .choices import WORD, Choices, Point, image_with
+from .parting import OUTPUT, Marks
 from .program import Code
 from .replays import Replays, bytes_of
+from .written import Files
 
 # Bytes above the program's memory, where messages and calls are kept, and what the library says where they are too few.
 ROOM = 1 << 22
@@ -34,39 +36,56 @@ class NoRoom(Exception):
 
 @dataclass(frozen=True)
 class Ending:
-    """What a run wrote, and how it ended. Its last superstep, and the sum of all w, are no part of what is compared."""
+    """What a run wrote, and how it ended; files are there where --out has the program write them, each with its rank and its name. Its last
+    superstep, and the sum of all w, are no part of what is compared."""
 
     output: bytes
     outcome: str
+    files: tuple[tuple[int, bytes, bytes], ...]
     last: int = field(compare=False)
     ticks: int = field(compare=False)
 
 
 class Subject(NamedTuple):
     """A program that is tried: what the command line says, the words that start the emulator, what is known of its code, the settings of
-    its run, and a folder for images."""
+    its run, a folder for images, and what stands before the records of files that it writes; nothing where it writes none."""
 
     options: argparse.Namespace
     program: list[str]
     code: Code
     settings: list[str]
     folder: pathlib.Path
+    mark: bytes
 
     def run(self, nodes: int, limit: int) -> Ending:
         """The program as it is, on some number of nodes and with another limit."""
         settings = list(self.settings)
         settings[settings.index("--nodes") + 1] = str(nodes)
         settings[settings.index("--limit") + 1] = str(limit)
-        return ending_of(emulator.run([*self.program, "run", *settings, "--report"]))
+        return ending_of(emulator.run([*self.program, "run", *settings, "--report"]), self.mark)
 
 
-def ending_of(done: subprocess.CompletedProcess[bytes]) -> Ending:
+def ending_of(done: subprocess.CompletedProcess[bytes], mark: bytes) -> Ending:
     """What a run with a report came to."""
     parted = report.part(done.stdout)
     if parted is None:
         raise Refused("the program could not be run once more", *lines_of(done.stderr))
-    output, found = parted
-    return Ending(bytes(output), found.outcome, found.supersteps[-1].number, sum(it.costs["w"] for it in found.supersteps))
+    output, written = with_files(bytes(parted[0]), mark)
+    found = parted[1]
+    return Ending(output, found.outcome, written, found.supersteps[-1].number, sum(it.costs["w"] for it in found.supersteps))
+
+
+def with_files(content: bytes, mark: bytes) -> tuple[bytes, tuple[tuple[int, bytes, bytes], ...]]:
+    """The output of a run without its records, and the files that these tell of."""
+    marks, written, output = Marks(mark), Files(), b""
+    for kind, piece in marks.take(content):
+        record = records.record_of(kind, piece) if kind != OUTPUT else None
+        if kind == OUTPUT:
+            output += piece
+        elif record is not None and kind != records.NOTE:
+            written.take(record)
+    files = tuple((it.rank, it.name, bytes(it.content)) for it in written.files.values())
+    return output + marks.left(), files
 
 
 class Stop(NamedTuple):
@@ -114,7 +133,8 @@ class Trials:
     def _run(self, choices: Choices) -> Ending:
         show("bsprun: trying other choices")
         workers = ["--workers", str(self.subject.options.workers)]
-        ending = ending_of(emulator.run([*self.subject.program, "run", *self._settings_for(choices), *workers, "--report"]))
+        done = emulator.run([*self.subject.program, "run", *self._settings_for(choices), *workers, "--report"])
+        ending = ending_of(done, self.subject.mark)
         if NO_ROOM in ending.output and ending.outcome != "ended":
             raise NoRoom
         return ending

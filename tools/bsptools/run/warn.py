@@ -2,15 +2,19 @@
 
 from __future__ import annotations
 
+import itertools
 from collections.abc import Iterator
 from typing import List, NamedTuple, Tuple, Union
 
-from .calls import CHANGES, MOVE, POP, PUSH, PUTS, REQUESTS, SEND, SYNC, TAGSIZE, TAKES, Areas, Call, Tracer
+from .calls import CHANGES, GETS, MOVE, POP, PUSH, PUTS, REQUESTS, SEND, SYNC, TAGSIZE, TAKES, Areas, Call, Tracer
 from .places import written
 from .replays import MOST_STOPS
 from .report import Report
+from .targets import early_reads
 
 MOST_TOLD = 5
+# The bytes of numbers, and those of a word: a number of more may stand at any word.
+SIZES, WORD = (2, 4, 8), 4
 TRACED = (*REQUESTS, *CHANGES, *TAKES, TAGSIZE, SYNC)
 
 # Pieces of a line that tells of something that was found: texts, and calls with their ranks, of which the places are looked for where
@@ -65,10 +69,14 @@ def warnings(trace: Tracer, nodes: int, report: Report, others: dict[str, list[s
     """Lines of what was found, by `others` too, and a last one of what was looked for and not found."""
     steps = Steps(trace, nodes)
     last = report.supersteps[-1].number
+    met = meeting(steps, last)
+    early_targets, are_all_looked_at = early_reads(steps, last)
     found: dict[str, list[Finding]] = {
         "requests that come to nothing": pending(steps, last) if report.outcome == "ended" else [],
         "areas in another order": other_order(steps, last),
-        "puts that meet": meeting(steps, last),
+        "puts that meet": met,
+        "offsets that are no multiple of a word": crooked(steps, last, met),
+        "targets of gets that are read too early": early_targets,
         "messages that are read too late": late(steps, last),
         "tags of a size that is not in effect yet": early(steps, last),
     }
@@ -77,6 +85,8 @@ def warnings(trace: Tracer, nodes: int, report: Report, others: dict[str, list[s
     more = [f"  and {len(findings) - MOST_TOLD} more"] if len(findings) > MOST_TOLD else []
     if not steps.is_whole:
         more.append(f"  and no more than the first {MOST_STOPS} calls of a rank were looked at")
+    if not are_all_looked_at:
+        more.append("  and not all instructions behind gets were looked at")
     absent = ", ".join(name for name, several in [*found.items(), *others.items()] if not several)
     return [f"bsprun: warning: {it}" for it in texts] + more + ([f"bsprun: looked for, and not found: {absent}"] if absent else [])
 
@@ -139,6 +149,22 @@ def counted_in_bytes(one: Landing, other: Landing) -> str:
     if other.end - other.start != size or all(it % size == 0 for it in offsets):
         return ""
     return f"; offset {max(offsets)} is no multiple of the {size} bytes of a put: offsets count bytes"
+
+
+def crooked(steps: Steps, last: int, met: list[Finding]) -> list[Finding]:
+    """Puts and gets of as many bytes as a number has, from or to where one may stand, at an offset where none may; each place once. Of puts
+    that meet it is told there."""
+    told = {it[1].node.x[1] for finding in met if finding[-1] for it in finding if not isinstance(it, str)}
+    found: list[Finding] = []
+    for superstep, rank in itertools.product(range(last), range(steps.nodes)):
+        for call in (it for it in steps.of(rank, superstep) if it.number in (*PUTS, *GETS)):
+            size, offset, back = call.operand("nbytes"), call.operand("offset"), call.node.x[1]
+            own = call.operand("src" if call.number in PUTS else "dst")
+            if size in SIZES and own % min(size, WORD) == 0 and offset % min(size, WORD) != 0 and back not in told:
+                told.add(back)
+                begin = f"offset {offset} is no multiple of the {size} bytes that are moved in superstep {superstep} by "
+                found.append([begin, (rank, call), ": offsets count bytes"])
+    return found
 
 
 def late(steps: Steps, last: int) -> list[Finding]:

@@ -18,6 +18,7 @@ from .. import children, files, streams
 from ..refusals import put, show
 from . import report
 from .job import Job
+from .longs import Beside
 from .parting import ERROR, OUTPUT, Marks, Tail
 from .records import Record, record_of
 
@@ -134,10 +135,10 @@ class Outputs:
 
 
 class Watch:
-    """A run of a job, which the clock ends after so many seconds where it is given."""
+    """A run of a job, which the clock ends after so many seconds where it is given. What goes beside it is looked after."""
 
-    def __init__(self, job: Job, wall: float | None) -> None:
-        self.job, self.wall = job, wall
+    def __init__(self, job: Job, wall: float | None, beside: Beside) -> None:
+        self.job, self.wall, self.beside = job, wall, beside
         self.start = time.monotonic()
         self.outputs = Outputs(job.mark, job.options.nodes)
         self.said = bytearray()
@@ -150,13 +151,13 @@ class Watch:
     def run(self) -> Done:
         """Runs it to its end. `Stopped` is raised where the clock ends it, and `Interrupted` where Ctrl-C does; what was written stands then."""
         options = self.job.options
-        prices = ["--workers", str(options.workers), "--g", str(options.g), "--l", str(options.l)]
-        words = [*self.job.program, "run", *self.job.settings, *prices, "--report"]
+        words = [*self.job.program, "run", *self.job.settings, "--workers", str(options.workers), "--report"]
         if options.profile is None:
             return self._run([*words, "--live"])
         # The emulator tells the output of a run with a profile at its end.
         with files.replaced(options.profile) as written:
-            return self._run([*words, "--profile", written])
+            with children.removed(written) if written != options.profile else contextlib.nullcontext():
+                return self._run([*words, "--profile", written])
 
     def _run(self, words: list[str]) -> Done:
         with children.running(words, stdin=subprocess.DEVNULL, stdout=subprocess.PIPE, stderr=subprocess.PIPE) as child:
@@ -187,7 +188,7 @@ class Watch:
         # It tells where who reads it has gone.
         ready.register(streams.STDOUT, 0)
         while left:
-            found = dict(ready.poll(1000 * (PAUSE if self.outputs.kept else self._patience(is_ended))))
+            found = self._ready(ready, PAUSE if self.outputs.kept else self._patience(is_ended))
             if found.pop(streams.STDOUT, 0) & select.POLLERR and stat.S_ISFIFO(os.fstat(streams.STDOUT).st_mode):
                 raise BrokenPipeError(errno.EPIPE, os.strerror(errno.EPIPE))
             for number in found:
@@ -203,6 +204,23 @@ class Watch:
                 self.outputs.begin()
             if not is_ended:
                 self._look_at_clock()
+
+    def _ready(self, ready: select.poll, seconds: float) -> dict[int, int]:
+        """What there is to look at within so many seconds, but for what goes beside, which has its turns here."""
+        until = time.monotonic() + seconds
+        while True:
+            number = self.beside.number
+            if number >= 0:
+                ready.register(number, select.POLLIN)
+            found = dict(ready.poll(1000 * max(until - time.monotonic(), 0.0)))
+            if number >= 0:
+                ready.unregister(number)
+            if found.pop(number, 0):
+                self.beside.take()
+            elif not found:
+                return found
+            if found:
+                return found
 
     def _patience(self, is_ended: bool) -> float:
         """For how many seconds nothing need be looked at."""

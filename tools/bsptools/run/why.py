@@ -20,6 +20,8 @@ LONG = "what is registered was not looked for in so long a run: --warn does"
 # How many stopped nodes are looked at, and how many of them are told of in full.
 MOST_LOOKS = 8
 MOST_TOLD = 3
+# What NULL points to, over and over, in a program of bspcc, and how far from it an address is that was made of it.
+NULL_WORD, NEAR = 0xE5A6D39B, 1 << 16
 
 
 class Why:
@@ -89,6 +91,12 @@ class Why:
                 told.add(where)
         others = len(stopped) - len(told)
         return lines + ([f"  and {others} more of the ranks in this superstep"] if others > 0 else [])
+
+    def stopped_at_end(self, report: Report) -> list[int]:
+        """The ranks that were stopped in the last superstep of a run."""
+        with self.replays.end_of(report.supersteps[-1].number) as self.session:
+            return self.stopped_ranks()
+        return []
 
     def stopped_ranks(self) -> list[int]:
         """The ranks that were stopped in the last superstep."""
@@ -163,6 +171,7 @@ class Why:
         address = (node.x[access.pointer] + access.operand(1)) & 0xFFFFFFFF
         top = self.code.names.get("__stack_top", 0)
         texts = [f"address {address:#x} ({signed(address)}) is not in the memory, which ends at {self.replays.memory:#x}"]
+        texts = [f"{texts[0]}: the pointer was read through NULL"] if is_of_null(address) else texts
         if top and (node.x[2] >= self.replays.memory or node.x[2] < 64):
             more = spelled_size(min(4 * top, MOST_STACK // 2))
             texts = [f"the stack is too deep: its room is {top} bytes; give --stack {more}, of an ELF file to bspcc, or make large arrays static"]
@@ -172,7 +181,8 @@ class Why:
         """A jump to where there is no instruction, or code that was overwritten."""
         stored = self.code.stored(node.pc)
         if self.code.function(node.pc) is None and not stored:
-            return [f"there is no code at {written(self.code, node.pc)}: a function was called by a pointer that is bad"]
+            how = "was read through NULL" if is_of_null(node.pc) else "is bad"
+            return [f"there is no code at {written(self.code, node.pc)}: a function was called by a pointer that {how}"]
         content = self.bytes_at_end(node.rank, node.pc, 2)
         if content and content[0] & 3 == 3:
             content = self.bytes_at_end(node.rank, node.pc, 4) or content
@@ -292,3 +302,8 @@ class Why:
         if node:
             lines.append(f"  rank {ended}  ended, at {place(self.code, node, is_call_told=True)}")
         return lines
+
+
+def is_of_null(address: int) -> bool:
+    """Whether an address is near to what NULL points to, and so most likely made of it."""
+    return abs(address - NULL_WORD) < NEAR

@@ -38,7 +38,8 @@ class Files:
     def __init__(self) -> None:
         self.files: dict[tuple[int, int], Written] = {}
         self.size = 0
-        self.is_whole = True
+        # Whether all was taken, and whether all that was put could be written.
+        self.is_whole = self.is_put = True
 
     def take(self, record: Record) -> None:
         """Does what a record of a file tells."""
@@ -91,8 +92,11 @@ class Files:
             else:
                 others.append(it)
         for last, parts in found.items():
-            if parts:
-                lines += put_one(folder, last, sorted(parts, key=lambda it: it.rank), inputs)
+            try:
+                lines += put_one(folder, last, sorted(parts, key=lambda it: it.rank), inputs) if parts else []
+            except Refused as refused:
+                self.is_put = False
+                lines.append(f"{refused} ({shown(parts[0].name)} was not written)")
         if not self.is_whole:
             lines.append(f"not all was written: {MOST_FILES} files and {MOST_WRITTEN} bytes are the most of a run")
         return lines[:MOST_LINES] + ([f"and {len(lines) - MOST_LINES} more such lines"] if len(lines) > MOST_LINES else [])
@@ -110,17 +114,14 @@ def put_one(folder: str, last: str, parts: list[Written], inputs: list[str]) -> 
         if is_same(target, other):
             return [f"{target} was not written: it is read as {other}"]
     beside = os.path.join(folder, f".bsp-{os.getpid()}-{os.urandom(4).hex()}")
-    try:
-        with about(target):
-            try:
-                with open(beside, "xb") as file:
-                    file.writelines(bytes(it.content) for it in parts)
-                os.replace(beside, target)
-            finally:
-                with contextlib.suppress(OSError):
-                    os.unlink(beside)
-    except Refused as refused:
-        return [f"{refused} ({shown(parts[0].name)} was not written)"]
+    with about(target):
+        try:
+            with open(beside, "xb") as file:
+                file.writelines(bytes(it.content) for it in parts)
+            os.replace(beside, target)
+        finally:
+            with contextlib.suppress(OSError):
+                os.unlink(beside)
     if len(parts) == 1:
         return []
     ranks = [it.rank for it in parts]

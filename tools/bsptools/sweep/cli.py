@@ -9,6 +9,7 @@ import tempfile
 
 from .. import emulator, files
 from ..limits import NODES
+from ..machines import machine_named
 from ..options import G, L, P, Parser, listed, pair
 from ..refusals import REFUSED, Refused, counted, put, tell
 from . import engines, job, table
@@ -27,6 +28,11 @@ def pairs(text: str) -> list[tuple[int, int]]:
             raise argparse.ArgumentTypeError(f"{part!r}: give prices as G:L")
         found.append((G(g), L(l)))
     return found
+
+
+def of_machines(text: str) -> list[tuple[int, int]]:
+    """The prices of machines that are parted by commas."""
+    return [(it.g, it.l) for it in map(machine_named, text.split(","))]
 
 
 def constant(text: str) -> tuple[str, list[str]]:
@@ -49,6 +55,7 @@ def arguments(words: list[str]) -> argparse.Namespace:
     add("--g", type=listed(G), metavar="LIST", help="prices of a byte of h, 1 by default")
     add("--l", type=listed(L), metavar="LIST", help="prices of a superstep's end, 0 by default")
     add("--prices", type=pairs, metavar="G:L,..", help="prices that belong together, beside each g with each l")
+    add("--machine", type=of_machines, default=[], metavar="LIST", help="prices of machines of the literature, as t3e-8,t3e-64, beside those")
     add("--input", action="append", metavar="FILE", help="an input; any number of them")
     add("--args", type=parted, action="append", metavar="TEXT", help="arguments of main, as the shell parts them; any number of them")
     add("--define", type=constant, action="append", default=[], metavar="N=100,1000", help="a compile-time constant of a .c program")

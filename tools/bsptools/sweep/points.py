@@ -35,7 +35,7 @@ class Point(NamedTuple):
 
 def prices(options: argparse.Namespace) -> list[tuple[int, int]]:
     """Each g with each l, and then the pairs that were given as such."""
-    pairs = options.prices or []
+    pairs = [*(options.prices or []), *options.machine]
     if options.g or options.l or not pairs:
         pairs = [*itertools.product(options.g or [1], options.l or [0]), *pairs]
     return list(dict.fromkeys(pairs))
@@ -43,7 +43,7 @@ def prices(options: argparse.Namespace) -> list[tuple[int, int]]:
 
 def expect_few(options: argparse.Namespace) -> None:
     """Refuses a sweep of too many points, before any list of them is made."""
-    pairs = len(options.prices or [])
+    pairs = len(options.prices or []) + len(options.machine)
     if options.g or options.l or not pairs:
         pairs += len(options.g or [1]) * len(options.l or [0])
     lists = [options.program, options.input or [""], options.args or [""], options.nodes, *(values for _, values in options.define)]

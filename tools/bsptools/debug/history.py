@@ -1,0 +1,251 @@
+"""The way back of a machine: each run is the same, so where it has been is found by running the program once more.
+
+The history of a machine is that of the debugger's `go`: the ranks one after another through a superstep, and then the turn. Back it goes
+the other way round, from where the machine stands: what the highest rank has done in this superstep, then the one below it, and so on to
+where the superstep began; then to the end of the superstep before that, and through that from its highest rank.
+"""
+
+from __future__ import annotations
+
+import contextlib
+from typing import FrozenSet, Iterator, List, NamedTuple, Optional, Sequence, Tuple
+
+from ..debugger import ALL
+from .machine import MOST_BREAKPOINTS, Asked, AtRank, Interrupted, Machine, Place, Point
+
+# Of how many instructions it is kept what they change: of few at first, and of more where it goes back over all of these.
+LEAST_RECORDED, MORE_RECORDED, MOST_RECORDED = 16, 8, 4096
+# How many times in a superstep a rank is stopped at breakpoints before the last time is looked for from the superstep's end: in so many
+# instructions first, and then in more.
+MOST_STOPS, WINDOW, WIDER = 32, 4096, 16
+# The rank, in the order of history, of the beginning of a superstep itself.
+BEGIN = -1
+
+
+class Hit(NamedTuple):
+    """Where a rank stands at a breakpoint, or a superstep begins, in the order of history."""
+
+    superstep: int
+    rank: int
+    ticks: int
+
+
+class Goal(NamedTuple):
+    """What is looked for in history: a rank at one of these addresses, any rank or this one alone, or the beginning of a superstep."""
+
+    addresses: FrozenSet[int]
+    supersteps: FrozenSet[int]
+    rank: Optional[int]
+
+
+class History:
+    """Takes a machine back. Where that is broken off, the machine stands where it stood."""
+
+    def __init__(self, machine: Machine, must_break_off: Asked) -> None:
+        self._machine = machine
+        self._must_break_off = must_break_off
+        self._recorded = LEAST_RECORDED
+
+    def step_back(self, rank: int) -> bool:
+        """A rank goes an instruction back. Where it has made none in this superstep, all go back over the turn, and then this rank.
+        Answers whether there was one."""
+        if self._machine.recall(rank):
+            return True
+        self._recorded = min(MORE_RECORDED * self._recorded, MOST_RECORDED) if self._machine.has_recalled(rank) else LEAST_RECORDED
+        before = self._before(self._machine.place(), rank)
+        if before is None:
+            return False
+        other = self._at(before._replace(ticks=_with(before.ticks, rank, 0)))
+        try:
+            count = before.ticks[rank] - other.node(rank).ticks
+            recorded = min(count, self._recorded)
+            other.step(rank, count - recorded, self._must_break_off)
+            other.record(rank, recorded, self._must_break_off)
+        except BaseException:
+            other.close()
+            raise
+        self._become(other)
+        return True
+
+    def go_back(self, goal: Goal) -> Optional[Hit]:
+        """Goes back to the last place that is looked for, or else to the start. Answers which it is."""
+        place = self._machine.place()
+        hit = self._last(goal, place)
+        self._become(self._at(self._place_of(hit or Hit(0, BEGIN, 0), goal.rank, place)))
+        return hit
+
+    def _become(self, other: Machine) -> None:
+        self._machine.become(other)
+        self._machine.spare.follow(self._machine.superstep)
+
+    # Places.
+
+    def _before(self, place: Place, rank: int) -> Optional[Place]:
+        """The place of an instruction of a rank less."""
+        begin = self._begin_of(place.superstep)
+        if place.ticks[rank] > begin[rank]:
+            return Place(place.superstep, _with(place.ticks, rank, place.ticks[rank] - 1), False)
+        if place.superstep == 0:
+            return None
+        return Place(place.superstep - 1, _with((ALL,) * len(begin), rank, begin[rank] - 1), False)
+
+    def _place_of(self, hit: Hit, alone: Optional[int], place: Place) -> Place:
+        """Where the machine stands at a hit, as it comes there from a place behind it."""
+        ends = place.ticks if hit.superstep == place.superstep else (ALL,) * self._machine.ranks
+        if hit.rank == BEGIN:
+            ticks = (0,) * self._machine.ranks
+        elif alone is not None:
+            ticks = _with(ends, hit.rank, hit.ticks)
+        else:
+            ticks = ends[: hit.rank] + (hit.ticks,) + (0,) * (self._machine.ranks - hit.rank - 1)
+        return Place(hit.superstep, ticks, False)
+
+    def _at(self, place: Place, limit: Optional[int] = None) -> Machine:
+        return self._machine.at(place, self._must_break_off, limit)
+
+    def _begin_of(self, superstep: int) -> Tuple[int, ...]:
+        return self._machine.begin_of(superstep, self._must_break_off)
+
+    # What is looked for.
+
+    def _last(self, goal: Goal, place: Place) -> Optional[Hit]:
+        """The last hit before a place."""
+        if not goal.addresses and not goal.supersteps:
+            return None
+        begin = self._begin_of(place.superstep)
+        moved = [rank for rank, ticks in enumerate(place.ticks) if ticks > begin[rank]]
+        # A rank may go on for ever behind where it stands. None has come further than this.
+        limit = min(self._machine.limit, max(*begin, *place.ticks) + 1)
+        hit = self._last_in(place.superstep, goal, moved, place.ticks, limit)
+        if hit is not None:
+            return hit
+        begun = [it for it in goal.supersteps if it < place.superstep or it == place.superstep and (moved or place.is_over)]
+        first = max(begun, default=0)
+        superstep = self._last_superstep(first, place.superstep, goal)
+        if superstep is not None:
+            return self._last_in(superstep, goal, range(self._machine.ranks), (ALL,) * self._machine.ranks)
+        return Hit(first, BEGIN, 0) if begun else None
+
+    def _last_superstep(self, first: int, end: int, goal: Goal) -> Optional[int]:
+        """The last superstep from a first one on, and before an end, in which a rank was at a breakpoint."""
+        found: Optional[int] = None
+        for ranks in self._groups(goal, range(self._machine.ranks)):
+            start = first if found is None else found + 1
+            if start == end:
+                break
+            with self._scout(self._start_of(start), ranks, goal) as scout:
+                while scout.superstep < end and scout.next(end) is not None:
+                    found = scout.superstep
+                    scout.skip_superstep()
+        return found
+
+    def _last_in(
+        self, superstep: int, goal: Goal, ranks: Sequence[int], ends: Sequence[int], limit: Optional[int] = None
+    ) -> Optional[Hit]:
+        """The last hit of these ranks in a superstep, before each has made so many instructions."""
+        for group in reversed(self._groups(goal, ranks)):
+            hit = self._last_of(superstep, goal, group, ends, limit)
+            if hit is not None:
+                return hit
+        return None
+
+    def _last_of(self, superstep: int, goal: Goal, ranks: Sequence[int], ends: Sequence[int], limit: Optional[int]) -> Optional[Hit]:
+        """The same for ranks that have room for their points."""
+        found: Optional[Hit] = None
+        stops = end = 0
+        with self._scout(self._start_of(superstep), ranks, goal, limit) as scout:
+            hit = scout.next(superstep + 1)
+            while hit is not None:
+                if hit.ticks >= ends[hit.rank]:
+                    scout.skip_rank(hit.rank)
+                else:
+                    stops = stops + 1 if found is not None and found.rank == hit.rank else 1
+                    found = hit
+                    if stops == MOST_STOPS:
+                        end = min(ends[hit.rank], scout.skip_rank(hit.rank))
+                hit = scout.next(superstep + 1)
+        return self._latest(found, goal, end, limit) if found is not None and stops == MOST_STOPS else found
+
+    def _latest(self, hit: Hit, goal: Goal, end: int, limit: Optional[int]) -> Hit:
+        """The last hit of this one's rank and superstep before so many instructions: this one, or one behind it."""
+        latest: Optional[Hit] = None
+        width = WINDOW
+        while latest is None:
+            start = max(hit.ticks, end - width)
+            place = self._start_of(hit.superstep)
+            with self._scout(place._replace(ticks=_with(place.ticks, hit.rank, start)), [hit.rank], goal, limit) as scout:
+                following = scout.next(hit.superstep + 1)
+                while following is not None and following.ticks < end:
+                    latest = following
+                    following = scout.next(hit.superstep + 1)
+            end, width = start, WIDER * width
+        return latest
+
+    def _start_of(self, superstep: int) -> Place:
+        return Place(superstep, (0,) * self._machine.ranks, False)
+
+    def _groups(self, goal: Goal, ranks: Sequence[int]) -> List[Sequence[int]]:
+        """The ranks that are looked at, in parts of which each has room for its points."""
+        looked_at = [rank for rank in ranks if goal.rank in (None, rank)]
+        size = max(1, MOST_BREAKPOINTS // max(1, len(goal.addresses)))
+        return [looked_at[first : first + size] for first in range(0, len(looked_at) if goal.addresses else 0, size)]
+
+    @contextlib.contextmanager
+    def _scout(self, place: Place, ranks: Sequence[int], goal: Goal, limit: Optional[int] = None) -> Iterator[Scout]:
+        machine = self._at(place, limit)
+        try:
+            yield Scout(machine, ranks, goal.addresses, self._must_break_off)
+        finally:
+            machine.close()
+
+
+class Scout:
+    """Another machine, which goes through history from breakpoint to breakpoint."""
+
+    def __init__(self, machine: Machine, ranks: Sequence[int], addresses: FrozenSet[int], must_break_off: Asked) -> None:
+        self._machine = machine
+        self._ranks = frozenset(ranks)
+        self._addresses = addresses
+        self._points: List[Point] = [(rank, addr) for rank in ranks for addr in addresses]
+        self._must_break_off = must_break_off
+        # `go` does not look where it begins.
+        self._must_look = True
+
+    @property
+    def superstep(self) -> int:
+        """The superstep that has begun last."""
+        return self._machine.superstep
+
+    def next(self, end: int) -> Optional[Hit]:
+        """Goes on to the next breakpoint, if there is one before this superstep."""
+        if self._must_break_off():
+            raise Interrupted
+        rank = self._standing() if self._must_look else None
+        self._must_look = False
+        if rank is None:
+            arrival = self._machine.advance([*self._points, end], self._must_break_off)
+            if not isinstance(arrival, AtRank):
+                return None
+            rank = arrival.rank
+        return Hit(self.superstep, rank, self._machine.node(rank).ticks)
+
+    def skip_rank(self, rank: int) -> int:
+        """Goes past what this rank still does in this superstep. Answers how many instructions it has made then."""
+        self._machine.step(rank, ALL, self._must_break_off)
+        self._must_look = True
+        return self._machine.node(rank).ticks
+
+    def skip_superstep(self) -> None:
+        """Goes past what is left of this superstep."""
+        self._machine.finish(self._must_break_off)
+        self._must_look = True
+
+    def _standing(self) -> Optional[int]:
+        """The rank that stands at a breakpoint, and goes on next."""
+        running = next((node for node in self._machine.nodes() if node.runs), None)
+        return running.rank if running and running.rank in self._ranks and running.pc in self._addresses else None
+
+
+def _with(ticks: Tuple[int, ...], rank: int, count: int) -> Tuple[int, ...]:
+    """The same numbers of instructions, but this one of a rank."""
+    return (*ticks[:rank], count, *ticks[rank + 1 :])

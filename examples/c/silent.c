@@ -72,6 +72,13 @@ static void messages(int number, int s, int p)
     } else if (number == 17) {
         bsp_put(0, &value, area, s, sizeof value); /* 17 */
         bsp_sync();
+    } else if (number == 18) {
+        bsp_put((s + 1) % p, &value, area, s, sizeof value); /* 18 */
+        bsp_sync();
+    } else if (number == 19) {
+        bsp_get((s + 1) % p, area, 0, &value, sizeof value);
+        area[1] = value / 2; /* 19 */
+        bsp_sync();
     }
 }
 

@@ -1,0 +1,61 @@
+/* Exercise 2, solved: rank s has the number (7 s + 3) mod 10, and wants the sum of the numbers of ranks 0 to s. With WAY 1 that takes about
+   log2(p) supersteps, and with WAY 2 one. A rank whose sum is wrong says so. */
+#include <bsp.h>
+#include <stdio.h>
+
+#define MOST 1024
+
+#ifndef WAY
+#define WAY 1
+#endif
+
+static int sums[MOST];
+
+/* In each superstep a rank gets what the rank at twice the distance has, which is the sum of as many numbers. */
+static int by_doubling(int p, int s, int number)
+{
+    int sum = number, received = 0;
+
+    bsp_push_reg(&sum, sizeof sum);
+    bsp_sync();
+    for (int d = 1; d < p; d *= 2) {
+        if (s >= d)
+            bsp_get(s - d, &sum, 0, &received, sizeof sum);
+        bsp_sync();
+        if (s >= d)
+            sum += received;
+    }
+    return sum;
+}
+
+/* Each rank puts its number into an entry of sums at every rank that wants it, and adds up what came. */
+static int in_one_superstep(int p, int s, int number)
+{
+    int sum = number;
+
+    bsp_push_reg(sums, sizeof sums);
+    bsp_sync();
+    for (int t = s + 1; t < p; t++)
+        bsp_put(t, &number, sums, s * (int)sizeof(int), sizeof number);
+    bsp_sync();
+    for (int t = 0; t < s; t++)
+        sum += sums[t];
+    return sum;
+}
+
+int main(void)
+{
+    int p, s, sum, wanted = 0;
+
+    bsp_begin(bsp_nprocs());
+    p = bsp_nprocs();
+    s = bsp_pid();
+    sum = WAY == 1 ? by_doubling(p, s, (7 * s + 3) % 10) : in_one_superstep(p, s, (7 * s + 3) % 10);
+
+    for (int t = 0; t <= s; t++)
+        wanted += (7 * t + 3) % 10;
+    if (sum != wanted)
+        printf("rank %d: %d is wrong\n", s, sum);
+    bsp_end();
+    return 0;
+}

@@ -41,7 +41,7 @@ def call(chance: random.Random) -> List[int]:
     """Words that make an environment call with small operands."""
     words = [0x13 | register << 7 | chance.choice([0, 1, 4, 0x7FF, 0xFFF, chance.randrange(1 << 12)]) << 20
              for register in range(10, 15) if chance.randrange(3)]
-    return words + [0x893 | chance.choice([*CALLS, 0, 19]) << 20, 0x73]
+    return words + [0x893 | chance.choice([*CALLS, 0, 19, 20]) << 20, 0x73]
 
 
 def words(chance: random.Random, count: int) -> List[int]:

@@ -5,6 +5,7 @@ from __future__ import annotations
 import dataclasses
 from typing import Callable, Dict, List, Optional, Tuple
 
+from fuzz.contested import Landing
 from fuzz.harts import WORD, Hart
 from fuzz.images import Segment
 from fuzz.reports import BYTES, REQUESTS, Machine
@@ -42,11 +43,15 @@ class Node(Hart):
         self.requests: List[Request] = []
         self.queue: List[Tuple[bytes, bytes]] = []
         self.output = b""
+        # What the supersteps have cost that are over, and the ticks at which this one began.
+        self.closed = self.since = 0
         self.calls: Dict[int, Callable[..., str]] = {
             1: self.end, 2: self.nprocs, 3: self.pid, 4: self.sync, 5: self.push, 6: self.pop, 7: self.put, 8: self.get, 9: self.put,
             10: self.get, 11: self.set_tagsize, 12: self.send, 13: self.qsize, 14: self.get_tag, 15: self.move, 16: self.abort,
             17: self.write, 18: self.read,
         }
+        if machine.clock:
+            self.calls[19] = self.tell_time
 
     def tick(self) -> None:
         """Makes a step of a running node."""
@@ -208,14 +213,21 @@ class Node(Hart):
         self.cursor += len(content)
         return self.answer(len(content))
 
+    def tell_time(self, *_: int) -> str:
+        """The clock's call."""
+        time = min(self.closed + self.ticks - self.since, (1 << 64) - 1)
+        self.x[11] = time >> 32
+        return self.answer(time & WORD)
+
 
 @dataclasses.dataclass
 class End:
-    """What a run writes, its report, and its nodes at the end."""
+    """What a run writes, its report, its nodes at the end, and what landed in each exchange."""
 
     output: bytes
     report: bytes
     nodes: List[Node]
+    landings: List[List[Landing]]
 
 
 def registers_of(node: Node) -> bytes:
@@ -256,11 +268,27 @@ def fault_of_exchange(nodes: List[Node]) -> str:
     return ""
 
 
+def landings_of(nodes: List[Node]) -> List[Landing]:
+    """What the gets of an exchange without a fault bring, and then what its puts bring."""
+    gets: List[Landing] = []
+    puts: List[Landing] = []
+    for node in nodes:
+        for number, asked in enumerate(node.requests):
+            if asked.kind == "send":
+                continue
+            other = nodes[asked.target]
+            place = other.areas[asked.area][0] + asked.offset
+            if asked.kind == "get":
+                content = bytes(other.memory[place:place + asked.length])
+                gets.append(Landing(node.rank, asked.place, content, "get", node.rank, number))
+            else:
+                puts.append(Landing(other.rank, place, asked.content, "put", node.rank, number))
+    return gets + puts
+
+
 def exchange(nodes: List[Node]) -> Tuple[int, int]:
     """Makes an exchange without a fault, and answers h and the most messages."""
     sent, received, messages = [0] * len(nodes), [0] * len(nodes), [0] * len(nodes)
-    gets: List[Tuple[Node, int, bytes]] = []
-    puts: List[Tuple[Node, int, bytes]] = []
     queues: List[List[Tuple[bytes, bytes]]] = [[] for _ in nodes]
     for node in nodes:
         for asked in node.requests:
@@ -272,14 +300,8 @@ def exchange(nodes: List[Node]) -> Tuple[int, int]:
                 messages[taker.rank] += asked.kind == "send"
             if asked.kind == "send":
                 queues[other.rank].append((asked.tag, asked.content))
-                continue
-            place = other.areas[asked.area][0] + asked.offset
-            if asked.kind == "get":
-                gets.append((node, asked.place, bytes(other.memory[place:place + asked.length])))
-            else:
-                puts.append((other, place, asked.content))
-    for node, place, content in gets + puts:
-        node.memory[place:place + len(content)] = content
+    for it in landings_of(nodes):
+        nodes[it.rank].memory[it.place:it.place + len(it.content)] = it.content
     for node, queue in zip(nodes, queues):
         begin(node, queue)
     return max(max(pair) for pair in zip(sent, received)), max(messages)
@@ -311,6 +333,7 @@ def end_of(entry: int, segments: List[Segment], machine: Machine, text: bytes) -
     memory = laid(segments, machine.memory)
     nodes = [Node(entry, bytearray(memory), rank, machine, text) for rank in range(machine.nodes)]
     output, lines, total, steps = b"", b"", 0, 0
+    landings: List[List[Landing]] = []
     while True:
         work = 0
         for node in nodes:
@@ -325,9 +348,12 @@ def end_of(entry: int, segments: List[Segment], machine: Machine, text: bytes) -
         for node in nodes:
             node.output = b""
         outcome = outcome_of(nodes)
+        landings += [landings_of(nodes)] if outcome is None else []
         moved, messages = exchange(nodes) if outcome is None else (0, 0)
         total += work + machine.g * moved + machine.l
+        for node in nodes:
+            node.closed, node.since = total, node.ticks
         row = (lines.count(b"\n"), work, moved, messages, b"last" if outcome else b"turned")
         lines += b"superstep %d: w %d h %d m %d %s\n" % row
         if outcome:
-            return End(output, lines + f"total {total}\n{outcome}\n".encode(), nodes)
+            return End(output, lines + f"total {total}\n{outcome}\n".encode(), nodes, landings)

@@ -6,7 +6,7 @@ import dataclasses
 import random
 from typing import List, Tuple
 
-END, NPROCS, PID, SYNC, PUSH, POP, PUT, GET, HPPUT, HPGET, TAGSIZE, SEND, QSIZE, GET_TAG, MOVE, ABORT, WRITE, READ = range(1, 19)
+END, NPROCS, PID, SYNC, PUSH, POP, PUT, GET, HPPUT, HPGET, TAGSIZE, SEND, QSIZE, GET_TAG, MOVE, ABORT, WRITE, READ, CLOCK = range(1, 20)
 WORDS = (1 << 32) - 1
 NODES = ((6, 1), (8, 2), (6, 3), (4, 4), (3, 5), (3, 8), (1, 17), (1, 64))
 MEMORIES = ((8, 4096), (8, 8192), (4, 12_288), (4, 65_536), (4, 1 << 20))
@@ -21,6 +21,7 @@ class Shape:
     memory: int
     base: int
     rate: int
+    clock: bool
 
 
 class Program:
@@ -132,9 +133,19 @@ class Program:
 
     def text(self) -> None:
         """Something is written, or read from the input."""
+        if self.shape.clock and self.chance.randrange(2):
+            self.time()
+            return
         length = self.length(40)
         number = ABORT if self.is_bad() else self.chance.choice([WRITE, READ])
         self.call(number, self.place(length), length)
+
+    def time(self) -> None:
+        """The clock is read, and what it shows is written."""
+        place = self.place(8)
+        self.call(CLOCK)
+        self.lines += [f"li t1,{place}", "sw a0,0(t1)", "sw a1,4(t1)"]
+        self.call(WRITE, place, 8)
 
     def work(self) -> None:
         """Instructions between the calls, among them stores over the edges of pages."""
@@ -142,7 +153,7 @@ class Program:
         self.lines += [f"li t1,{self.place(4)}", f"{store} t2,0(t1)"]
         self.lines.append(self.chance.choice(["addi t2,t2,77", "mul t2,t2,s0", "div t2,t2,s0", "add t2,t2,s0", "nop", "fence"]))
         if self.is_bad():
-            self.lines.append(self.chance.choice(["ebreak", ".word 0xFFFFFFFF", "jr t1", "li a7,19", "li a7,0"]))
+            self.lines.append(self.chance.choice(["ebreak", ".word 0xFFFFFFFF", "jr t1", "li a7,20", "li a7,0"]))
 
     def act(self) -> None:
         """One thing that ranks may do by themselves, or the same one several times."""
@@ -174,7 +185,7 @@ class Program:
         if self.shape.rate and chance.randrange(10) == 0:
             self.acts_of(chance.randrange(nodes), 0)
             last = self.lines.pop()
-            chance.choice([self.register, lambda: self.call(chance.choice([END, ABORT, 0, 19])), self.work])()
+            chance.choice([self.register, lambda: self.call(chance.choice([END, ABORT, 0, 20])), self.work])()
             self.lines.append(last)
         self.call(SYNC)
         self.areas, self.tag = list(self.coming), self.next_tag
@@ -189,11 +200,11 @@ class Made:
     memory: int
 
 
-def program(chance: random.Random) -> Made:
-    """A program of some supersteps."""
+def program(chance: random.Random, clock: bool = False) -> Made:
+    """A program of some supersteps, which reads a clock where there is one."""
     nodes, memory = (chance.choices([size for _, size in sizes], [weight for weight, _ in sizes])[0] for sizes in (NODES, MEMORIES))
     base = 0xC00 if memory == 4096 else chance.choice([0x1000, 0x1800, 0x1000])
-    made = Program(chance, Shape(nodes, memory, base, chance.choice([0, 0, 0, 2, 5, 20, 200])))
+    made = Program(chance, Shape(nodes, memory, base, chance.choice([0, 0, 0, 2, 5, 20, 200]), clock))
     for _ in range(chance.choice([1, 2, 3, 4, 8])):
         if not made.is_full():
             made.superstep()

@@ -41,11 +41,12 @@ class Machine:
     l: int = 0
     format: str = "elf"
     input: str = ""
+    clock: bool = False
 
     def words(self) -> List[str]:
         """The words of these options."""
         words = ["--nodes", self.nodes, "--memory", self.memory, "--limit", self.limit, "--g", self.g, "--l", self.l]
-        words += ["--format", self.format] + (["--input", self.input] if self.input else [])
+        words += ["--format", self.format] + (["--input", self.input] if self.input else []) + ["--clock"] * self.clock
         return [str(word) for word in words]
 
 

@@ -55,6 +55,8 @@ CHANGES = {
     "another reply in a dialogue": ("debugger", "case $* in *--interactive*) sed -i 's/moved 0/moved 1/' out ;; esac"),
     "other costs of a debugger": ("program", "[ \"$1\" = debug ] && sed -i 's/^total /total 1/' out"),
     "a profile of other bytes": ("program", "case $* in *profile*) sed -i 's/^\\(0,0,,\\)/\\11/' \"$here/profile\" ;; esac"),
+    "a contested byte told twice": ("program", "case $* in *contested*) sed -i '$p' \"$here/contested\" ;; esac"),
+    "a superstep's contested bytes in the next one": ("program", "case $* in *contested*) sed -i 's/^1,/2,/' \"$here/contested\" ;; esac"),
     "an image changed by a run": ("words", "[ \"$1\" = run ] && [ -f \"$here/image\" ] && echo >>\"$here/image\""),
 }
 MOST = 100

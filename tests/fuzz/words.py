@@ -38,7 +38,7 @@ class Line:
     is_refused: bool = False
     image: str = "image"
     input: Optional[str] = None
-    beside: Optional[str] = None  # the file of a profile or of counts
+    beside: Optional[str] = None  # the file of a profile, of counts or of what is contested
 
 
 def option(chance: random.Random, name: str, given: Word) -> List[Word]:
@@ -82,7 +82,7 @@ def files(chance: random.Random, made: Line, parts: List[List[Word]]) -> None:
         parts.append(option(chance, "input", made.input))
     if made.subcommand == "run" and chance.randrange(4) == 0:
         made.beside = chance.choice(["profile", "profile", "image", "./image", "folder", "folder/profile", "absent/profile"])
-        parts.append(option(chance, chance.choice(["profile", "counts"]), made.beside))
+        parts.append(option(chance, chance.choice(["profile", "counts", "contested"]), made.beside))
     if made.subcommand == "run" and chance.randrange(6) == 0:
         parts.append(["--live"])
         made.is_refused |= made.beside is not None
@@ -107,7 +107,7 @@ def refusal_of(made: Line) -> str:
 
 
 def is_read(made: Line) -> bool:
-    """Whether the file of a profile or of counts is the image or the input."""
+    """Whether the file beside the output is the image or the input."""
     if made.beside is None:
         return False
     name = made.beside[2:] if made.beside.startswith("./") else made.beside
@@ -145,7 +145,7 @@ def command_line(trial: Trial) -> None:
 
 
 def is_emptied(made: Line) -> bool:
-    """Whether a profile or counts may stand in the image's file: where neither image nor input is read from it."""
+    """Whether what stands beside the output may be in the image's file: where neither image nor input is read from it."""
     return made.beside is not None and made.beside.endswith("image")
 
 

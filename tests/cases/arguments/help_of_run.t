@@ -15,12 +15,14 @@
         --g <TICKS>         Ticks that a byte of the h-relation costs in the total [default: 1]
         --l <TICKS>         Ticks that the end of a superstep costs in the total [default: 0]
         --ledger <VERSION>  Version of the ledger: 2, in which h leaves out what a rank moves to itself and m counts messages, or 1, in which h counts it [default: 2]
+        --clock             Give each node a clock, which call 19 reads: the cost of the supersteps that are over, and its own ticks in this one
         --report            After the output write the costs of the supersteps, their total and the outcome
         --live              Write each superstep's output as soon as it is over
         --workers <N>       Most threads that run the nodes, 1 to 64; what is written does not depend on it [default: 1]
         --slice <STEPS>     Most steps of a node before another may have its thread, 1 to 1048576; what is written does not depend on it [default: 65536]
         --profile <FILE>    File to write what each rank did in each superstep, as CSV; it is created, or emptied, before the run
         --counts <FILE>     Write how many steps each address made to FILE, as CSV; the run is made in one thread, whatever --workers says
+        --contested <FILE>  Write the bytes to which puts or gets of one superstep bring different values to FILE, as CSV; BSPlib leaves open which of them stay
     -h, --help              Print help
   
   Exit status:

@@ -19,12 +19,12 @@
   31
   44
   99
-  superstep 0: w 11270 h 0 turned
-  superstep 1: w 51 h 16 turned
-  superstep 2: w 489 h 0 turned
-  superstep 3: w 62 h 68 turned
-  superstep 4: w 917 h 64 turned
-  superstep 5: w 1632 h 20 turned
-  superstep 6: w 2222 h 0 last
-  total 16811
+  superstep 0: w 11601 h 0 turned
+  superstep 1: w 84 h 16 turned
+  superstep 2: w 264 h 0 turned
+  superstep 3: w 95 h 68 turned
+  superstep 4: w 660 h 64 turned
+  superstep 5: w 1669 h 20 turned
+  superstep 6: w 2325 h 0 last
+  total 16866
   ended

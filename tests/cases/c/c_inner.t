@@ -5,8 +5,8 @@
   rank 1: 166166000
   rank 2: 166166000
   rank 3: 166166000
-  superstep 0: w 1713 h 0 turned
-  superstep 1: w 97926 h 32 turned
-  superstep 2: w 1756 h 0 last
-  total 101427
+  superstep 0: w 1687 h 0 turned
+  superstep 1: w 97962 h 32 turned
+  superstep 2: w 1859 h 0 last
+  total 101540
   ended

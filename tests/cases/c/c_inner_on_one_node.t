@@ -2,8 +2,8 @@
   the inner product of 1000 elements
   rank 0: 166166000
   done
-  superstep 0: w 1617 h 0 turned
-  superstep 1: w 390608 h 8 turned
-  superstep 2: w 1464 h 0 last
-  total 393697
+  superstep 0: w 1687 h 0 turned
+  superstep 1: w 390641 h 8 turned
+  superstep 2: w 1567 h 0 last
+  total 393903
   ended

@@ -23,27 +23,27 @@
   cell 21: 0/1000
   cell 22: 0/1000
   cell 23: 0/1000
-  superstep 0: w 410 h 0 turned
-  superstep 1: w 91 h 16 turned
-  superstep 2: w 1508 h 16 turned
-  superstep 3: w 1609 h 16 turned
-  superstep 4: w 1732 h 16 turned
-  superstep 5: w 1868 h 16 turned
-  superstep 6: w 2004 h 16 turned
-  superstep 7: w 2114 h 16 turned
-  superstep 8: w 2136 h 16 turned
-  superstep 9: w 2171 h 16 turned
-  superstep 10: w 2184 h 16 turned
-  superstep 11: w 2171 h 16 turned
-  superstep 12: w 2171 h 16 turned
-  superstep 13: w 2184 h 16 turned
-  superstep 14: w 2197 h 16 turned
-  superstep 15: w 2184 h 16 turned
-  superstep 16: w 2184 h 16 turned
-  superstep 17: w 2197 h 16 turned
-  superstep 18: w 2183 h 16 turned
-  superstep 19: w 2182 h 16 turned
-  superstep 20: w 2183 h 16 turned
-  superstep 21: w 10486 h 0 last
-  total 50469
+  superstep 0: w 468 h 0 turned
+  superstep 1: w 125 h 16 turned
+  superstep 2: w 1541 h 16 turned
+  superstep 3: w 1642 h 16 turned
+  superstep 4: w 1765 h 16 turned
+  superstep 5: w 1901 h 16 turned
+  superstep 6: w 2037 h 16 turned
+  superstep 7: w 2147 h 16 turned
+  superstep 8: w 2169 h 16 turned
+  superstep 9: w 2204 h 16 turned
+  superstep 10: w 2217 h 16 turned
+  superstep 11: w 2204 h 16 turned
+  superstep 12: w 2204 h 16 turned
+  superstep 13: w 2217 h 16 turned
+  superstep 14: w 2230 h 16 turned
+  superstep 15: w 2217 h 16 turned
+  superstep 16: w 2217 h 16 turned
+  superstep 17: w 2230 h 16 turned
+  superstep 18: w 2217 h 16 turned
+  superstep 19: w 2215 h 16 turned
+  superstep 20: w 2217 h 16 turned
+  superstep 21: w 10602 h 0 last
+  total 51306
   ended

@@ -24,7 +24,7 @@
   24 cells are too few for 25 ranks
   24 cells are too few for 25 ranks
   24 cells are too few for 25 ranks
-  superstep 0: w 1561 h 0 last
-  total 1561
+  superstep 0: w 1956 h 0 last
+  total 1956
   rank 0 stopped: aborted
   [2]

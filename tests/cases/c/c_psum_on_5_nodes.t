@@ -4,10 +4,10 @@
   rank 2: 66 73 81 90 90 91 93 96
   rank 3: 100 105 111 118 126 135 135 136
   rank 4: 138 141 145 150 156 163 171 180
-  superstep 0: w 175 h 0 turned
-  superstep 1: w 56 h 4 turned
-  superstep 2: w 60 h 4 turned
-  superstep 3: w 60 h 4 turned
-  superstep 4: w 3943 h 0 last
-  total 9342
+  superstep 0: w 233 h 0 turned
+  superstep 1: w 89 h 4 turned
+  superstep 2: w 93 h 4 turned
+  superstep 3: w 93 h 4 turned
+  superstep 4: w 3994 h 0 last
+  total 9550
   ended

@@ -59,8 +59,8 @@
   855
   952
   974
-  superstep 0: w 47236 h 64 turned
-  superstep 1: w 2677 h 84 turned
-  superstep 2: w 11633 h 0 last
-  total 61694
+  superstep 0: w 50752 h 64 turned
+  superstep 1: w 2496 h 84 turned
+  superstep 2: w 11548 h 0 last
+  total 64944
   ended

@@ -48,8 +48,14 @@ int main(void)
         __asm__ volatile("ebreak");
 #endif
 #ifdef LOOP
-    for (int i = 0; i < LOOP; i++)
+    for (int i = 0; i < LOOP; i++) {
+#ifdef WORK
+        for (int k = 0; k < WORK; k++)
+            mine.from++;
+        printf("rank %d has worked\n", s);
+#endif
         bsp_sync();
+    }
     while (seen != -1)
         mine.from++;
 #endif

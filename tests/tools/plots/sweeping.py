@@ -62,6 +62,7 @@ def parts(make: Parts) -> List[Part]:
     return [
         make.part("sweeps by GNU parallel", parallel, tools=(PARALLEL,)),
         make.part("a plain sweep", kept),
+        make.part("prices of machines", machines),
         make.part("refusals of bspsweep", refusals),
         make.part("what a run rests on", keys),
         make.part("a folder of an odd name", odd),
@@ -242,7 +243,8 @@ def broken_off(
         becomes_true(lambda: not where())
     made = len(list((check.folder / folder / "runs").glob("*/run.json")))
     done = check.tool("bspsweep", *words, "--folder", folder, *TWELVE, environment=environment)
-    right = 0 < made < 6 and done.stdout == text and f"{made} of 6 runs were made before" in done.stderr
+    before = f"{made} of 6 runs {'was' if made == 1 else 'were'} made before"
+    right = 0 < made < 6 and done.stdout == text and before in done.stderr
     check.expect(f"a sweep by {name} that is gone on with", right, f"{made} {done.stderr}")
     return seen
 
@@ -313,6 +315,25 @@ def keys(check: Check) -> None:
         right = done.returncode == 1 and "is not what it was" in told and not (place / "run.json").exists()
         check.expect(f"a run whose {path.name} was changed", right, done.stderr + told)
         path.write_bytes(before)
+
+
+def machines(check: Check) -> None:
+    """Machines by their names give the prices of the tables, beside others; one's own stand for those of the same name."""
+    (check.folder / "own.txt").write_text("mine 2 1e9 12 70.4 4 measured here\nt3e-16 16 1e9 8 5 8 another one\n")
+    own: Dict[str, Optional[str]] = {"BSP_MACHINES": "own.txt"}
+    words = ["--engine", "plain", "--folder", "machines", "--nodes", "2,3", "--prices", "2:9"]
+    done = check.tool("bspsweep", *words, "--machine", "t3e-8,mine,t3e-16", *PROGRAMS, environment=own)
+    wanted = check.tool("bspsweep", *words[:-1], "2:9,4:1193,3:70,1:5", *PROGRAMS)
+    check.expect("prices of machines", done.returncode == 0 and done.stdout == wanted.stdout, done.stdout + done.stderr)
+    rows = [{name: int(row[name]) for name in ("g", "l", "supersteps", "w", "h", "total")} for row in csv.DictReader(io.StringIO(done.stdout))]
+    right = len(rows) == 16 and all(it["total"] == it["w"] + it["g"] * it["h"] + it["l"] * it["supersteps"] for it in rows)
+    check.expect("totals at the prices of machines", right, rows)
+    alone = check.tool("bspsweep", *words[:-2], "--machine", "t3e-8", PROGRAMS[0])
+    found = {(row["g"], row["l"]) for row in csv.DictReader(io.StringIO(alone.stdout))}
+    check.expect("the prices of a machine alone", found == {("4", "1193")}, alone.stdout + alone.stderr)
+    done = check.tool("bspsweep", *words, "--machine", "t3e-8,no", *PROGRAMS)
+    right = done.returncode == 1 and not done.stdout and done.stderr.startswith("bspsweep: 'no' is no machine that is known: t3e-2, t3e-4")
+    check.expect("no machine of this name", right, done.stdout + done.stderr)
 
 
 def odd(check: Check) -> None:

@@ -81,7 +81,7 @@ int main(int argc, char **argv)
 {
     bsp_init(around, argc, argv);
     around();
-    if (bsp_dtime() != 0.0)
+    if (bsp_dtime() < 0.0 || bsp_dtime() < 0.0)
         return 1;
     host();
     at_quick_exit(last);

@@ -1,5 +1,5 @@
-"""Parts of run: programs of ported/, in the styles in which they are found, with files in and out, prompts, C of each age and C++, and a
-project for make and for CMake. Each is built as it is, and run with default options.
+"""Parts of run: programs of ported/, in the styles in which they are found, with files in and out, prompts, C of each age and C++, and
+projects for make and for CMake. Each is built as it is, and run with default options.
 
 What each has to write is in ported/expected: its output, and for each file its bytes and their sum. It was written by the host's own
 processor, where each program was compiled by GCC with functions of BSPlib for one process; so no number of nodes has another answer.
@@ -45,10 +45,46 @@ PROGRAMS: Dict[str, Program] = {
     "sorted": Program([], outputs=("sorted.bin",)),
     "spline": Program([]),
     "wordcount": Program(["text.txt"]),
+    "tables": Program(["points.csv"], outputs=("means.txt",)),
+    "calculator": Program([], "sums.txt"),
+    "edges": Program(["rings.pgm"], outputs=("edges.pgm", "blur.pgm")),
+    "menu": Program([], "typed.txt"),
+    "registers": Program([]),
+    "sized": Program([]),
+    "summa": Program([]),
+    "temps": Program([]),
+    "tour": Program(["-n7", "--seed", "0x2a"]),
+    "weblog": Program([], "log.txt"),
 }
-# Each program is run on two of these, and on an uneven number.
+# Each program is run on one of these, and on an uneven number.
 EVEN, UNEVEN = (1, 2, 4, 8), (3, 5, 7)
+
+
+class Project(NamedTuple):
+    """A project of several files: the commands that build it, what they make, its arguments and its input, and what it writes."""
+
+    build: List[List[str]]
+    image: str
+    arguments: List[str]
+    given: bytes
+    wanted: str
+    tools: Tuple[Tool, ...]
+
+
+BSPCC = str(REPO / "bspcc")
 NORM = "n = 200, norm = 813.434078, 0.0 s\n"
+NORMS = "norm 0: 20.994046775\nnorm 1: 1.470401877\nnorm 2: 1.483932661\nnorm 3: 1.490650865\n"
+LETTERS = b"Bulk Synchronous\n\nParallel\n"
+COUNTS = "".join(f"{it}: {n} {'#' * n}\n" for it, n in zip("abcehklnoprsuy", (2, 1, 1, 1, 1, 1, 4, 2, 2, 1, 2, 2, 2, 1)))
+# Each by the name of its folder, and of that of ways to build it behind a blank.
+PROJECTS: Dict[str, Project] = {
+    "project make": Project([["make", f"CC={BSPCC}"]], "norm", ["200"], b"", NORM, (*COMPILER, MAKE)),
+    "project CMake": Project([["cmake", f"-DCMAKE_C_COMPILER={BSPCC}", "-B", "made", "."], ["cmake", "--build", "made"]],
+        f"made{os.sep}norm", ["200"], b"", NORM, (*COMPILER, MAKE, CMAKE)),  # fmt: skip
+    "archive make": Project([["make", f"CC={BSPCC}"]], "solver", ["n=30", "iters=4", "title=norm"], b"", NORMS, (*COMPILER, MAKE)),
+    "classes CMake": Project([["cmake", f"-DCMAKE_CXX_COMPILER={BSPCC}", "-B", "made", "-S", "."], ["cmake", "--build", "made"]],
+        f"made{os.sep}histo", [], LETTERS, COUNTS, (*COMPILER, CLASSES, MAKE, CMAKE)),  # fmt: skip
+}
 
 
 def source_of(name: str) -> pathlib.Path:
@@ -91,25 +127,23 @@ class Ported:
             found = told(done.stdout, self.folder / OUT, program.outputs)
             self.tally.expect(f"ported {name}, {p} nodes", (done.returncode, found) == (0, wanted), f"{found}{done.stderr.decode()}")
 
-    def project(self, build: List[List[str]], image: str) -> None:
+    def project(self, name: str) -> None:
         """A project of several files, built by its own commands."""
-        shutil.copytree(HERE / "project", self.folder, dirs_exist_ok=True)
-        for words in build:
+        project = PROJECTS[name]
+        shutil.copytree(HERE / name.split()[0], self.folder, dirs_exist_ok=True)
+        for words in project.build:
             subprocess.run(words, cwd=self.folder, check=True, capture_output=True, text=True, timeout=SECONDS)
-        done = self.run(3, image, ["200"])
-        self.tally.expect(f"a project, {build[0][0]}", (done.returncode, done.stdout.decode()) == (0, NORM), done)
+        done = self.run(3, project.image, project.arguments, project.given)
+        self.tally.expect(f"a project, {name}", (done.returncode, done.stdout.decode()) == (0, project.wanted), done)
 
 
 def parts() -> List[Tuple[str, Callable[[Ported], None], Tuple[Tool, ...]]]:
     """The name of each part, what makes it, and what it wants."""
     found: List[Tuple[str, Callable[[Ported], None], Tuple[Tool, ...]]] = []
     for i, name in enumerate(PROGRAMS):
-        nodes = (EVEN[i % 4], EVEN[(i + 2) % 4], UNEVEN[i % 3])
+        nodes = (EVEN[i % 4], UNEVEN[i % 3])
         tools = (*COMPILER, CLASSES) if source_of(name).suffix == ".cpp" else COMPILER
         found.append((f"ported {name}", functools.partial(Ported.program, name=name, nodes=nodes), tools))
-    bspcc = str(REPO / "bspcc")
-    make = [["make", f"CC={bspcc}"]]
-    cmake = [["cmake", f"-DCMAKE_C_COMPILER={bspcc}", "-B", "made", "."], ["cmake", "--build", "made"]]
-    found.append(("a project, make", functools.partial(Ported.project, build=make, image="norm"), (*COMPILER, MAKE)))
-    found.append(("a project, CMake", functools.partial(Ported.project, build=cmake, image=f"made{os.sep}norm"), (*COMPILER, MAKE, CMAKE)))
+    for name, project in PROJECTS.items():
+        found.append((f"a project, {name}", functools.partial(Ported.project, name=name), project.tools))
     return found

@@ -1,9 +1,14 @@
 // A program in C++ with the standard streams, which rank 0 reads and all ranks write.
+#include <bitset>
 #include <iomanip>
 #include <iostream>
+#include <sstream>
 #include <string>
 
+// As a header of C is included that knows nothing of C++.
+extern "C" {
 #include "bsp.h"
+}
 
 struct Point {
     int x, y;
@@ -36,6 +41,9 @@ int main()
     if (bsp_pid() == 0) {
         cout << fixed << setprecision(3) << factor << setw(8) << 2.5 << '|' << left << setw(5) << "ab" << '|' << right << setfill('*') << setw(5)
              << 42 << ' ' << Point{1, 2} << endl;
+        bitset<4> bits;
+        istringstream(" 11012 x") >> bits >> number;
+        cout << setw(6) << bits << ' ' << number << ' ' << ~bits << endl;
         cerr << hex << 255 << dec << ' ' << -1 << ' ' << defaultfloat << 1e10 << ' ' << static_cast<unsigned char>('x') << '\n';
     }
     bsp_end();

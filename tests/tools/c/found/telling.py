@@ -12,7 +12,8 @@ HERE = pathlib.Path(__file__).resolve().parent
 
 
 class Case(NamedTuple):
-    """A mistake of silent.c: the options of its run, what is said of it, and whether its line is named."""
+    """A mistake of silent.c: the options of its run, what is said of it, of which parts are left out at ` .. `, and whether its line is
+    named."""
 
     options: List[str]
     said: str
@@ -21,23 +22,25 @@ class Case(NamedTuple):
 
 TOLD: Dict[int, Case] = {
     1: Case([], "malloc of 100000000 bytes was refused at main, "),
-    2: Case([], "rank 0, superstep 0: life.pgm was to be written: give --out DIR, and so 1 more rank", False),
-    3: Case([], "params.cfg was to be read, and no file of this name is given or in this folder", False),
-    4: Case([], "here.cfg was to be read: it is in this folder, give --file here.cfg", False),
+    2: Case([], "rank 0, superstep 0: life.pgm was to be written at files, .. : give --out DIR, and so 1 more rank"),
+    3: Case([], "rank 0, superstep 0: params.cfg was to be read at files, .. , and no file of this name is given or in this folder"),
+    4: Case([], "rank 0, superstep 0: here.cfg was to be read at files, .. : it is in this folder, give --file here.cfg"),
     5: Case([], "superstep 1: what was asked for comes to nothing, since no bsp_sync follows: the last of it at messages, "),
     7: Case([], "10 bytes of malloc at 0x"),
     8: Case([], "memory that was given back before"),
     9: Case([], "an address that malloc did not give"),
     10: Case([], "memory at address 0 was written"),
-    11: Case([], "a number is read, and the input is empty: give --input FILE", False),
-    12: Case([], "the clock was read over and over", False),
+    11: Case([], "rank 0, superstep 0: a number is read at main, .. , and the input is empty: give --input FILE"),
+    12: Case(["--rate", "100000"], "the time is what the run has cost so far by the model, and no host's: a second is 100,000 instructions", False),
     13: Case(["--warn"], "10 bytes of malloc at 0x"),
-    14: Case(["--warn"], "line 1 of the output is '-910', and else '0'", False),
+    14: Case(["--warn"], "line 1 of the output is '-910', and else '0'; first in what is printed of rank 0 in superstep 0, at memory, silent.c:51", False),
     15: Case(["--warn"], "a message is read in superstep 3, where none is left, by rank 0"),
     16: Case(["--warn"], "its tag still has 0 bytes, and 4 from the next superstep on"),
     17: Case(["--warn"], "offset 1 is no multiple of the 8 bytes of a put"),
+    18: Case(["--warn"], "offset 1 is no multiple of the 8 bytes that are moved in superstep 1 by rank 1 at messages, "),
+    19: Case(["--warn"], "the target of a get is read in superstep 1, before bsp_sync, by rank 0 at messages, .. ; the get is that of rank 0 at "),
 }
-NOT_FOUND = "bsprun: looked for, and not found: requests that come to nothing, areas in another order, puts that meet, messages"
+NOT_FOUND = "bsprun: looked for, and not found: requests that come to nothing, areas in another order, puts that meet, offsets"
 # What writes.c writes on three nodes, but for the picture.
 WRITTEN = {
     "lines.txt": "line of rank 0\nline of rank 1\nline of rank 2\n",
@@ -45,6 +48,14 @@ WRITTEN = {
     **{f"part{s}.txt.new": f"{s}\n2 bytes\n" for s in range(3)},
 }
 # A program that cannot fit, one that wants more than is said, and one with a deep stack.
+# A pointer and a function that are read through NULL, which nobody but the compiler knows.
+THROUGH_NULL = "#include <stdio.h>\nstruct it { int a[4]; struct it *next; } *volatile none;\n"
+THROUGH_NULL += "int main(int argc, char **argv)\n{\n    if (argc == 1)\n        return none->next->a[1];\n"
+THROUGH_NULL += '    return fputs("x", fopen("absent", "r"));\n}\n'
+# A get whose target is read early in one superstep of many.
+OFTEN = "#include <bsp.h>\n#include <stdio.h>\nint main(void)\n{\n    int k, x = 1, y = 0;\n    bsp_begin(bsp_nprocs());\n"
+OFTEN += "    bsp_push_reg(&x, sizeof x);\n    bsp_sync();\n    for (k = 0; k < 50; k++) {\n        bsp_get(0, &x, 0, &y, sizeof y);\n"
+OFTEN += '        if (k == 40)\n            printf("%d\\n", y);\n        bsp_sync();\n    }\n    bsp_end();\n    return 0;\n}\n'
 ARRAYS = "#include <bsp.h>\ndouble table[SIZE], other[500];\nint main(void)\n{\n    bsp_begin(1);\n    bsp_end();\n    return table[1] != other[2];\n}\n"
 STACK = "int main(void)\n{\n    volatile char bytes[400000];\n    bytes[0] = 0;\n    return bytes[0];\n}\n"
 
@@ -83,8 +94,16 @@ class Telling:
         for number, case in TOLD.items():
             line = next(i for i, text in enumerate(marked, 1) if text.endswith(f"/* {number} */"))
             done = self.run("-n", "2", *case.options, image, str(number))
-            self.expect(f"told {number}", done, done.returncode, case.said, *([f"silent.c:{line}"] if case.has_line else []))
+            self.expect(f"told {number}", done, done.returncode, *case.said.split(" .. "), *([f"silent.c:{line}"] if case.has_line else []))
         self.expect("no argument", self.run(image), 2, "atoi is given NULL", "bsprun PROGRAM 100", "silent.c:")
+        (self.folder / "often.c").write_text(OFTEN)
+        done = self.run("-n", "2", "--warn", "often.c")
+        self.expect("a get among many", done, 0, "read in superstep 41, before bsp_sync, by rank 0 at main, often.c:12; the get is that of rank 0 at main")
+        (self.folder / "through.c").write_text(THROUGH_NULL)
+        done = self.run("through.c")
+        self.expect("a pointer that is read through NULL", done, 2, "main, through.c:6", "the pointer was read through NULL")
+        done = self.run("through.c", "x")
+        self.expect("a function that is read through NULL", done, 2, "through.c:7", "called by a pointer that was read through NULL")
         self.expect("nothing to warn of", self.run("-n", "2", "--warn", image, "0"), 0, NOT_FOUND)
 
     def written(self) -> None:
@@ -105,12 +124,19 @@ class Telling:
         kept = (self.folder / "elsewhere").read_text() == "kept\n"
         self.tally.expect("nothing elsewhere", before == after and kept, (before, after))
         done = self.run("-n", "2", image)
-        self.expect("no --out", done, 2, "out/life.pgm: Read-only file system", "out/life.pgm was to be written: give --out DIR")
+        self.expect("no --out", done, 2, "out/life.pgm: Read-only file system", "out/life.pgm was to be written at ", ": give --out DIR")
+        (self.folder / "place").mkdir()
+        (self.folder / "place/log.txt").mkdir()
+        done = self.run("--out", "place", image)
+        self.expect("a file that cannot be written", done, 1, "place/log.txt: Is a directory (log.txt was not written)")
         source = self.folder / "life.pgm"
         source.write_text("an input\n")
         done = self.run("--out", ".", "--file", "life.pgm", image)
         self.expect("an output that is an input", done, 0, "life.pgm was not written: it is read as life.pgm")
         self.tally.expect("an input is kept", source.read_text() == "an input\n", source.read_bytes())
+        (self.folder / "more.c").write_text("int more;\n")
+        (self.folder / "over.c").write_text('#include <stdio.h>\nint main(void) { return fputs("x", fopen("more.c", "w")) < 0; }\n')
+        self.expect("an output that is a source", self.run("--out", ".", "over.c", "more.c"), 0, "more.c was not written: it is read as more.c")
 
     def given(self) -> None:
         """Words that are files, and all files of a folder."""

@@ -23,7 +23,7 @@ from bsptools.plot import profile, sources, sweep
 from bsptools.plot.costs import Prices, total
 from bsptools.refusals import Refused
 from bsptools.run import cli as _run  # noqa: F401  pylint: disable=unused-import
-from bsptools.run import forms, program
+from bsptools.run import contested, forms, program
 from bsptools.sweep import cli as _sweep  # noqa: F401  pylint: disable=unused-import
 from bsptools.sweep import job
 from bsptools.sweep.store import Place
@@ -44,7 +44,7 @@ WANTED = [
 # None of these may be told.
 MISTAKES = (b"Traceback", b"this is a mistake of", b"Exception ignored", b"Fatal Python error")
 PACKETS = [
-    b"?", b"g", b"m0,4", b"m0,ffffffff", b"p0", b"c", b"s", b"vCont?", b"vCont;c", b"vCont;s:1", b"Hg1", b"Hgffffffff",
+    b"?", b"g", b"m0,4", b"m0,ffffffff", b"p0", b"c", b"s", b"bs", b"bc", b"Hc1", b"vCont?", b"vCont;c", b"vCont;s:1", b"Hg1", b"Hgffffffff",
     b"qSupported:xmlRegisters=i386", b"qXfer:features:read:target.xml:0,ffb", b"qXfer:threads:read::0,1000", b"qfThreadInfo",
     b"T2", b"T0", b"Z0,0,4", b"Z1,100,2", b"z0,0,4", b"qRcmd,636f737473", b"qRcmd,zz", b"D", b"QStartNoAckMode", b"X0,0:",
     b"M0,1:00", b"P0=00000000", b"R00", b"vRun;", b"H", b"Z", b"m", b"\x03",
@@ -60,6 +60,7 @@ class Bases:
     tables: List[bytes]
     listings: List[bytes]
     counts: bytes
+    contested: bytes
     image: bytes
     records: List[bytes]
     key: str
@@ -88,6 +89,11 @@ class Trial:
         """The counts of a run, which are told as those of its report alone."""
         (self.folder / "counts").write_bytes(mutated(self.bases.counts, self.chance))
         return quietly(lambda: compared(self.folder / "counts", self.bases.reports[0]))
+
+    def read_contested(self) -> str:
+        """What is contested in a run, which is told as that of a run of two nodes and three supersteps alone."""
+        (self.folder / "contested").write_bytes(mutated(self.bases.contested, self.chance))
+        return quietly(lambda: contested.read(self.folder / "contested", 2, 2))
 
     def read_record(self) -> str:
         """What a sweep keeps: a changed record counts as not made."""

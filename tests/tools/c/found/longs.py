@@ -1,0 +1,327 @@
+"""Parts of run: programs that compute in a `long`, which has 64 bits elsewhere, by default options. Where something does not fit it is told
+behind the run, which is as it is without that."""
+
+from __future__ import annotations
+
+import os
+import pathlib
+import re
+import signal
+import subprocess
+import time
+from typing import Callable, Dict, List, NamedTuple, Optional, Tuple
+
+from checks import CLASSES, COMPILER, PYELFTOOLS, REPO, SECONDS, SOON, Tally, Tool, becomes_true, commands_with
+
+BEGIN = "#include <bsp.h>\n#include <stdint.h>\n#include <stdio.h>\n#include <stdlib.h>\n"
+CUBES = BEGIN + """int main(void)
+{
+    long sum = 0;
+    bsp_begin(bsp_nprocs());
+    bsp_sync();
+    for (int i = bsp_pid() + 1; i <= 1000; i += bsp_nprocs())
+        sum += (long)i * i * i; /* here */
+    printf("%d: %ld\\n", bsp_pid(), sum);
+    bsp_end();
+    return 0;
+}
+"""
+# Values that nobody can know before the run.
+VALUES = BEGIN + """static volatile int k = 40, n = 50000, less = -7;
+static volatile double far = 1e10;
+static volatile unsigned long hash = 5381;
+int main(void)
+{
+    bsp_begin(bsp_nprocs());
+    {
+        %s; /* here */
+    }
+    bsp_end();
+    return 0;
+}
+"""
+ADVICE, UNSIGNED = "write int64_t or long long", "write uint64_t or unsigned long long"
+
+
+class Value(NamedTuple):
+    """A statement, and what is told of its line: what it is, and what to write; nothing where that is the same elsewhere."""
+
+    text: str
+    said: str = ""
+    advice: str = ADVICE
+
+
+FITS = " does not fit into 'long int', which has 32 bits here"
+TOLD: Dict[str, Value] = {
+    "product": Value('printf("%ld\\n", (long)n * n)', f"50000 * 50000{FITS}"),
+    "difference": Value('printf("%ld\\n", -2000000000L - 10000L * n)', f"-2000000000 - 500000000{FITS}"),
+    "quotient": Value('long most = -2147483647L + less + 6; printf("%ld\\n", most / (less + 6))', f"-2147483648 / -1{FITS}"),
+    "shift": Value('printf("%ld\\n", 1L << k)', "1 is shifted by 40, as 'long int', which has 32 bits here"),
+    "mask": Value('printf("%lu\\n", 1UL << k)', "1 is shifted by 40, as 'long unsigned int', which has 32 bits here", UNSIGNED),
+    "number": Value('printf("%ld\\n", (long)far)', "a number near 10000000000" + FITS),
+    "difference of pointers": Value('ptrdiff_t many = n; printf("%td\\n", many * n)', f"50000 * 50000{FITS}"),
+    "result": Value('printf("%d\\n", (int)(atol("2000000000") + labs(n * 20000)))', f"2000000000 + 1000000000{FITS}"),
+}
+SAME: Dict[str, Value] = {
+    "unsigned that begins at 0 again": Value('hash = hash * 33 * n * n; printf("%lu\\n", hash)'),
+    "long that fits": Value('printf("%ld\\n", (long)n * 2L)'),
+    "int": Value('printf("%d\\n", n * n); printf("%ld\\n", 2L * k)'),
+    "negative that is shifted": Value('printf("%ld\\n", (long)less << 3)'),
+    "divided by 0": Value('printf("%ld\\n", 5L / (less + 7))'),
+    "64 bits": Value('printf("%lld %d\\n", (long long)n * n, (int)((int64_t)n * n + 1L))'),
+}
+# Of a build in which a ptrdiff_t is a long, the run does not end.
+ENDLESS = BEGIN + """int main(void)
+{
+    long sum = bsp_nprocs();
+    bsp_begin(bsp_nprocs());
+    while (_Generic((ptrdiff_t)0, long: 1, default: 0))
+        sum += bsp_pid();
+    printf("%ld\\n", sum);
+    bsp_end();
+    return 0;
+}
+"""
+# A run that somebody has to end.
+SPINS = CUBES.replace("    bsp_end();", "    bsp_sync();\n    for (volatile int i = 0;; i++)\n        ;\n    bsp_end();")
+READS = BEGIN + """int main(void)
+{
+    long n = 0;
+    bsp_begin(bsp_nprocs());
+    if (scanf("%ld", &n) != 1)
+        return 1;
+    printf("%ld\\n", n * n); /* here */
+    bsp_end();
+    return 0;
+}
+"""
+# Texts in which a `long` is named, but none is there.
+NAMED = BEGIN + """/* as long as a long is one */
+int main(void)
+{
+    long long many = 'l' + 5LL;
+    bsp_begin(bsp_nprocs());
+    many *= many; // long
+    printf("a long way: %lld\\n", many);
+    bsp_end();
+    return 0;
+}
+"""
+HEADER = {
+    "main.c": BEGIN + '#include "work.h"\nint main(void)\n{\n    bsp_begin(bsp_nprocs());\n    printf("%d\\n", (int)work(70000));\n'
+    "    bsp_end();\n    return 0;\n}\n",
+    "work.h": "#include <types.h>\nnumber work(int);\n",
+    "deep/types.h": "typedef long number;\n",
+    "work.c": '#include "work.h"\nnumber work(int n)\n{\n    return (number)n * n; /* here */\n}\n',
+}
+CLASS = BEGIN + """#include <numeric>
+#include <vector>
+int main()
+{
+    std::vector<long> numbers(3, 1000000000L);
+    bsp_begin(bsp_nprocs());
+    long sum = 0;
+    for (long it : numbers)
+        sum += it; /* here */
+    printf("%ld\\n", sum);
+    bsp_end();
+    return 0;
+}
+"""
+# Notes each start of the emulator.
+TRACE = '#!/bin/sh\necho "$*" >>"$TRACE"\nexec "$EMULATOR" "$@"\n'
+
+
+def line_of(text: str) -> int:
+    """The line that is marked."""
+    return next(i for i, line in enumerate(text.splitlines(), 1) if "/* here */" in line)
+
+
+class Longs:
+    """Runs by bsprun in a folder of this part's own."""
+
+    def __init__(self, tally: Tally, folder: pathlib.Path) -> None:
+        self.tally, self.folder = tally, folder
+        # Where the run's own files are, so that what is left of it shows.
+        (folder / "scratch").mkdir()
+        self.environment = {**os.environ, "TMPDIR": str(folder / "scratch")}
+
+    def write(self, name: str, text: str) -> str:
+        """A source of this name."""
+        path = self.folder / name
+        path.parent.mkdir(exist_ok=True)
+        path.write_text(text)
+        return name
+
+    def run(self, *words: str, given: str = "", processors: Optional[List[int]] = None) -> "subprocess.CompletedProcess[str]":
+        """A run by bsprun, on these processors of the host."""
+        before = ["taskset", "-c", ",".join(map(str, processors))] if processors else []
+        return subprocess.run([*before, str(REPO / "bsprun"), *words], input=given, capture_output=True, text=True, cwd=self.folder,
+            env=self.environment, check=False, timeout=SECONDS)  # fmt: skip
+
+    def cubes(self) -> None:
+        """A sum of cubes is told, in the words of --check, and the run is as it is without."""
+        source, line = self.write("cubes.c", CUBES), line_of(CUBES)
+        for nodes in ("1", "2", "4", "7"):
+            alone = self.run("-n", nodes, "--no-check", "--report", "alone.csv", source)
+            done = self.run("-n", nodes, "--report", "costs.csv", source)
+            same = (done.returncode, done.stdout) == (alone.returncode, alone.stdout) == (0, done.stdout) and not alone.stderr
+            costs = [(self.folder / it).read_text() for it in ("alone.csv", "costs.csv")]
+            self.tally.expect(f"cubes on {nodes} nodes, the run", same and costs[0] == costs[1], (done, alone, costs))
+            more = "" if nodes == "1" else f", and so {int(nodes) - 1} more rank{'s' if nodes > '2' else ''}"
+            told = re.fullmatch(rf"bsprun: rank 0, superstep 1: cubes.c:{line}: (\d+ \+ \d+{FITS}): {ADVICE}{more}\n", done.stderr)
+            self.tally.expect(f"cubes on {nodes} nodes, what is told", told is not None, done.stderr)
+            checked = self.run("-n", nodes, "--check", source)
+            same = told is not None and f"bsp: rank 0: superstep 1, {self.folder / source}:{line}: {told[1]}\n" in checked.stderr
+            self.tally.expect(f"cubes on {nodes} nodes, the words of --check", same and ADVICE not in checked.stderr, checked.stderr)
+
+    def values(self) -> None:
+        """Each kind of value that does not fit is told with its line; what is the same elsewhere is not."""
+        for name, value in {**TOLD, **SAME}.items():
+            text = VALUES % value.text
+            done = self.run(self.write("value.c", text))
+            wanted = f"bsprun: rank 0, superstep 0: value.c:{line_of(text)}: {value.said}: {value.advice}\n" if value.said else ""
+            self.tally.expect(f"{name}, told", (done.returncode, done.stderr) == (0, wanted), done)
+
+    def sources(self) -> None:
+        """Several sources, with a header in a folder of -I; a program in C++ is another part."""
+        for name, text in HEADER.items():
+            self.write(name, text)
+        done = self.run("-Ideep", "main.c", "work.c")
+        self.tally.expect("sources", f": work.c:{line_of(HEADER['work.c'])}: 70000 * 70000{FITS}" in done.stderr, done)
+
+    def classes(self) -> None:
+        """A program in C++."""
+        done = self.run(self.write("class.cpp", CLASS))
+        self.tally.expect("C++", f": class.cpp:{line_of(CLASS)}: 1000000000 + 2000000000{FITS}" in done.stderr, done)
+
+    def starts(self) -> None:
+        """The emulator is started once where there is no such number, where that is left out, and for --check."""
+        trace = self.folder / "trace"
+        (self.folder / "emulator").write_text(TRACE)
+        (self.folder / "emulator").chmod(0o755)
+        self.environment.update(EMULATOR=os.environ["BSPEMU"], BSPEMU=str(self.folder / "emulator"), TRACE=str(trace))
+        cubes, named, fits = self.write("cubes.c", CUBES), self.write("named.c", NAMED), self.write("fits.c", VALUES % SAME["long that fits"].text)
+        moved = self.write("moved.c", VALUES % "long as_it_is = n; printf(\"%ld\\n\", as_it_is)")
+        for words, count in ([cubes], 2), ([fits], 2), (["--no-check", cubes], 1), ([named], 1), ([moved], 1):
+            trace.write_text("")
+            done = self.run(*words)
+            runs = [it for it in trace.read_text().splitlines() if it.startswith("run ")]
+            self.tally.expect(f"starts for {words}", done.returncode == 0 and len(runs) == count, (runs, done))
+
+    def costs_nothing(self) -> None:
+        """A program without such numbers takes the processor as long as where that is left out."""
+        source = self.write("named.c", NAMED)
+        alone, whole = (min(self.seconds(*words, source) for _ in range(4)) for words in (("--no-check",), ()))
+        self.tally.expect("a program without long", whole <= alone + 0.1, f"{whole:.2f} s, and {alone:.2f} s without")
+
+    def seconds(self, *words: str) -> float:
+        """The processor time of a run, with what it starts and waits for."""
+        with subprocess.Popen([str(REPO / "bsprun"), *words], cwd=self.folder, stdin=subprocess.DEVNULL, stdout=subprocess.DEVNULL,
+                env=self.environment) as run:  # fmt: skip
+            _, ended, used = os.wait4(run.pid, 0)
+            run.returncode = os.WEXITSTATUS(ended)
+        return float(used.ru_utime + used.ru_stime)
+
+    def inputs(self) -> None:
+        """The input is the same: of a file, of a pipe, and none; what is written goes where it went."""
+        source, line = self.write("reads.c", READS), line_of(READS)
+        (self.folder / "numbers").write_text("60000\n")
+        ways: List[Tuple[List[str], str]] = [(["--input", "numbers"], ""), ([], "60000\n")]
+        for words, given in ways:
+            done = self.run(*words, source, given=given)
+            right = done.returncode == 0 and f": reads.c:{line}: 60000 * 60000{FITS}" in done.stderr
+            self.tally.expect(f"input of {words or 'a pipe'}", right, done)
+        text = CUBES.replace("    bsp_end", '    fclose(freopen("out.txt", "w", stdout));\n    bsp_end')
+        before = sorted(it.name for it in self.folder.iterdir())
+        done = self.run("--out", "here", self.write("writes.c", text))
+        found = sorted(it.name for it in self.folder.iterdir())
+        right = FITS in done.stderr and found == sorted([*before, "here", "writes.c"]) and os.listdir(self.folder / "here") == ["out.txt"]
+        self.tally.expect("what is written", right, (done, found))
+
+    def read(self) -> None:
+        """A number that is read into a long which it does not fit is told once, with its line, also of an ELF file; others are not."""
+        text = BEGIN + "int main(void)\n{\n    long a = 0, b = 0;\n    unsigned long c = 0;\n    int d;\n    %s\n"
+        text += '    printf("%%ld %%ld %%lu %%d\\n", a, b, c, d);\n    return 0;\n}\n'
+        told = {
+            'd = scanf("%ld %ld", &a, &b);': ("1 -3000000000", "-3000000000"),
+            'd = scanf("%lu %ld", &c, &a);': ("4294967296 7", "4294967296"),
+            'd = (int)atol("6000000000");': ("", "6000000000"),
+            'd = (int)strtol("-ffffffffff", NULL, 16);': ("", "-1099511627775"),
+            'd = strtoul("4294967296", NULL, 0) == 4294967295u;': ("", "4294967296"),
+            'd = scanf("%ld %lu %d", &a, &c, &d);': ("-2147483648 4294967295 2147483648", ""),
+            'd = atoi("3000000000");': ("", ""),
+            'd = (int)strtol("2147483647x", NULL, 10) + (int)atol("-2147483648");': ("", ""),
+            'd = strtoul("ffffffff", NULL, 16) > strtol("99999999999999999999", NULL, 10);': ("", ""),
+        }
+        for statement, (given, number) in told.items():
+            name = self.write("reads.c", text.replace("%s", statement, 1).replace("%%", "%"))
+            done = self.run("--no-check", name, given=given)
+            words = f"{number} is read at main, reads.c:10, and does not fit into a long, which has 32 bits here: write long long, %lld and strtoll"
+            wanted = f"bsprun: rank 0, superstep 0: {words}\n" if number else ""
+            self.tally.expect(f"read by {statement}", (done.returncode, done.stderr) == (0, wanted), done)
+
+    def processor(self) -> None:
+        """On one processor it comes behind the run."""
+        first = min(os.sched_getaffinity(0))
+        done = self.run("-n", "3", self.write("cubes.c", CUBES), processors=[first])
+        self.tally.expect("one processor", done.returncode == 0 and f"{FITS}: {ADVICE}, and so 2 more ranks" in done.stderr, done)
+
+    def fewer(self) -> None:
+        """Where the program takes fewer nodes the run beside has these."""
+        done = self.run("-n", "4", self.write("two.c", CUBES.replace("bsp_begin(bsp_nprocs())", "bsp_begin(2)")))
+        right = done.returncode == 0 and "has these, and not 4" in done.stderr and f"{FITS}: {ADVICE}, and so 1 more rank\n" in done.stderr
+        self.tally.expect("fewer nodes", right, done)
+
+    def bounded(self) -> None:
+        """Of what does not end nothing is told, and the run takes little longer."""
+        source = self.write("endless.c", ENDLESS)
+        times: List[float] = []
+        ways: List[List[str]] = [["--no-check"], []]
+        for words in ways:
+            start = time.monotonic()
+            done = self.run("-n", "2", *words, source)
+            times.append(time.monotonic() - start)
+            self.tally.expect(f"endless {words}", (done.returncode, done.stdout, done.stderr) == (0, "2\n2\n", ""), done)
+        self.tally.expect("bounded", times[1] <= 4 * times[0] + 4, times)
+        self.nothing_is_left("bounded")
+
+    def ended(self) -> None:
+        """Ctrl-C and the clock end both."""
+        source, told = self.write("spins.c", SPINS), rf"bsprun: rank 0, superstep 1: spins.c:{line_of(SPINS)}: \d+ \+ \d+{FITS}"
+        done = self.run("-n", "2", "--wall", "2", source)
+        self.tally.expect("--wall", done.returncode == 124 and re.search(told, done.stderr) is not None, done)
+        self.nothing_is_left("--wall")
+        words = [str(REPO / "bsprun"), "-n", "2", source]
+        with subprocess.Popen(words, cwd=self.folder, stdin=subprocess.DEVNULL, stdout=subprocess.PIPE, stderr=subprocess.PIPE,
+                env=self.environment) as run:  # fmt: skip
+            assert run.stdout is not None
+            run.stdout.readline()
+            time.sleep(1)
+            run.send_signal(signal.SIGINT)
+            _, errors = run.communicate(timeout=SOON)
+        self.tally.expect("Ctrl-C", run.returncode == 130 and b"ended by Ctrl-C after" in errors, (run.returncode, errors))
+        self.nothing_is_left("Ctrl-C")
+
+    def nothing_is_left(self, name: str) -> None:
+        """No process goes on that has a file of this folder in its command, and no scratch file is there."""
+        scratch = self.folder / "scratch"
+        is_clear = becomes_true(lambda: not commands_with(str(self.folder)) and not list(scratch.iterdir()))
+        self.tally.expect(f"{name}, what is left", is_clear, (commands_with(str(self.folder)), list(scratch.iterdir())))
+
+
+TOLD_LINES = (*COMPILER, PYELFTOOLS)
+PARTS: List[Tuple[str, Callable[[Longs], None], Tuple[Tool, ...]]] = [
+    ("a sum of cubes", Longs.cubes, COMPILER),
+    ("what does not fit into a long", Longs.values, COMPILER),
+    ("long in several sources", Longs.sources, COMPILER),
+    ("long in C++", Longs.classes, (*COMPILER, CLASSES)),
+    ("runs of long", Longs.starts, COMPILER),
+    ("programs without long", Longs.costs_nothing, COMPILER),
+    ("long and what is read", Longs.inputs, COMPILER),
+    ("numbers that are read", Longs.read, TOLD_LINES),
+    ("long on one processor", Longs.processor, COMPILER),
+    ("long on fewer nodes", Longs.fewer, COMPILER),
+    ("a long run beside", Longs.bounded, COMPILER),
+    ("the end of a run beside", Longs.ended, TOLD_LINES),
+]

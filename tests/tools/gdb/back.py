@@ -1,0 +1,283 @@
+"""Cases of going back in time, for tests/tools/gdb/run."""
+
+from __future__ import annotations
+
+import pathlib
+import random
+import re
+import tempfile
+from typing import Callable, List, NamedTuple, Optional, Sequence, Set, Tuple
+
+from bsptools.debug import history, machine, runner
+from sessions import SHOW_REGISTERS, Bench, expect, in_order, registers_in
+
+NO_MORE = "No more reverse-execution history."
+# Commands for gdb: Ctrl-C half a second after the next command lets the program go.
+SOON_INTERRUPTED = """\
+python
+import os, signal, threading
+
+def interrupt_soon(event):
+    gdb.events.cont.disconnect(interrupt_soon)
+    threading.Timer(0.5, os.kill, (os.getpid(), signal.SIGINT)).start()
+
+gdb.events.cont.connect(interrupt_soon)
+end""".splitlines()
+# An emulator that the host has no memory for, if there is a file beside it.
+SCARCE = """\
+#!/bin/sh
+[ ! -e "$(dirname "$0")/full" ] || exit 5
+exec "$BSPEMU" "$@"
+"""
+
+CASES: List[Callable[[Bench], None]] = []
+
+
+def case(function: Callable[[Bench], None]) -> Callable[[Bench], None]:
+    """A function that is tried."""
+    CASES.append(function)
+    return function
+
+
+@case
+def back_by_instructions(bench: Bench) -> None:
+    """Each step back shows the registers before the step: within a superstep, and over a turn, with the other ranks where that leaves
+    them."""
+    program = bench.build("tests/tools/gdb/rounds.c")
+    show = ["output/x (int)$pc", "output/x (int)$sp", "output/x *(int *)$sp"]
+    commands = ["break rounds.c:39 thread 2", "continue", "thread 2", *show, *["stepi", *show] * 40, *["reverse-stepi", *show] * 40]
+    text = bench.gdb(program, commands, "--nodes", "2")
+    shown = re.findall(r"(?<=\(gdb\) )(0x[0-9a-f]+)(?=\(gdb\))", text)
+    places = [tuple(shown[place : place + 3]) for place in range(0, len(shown), 3)]
+    expect(len(places) == 81 and places[41:] == places[39::-1], text)
+
+    ticks = [_ticks(bench, program, ["break superstep 2", "go"], rank) for rank in range(3)]
+    begun = [_ticks(bench, program, ["break superstep 1", "go"], rank) for rank in range(3)]
+    for count in (1, 30):
+        commands = ["monitor superstep 2", "continue", "thread 2", *["reverse-stepi"] * count, "info threads", SHOW_REGISTERS]
+        text = bench.gdb(program, commands, "--nodes", "3")
+        in_order(text, '1    Thread 1 "rank 0" (synced, superstep 1)', '* 2    Thread 2 "rank 1" (running, superstep 1)')
+        lines = ["break superstep 1", "go", "step 0 100000", "step 2 100000", f"step 1 {ticks[1] - count - begun[1]}"]
+        expect(registers_in(text, 3) == bench.registers_told(program, lines, 3), text)
+
+
+def _ticks(bench: Bench, program: str, lines: Sequence[str], rank: int) -> int:
+    """How many instructions a rank has made behind these lines."""
+    return int(bench.debug(program, [*lines, f"regs {rank}"], "--nodes", "3")[len(lines)].split()[5])
+
+
+@case
+def back_by_lines(bench: Bench) -> None:
+    """To the line before, into a function and out of it, and over bsp_sync, where gdb does not stop in the library."""
+    program = bench.build("tests/tools/gdb/rounds.c")
+    commands = ["break 44 if round == 1", "continue", *["reverse-next"] * 5, "reverse-step", "reverse-finish", "reverse-step", "reverse-next"]
+    text = bench.gdb(program, commands, "--nodes", "3")
+    in_order(text, "hit Breakpoint 1, main ()", "43\t        bsp_sync();", "42\t        printf", "41\t        note(round);", "40\t")
+    in_order(text, "39\t        mine.numbers[round] = twice", "(gdb) 38\t", "44\t")
+    text = bench.gdb(program, ["break 40", "continue", "reverse-step", "bt", "reverse-finish", "info threads"], "--nodes", "2")
+    in_order(text, "twice (number=0) at", "19\t}", "#1 ", "39\t", '* 1    Thread 1 "rank 0" (running, superstep 1)')
+
+
+@case
+def back_to_breakpoints(bench: Bench) -> None:
+    """The stops of continue in the other order, then the start, and the same stops again; nothing is shown twice."""
+    program = bench.build("tests/tools/gdb/rounds.c")
+    commands = ["break note if round != 2", *["continue"] * 8, "monitor superstep", *["reverse-continue"] * 8, "monitor superstep"]
+    text = bench.gdb(program, [*commands, *["continue"] * 8, "delete", "continue"], "--nodes", "3")
+    stops = re.findall(r'"rank (\d)" hit Breakpoint 1, note \(round=(\d)\)', text)
+    forth = [(str(rank), str(round)) for round in (0, 1, 3) for rank in range(3)][:8]
+    expect(stops == [*forth, *forth[-2::-1], *forth], text)
+    in_order(text, "superstep 4\n", NO_MORE, "_start ()", "superstep 0\n", "exited normally")
+    expect(text.count("rank 1 has made round 0\n") == 1 and text.count("rank 1 has made round 3\n") == 1, text)
+    commands = ["break note thread 2", *["continue"] * 2, "reverse-continue", "set scheduler-locking on", "delete", "break twice"]
+    text = bench.gdb(program, [*commands, "reverse-continue", "info threads"], "--nodes", "3")
+    in_order(text, *['Thread 2 "rank 1" hit Breakpoint 1, note (round=0)'] * 2, 'Thread 2 "rank 1" hit Breakpoint 2, twice (number=10)')
+    in_order(text, '1    Thread 1 "rank 0" (synced, superstep 1)', '* 2    Thread 2 "rank 1" (running, superstep 1)')
+
+
+@case
+def back_to_supersteps(bench: Bench) -> None:
+    """Where a superstep began, also from the end of the run, where `monitor end` has gdb stop."""
+    program = bench.build("tests/tools/gdb/rounds.c")
+    commands = ["monitor end", "continue", "info threads", "monitor superstep 2", "reverse-continue", "info threads", SHOW_REGISTERS]
+    text = bench.gdb(program, [*commands, "reverse-continue", "continue", "continue", "continue"], "--nodes", "2")
+    in_order(text, "ended\n", "stopped.", "(ended, superstep 5)", "superstep 2 has begun already", "superstep 2 begins", "(running, superstep 2)")
+    expect(registers_in(text, 2) == bench.registers_told(program, ["break superstep 2", "go"], 2), text)
+    in_order(text, NO_MORE, "superstep 2 begins", "ended\n", "stopped.", "exited normally")
+
+
+@case
+def back_from_a_fault(bench: Bench) -> None:
+    """A rank that has failed, and the run that is over by that, stand before that again, and fail again."""
+    for options, signal in ((["-DEND=8"], "SIGSEGV"), (["-DEND=12"], "stopped.")):
+        program = bench.build("examples/c/ends.c", *options)
+        text = bench.gdb(program, ["continue", "reverse-stepi", "info threads", "reverse-step", "continue", "continue"], "--nodes", "2")
+        in_order(text, signal, '* 1    Thread 1 "rank 0" (running, superstep ', "main () at examples/c/ends.c", signal, "exited with code 0")
+        expect(text.count("begun\n") == 2, text)
+
+
+@case
+def watch_back(bench: Bench) -> None:
+    """The instruction that changed a variable of this rank, whichever rank was looked at before."""
+    program = bench.build("tests/tools/gdb/rounds.c")
+    commands = ["break 44 if s == 1 && round == 1", "continue", "delete", "watch mine.numbers[1]", "info threads", "reverse-continue"]
+    text = bench.gdb(program, [*commands, "reverse-step"], "--nodes", "3")
+    in_order(text, 'Thread 2 "rank 1" hit Watchpoint 2', "Old value = 22", "New value = 0", "39\t", "twice (number=11)")
+
+
+@case
+def back_interrupted(bench: Bench) -> None:
+    """Ctrl-C as a run goes back, and as a watch does: the machine stands at what it shows, and goes on from there."""
+    program = bench.build("tests/tools/gdb/rounds.c", "-DLOOP=4000")
+    commands = ["break rounds.c:53 if seen >= 0", "continue", "delete", "watch mine.from", *SOON_INTERRUPTED, "reverse-continue"]
+    text = bench.gdb(program, [*commands, "info threads", "delete", "reverse-continue", "info threads"], "--nodes", "2")
+    in_order(text, "received signal SIGINT", "(running, superstep ", NO_MORE, "(running, superstep 0)")
+
+
+@case
+def back_refused(bench: Bench) -> None:
+    """Where there is no room for another process, a line says so, and the machine stands where it stood."""
+    folder = pathlib.Path(tempfile.mkdtemp(dir=bench.folder))
+    (folder / "bspemu").write_text(SCARCE)
+    (folder / "bspemu").chmod(0o755)
+    scarce = Bench(str(folder / "bspemu"), bench.folder, bench.library)
+    full, room = f"shell touch {folder}/full", f"shell rm {folder}/full"
+    commands = ["break note", "continue", full, "reverse-stepi", "reverse-continue", "bt", room, *["reverse-stepi"] * 2, full, "stepi", room]
+    text = scarce.gdb(scarce.build("tests/tools/gdb/rounds.c"), [*commands, "stepi", "reverse-continue", "continue"], "-n", "2")
+    refused = "bspgdb: it stays where it is: the debugger has ended"
+    in_order(text, refused, refused, "#0  note (round=0)", "22\t{", "22\t{", refused, "22\t{", NO_MORE, "hit Breakpoint 1, note")
+
+
+class Hit(NamedTuple):
+    """A rank at an address, in the order of a run."""
+
+    superstep: int
+    rank: int
+    ticks: int
+    pc: int
+
+
+class Past:
+    """All of a run, forwards: where its supersteps begin, and where ranks come to addresses."""
+
+    def __init__(self, command: List[str], addresses: Sequence[int]) -> None:
+        self.hits: List[Hit] = []
+        self.begins: List[Tuple[int, ...]] = []
+        run = machine.Machine(command)
+        while run.outcome is None:
+            self.begins.append(tuple(node.ticks for node in run.nodes()))
+            if run.node(0).pc in addresses:
+                self._note(run, 0)
+            points = [(rank, addr) for rank in range(run.ranks) for addr in addresses]
+            arrival = run.advance([*points, run.superstep + 1])
+            while isinstance(arrival, machine.AtRank):
+                self._note(run, arrival.rank)
+                arrival = run.advance([*points, run.superstep + 1])
+        run.close()
+
+    def _note(self, run: machine.Machine, rank: int) -> None:
+        node = run.node(rank)
+        self.hits.append(Hit(run.superstep, rank, node.ticks, node.pc))
+
+    def before(self, place: machine.Place, addresses: Set[int], rank: Optional[int]) -> Optional[Hit]:
+        """The last time before a place at which a rank, or this one, was at one of these addresses."""
+        hits = [it for it in self.hits if it.pc in addresses and rank in (None, it.rank)]
+        behind = [it for it in hits if it.superstep < place.superstep or it[0] == place.superstep and it.ticks < place.ticks[it.rank]]
+        return behind[-1] if behind else None
+
+    def back_at(self, hit: Optional[Hit], place: machine.Place, is_alone: bool) -> machine.Place:
+        """Where a machine stands that has gone back to a hit, or to the start."""
+        if hit is None:
+            return machine.Place(0, self.begins[0], False)
+        begin = self.begins[hit.superstep]
+        end = place.ticks if hit.superstep == place.superstep else self.begins[hit.superstep + 1]
+        ticks = end[: hit.rank] + (hit.ticks,) + (end if is_alone else begin)[hit.rank + 1 :]
+        return machine.Place(hit.superstep, ticks, False)
+
+    def step_back(self, place: machine.Place, rank: int) -> machine.Place:
+        """Where a machine stands of which a rank has gone an instruction back."""
+        begin = self.begins[place.superstep]
+        if place.ticks[rank] > begin[rank]:
+            return machine.Place(place.superstep, _one_less(place.ticks, rank), False)
+        return machine.Place(place.superstep - 1, _one_less(begin, rank), False) if place.superstep else place
+
+
+def _one_less(ticks: Tuple[int, ...], rank: int) -> Tuple[int, ...]:
+    return ticks[:rank] + (ticks[rank] - 1,) + ticks[rank + 1 :]
+
+
+@case
+def back_in_any_order(bench: Bench) -> None:
+    """However a run goes on and back, it stands where it says, and there it is as a new one is: registers and memory."""
+    program = bench.build("tests/tools/gdb/rounds.c")
+    command = [bench.bspemu, "debug", program, "--nodes", "3", "--memory", "262144"]
+    addresses = [bench.address(program, place) for place in ["note", "bsp_sync", "rounds.c:44", "*bsp_sync+134"]]
+    past = Past(command, addresses)
+    # So that few stops are many.
+    with bench.machines:
+        kept = history.MOST_STOPS, history.WINDOW, history.WIDER
+        history.MOST_STOPS, history.WINDOW, history.WIDER = 2, 50, 3
+        try:
+            for seed in range(2):
+                Walk(seed, command, past, addresses).make(40)
+        finally:
+            history.MOST_STOPS, history.WINDOW, history.WIDER = kept
+
+
+class Walk:
+    """Steps forth and back, which are chosen by chance."""
+
+    def __init__(self, seed: int, command: List[str], past: Past, addresses: List[int]) -> None:
+        self.chance, self.past, self.addresses = random.Random(seed), past, addresses
+        self.machine = machine.Machine(command)
+        self.machine.spare.is_wanted = seed % 2 == 0
+        self.shown = bytearray()
+        self.runner = runner.Runner(self.machine, self.shown.extend, lambda: False)
+
+    def make(self, count: int) -> None:
+        """Makes so many steps, and goes on to the end."""
+        for _ in range(count):
+            self.runner.breakpoints = set(self.chance.sample(self.addresses, self.chance.randrange(4)))
+            rank = self.chance.randrange(self.machine.ranks)
+            self.chance.choice([self._forth, self._step_back, self._step_back, self._go_back])(rank)
+            self._compare()
+        self.runner.breakpoints = set()
+        while not isinstance(self.runner.go(0), runner.Exit):
+            pass
+        wanted = "".join(f"rank {rank} has made round {round}\n" for round in range(4) for rank in range(3)).encode()
+        expect(bytes(self.shown).replace(b"ended\n", b"") == wanted, self.shown)
+        self.machine.close()
+
+    def _forth(self, rank: int) -> None:
+        pc = self.machine.node(rank).pc
+        ways: List[Callable[[int], runner.Halt]] = [self.runner.go, self.runner.go_alone]
+        ways.append(lambda rank: self.runner.step_range(rank, pc - 64, pc + 64))
+        if self.machine.outcome is None:
+            self.chance.choice(ways)(rank)
+
+    def _step_back(self, rank: int) -> None:
+        for _ in range(self.chance.randrange(1, 50)):
+            place = self.machine.place()
+            wanted = self.past.step_back(place, rank)
+            halt = self.runner.step_back(rank)
+            found = self.machine.place()
+            expect(found == wanted and halt == runner.Stop(rank, 5, is_begin=wanted == place), (rank, place, wanted, found, halt))
+
+    def _go_back(self, rank: int) -> None:
+        alone = self.chance.choice([None, rank])
+        place = self.machine.place()
+        hit = self.past.before(place, self.runner.breakpoints, alone)
+        halt = self.runner.go_back(alone, rank)
+        wanted, found = self.past.back_at(hit, place, alone is not None), self.machine.place()
+        right = runner.Stop(rank, 5, is_begin=True) if hit is None else runner.Stop(hit.rank, 5, is_breakpoint=True)
+        expect(found == wanted and halt == right, (alone, place, wanted, found, halt))
+
+    def _compare(self) -> None:
+        """With a machine that has come to this place from the start."""
+        fresh = machine.Machine(self.machine.command)
+        fresh.restart_at(self.machine.place())
+        expect(fresh.nodes() == self.machine.nodes() and fresh.superstep == self.machine.superstep, self.machine.place())
+        for node in fresh.nodes():
+            for addr in (max(0, node.x[2] - 256), max(0, node.x[3] - 2048)):
+                expect(fresh.memory(node.rank, addr, 4096) == self.machine.memory(node.rank, addr, 4096), self.machine.place())
+        fresh.close()

@@ -1,0 +1,96 @@
+"""Sessions with gdb and with the debugger, for the cases of tests/tools/gdb/run."""
+
+from __future__ import annotations
+
+import pathlib
+import re
+import subprocess
+import threading
+from typing import Dict, List, Sequence
+
+from checks import REPO, SECONDS
+
+REGISTERS = "ra sp gp tp t0 t1 t2 fp s1 a0 a1 a2 a3 a4 a5 a6 a7 s2 s3 s4 s5 s6 s7 s8 s9 s10 s11 t3 t4 t5 t6 pc".split()
+# Has gdb show the registers of all ranks.
+SHOW_REGISTERS = "thread apply all -ascending -q info registers"
+
+
+class Wrong(Exception):
+    """What gdb shows is not what it should show."""
+
+
+def expect(is_right: bool, text: object) -> None:
+    if not is_right:
+        raise Wrong(str(text))
+
+
+def in_order(text: str, *parts: str) -> None:
+    """Each part stands in the text, behind the one before it."""
+    place = 0
+    for part in parts:
+        found = text.find(part, place)
+        expect(found >= 0, f"there is no {part!r} behind {text[max(0, place - 200):place]!r} in\n{text}")
+        place = found + len(part)
+
+
+def registers_in(text: str, ranks: int) -> List[List[int]]:
+    """The registers of each rank, as gdb has shown them."""
+    rows = [re.findall(rf"(?m)^(?:\(gdb\) )?{name} +(0x[0-9a-f]+)", text) for name in REGISTERS]
+    expect(all(len(row) == ranks for row in rows), text)
+    return [[int(row[rank], 16) for row in rows] for rank in range(ranks)]
+
+
+class Bench:
+    """What cases stand on: a folder for the programs that they build, gdb, the debugger."""
+
+    def __init__(self, bspemu: str, folder: pathlib.Path, library: List[str]) -> None:
+        self.bspemu, self.folder, self.library = bspemu, folder, library
+        self.built: Dict[str, threading.Lock] = {}
+        # For the cases that have machines in this process, of which one makes sessions shorter.
+        self.machines = threading.Lock()
+
+    def build(self, source: str, *options: str) -> str:
+        """The executable of a program, which is built once."""
+        target = self.folder / (pathlib.Path(source).stem + "".join(options) + ".elf")
+        with self.built.setdefault(target.name, threading.Lock()):
+            if not target.exists():
+                words = [str(REPO / "bspcc"), *self.library, "-g", "-O0", "-Wno-infinite-recursion", *options]
+                subprocess.run([*words, "-o", str(target), source], cwd=REPO, check=True, timeout=SECONDS)
+        return str(target)
+
+    def gdb(self, program: str, commands: Sequence[str], *options: str) -> str:
+        """What gdb prints that is given these commands."""
+        # Without what the user has gdb do when it starts.
+        words = [str(REPO / "bspgdb"), "--bspemu", self.bspemu, *options, program, "--", "-nx"]
+        text = "".join(command + "\n" for command in ["set width 0", *commands])
+        done = subprocess.run(
+            words, input=text, cwd=REPO, timeout=SECONDS, check=False, stdout=subprocess.PIPE, stderr=subprocess.STDOUT, text=True
+        )
+        return done.stdout
+
+    def debug(self, program: str, commands: Sequence[str], *options: str) -> List[str]:
+        """What the debugger answers to these lines."""
+        text = "".join(command + "\n" for command in commands)
+        words = [self.bspemu, "debug", program, *options]
+        done = subprocess.run(words, input=text, capture_output=True, text=True, timeout=SECONDS, check=True)
+        return done.stdout.splitlines()
+
+    def registers_told(self, program: str, commands: Sequence[str], ranks: int) -> List[List[int]]:
+        """The registers of each rank, as the debugger tells them behind these lines, each of which has a reply of one line."""
+        told = []
+        for rank in range(ranks):
+            lines = self.debug(program, [*commands, f"regs {rank}"], "--nodes", str(ranks))[len(commands) :]
+            values = re.findall(r"=([0-9a-f]{8})", "\n".join(lines))[1:] + [lines[0].split()[3]]
+            told.append([int(value, 16) for value in values])
+        return told
+
+    def report(self, program: str, *options: str) -> subprocess.CompletedProcess[str]:
+        words = [self.bspemu, "run", program, "--report", *options]
+        return subprocess.run(words, capture_output=True, text=True, timeout=SECONDS, check=False)
+
+    def address(self, program: str, place: str) -> int:
+        """Where gdb sets a breakpoint."""
+        found = re.search(r"reakpoint 1 at (0x[0-9a-f]+)", self.gdb(program, [f"break {place}"]))
+        if found is None:
+            raise Wrong(f"no breakpoint at {place}")
+        return int(found[1], 16)

@@ -74,15 +74,20 @@ def in_includes(name: str) -> bool:
 
 @dataclass(frozen=True)
 class Tool:
-    """What a part of a check wants beside the repository and Python: Debian's package that has it, and how it is looked for."""
+    """What a part of a check wants beside the repository and Python: where it comes from, most times a package of Debian's, and how it is
+    looked for."""
 
     name: str
-    package: str
+    package: str  # nothing: it is the kit's
     look: Callable[[str], bool] = on_path
 
     def is_here(self) -> bool:
         """Whether it is installed."""
         return self.look(self.name)
+
+    def source(self) -> str:
+        """Where it comes from, in words."""
+        return f"Debian's package {self.package}" if self.package else "the Rattle kit has it"
 
 
 GCC = Tool("riscv64-unknown-elf-gcc", "gcc-riscv64-unknown-elf")
@@ -143,7 +148,7 @@ class Tally:
         """Whether a tool is not here, and so a part of this name is skipped."""
         if tool.is_here():
             return False
-        self.skip(name, f"{tool.name} is not here (Debian's package {tool.package})")
+        self.skip(name, f"{tool.name} is not here ({tool.source()})")
         return True
 
     def make(self, parts: Iterable[Part]) -> None:

@@ -15,8 +15,8 @@ use Rattle.rv_tables.specs.declared.instr.StoreOp.{StoreOp}
 use Rattle.rv_tables.specs.declared.instr.BranchOp.{BranchOp}
 use Rattle.rv_tables.specs.declared.instr.UpperOp.{UpperOp}
 use Rattle.rv_tables.specs.Mnemonics.{mnemonic_of, row_named, r_mnemonic, i_mnemonic, shift_mnemonic, load_mnemonic, store_mnemonic, branch_mnemonic, upper_mnemonic}
-use Rattle.rv_tables.specs.Rows.{Encoding, encodings, MeetsRow, instruction_of, r_row, i_row, shift_row, load_row, store_row, branch_row, upper_row, jal_row, jalr_row, plain_row}
-use Rattle.rv_tables.specs.Words.{IsRWord, IsIWord, IsSWord, IsBWord, IsUWord, IsJWord, IsOnlyWord}
+use Rattle.rv_tables.specs.Rows.{Encoding, encodings, MeetsRow, instruction_of, jal_row, jalr_row, system_row}
+use Rattle.rv_tables.specs.Words.{r_row_of, i_row_of, shift_row_of, load_row_of, store_row_of, branch_row_of, upper_row_of, IsRWord, IsIWord, IsSWord, IsBWord, IsUWord, IsJWord, IsOnlyWord}
 use Rattle.rv_tables.specs.declared.instr.PlainOp.TheVariants.{Ecall, Ebreak}
 use Rattle.rv_tables.proofs.Masks.{under_FFFFFFFF}
 use Rattle.rv_tables.proofs.Pairs.{AllPairs-from_pass, same_by_pairs}
@@ -60,52 +60,52 @@ IsOnlyWord-spells i e P r named to_row from_row only = (
       only.1 w fits (from_row w parts.0 parts.1),
 )
 
-pub only_r : (v : ℕ) (d a b : ℕ) (op : ROp) (r : Option ℕ) → row_named (r_mnemonic op) ≡ Some (r_row 0xFE00707F v op) → IsOnlyWord (IsRWord v d a b) r → IsOnlyWord (λ w. instruction_of w ≡ Some (R op d a b)) r
+pub only_r : (v : ℕ) (d a b : ℕ) (op : ROp) (r : Option ℕ) → row_named (r_mnemonic op) ≡ Some (r_row_of v op) → IsOnlyWord (IsRWord v d a b) r → IsOnlyWord (λ w. instruction_of w ≡ Some (R op d a b)) r
 only_r v d a b op r named =
-    IsOnlyWord-spells (R op d a b) (r_row 0xFE00707F v op) (IsRWord v d a b) r named (λ w p. (p.0, cc)) (λ w met h. (met, cc, cc, cc))
+    IsOnlyWord-spells (R op d a b) (r_row_of v op) (IsRWord v d a b) r named (λ w p. (p.0, cc)) (λ w met h. (met, cc, cc, cc))
 
-pub only_i : (v : ℕ) (d a : ℕ) (imm : ℤ) (op : IOp) (r : Option ℕ) → row_named (i_mnemonic op) ≡ Some (i_row 0x707F v op) → IsOnlyWord (IsIWord v d a imm) r → IsOnlyWord (λ w. instruction_of w ≡ Some (I op d a imm)) r
+pub only_i : (v : ℕ) (d a : ℕ) (imm : ℤ) (op : IOp) (r : Option ℕ) → row_named (i_mnemonic op) ≡ Some (i_row_of v op) → IsOnlyWord (IsIWord v d a imm) r → IsOnlyWord (λ w. instruction_of w ≡ Some (I op d a imm)) r
 only_i v d a imm op r named =
-    IsOnlyWord-spells (I op d a imm) (i_row 0x707F v op) (IsIWord v d a imm) r named (λ w p. (p.0, cc)) (λ w met h. (met, cc, cc, cc))
+    IsOnlyWord-spells (I op d a imm) (i_row_of v op) (IsIWord v d a imm) r named (λ w p. (p.0, cc)) (λ w met h. (met, cc, cc, cc))
 
-pub only_shift : (v : ℕ) (d a shamt : ℕ) (op : ShiftOp) (r : Option ℕ) → row_named (shift_mnemonic op) ≡ Some (shift_row 0xFE00707F v op) → IsOnlyWord (IsRWord v d a shamt) r → IsOnlyWord (λ w. instruction_of w ≡ Some (Shift op d a shamt)) r
+pub only_shift : (v : ℕ) (d a shamt : ℕ) (op : ShiftOp) (r : Option ℕ) → row_named (shift_mnemonic op) ≡ Some (shift_row_of v op) → IsOnlyWord (IsRWord v d a shamt) r → IsOnlyWord (λ w. instruction_of w ≡ Some (Shift op d a shamt)) r
 only_shift v d a shamt op r named =
-    IsOnlyWord-spells (Shift op d a shamt) (shift_row 0xFE00707F v op) (IsRWord v d a shamt) r named (λ w p. (p.0, cc)) (λ w met h. (met, cc, cc, cc))
+    IsOnlyWord-spells (Shift op d a shamt) (shift_row_of v op) (IsRWord v d a shamt) r named (λ w p. (p.0, cc)) (λ w met h. (met, cc, cc, cc))
 
-pub only_load : (v : ℕ) (d a : ℕ) (imm : ℤ) (op : LoadOp) (r : Option ℕ) → row_named (load_mnemonic op) ≡ Some (load_row 0x707F v op) → IsOnlyWord (IsIWord v d a imm) r → IsOnlyWord (λ w. instruction_of w ≡ Some (Load op d a imm)) r
+pub only_load : (v : ℕ) (d a : ℕ) (imm : ℤ) (op : LoadOp) (r : Option ℕ) → row_named (load_mnemonic op) ≡ Some (load_row_of v op) → IsOnlyWord (IsIWord v d a imm) r → IsOnlyWord (λ w. instruction_of w ≡ Some (Load op d a imm)) r
 only_load v d a imm op r named =
-    IsOnlyWord-spells (Load op d a imm) (load_row 0x707F v op) (IsIWord v d a imm) r named (λ w p. (p.0, cc)) (λ w met h. (met, cc, cc, cc))
+    IsOnlyWord-spells (Load op d a imm) (load_row_of v op) (IsIWord v d a imm) r named (λ w p. (p.0, cc)) (λ w met h. (met, cc, cc, cc))
 
-pub only_store : (v : ℕ) (a b : ℕ) (imm : ℤ) (op : StoreOp) (r : Option ℕ) → row_named (store_mnemonic op) ≡ Some (store_row 0x707F v op) → IsOnlyWord (IsSWord v a b imm) r → IsOnlyWord (λ w. instruction_of w ≡ Some (Store op a b imm)) r
+pub only_store : (v : ℕ) (a b : ℕ) (imm : ℤ) (op : StoreOp) (r : Option ℕ) → row_named (store_mnemonic op) ≡ Some (store_row_of v op) → IsOnlyWord (IsSWord v a b imm) r → IsOnlyWord (λ w. instruction_of w ≡ Some (Store op a b imm)) r
 only_store v a b imm op r named =
-    IsOnlyWord-spells (Store op a b imm) (store_row 0x707F v op) (IsSWord v a b imm) r named (λ w p. (p.0, cc)) (λ w met h. (met, cc, cc, cc))
+    IsOnlyWord-spells (Store op a b imm) (store_row_of v op) (IsSWord v a b imm) r named (λ w p. (p.0, cc)) (λ w met h. (met, cc, cc, cc))
 
-pub only_branch : (v : ℕ) (a b : ℕ) (imm : ℤ) (op : BranchOp) (r : Option ℕ) → row_named (branch_mnemonic op) ≡ Some (branch_row 0x707F v op) → IsOnlyWord (IsBWord v a b imm) r → IsOnlyWord (λ w. instruction_of w ≡ Some (Branch op a b imm)) r
+pub only_branch : (v : ℕ) (a b : ℕ) (imm : ℤ) (op : BranchOp) (r : Option ℕ) → row_named (branch_mnemonic op) ≡ Some (branch_row_of v op) → IsOnlyWord (IsBWord v a b imm) r → IsOnlyWord (λ w. instruction_of w ≡ Some (Branch op a b imm)) r
 only_branch v a b imm op r named =
-    IsOnlyWord-spells (Branch op a b imm) (branch_row 0x707F v op) (IsBWord v a b imm) r named (λ w p. (p.0, cc)) (λ w met h. (met, cc, cc, cc))
+    IsOnlyWord-spells (Branch op a b imm) (branch_row_of v op) (IsBWord v a b imm) r named (λ w p. (p.0, cc)) (λ w met h. (met, cc, cc, cc))
 
-pub only_upper : (v : ℕ) (d imm : ℕ) (op : UpperOp) (r : Option ℕ) → row_named (upper_mnemonic op) ≡ Some (upper_row 0x7F v op) → IsOnlyWord (IsUWord v d imm) r → IsOnlyWord (λ w. instruction_of w ≡ Some (Upper op d imm)) r
+pub only_upper : (v : ℕ) (d imm : ℕ) (op : UpperOp) (r : Option ℕ) → row_named (upper_mnemonic op) ≡ Some (upper_row_of v op) → IsOnlyWord (IsUWord v d imm) r → IsOnlyWord (λ w. instruction_of w ≡ Some (Upper op d imm)) r
 only_upper v d imm op r named =
-    IsOnlyWord-spells (Upper op d imm) (upper_row 0x7F v op) (IsUWord v d imm) r named (λ w p. (p.0, cc)) (λ w met h. (met, cc, cc))
+    IsOnlyWord-spells (Upper op d imm) (upper_row_of v op) (IsUWord v d imm) r named (λ w p. (p.0, cc)) (λ w met h. (met, cc, cc))
 
 pub only_jal : (d : ℕ) (imm : ℤ) (r : Option ℕ) → IsOnlyWord (IsJWord 0x6F d imm) r → IsOnlyWord (λ w. instruction_of w ≡ Some (Jal d imm)) r
 unfolding row_named encodings
 only_jal d imm r =
-    IsOnlyWord-spells (Jal d imm) (jal_row 0x7F 0x6F) (IsJWord 0x6F d imm) r refl (λ w p. (p.0, cc)) (λ w met h. (met, cc, cc))
+    IsOnlyWord-spells (Jal d imm) (jal_row 0b1101111) (IsJWord 0x6F d imm) r refl (λ w p. (p.0, cc)) (λ w met h. (met, cc, cc))
 
 pub only_jalr : (d a : ℕ) (imm : ℤ) (r : Option ℕ) → IsOnlyWord (IsIWord 0x67 d a imm) r → IsOnlyWord (λ w. instruction_of w ≡ Some (Jalr d a imm)) r
 unfolding row_named encodings
 only_jalr d a imm r =
-    IsOnlyWord-spells (Jalr d a imm) (jalr_row 0x707F 0x67) (IsIWord 0x67 d a imm) r refl (λ w p. (p.0, cc)) (λ w met h. (met, cc, cc, cc))
+    IsOnlyWord-spells (Jalr d a imm) (jalr_row 0 0b1100111) (IsIWord 0x67 d a imm) r refl (λ w p. (p.0, cc)) (λ w met h. (met, cc, cc, cc))
 
 pub only_ecall : (w : ℕ) → w < 2 ^ 32 → instruction_of w ≡ Some (Plain Ecall) → 0x73 ≡ w
 unfolding row_named encodings
 only_ecall w fits h =
-    sym (row_of_spelled w (Plain Ecall) (plain_row 0xFFFFFFFF 0x73 Ecall) refl h).0 ∙ under_FFFFFFFF w fits
+    sym (row_of_spelled w (Plain Ecall) (system_row 0 0 0 0 0b1110011 Ecall) refl h).0 ∙ under_FFFFFFFF w fits
 
 pub only_ebreak : (w : ℕ) → w < 2 ^ 32 → instruction_of w ≡ Some (Plain Ebreak) → 0x100073 ≡ w
 unfolding row_named encodings
 only_ebreak w fits h =
-    sym (row_of_spelled w (Plain Ebreak) (plain_row 0xFFFFFFFF 0x100073 Ebreak) refl h).0 ∙ under_FFFFFFFF w fits
+    sym (row_of_spelled w (Plain Ebreak) (system_row 1 0 0 0 0b1110011 Ebreak) refl h).0 ∙ under_FFFFFFFF w fits
 
 pub ruleset systems = (only_ecall, only_ebreak)

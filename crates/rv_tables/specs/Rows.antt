@@ -1,9 +1,10 @@
 -- The rows of RV32I, Zifencei and M (RISC-V Unprivileged ISA 20191213, chapter 24 "RV32/64G Instruction Set Listings"),
 -- and the instruction of a word.
-use Rattle.std.specs.Prelude.{◌≡◌, ℕ, ◌==◌, Bool, List, [], ◌∷◌, find, Option, bit_and, Contains}
+use Rattle.std.specs.Prelude.{◌≡◌, ℕ, ◌+◌, ◌-◌, ◌*◌, ◌^◌, ◌==◌, Bool, List, [], ◌∷◌, find, Option, bit_and, Contains}
 use Rattle.std.specs.Option.{option_map}
 use Rattle.rv_tables.specs.declared.instr.Instr.{Instr}
 use Rattle.rv_tables.specs.declared.instr.Instr.TheVariants.{R, I, Shift, Load, Store, Branch, Upper, Jal, Jalr, Plain}
+use Rattle.rv_tables.specs.declared.instr.Form.{Form}
 use Rattle.rv_tables.specs.declared.instr.Form.TheVariants as form
 use Rattle.rv_tables.specs.declared.instr.Row.{Row}
 use Rattle.rv_tables.specs.declared.instr.ROp.{ROp}
@@ -29,89 +30,112 @@ pub record Encoding : Type 0 where
   pub row : Row
   pub read : ℕ → Instr
 
-abbrev pub r_row : ℕ → ℕ → ROp → Encoding
-r_row mask value op = record { row = record { mask = mask; value = value; form = form.R }; read = λ w. R op (rd w) (rs1 w) (rs2 w) }
+-- ones in the bits from `high` down to `low`
+abbrev ones : (high low : ℕ) → ℕ
+ones high low = (2 ^ (high - low + 1) - 1) * 2 ^ low
 
-abbrev pub i_row : ℕ → ℕ → IOp → Encoding
-i_row mask value op = record { row = record { mask = mask; value = value; form = form.I }; read = λ w. I op (rd w) (rs1 w) (i_immediate w) }
+-- rows by the fields that they fix, from bit 31 down: the opcode in bits 6 to 0, funct3 in 14 to 12, funct7 in 31 to 25
+abbrev pub by_opcode : (opcode : ℕ) → Form → Row
+by_opcode opcode form = record { mask = ones 6 0; value = opcode; form = form }
 
-abbrev pub shift_row : ℕ → ℕ → ShiftOp → Encoding
-shift_row mask value op = record { row = record { mask = mask; value = value; form = form.Shift }; read = λ w. Shift op (rd w) (rs1 w) (shamt w) }
+abbrev pub by_funct3 : (funct3 opcode : ℕ) → Form → Row
+by_funct3 funct3 opcode form = record { mask = ones 14 12 + ones 6 0; value = funct3 * 2 ^ 12 + opcode; form = form }
 
-abbrev pub load_row : ℕ → ℕ → LoadOp → Encoding
-load_row mask value op = record { row = record { mask = mask; value = value; form = form.Load }; read = λ w. Load op (rd w) (rs1 w) (i_immediate w) }
+abbrev pub by_funct7 : (funct7 funct3 opcode : ℕ) → Form → Row
+by_funct7 funct7 funct3 opcode form =
+    record { mask = ones 31 25 + ones 14 12 + ones 6 0; value = funct7 * 2 ^ 25 + funct3 * 2 ^ 12 + opcode; form = form }
 
-abbrev pub store_row : ℕ → ℕ → StoreOp → Encoding
-store_row mask value op = record { row = record { mask = mask; value = value; form = form.Store }; read = λ w. Store op (rs1 w) (rs2 w) (s_immediate w) }
+-- all fields: funct12 in bits 31 to 20, rs1 in 19 to 15, rd in 11 to 7
+abbrev pub by_word : (funct12 rs1 funct3 rd opcode : ℕ) → Form → Row
+by_word funct12 rs1 funct3 rd opcode form =
+    record { mask = ones 31 0; value = funct12 * 2 ^ 20 + rs1 * 2 ^ 15 + funct3 * 2 ^ 12 + rd * 2 ^ 7 + opcode; form = form }
 
-abbrev pub branch_row : ℕ → ℕ → BranchOp → Encoding
-branch_row mask value op = record { row = record { mask = mask; value = value; form = form.Branch }; read = λ w. Branch op (rs1 w) (rs2 w) (b_immediate w) }
+abbrev pub r_row : (funct7 funct3 opcode : ℕ) → ROp → Encoding
+r_row f7 f3 opc op = record { row = by_funct7 f7 f3 opc form.R; read = λ w. R op (rd w) (rs1 w) (rs2 w) }
 
-abbrev pub upper_row : ℕ → ℕ → UpperOp → Encoding
-upper_row mask value op = record { row = record { mask = mask; value = value; form = form.Upper }; read = λ w. Upper op (rd w) (u_immediate w) }
+abbrev pub i_row : (funct3 opcode : ℕ) → IOp → Encoding
+i_row f3 opc op = record { row = by_funct3 f3 opc form.I; read = λ w. I op (rd w) (rs1 w) (i_immediate w) }
 
-abbrev pub jal_row : ℕ → ℕ → Encoding
-jal_row mask value = record { row = record { mask = mask; value = value; form = form.Jal }; read = λ w. Jal (rd w) (j_immediate w) }
+abbrev pub shift_row : (funct7 funct3 opcode : ℕ) → ShiftOp → Encoding
+shift_row f7 f3 opc op = record { row = by_funct7 f7 f3 opc form.Shift; read = λ w. Shift op (rd w) (rs1 w) (shamt w) }
 
-abbrev pub jalr_row : ℕ → ℕ → Encoding
-jalr_row mask value = record { row = record { mask = mask; value = value; form = form.Jalr }; read = λ w. Jalr (rd w) (rs1 w) (i_immediate w) }
+abbrev pub load_row : (funct3 opcode : ℕ) → LoadOp → Encoding
+load_row f3 opc op = record { row = by_funct3 f3 opc form.Load; read = λ w. Load op (rd w) (rs1 w) (i_immediate w) }
 
-abbrev pub plain_row : ℕ → ℕ → PlainOp → Encoding
-plain_row mask value op = record { row = record { mask = mask; value = value; form = form.Plain }; read = λ _. Plain op }
+abbrev pub store_row : (funct3 opcode : ℕ) → StoreOp → Encoding
+store_row f3 opc op = record { row = by_funct3 f3 opc form.Store; read = λ w. Store op (rs1 w) (rs2 w) (s_immediate w) }
 
--- the 49 rows: first those told by the opcode alone, then those by funct3 too, then those by funct7 too, then those of
--- one word; each of these groups in the order of the listings
+abbrev pub branch_row : (funct3 opcode : ℕ) → BranchOp → Encoding
+branch_row f3 opc op = record { row = by_funct3 f3 opc form.Branch; read = λ w. Branch op (rs1 w) (rs2 w) (b_immediate w) }
+
+abbrev pub upper_row : (opcode : ℕ) → UpperOp → Encoding
+upper_row opc op = record { row = by_opcode opc form.Upper; read = λ w. Upper op (rd w) (u_immediate w) }
+
+abbrev pub jal_row : (opcode : ℕ) → Encoding
+jal_row opc = record { row = by_opcode opc form.Jal; read = λ w. Jal (rd w) (j_immediate w) }
+
+abbrev pub jalr_row : (funct3 opcode : ℕ) → Encoding
+jalr_row f3 opc = record { row = by_funct3 f3 opc form.Jalr; read = λ w. Jalr (rd w) (rs1 w) (i_immediate w) }
+
+abbrev pub fence_row : (funct3 opcode : ℕ) → PlainOp → Encoding
+fence_row f3 opc op = record { row = by_funct3 f3 opc form.Plain; read = λ _. Plain op }
+
+abbrev pub system_row : (funct12 rs1 funct3 rd opcode : ℕ) → PlainOp → Encoding
+system_row f12 rs1 f3 rd opc op = record { row = by_word f12 rs1 f3 rd opc form.Plain; read = λ _. Plain op }
+
+-- the 49 rows with the fields of the listings: first those told by the opcode alone, then those by funct3 too, then those by funct7 too,
+-- then those of one word; each of these groups in the order of the listings
 unfoldable pub encodings : List Encoding
 encodings =
-    upper_row 0x7F 0x37 Lui
-    ∷ upper_row 0x7F 0x17 Auipc
-    ∷ jal_row 0x7F 0x6F
-    ∷ jalr_row 0x707F 0x67
-    ∷ branch_row 0x707F 0x63 Beq
-    ∷ branch_row 0x707F 0x1063 Bne
-    ∷ branch_row 0x707F 0x4063 Blt
-    ∷ branch_row 0x707F 0x5063 Bge
-    ∷ branch_row 0x707F 0x6063 Bltu
-    ∷ branch_row 0x707F 0x7063 Bgeu
-    ∷ load_row 0x707F 0x3 Lb
-    ∷ load_row 0x707F 0x1003 Lh
-    ∷ load_row 0x707F 0x2003 Lw
-    ∷ load_row 0x707F 0x4003 Lbu
-    ∷ load_row 0x707F 0x5003 Lhu
-    ∷ store_row 0x707F 0x23 Sb
-    ∷ store_row 0x707F 0x1023 Sh
-    ∷ store_row 0x707F 0x2023 Sw
-    ∷ i_row 0x707F 0x13 Addi
-    ∷ i_row 0x707F 0x2013 Slti
-    ∷ i_row 0x707F 0x3013 Sltiu
-    ∷ i_row 0x707F 0x4013 Xori
-    ∷ i_row 0x707F 0x6013 Ori
-    ∷ i_row 0x707F 0x7013 Andi
-    ∷ plain_row 0x707F 0xF Fence
-    ∷ plain_row 0x707F 0x100F FenceI
-    ∷ shift_row 0xFE00707F 0x1013 Slli
-    ∷ shift_row 0xFE00707F 0x5013 Srli
-    ∷ shift_row 0xFE00707F 0x40005013 Srai
-    ∷ r_row 0xFE00707F 0x33 Add
-    ∷ r_row 0xFE00707F 0x40000033 Sub
-    ∷ r_row 0xFE00707F 0x1033 Sll
-    ∷ r_row 0xFE00707F 0x2033 Slt
-    ∷ r_row 0xFE00707F 0x3033 Sltu
-    ∷ r_row 0xFE00707F 0x4033 Xor
-    ∷ r_row 0xFE00707F 0x5033 Srl
-    ∷ r_row 0xFE00707F 0x40005033 Sra
-    ∷ r_row 0xFE00707F 0x6033 Or
-    ∷ r_row 0xFE00707F 0x7033 And
-    ∷ r_row 0xFE00707F 0x2000033 Mul
-    ∷ r_row 0xFE00707F 0x2001033 Mulh
-    ∷ r_row 0xFE00707F 0x2002033 Mulhsu
-    ∷ r_row 0xFE00707F 0x2003033 Mulhu
-    ∷ r_row 0xFE00707F 0x2004033 Div
-    ∷ r_row 0xFE00707F 0x2005033 Divu
-    ∷ r_row 0xFE00707F 0x2006033 Rem
-    ∷ r_row 0xFE00707F 0x2007033 Remu
-    ∷ plain_row 0xFFFFFFFF 0x73 Ecall
-    ∷ plain_row 0xFFFFFFFF 0x100073 Ebreak
+    upper_row 0b0110111 Lui
+    ∷ upper_row 0b0010111 Auipc
+    ∷ jal_row 0b1101111
+    ∷ jalr_row 0b000 0b1100111
+    ∷ branch_row 0b000 0b1100011 Beq
+    ∷ branch_row 0b001 0b1100011 Bne
+    ∷ branch_row 0b100 0b1100011 Blt
+    ∷ branch_row 0b101 0b1100011 Bge
+    ∷ branch_row 0b110 0b1100011 Bltu
+    ∷ branch_row 0b111 0b1100011 Bgeu
+    ∷ load_row 0b000 0b0000011 Lb
+    ∷ load_row 0b001 0b0000011 Lh
+    ∷ load_row 0b010 0b0000011 Lw
+    ∷ load_row 0b100 0b0000011 Lbu
+    ∷ load_row 0b101 0b0000011 Lhu
+    ∷ store_row 0b000 0b0100011 Sb
+    ∷ store_row 0b001 0b0100011 Sh
+    ∷ store_row 0b010 0b0100011 Sw
+    ∷ i_row 0b000 0b0010011 Addi
+    ∷ i_row 0b010 0b0010011 Slti
+    ∷ i_row 0b011 0b0010011 Sltiu
+    ∷ i_row 0b100 0b0010011 Xori
+    ∷ i_row 0b110 0b0010011 Ori
+    ∷ i_row 0b111 0b0010011 Andi
+    ∷ fence_row 0b000 0b0001111 Fence
+    ∷ fence_row 0b001 0b0001111 FenceI
+    ∷ shift_row 0b0000000 0b001 0b0010011 Slli
+    ∷ shift_row 0b0000000 0b101 0b0010011 Srli
+    ∷ shift_row 0b0100000 0b101 0b0010011 Srai
+    ∷ r_row 0b0000000 0b000 0b0110011 Add
+    ∷ r_row 0b0100000 0b000 0b0110011 Sub
+    ∷ r_row 0b0000000 0b001 0b0110011 Sll
+    ∷ r_row 0b0000000 0b010 0b0110011 Slt
+    ∷ r_row 0b0000000 0b011 0b0110011 Sltu
+    ∷ r_row 0b0000000 0b100 0b0110011 Xor
+    ∷ r_row 0b0000000 0b101 0b0110011 Srl
+    ∷ r_row 0b0100000 0b101 0b0110011 Sra
+    ∷ r_row 0b0000000 0b110 0b0110011 Or
+    ∷ r_row 0b0000000 0b111 0b0110011 And
+    ∷ r_row 0b0000001 0b000 0b0110011 Mul
+    ∷ r_row 0b0000001 0b001 0b0110011 Mulh
+    ∷ r_row 0b0000001 0b010 0b0110011 Mulhsu
+    ∷ r_row 0b0000001 0b011 0b0110011 Mulhu
+    ∷ r_row 0b0000001 0b100 0b0110011 Div
+    ∷ r_row 0b0000001 0b101 0b0110011 Divu
+    ∷ r_row 0b0000001 0b110 0b0110011 Rem
+    ∷ r_row 0b0000001 0b111 0b0110011 Remu
+    ∷ system_row 0b000000000000 0b00000 0b000 0b00000 0b1110011 Ecall
+    ∷ system_row 0b000000000001 0b00000 0b000 0b00000 0b1110011 Ebreak
     ∷ []
 
 -- a word meets a row where it has the row's value under the row's mask

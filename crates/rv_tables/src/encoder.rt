@@ -3,7 +3,8 @@
 ghost use Rattle.std.specs.Prelude.{◌≡◌, ◌↔◌, ℕ, ◌^◌, ◌<◌, Some, IsSome, IfSome, bit_and};
 ghost use Rattle.rv_tables.specs.Mnemonics.{row_named, r_mnemonic, i_mnemonic, shift_mnemonic, load_mnemonic, store_mnemonic, branch_mnemonic, upper_mnemonic};
 ghost use Rattle.rv_tables.specs.Operands.{IsEncodable, IsFence};
-ghost use Rattle.rv_tables.specs.Rows.{instruction_of, r_row, i_row, shift_row, load_row, store_row, branch_row, upper_row};
+ghost use Rattle.rv_tables.specs.Rows.{instruction_of};
+ghost use Rattle.rv_tables.specs.Words.{r_row_of, i_row_of, shift_row_of, load_row_of, store_row_of, branch_row_of, upper_row_of};
 
 use crate::instr::{BranchOp, IOp, Instr, LoadOp, PlainOp, ROp, ShiftOp, StoreOp, UpperOp};
 use crate::words;
@@ -54,7 +55,7 @@ fn plain_word(op: PlainOp) -> u32
 /// The value of a row on three registers, which has no bits outside the row's mask.
 #[tactic(auto, unfolding(crate::specs::Mnemonics::row_named, crate::specs::Rows::encodings))]
 fn r_value(op: ROp) -> u32
-    ensures row { row_named (r_mnemonic op) ≡ Some (r_row 0xFE00707F result op) }
+    ensures row { row_named (r_mnemonic op) ≡ Some (r_row_of result op) }
     ensures own { bit_and result 0xFE00707F ≡ result }
 {
     match op {
@@ -82,7 +83,7 @@ fn r_value(op: ROp) -> u32
 /// The value of a row on a register and an immediate, which has no bits outside the row's mask.
 #[tactic(auto, unfolding(crate::specs::Mnemonics::row_named, crate::specs::Rows::encodings))]
 fn i_value(op: IOp) -> u32
-    ensures row { row_named (i_mnemonic op) ≡ Some (i_row 0x707F result op) }
+    ensures row { row_named (i_mnemonic op) ≡ Some (i_row_of result op) }
     ensures own { bit_and result 0x707F ≡ result }
 {
     match op {
@@ -98,7 +99,7 @@ fn i_value(op: IOp) -> u32
 /// The value of a row that shifts by an amount in the word, which has no bits outside the row's mask.
 #[tactic(auto, unfolding(crate::specs::Mnemonics::row_named, crate::specs::Rows::encodings))]
 fn shift_value(op: ShiftOp) -> u32
-    ensures row { row_named (shift_mnemonic op) ≡ Some (shift_row 0xFE00707F result op) }
+    ensures row { row_named (shift_mnemonic op) ≡ Some (shift_row_of result op) }
     ensures own { bit_and result 0xFE00707F ≡ result }
 {
     match op {
@@ -111,7 +112,7 @@ fn shift_value(op: ShiftOp) -> u32
 /// The value of a row that reads memory, which has no bits outside the row's mask.
 #[tactic(auto, unfolding(crate::specs::Mnemonics::row_named, crate::specs::Rows::encodings))]
 fn load_value(op: LoadOp) -> u32
-    ensures row { row_named (load_mnemonic op) ≡ Some (load_row 0x707F result op) }
+    ensures row { row_named (load_mnemonic op) ≡ Some (load_row_of result op) }
     ensures own { bit_and result 0x707F ≡ result }
 {
     match op {
@@ -126,7 +127,7 @@ fn load_value(op: LoadOp) -> u32
 /// The value of a row that writes memory, which has no bits outside the row's mask.
 #[tactic(auto, unfolding(crate::specs::Mnemonics::row_named, crate::specs::Rows::encodings))]
 fn store_value(op: StoreOp) -> u32
-    ensures row { row_named (store_mnemonic op) ≡ Some (store_row 0x707F result op) }
+    ensures row { row_named (store_mnemonic op) ≡ Some (store_row_of result op) }
     ensures own { bit_and result 0x707F ≡ result }
 {
     match op {
@@ -139,7 +140,7 @@ fn store_value(op: StoreOp) -> u32
 /// The value of a row that compares two registers and jumps, which has no bits outside the row's mask.
 #[tactic(auto, unfolding(crate::specs::Mnemonics::row_named, crate::specs::Rows::encodings))]
 fn branch_value(op: BranchOp) -> u32
-    ensures row { row_named (branch_mnemonic op) ≡ Some (branch_row 0x707F result op) }
+    ensures row { row_named (branch_mnemonic op) ≡ Some (branch_row_of result op) }
     ensures own { bit_and result 0x707F ≡ result }
 {
     match op {
@@ -155,7 +156,7 @@ fn branch_value(op: BranchOp) -> u32
 /// The value of a row with a field of 20 bits, which has no bits outside the row's mask.
 #[tactic(auto, unfolding(crate::specs::Mnemonics::row_named, crate::specs::Rows::encodings))]
 fn upper_value(op: UpperOp) -> u32
-    ensures row { row_named (upper_mnemonic op) ≡ Some (upper_row 0x7F result op) }
+    ensures row { row_named (upper_mnemonic op) ≡ Some (upper_row_of result op) }
     ensures own { bit_and result 0x7F ≡ result }
 {
     match op {

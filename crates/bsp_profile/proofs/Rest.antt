@@ -77,14 +77,6 @@ lines_phase m n sound reached = by (is_some m.outcome) refl
         (superstep-open n (same ∙ is) ∙ ap turned phases ∙ sym (superstep-open m is))
         ∙ sym (lines_next m sound is)
 
--- and made whole, they are some events
-pub phases_reached : (m : MachineState) → IsSoundMachine m → LeadsWithoutTurn m (with_phases m)
-phases_reached m sound = let on = IsOnPhase-phases m sound in (walk on.made m, on.steps, on.is)
-
--- the turn is all that is left of a superstep after the local parts
-pub turn_next : (m : MachineState) → IsSoundMachine m → is_some m.outcome ≡ false → is_enabled (with_phases m) Turn ≡ true
-turn_next m sound open_yet = rw (open_yet, phases-stopped m sound) refl
-
 -- lines of a superstep that were appended, with those that are left
 pub lines_appended : (m p : MachineState) (before after_it first : List ℕ) (all : List ℕ) → IsSoundMachine m → is_some m.outcome ≡ false → p ≡ with_phases m
     → after_it ≡ before ++ superstep_lines p → before ++ lines_of m ≡ first ++ all → after_it ++ lines_of (superstep m) ≡ first ++ all

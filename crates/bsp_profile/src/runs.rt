@@ -1,10 +1,8 @@
 //! A run whose profile is taken.
 
-ghost use Rattle.std.specs.Prelude.{◌≡◌, ◌↔◌, ◌<◌, ◌++◌, Some, None, IsSome, IsOk, OnOk, OnErr, IsErrOf, length};
-ghost use Rattle.machine_core.specs.Turn.{end_of};
+ghost use Rattle.std.specs.Prelude.{◌≡◌, ◌++◌, None, IsSome, OnOk};
+ghost use Rattle.phase_pool.specs.Answers.{IsRunAnswer};
 ghost use Rattle.phase_pool.specs.Numbers.{numbers_fault};
-ghost use Rattle.phase_pool.specs.Phases.{LeadsTo};
-ghost use Rattle.phase_pool.specs.Work.{HaveCome};
 ghost use Rattle.bsp_profile.specs.Lines.{lines_of};
 
 use crate::profile::Profile;
@@ -26,24 +24,12 @@ pub fn run<R: Threads + Wait + Sync, A: Allocator + Copy + Send + Sync>(
     slice: u64,
     profile: &mut Profile<A>,
 ) -> Result<(), PoolError>
-    ensures ok { OnOk result (machine.new ≡ end_of machine.old) }
-    ensures ended { OnOk result (IsSome machine.new.outcome) }
+    ensures machine { IsRunAnswer workers slice machine.old machine.new result }
     ensures profile { OnOk result (profile.new ≡ profile.old ++ lines_of machine.old) }
     ensures lines_left { profile.new ++ lines_of machine.new ≡ profile.old ++ lines_of machine.old }
-    ensures bad_workers { IsErrOf result PoolError.BadWorkers
-        ↔ (numbers_fault workers slice ≡ Some PoolError.BadWorkers) }
-    ensures bad_slice { IsErrOf result PoolError.BadSlice
-        ↔ (numbers_fault workers slice ≡ Some PoolError.BadSlice) }
-    ensures unchanged { IsSome (numbers_fault workers slice)
-        → (machine.new ≡ machine.old) × (profile.new ≡ profile.old) }
-    ensures no_worker { IsErrOf result PoolError.NoWorker
-        → (1 < workers) × (1 < length machine.old.nodes) }
-    ensures err { OnErr result (LeadsTo machine.old machine.new) }
+    ensures unchanged { IsSome (numbers_fault workers slice) → profile.new ≡ profile.old }
     ensures over { numbers_fault workers slice ≡ None → IsSome machine.old.outcome
-        → IsOk result × (machine.new ≡ machine.old) × (profile.new ≡ profile.old) }
-    ensures stopped { numbers_fault workers slice ≡ None
-        → HaveCome machine.new.input machine.new.nodes }
-    ensures going { numbers_fault workers slice ≡ None → OnErr result (machine.new.outcome ≡ None) }
+        → profile.new ≡ profile.old }
 {
     check_numbers(workers, slice)?;
     while machine.outcome().is_none() {

@@ -34,11 +34,3 @@ tells-superstep start m next old new open_yet made added told = λ rest left.
 -- nothing is left after the outcome
 pub tells-all : (start m : MachineState) (text : List ℕ) → IsSome m.outcome → TellsUpTo start m text → TellsContested start text
 tells-all start m text ended told = subst (TellsContested start) (append-nil text) (told _ (over m _ ended refl))
-
--- local parts that are made whole are some events
-pub phases_reached : (m : MachineState) → IsSoundMachine m → LeadsWithoutTurn m (with_phases m)
-phases_reached m sound = let on = IsOnPhase-phases m sound in (walk on.made m, on.steps, on.is)
-
--- and the turn is all that is left of the superstep
-pub turn_next : (m : MachineState) → IsSoundMachine m → is_some m.outcome ≡ false → is_enabled (with_phases m) Turn ≡ true
-turn_next m sound open_yet = rw (open_yet, phases-stopped m sound) refl

@@ -1,8 +1,8 @@
 //! A run of which is told what is contested.
 
-ghost use Rattle.std.specs.Prelude.{◌≡◌, ◌↔◌, ◌<◌, Some, IfOk, IsSome, OnOk, OnErr, IsErrOf, length, string_bytes};
+ghost use Rattle.std.specs.Prelude.{◌≡◌, IfOk, IsSome, OnOk, OnErr, string_bytes};
 ghost use Rattle.machine_core.specs.Turn.{end_of};
-ghost use Rattle.phase_pool.specs.Numbers.{numbers_fault};
+ghost use Rattle.phase_pool.specs.Answers.{RefusesInOrder};
 ghost use Rattle.phase_pool.specs.Phases.{LeadsTo};
 ghost use Rattle.contested_runs.specs.Runs.{TellsContested};
 
@@ -29,16 +29,10 @@ pub fn run<R: Threads + Wait + Sync, A: Allocator + Copy + Send + Sync>(
     workers: u32,
     slice: u64,
 ) -> Result<String<A>, PoolError>
+    ensures refusals { RefusesInOrder workers slice machine.old machine.new result }
     ensures ok { OnOk result (machine.new ≡ end_of machine.old) }
     ensures over { OnOk result (IsSome machine.new.outcome) }
     ensures told { IfOk result (λ text. TellsContested machine.old (string_bytes text)) }
-    ensures bad_workers { IsErrOf result PoolError.BadWorkers
-        ↔ (numbers_fault workers slice ≡ Some PoolError.BadWorkers) }
-    ensures bad_slice { IsErrOf result PoolError.BadSlice
-        ↔ (numbers_fault workers slice ≡ Some PoolError.BadSlice) }
-    ensures unchanged { IsSome (numbers_fault workers slice) → machine.new ≡ machine.old }
-    ensures no_worker { IsErrOf result PoolError.NoWorker
-        → (1 < workers) × (1 < length machine.old.nodes) }
     ensures err { OnErr result (LeadsTo machine.old machine.new) }
 {
     check_numbers(workers, slice)?;

@@ -52,7 +52,7 @@ none_is_lowest (n ∷ rest) stopped =
     ap (λ b. cond b (Some n) (lowest is_running rest)) here ∙ none_is_lowest rest there
 
 module _ (m : MachineState) (sound : IsSoundMachine m) (open_yet : is_some m.outcome ≡ false) where
-  turn-enabled : is_enabled (with_phases m) Turn ≡ true
+  pub turn-enabled : is_enabled (with_phases m) Turn ≡ true
   turn-enabled = rw (open_yet, phases-stopped m sound) refl
 
   -- and then the turn

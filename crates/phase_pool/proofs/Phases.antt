@@ -15,6 +15,8 @@ use Rattle.machine_core.proofs.Onward.{onward_after}
 use Rattle.machine_core.proofs.Phases.{map-phase-stopped}
 use Rattle.machine_core.proofs.Resume.{phases-after}
 use Rattle.machine_core.proofs.Steps.{after-nil, after-cons, after-others}
+use Rattle.machine_core.proofs.Supersteps.{IsOnPhase-phases}
+use Rattle.machine_core.specs.Walk.{walk}
 use Rattle.phase_pool.specs.Phases.{LeadsTo, LeadsWithoutTurn}
 use Rattle.phase_pool.specs.Work.{HasCome, HaveCome, HasStopped, HaveStopped, IsWorked}
 
@@ -98,3 +100,7 @@ pub LeadsTo-length : (old new : MachineState) → LeadsTo old new → length new
 LeadsTo-length old new so_far =
     let onward = onward_after old so_far.0 in
     ap (λ (x : MachineState). length x.nodes) so_far.1 ∙ sym (length_all_zip (λ (o n : NodeState). o.ticks ≤ n.ticks) old.nodes (after old so_far.0).nodes onward.ticks)
+
+-- local parts that are made whole are some events
+pub phases_reached : (m : MachineState) → IsSoundMachine m → LeadsWithoutTurn m (with_phases m)
+phases_reached m sound = let on = IsOnPhase-phases m sound in (walk on.made m, on.steps, on.is)

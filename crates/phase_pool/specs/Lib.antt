@@ -1,3 +1,4 @@
+pub mod Answers
 pub mod Landings
 pub mod Numbers
 pub mod Phases

@@ -1,14 +1,12 @@
 //! The calls of the pool: one phase of a machine, and its whole run.
 
-ghost use Rattle.std.specs.Prelude.{◌≡◌, ◌↔◌, ◌<◌, ◌≤◌, Some, None, IsSome, IsOk, OnOk, OnErr, IsErrOf, IsTrue, IsFalse, length};
+ghost use Rattle.std.specs.Prelude.{◌≡◌, ◌<◌, ◌≤◌, IsTrue, IsFalse, length};
 ghost use Rattle.std.specs.Thread.{IsSend, IsSync};
 ghost use denote.Param.Send.{Frees};
 ghost use Rattle.machine_core.specs.Sound.{AreInRange};
-ghost use Rattle.machine_core.specs.Turn.{with_phases, end_of};
+ghost use Rattle.phase_pool.specs.Answers.{IsPhaseAnswer, IsRunAnswer};
 ghost use Rattle.phase_pool.specs.Landings.{IsTurnMade};
-ghost use Rattle.phase_pool.specs.Numbers.{numbers_fault};
-ghost use Rattle.phase_pool.specs.Phases.{LeadsTo, LeadsWithoutTurn, IsPhaseMade};
-ghost use Rattle.phase_pool.specs.Work.{HaveCome};
+ghost use Rattle.phase_pool.specs.Phases.{IsPhaseMade};
 
 use crate::error::{PoolError, Refused};
 use crate::landing::{Share, Stage, bytes_of, make_in_threads};
@@ -130,19 +128,7 @@ pub fn run_phase<R: Threads + Wait + Sync, A: Allocator + Copy + Send + Sync, G:
     slice: u64,
     gate: &G,
 ) -> Result<(), PoolError>
-    ensures ok { OnOk result (machine.new ≡ with_phases machine.old) }
-    ensures bad_workers { IsErrOf result PoolError.BadWorkers
-        ↔ (numbers_fault workers slice ≡ Some PoolError.BadWorkers) }
-    ensures bad_slice { IsErrOf result PoolError.BadSlice
-        ↔ (numbers_fault workers slice ≡ Some PoolError.BadSlice) }
-    ensures unchanged { IsSome (numbers_fault workers slice) → machine.new ≡ machine.old }
-    ensures no_worker { IsErrOf result PoolError.NoWorker
-        → (1 < workers) × (1 < length machine.old.nodes) }
-    ensures err { OnErr result (LeadsWithoutTurn machine.old machine.new) }
-    ensures over { numbers_fault workers slice ≡ None → IsSome machine.old.outcome
-        → IsOk result × (machine.new ≡ machine.old) }
-    ensures stopped { numbers_fault workers slice ≡ None
-        → HaveCome machine.new.input machine.new.nodes }
+    ensures { IsPhaseAnswer workers slice machine.old machine.new result }
 {
     run_phase_with(rt, machine, &Team::gated(workers, slice, gate))
 }
@@ -157,19 +143,7 @@ pub fn run_phase_sparing<R: Threads + Wait + Sync, A: Allocator + Copy + Send + 
     workers: u32,
     slice: u64,
 ) -> Result<(), PoolError>
-    ensures ok { OnOk result (machine.new ≡ with_phases machine.old) }
-    ensures bad_workers { IsErrOf result PoolError.BadWorkers
-        ↔ (numbers_fault workers slice ≡ Some PoolError.BadWorkers) }
-    ensures bad_slice { IsErrOf result PoolError.BadSlice
-        ↔ (numbers_fault workers slice ≡ Some PoolError.BadSlice) }
-    ensures unchanged { IsSome (numbers_fault workers slice) → machine.new ≡ machine.old }
-    ensures no_worker { IsErrOf result PoolError.NoWorker
-        → (1 < workers) × (1 < length machine.old.nodes) }
-    ensures err { OnErr result (LeadsWithoutTurn machine.old machine.new) }
-    ensures over { numbers_fault workers slice ≡ None → IsSome machine.old.outcome
-        → IsOk result × (machine.new ≡ machine.old) }
-    ensures stopped { numbers_fault workers slice ≡ None
-        → HaveCome machine.new.input machine.new.nodes }
+    ensures { IsPhaseAnswer workers slice machine.old machine.new result }
 {
     run_phase_with(rt, machine, &Team::sparing(workers, slice))
 }
@@ -190,21 +164,7 @@ pub fn run<R: Threads + Wait + Sync, A: Allocator + Copy + Send + Sync, G: Gate<
     slice: u64,
     gate: &G,
 ) -> Result<(), PoolError>
-    ensures ok { OnOk result (machine.new ≡ end_of machine.old) }
-    ensures ended { OnOk result (IsSome machine.new.outcome) }
-    ensures bad_workers { IsErrOf result PoolError.BadWorkers
-        ↔ (numbers_fault workers slice ≡ Some PoolError.BadWorkers) }
-    ensures bad_slice { IsErrOf result PoolError.BadSlice
-        ↔ (numbers_fault workers slice ≡ Some PoolError.BadSlice) }
-    ensures unchanged { IsSome (numbers_fault workers slice) → machine.new ≡ machine.old }
-    ensures no_worker { IsErrOf result PoolError.NoWorker
-        → (1 < workers) × (1 < length machine.old.nodes) }
-    ensures err { OnErr result (LeadsTo machine.old machine.new) }
-    ensures over { numbers_fault workers slice ≡ None → IsSome machine.old.outcome
-        → IsOk result × (machine.new ≡ machine.old) }
-    ensures stopped { numbers_fault workers slice ≡ None
-        → HaveCome machine.new.input machine.new.nodes }
-    ensures going { numbers_fault workers slice ≡ None → OnErr result (machine.new.outcome ≡ None) }
+    ensures { IsRunAnswer workers slice machine.old machine.new result }
 {
     run_with(rt, machine, &Team::gated(workers, slice, gate))
 }
@@ -221,21 +181,7 @@ pub fn run_sparing<R: Threads + Wait + Sync, A: Allocator + Copy + Send + Sync>(
     workers: u32,
     slice: u64,
 ) -> Result<(), PoolError>
-    ensures ok { OnOk result (machine.new ≡ end_of machine.old) }
-    ensures ended { OnOk result (IsSome machine.new.outcome) }
-    ensures bad_workers { IsErrOf result PoolError.BadWorkers
-        ↔ (numbers_fault workers slice ≡ Some PoolError.BadWorkers) }
-    ensures bad_slice { IsErrOf result PoolError.BadSlice
-        ↔ (numbers_fault workers slice ≡ Some PoolError.BadSlice) }
-    ensures unchanged { IsSome (numbers_fault workers slice) → machine.new ≡ machine.old }
-    ensures no_worker { IsErrOf result PoolError.NoWorker
-        → (1 < workers) × (1 < length machine.old.nodes) }
-    ensures err { OnErr result (LeadsTo machine.old machine.new) }
-    ensures over { numbers_fault workers slice ≡ None → IsSome machine.old.outcome
-        → IsOk result × (machine.new ≡ machine.old) }
-    ensures stopped { numbers_fault workers slice ≡ None
-        → HaveCome machine.new.input machine.new.nodes }
-    ensures going { numbers_fault workers slice ≡ None → OnErr result (machine.new.outcome ≡ None) }
+    ensures { IsRunAnswer workers slice machine.old machine.new result }
 {
     run_with(rt, machine, &Team::sparing(workers, slice))
 }
@@ -246,19 +192,7 @@ fn run_phase_with<R: Threads + Wait + Sync, A: Allocator + Copy + Send + Sync, G
     machine: &mut Machine<A>,
     team: &Team<'_, G>,
 ) -> Result<(), PoolError>
-    ensures ok { OnOk result (machine.new ≡ with_phases machine.old) }
-    ensures bad_workers { IsErrOf result PoolError.BadWorkers
-        ↔ (numbers_fault team.now.workers team.now.slice ≡ Some PoolError.BadWorkers) }
-    ensures bad_slice { IsErrOf result PoolError.BadSlice
-        ↔ (numbers_fault team.now.workers team.now.slice ≡ Some PoolError.BadSlice) }
-    ensures unchanged { IsSome (numbers_fault team.now.workers team.now.slice) → machine.new ≡ machine.old }
-    ensures no_worker { IsErrOf result PoolError.NoWorker
-        → (1 < team.now.workers) × (1 < length machine.old.nodes) }
-    ensures err { OnErr result (LeadsWithoutTurn machine.old machine.new) }
-    ensures over { numbers_fault team.now.workers team.now.slice ≡ None → IsSome machine.old.outcome
-        → IsOk result × (machine.new ≡ machine.old) }
-    ensures stopped { numbers_fault team.now.workers team.now.slice ≡ None
-        → HaveCome machine.new.input machine.new.nodes }
+    ensures { IsPhaseAnswer team.now.workers team.now.slice machine.old machine.new result }
 {
     check_numbers(team.workers, team.slice)?;
     if machine.outcome().is_some() {
@@ -273,21 +207,7 @@ fn run_with<R: Threads + Wait + Sync, A: Allocator + Copy + Send + Sync, G: Gate
     machine: &mut Machine<A>,
     team: &Team<'_, G>,
 ) -> Result<(), PoolError>
-    ensures ok { OnOk result (machine.new ≡ end_of machine.old) }
-    ensures ended { OnOk result (IsSome machine.new.outcome) }
-    ensures bad_workers { IsErrOf result PoolError.BadWorkers
-        ↔ (numbers_fault team.now.workers team.now.slice ≡ Some PoolError.BadWorkers) }
-    ensures bad_slice { IsErrOf result PoolError.BadSlice
-        ↔ (numbers_fault team.now.workers team.now.slice ≡ Some PoolError.BadSlice) }
-    ensures unchanged { IsSome (numbers_fault team.now.workers team.now.slice) → machine.new ≡ machine.old }
-    ensures no_worker { IsErrOf result PoolError.NoWorker
-        → (1 < team.now.workers) × (1 < length machine.old.nodes) }
-    ensures err { OnErr result (LeadsTo machine.old machine.new) }
-    ensures over { numbers_fault team.now.workers team.now.slice ≡ None → IsSome machine.old.outcome
-        → IsOk result × (machine.new ≡ machine.old) }
-    ensures stopped { numbers_fault team.now.workers team.now.slice ≡ None
-        → HaveCome machine.new.input machine.new.nodes }
-    ensures going { numbers_fault team.now.workers team.now.slice ≡ None → OnErr result (machine.new.outcome ≡ None) }
+    ensures { IsRunAnswer team.now.workers team.now.slice machine.old machine.new result }
 {
     check_numbers(team.workers, team.slice)?;
     let mut landings = Refused::NOTHING;

@@ -19,7 +19,7 @@ returns-in_err-run_phase_sparing-clause-err g c =
     let p = err_from_is_err_and c.from_residual.result c.from_residual.ensures.1 in
     let m = c.args.machine.now in
     let was = λ (cause : PoolError) (is : c.in_err-run_phase_sparing.field-0.0 ≡ cause). c.in_err-run_phase_sparing.was ∙ ap (λ (e : PoolError). Err e) is in
-    let e = c.run_phase_sparing.ensures in
+    let e = c.run_phase_sparing.ensures.refusals in
     rw (p.1, p.2) (IsErrorOfSuperstep-of_pool c.args.job.now m (stream g.W.Write.contents c.args.out.now c.args.out.now) _ c.requires.numbers
     (λ is. e.bad_workers.0 (was _ is)) (λ is. e.bad_slice.0 (was _ is))
     (λ is. let wanted = e.no_worker (was _ is) in (wanted.0, rw (← length-nodes m c.requires.sound) wanted.1))

@@ -1,5 +1,5 @@
 -- Superstep by superstep, up to the outcome.
-use Rattle.std.proofs.Common.{◌≡◌, ◌∙◌, [], Err, not, ap, refl, sym, subst, string_bytes, arith}
+use Rattle.std.proofs.Common.{◌≡◌, ◌∙◌, [], Err, not, ap, refl, sym, subst, string_bytes, arith, rules}
 use Rattle.std.specs.Prelude.{is_some}
 use Rattle.std.proofs.lemmas.Result.{err_from_is_err_and}
 use Rattle.machine_core.specs.declared.event.Event.TheVariants.{Turn}
@@ -10,12 +10,12 @@ use Rattle.machine_core.specs.Turn.{with_phases, superstep, end_of}
 use Rattle.machine_core.proofs.Ends.{end_of-superstep, end_of-there}
 use Rattle.machine_core.proofs.Resume.{phases-sound}
 use Rattle.machine_core.proofs.Steps.{after-nil}
-use Rattle.machine_core.proofs.Supersteps.{rows_left, superstep-made}
+use Rattle.machine_core.proofs.Supersteps.{turn-enabled, rows_left, superstep-made}
 use Rattle.phase_pool.specs.declared.error.PoolError.{PoolError}
 use Rattle.phase_pool.specs.declared.error.PoolError.TheVariants.{NoWorker}
-use Rattle.phase_pool.proofs.Phases.{LeadsTo-on, LeadsTo-turn, LeadsTo-length}
+use Rattle.phase_pool.proofs.Phases.{phases_reached, LeadsTo-on, LeadsTo-turn, LeadsTo-length}
 use Rattle.contested_runs.specs.Runs.{AreTurnLines}
-use Rattle.contested_runs.proofs.Rest.{phases_reached, tells-all, tells-start, tells-superstep, turn_next}
+use Rattle.contested_runs.proofs.Rest.{tells-all, tells-start, tells-superstep}
 use Rattle.contested_runs.proofs.runs.run.Goals as goal
 
 pub returns-in_err-check_numbers-clause-err : goal.returns-in_err-check_numbers-clause-err
@@ -35,13 +35,6 @@ loop-alloc-init g c = record {
   told = tells-start c.args.machine.now (string_bytes c.in_ok-text.text) c.in_ok-text.ensures.ok;
 }
 
-pub returns-in_err-run_phase_sparing-clause-no_worker : goal.returns-in_err-run_phase_sparing-clause-no_worker
-returns-in_err-run_phase_sparing-clause-no_worker g c refused =
-    let p = err_from_is_err_and c.from_residual-in_err-run_phase_sparing.result c.from_residual-in_err-run_phase_sparing.ensures.1 in
-    let own : c.in_err-run_phase_sparing.field-0.0 ≡ NoWorker = cc (p.1, p.2, refused) in
-    let wanted = c.run_phase_sparing.ensures.no_worker (c.in_err-run_phase_sparing.was ∙ ap (λ (e : PoolError). Err e) own) in
-    (wanted.0, omega (arith, wanted.1, LeadsTo-length c.args.machine.now c.loop-alloc.machine c.loop-alloc.invariant.so_far))
-
 pub returns-in_err-run_phase_sparing-clause-err : goal.returns-in_err-run_phase_sparing-clause-err
 returns-in_err-run_phase_sparing-clause-err g c =
     let p = err_from_is_err_and c.from_residual-in_err-run_phase_sparing.result c.from_residual-in_err-run_phase_sparing.ensures.1 in
@@ -53,7 +46,7 @@ write_turn-requires-clause-sound g c = subst IsSoundMachine (sym c.in_ok-run_pha
 pub write_turn-requires-clause-enabled : goal.write_turn-requires-clause-enabled
 write_turn-requires-clause-enabled g c =
     let open_yet = ap is_some (sym c.outcome.ensures.value) ∙ c.is_none.ensures ∙ ap not c.loop-alloc-test.true in
-    ap (λ (x : MachineState). is_enabled x Turn) c.in_ok-run_phase_sparing.ensures.ok ∙ turn_next c.loop-alloc.machine c.outcome.ensures.sound open_yet
+    ap (λ (x : MachineState). is_enabled x Turn) c.in_ok-run_phase_sparing.ensures.ok ∙ turn-enabled c.loop-alloc.machine c.outcome.ensures.sound open_yet
 
 pub returns-in_err-write_turn-clause-err : goal.returns-in_err-write_turn-clause-err
 returns-in_err-write_turn-clause-err g c =
@@ -103,3 +96,31 @@ pub returns-clause-told : goal.returns-clause-told
 returns-clause-told g c =
     let over = ap is_some (sym c.outcome.ensures.value) ∙ c.is_none.ensures ∙ ap not c.loop-alloc-test.false in
     tells-all c.args.machine.now c.loop-alloc.machine (string_bytes c.loop-alloc.text) over c.loop-alloc.invariant.told
+
+pub returns-in_err-run_phase_sparing-clause-refusals : goal.returns-in_err-run_phase_sparing-clause-refusals
+returns-in_err-run_phase_sparing-clause-refusals g c =
+    let p = err_from_is_err_and c.from_residual-in_err-run_phase_sparing.result c.from_residual-in_err-run_phase_sparing.ensures.1 in
+    record {
+      bad_workers = search rules;
+      bad_slice = search rules;
+      unchanged = search rules;
+      no_worker = λ refused.
+          let own : c.in_err-run_phase_sparing.field-0.0 ≡ NoWorker = cc (p.1, p.2, refused) in
+          let wanted = c.run_phase_sparing.ensures.refusals.no_worker (c.in_err-run_phase_sparing.was ∙ ap (λ (e : PoolError). Err e) own) in
+          (wanted.0, omega (arith, wanted.1, LeadsTo-length c.args.machine.now c.loop-alloc.machine c.loop-alloc.invariant.so_far));
+    }
+
+pub returns-in_err-check_numbers-clause-refusals : goal.returns-in_err-check_numbers-clause-refusals
+returns-in_err-check_numbers-clause-refusals g c = record { bad_workers = search rules; bad_slice = search rules; unchanged = search rules; no_worker = search rules }
+
+pub returns-in_err-text-clause-refusals : goal.returns-in_err-text-clause-refusals
+returns-in_err-text-clause-refusals g c = record { bad_workers = search rules; bad_slice = search rules; unchanged = search rules; no_worker = search rules }
+
+pub returns-in_err-write_turn-clause-refusals : goal.returns-in_err-write_turn-clause-refusals
+returns-in_err-write_turn-clause-refusals g c = record { bad_workers = search rules; bad_slice = search rules; unchanged = search rules; no_worker = search rules }
+
+pub returns-in_err-turn-clause-refusals : goal.returns-in_err-turn-clause-refusals
+returns-in_err-turn-clause-refusals g c = record { bad_workers = search rules; bad_slice = search rules; unchanged = search rules; no_worker = search rules }
+
+pub returns-clause-refusals : goal.returns-clause-refusals
+returns-clause-refusals g c = record { bad_workers = search rules; bad_slice = search rules; unchanged = search rules; no_worker = search rules }

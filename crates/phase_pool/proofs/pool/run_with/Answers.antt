@@ -1,4 +1,4 @@
-use Rattle.std.proofs.Common.{◌≡◌, not, [], Err, inl, inr, refl, sym, ap, ◌∙◌, arith}
+use Rattle.std.proofs.Common.{◌≡◌, not, [], Err, inl, inr, refl, sym, ap, ◌∙◌, arith, rules}
 use Rattle.std.specs.Prelude.{is_some}
 use Rattle.std.proofs.lemmas.Bool.{false≢true}
 use Rattle.std.proofs.lemmas.Result.{err_from_is_err_and}
@@ -16,36 +16,8 @@ use Rattle.phase_pool.proofs.Landings.{on_err_from}
 use Rattle.phase_pool.proofs.Refusals.{none_of, one_of, is_so, is_not}
 use Rattle.phase_pool.proofs.pool.run_with.Goals as goal
 
-pub returns-in_err-check_numbers-clause-err : goal.returns-in_err-check_numbers-clause-err
-returns-in_err-check_numbers-clause-err g c =
-    let p = err_from_is_err_and c.from_residual.result c.from_residual.ensures.1 in
-    rw p.1 ([], sym (after-nil c.args.machine.now))
-
 pub loop-landings-init : goal.loop-landings-init
 loop-landings-init g c = record { so_far = ([], sym (after-nil c.args.machine.now)); same_end = refl; over = λ over. refl; no_worker = λ refused. absurd cc }
-
-pub returns-in_err-answer-clause-no_worker : goal.returns-in_err-answer-clause-no_worker
-returns-in_err-answer-clause-no_worker g c refused =
-    let p = err_from_is_err_and c.from_residual-in_err-answer.result c.from_residual-in_err-answer.ensures.1 in
-    let same = LeadsTo-length c.args.machine.now c.loop-landings.machine c.loop-landings.invariant.so_far in
-    let worker : c.in_err-answer.field-0.0 ≡ NoWorker = cc (p.1, p.2, refused) in
-    let lacks = c.in_err-answer.ensures.no_worker.0 (ap Err worker) in
-    elim (one_of _ _ (sym c.and.ensures.thread ∙ lacks)) [
-      | inl before ↦ c.loop-landings.invariant.no_worker before
-      | inr now ↦ let wanted = c.make_local_parts-parts.ensures.no_worker now in (wanted.0, omega (arith, wanted.1, same))
-    ]
-
-pub returns-in_err-answer-clause-err : goal.returns-in_err-answer-clause-err
-returns-in_err-answer-clause-err g c =
-    let p = err_from_is_err_and c.from_residual-in_err-answer.result c.from_residual-in_err-answer.ensures.1 in
-    rw p.1 (LeadsTo-on c.args.machine.now c.loop-landings.machine c.make_local_parts-parts.new.machine c.loop-landings.invariant.so_far c.make_local_parts-parts.ensures.stepped)
-
-pub returns-in_err-answer-clause-going :
-    goal.returns-in_err-answer-clause-going
-returns-in_err-answer-clause-going g c within =
-    let p = err_from_is_err_and c.from_residual-in_err-answer.result c.from_residual-in_err-answer.ensures.1 in
-    let open_yet = ap is_some (sym c.outcome.ensures.value) ∙ c.is_none.ensures ∙ ap not c.loop-landings-test.true in
-    rw p.1 (LeadsWithoutTurn-outcome c.loop-landings.machine c.make_local_parts-parts.new.machine c.make_local_parts-parts.ensures.stepped ∙ none_from c.loop-landings.machine.outcome (λ x is. false≢true (sym open_yet ∙ ap is_some is)))
 
 pub loop-landings-smaller : goal.loop-landings-smaller
 loop-landings-smaller g c =
@@ -74,24 +46,77 @@ loop-landings-preserved g c =
           (wanted.0, omega (arith, wanted.1, same));
     }
 
-pub returns-then-not-turned-clause-no_worker : goal.returns-then-not-turned-clause-no_worker
-returns-then-not-turned-clause-no_worker g c refused =
+pub returns-in_err-check_numbers : goal.returns-in_err-check_numbers
+returns-in_err-check_numbers g c =
+    let p = err_from_is_err_and c.from_residual.result c.from_residual.ensures.1 in
+    record {
+      refusals = record { bad_workers = search rules; bad_slice = search rules; unchanged = search rules; no_worker = search rules };
+      ok = search rules;
+      ended = search rules;
+      err = rw p.1 ([], sym (after-nil c.args.machine.now));
+      over = search rules;
+      stopped = search rules;
+      going = search rules;
+    }
+
+pub returns-in_err-answer : goal.returns-in_err-answer
+returns-in_err-answer g c =
+    let p = err_from_is_err_and c.from_residual-in_err-answer.result c.from_residual-in_err-answer.ensures.1 in
+    let same = LeadsTo-length c.args.machine.now c.loop-landings.machine c.loop-landings.invariant.so_far in
+    let open_yet = ap is_some (sym c.outcome.ensures.value) ∙ c.is_none.ensures ∙ ap not c.loop-landings-test.true in
+    record {
+      refusals = record {
+        bad_workers = search rules;
+        bad_slice = search rules;
+        unchanged = search rules;
+        no_worker = λ refused.
+            let worker : c.in_err-answer.field-0.0 ≡ NoWorker = cc (p.1, p.2, refused) in
+            let lacks = c.in_err-answer.ensures.no_worker.0 (ap Err worker) in
+            elim (one_of _ _ (sym c.and.ensures.thread ∙ lacks)) [
+              | inl before ↦ c.loop-landings.invariant.no_worker before
+              | inr now ↦ let wanted = c.make_local_parts-parts.ensures.no_worker now in (wanted.0, omega (arith, wanted.1, same))
+            ];
+      };
+      ok = search rules;
+      ended = search rules;
+      err = rw p.1 (LeadsTo-on c.args.machine.now c.loop-landings.machine c.make_local_parts-parts.new.machine c.loop-landings.invariant.so_far c.make_local_parts-parts.ensures.stepped);
+      over = search rules;
+      stopped = search rules;
+      going = λ within.
+          rw p.1 (LeadsWithoutTurn-outcome c.loop-landings.machine c.make_local_parts-parts.new.machine c.make_local_parts-parts.ensures.stepped ∙ none_from c.loop-landings.machine.outcome (λ x is. false≢true (sym open_yet ∙ ap is_some is)));
+    }
+
+pub returns-then-not-turned : goal.returns-then-not-turned
+returns-then-not-turned g c =
     let phases = LeadsTo-on c.args.machine.now c.loop-landings.machine c.make_local_parts-parts.new.machine c.loop-landings.invariant.so_far c.make_local_parts-parts.ensures.stepped in
     let same = LeadsTo-length c.args.machine.now c.make_local_parts-parts.new.machine phases in
-    let wanted = c.make_turn-turned.ensures.no_worker (c.answer-then-not-turned.ensures.no_worker.0 refused) in
-    (wanted.0, omega (arith, wanted.1, same))
-
-pub returns-then-not-turned-clause-err : goal.returns-then-not-turned-clause-err
-returns-then-not-turned-clause-err g c =
-    let phases = LeadsTo-on c.args.machine.now c.loop-landings.machine c.make_local_parts-parts.new.machine c.loop-landings.invariant.so_far c.make_local_parts-parts.ensures.stepped in
     let off = c.make_turn-turned.ensures.err (is_not _ c.if-not-turned.true) in
-    on_err_from c.answer-then-not-turned.result (phases.0, off.0 ∙ phases.1)
+    record {
+      refusals = record {
+        bad_workers = search rules;
+        bad_slice = search rules;
+        unchanged = search rules;
+        no_worker = λ refused.
+            let wanted = c.make_turn-turned.ensures.no_worker (c.answer-then-not-turned.ensures.no_worker.0 refused) in
+            (wanted.0, omega (arith, wanted.1, same));
+      };
+      ok = search rules;
+      ended = search rules;
+      err = on_err_from c.answer-then-not-turned.result (phases.0, off.0 ∙ phases.1);
+      over = search rules;
+      stopped = search rules;
+      going = search rules;
+    }
 
-pub returns-clause-ok : goal.returns-clause-ok
-returns-clause-ok g c =
+pub returns : goal.returns
+returns g c =
     let over = ap is_some (sym c.outcome.ensures.value) ∙ c.is_none.ensures ∙ ap not c.loop-landings-test.false in
-    sym (end_of-there c.loop-landings.machine over) ∙ c.loop-landings.invariant.same_end
-
-pub returns-clause-stopped : goal.returns-clause-stopped
-returns-clause-stopped g c within =
-    HaveCome-over c.loop-landings.machine c.outcome.ensures.sound (ap is_some (sym c.outcome.ensures.value) ∙ c.is_none.ensures ∙ ap not c.loop-landings-test.false)
+    record {
+      refusals = record { bad_workers = search rules; bad_slice = search rules; unchanged = search rules; no_worker = search rules };
+      ok = sym (end_of-there c.loop-landings.machine over) ∙ c.loop-landings.invariant.same_end;
+      ended = search rules;
+      err = search rules;
+      over = search rules;
+      stopped = λ within. HaveCome-over c.loop-landings.machine c.outcome.ensures.sound over;
+      going = search rules;
+    }

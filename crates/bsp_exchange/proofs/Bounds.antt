@@ -2,17 +2,18 @@
 use Rattle.std.proofs.Common.{◌≡◌, ℕ, ◌+◌, ◌*◌, ◌^◌, ◌<◌, ◌≤◌, max, Bool, true, false, not, cond, List, [], ◌∷◌, length, map, All, get_or, refl, sym, ap, ap₂, ◌∙◌, arith}
 use Rattle.std.specs.Prelude.{◌==◌, filter, filter_map, sum_by}
 use Rattle.std.specs.List.{enumerate_from, fold}
-use Rattle.std.proofs.lemmas.List.{map-append}
+use Rattle.std.proofs.lemmas.List.{places, map-append}
 use Rattle.std.proofs.lemmas.List.Elements.{All-head, All-map, All-tail}
 use Rattle.std.proofs.lemmas.List.Filters.{sum_by-filter_both}
 use Rattle.std.proofs.lemmas.List.Sums.{sum_by-append, sum_by-cons}
 use Rattle.bsp_requests.specs.Request.{Asked, asks_put, asks_get, asks_send, size_of}
 use Rattle.bsp_requests.specs.Requests.{max_bytes, max_requests}
+use Rattle.node_memory.specs.Bytes.{bytes_at}
 use Rattle.node_core.specs.Hart.{IsHart, max_nodes}
 use Rattle.node_core.specs.Node.{NodeState}
 use Rattle.bsp_exchange.specs.Arrivals.{received_at}
 use Rattle.bsp_exchange.specs.Issued.{Issued, issued, issued_as, issued_by}
-use Rattle.bsp_exchange.specs.Landings.{Landing, landing_of_put, put_landing}
+use Rattle.bsp_exchange.specs.Landings.{Landing, area_start, memory_of, landing_of_get, landing_of_put, get_landing, put_landing}
 use Rattle.bsp_exchange.specs.Parts.{Patch, bytes_in, patch_of}
 use Rattle.bsp_exchange.specs.Traffic.{Transfer, transfer, transfers, between_ranks, bytes_sent, bytes_received, messages_received, h_relation, h_of, h_all_of, messages_of}
 use Rattle.bsp_exchange.proofs.Readings.{h_at_most}
@@ -111,7 +112,7 @@ traffic_bounded nodes few harts =
     let all_messages : messages (transfers nodes) ≤ 2 ^ 26 = omega (arith, messages-transfers nodes harts, few) in
     (h_at_most nodes, relation-le (2 ^ 34) (transfers nodes) nodes all_bytes, messages-le (2 ^ 26) nodes all_messages)
 
--- ---- and none is put more bytes than they move
+-- ---- and none receives more bytes than they move
 
 put_bytes : (b : Bool) (p : Patch) (l : Landing) (ls : List Landing) → p ≡ patch_of l → bytes_in (map patch_of (cond b (l ∷ ls) ls)) ≤ length p.bytes + bytes_in (map patch_of ls)
 put_bytes true p l ls is = omega (arith, sum_by-cons (λ (q : Patch). length q.bytes) (patch_of l) (map patch_of ls), ap (λ (q : Patch). length q.bytes) is)
@@ -134,5 +135,26 @@ puts-moved nodes rank [] = omega arith
 puts-moved nodes rank (i ∷ is) =
     omega (arith, puts-le nodes rank i.rank i.issue i.request is, puts-moved nodes rank is, sum_by-cons (λ (t : Transfer). t.bytes) (transfer_of i) (map transfer_of is))
 
-pub puts_bounded : (nodes : List NodeState) (rank : ℕ) → length nodes ≤ max_nodes → AreHarts nodes → bytes_in (received_at nodes rank).puts < 2 ^ 63
-puts_bounded nodes rank few harts = omega (arith, puts-moved nodes rank (issued nodes), bytes-transfers nodes harts, few)
+length_fetched : (m : List ℕ) (addr len : ℕ) → length (bytes_at m addr len) ≤ len
+length_fetched m addr len = grind (arith, places)
+
+-- what some requests fetch for a rank's node
+abbrev gets_of : List NodeState → List Issued → ℕ → List Patch
+gets_of nodes is rank =
+    map patch_of (filter (λ l. l.rank == rank) (filter_map (λ i. landing_of_get nodes i.rank i.issue i.request) is))
+
+gets-le : (nodes : List NodeState) (rank caller issue : ℕ) (q : Asked) (is : List Issued) → bytes_in (gets_of nodes (record { rank = caller; issue = issue; request = q } ∷ is) rank) ≤ (transfer caller q).bytes + bytes_in (gets_of nodes is rank)
+gets-le nodes rank caller issue (asks_put p) is = omega arith
+gets-le nodes rank caller issue (asks_get g) is =
+    let l = get_landing nodes caller issue g in
+    let short : length l.bytes ≤ g.len = length_fetched (memory_of nodes g.target) (area_start nodes g.target g.slot + g.offset) g.len in
+    omega (arith, short, put_bytes (caller == rank) (patch_of l) l (filter (λ k. k.rank == rank) (filter_map (λ i. landing_of_get nodes i.rank i.issue i.request) is)) refl)
+gets-le nodes rank caller issue (asks_send m) is = omega arith
+
+gets-moved : (nodes : List NodeState) (rank : ℕ) (is : List Issued) → bytes_in (gets_of nodes is rank) ≤ bytes (map transfer_of is)
+gets-moved nodes rank [] = omega arith
+gets-moved nodes rank (i ∷ is) =
+    omega (arith, gets-le nodes rank i.rank i.issue i.request is, gets-moved nodes rank is, sum_by-cons (λ (t : Transfer). t.bytes) (transfer_of i) (map transfer_of is))
+
+pub moved_bounded : (nodes : List NodeState) (rank : ℕ) → length nodes ≤ max_nodes → AreHarts nodes → bytes_in (received_at nodes rank).gets + bytes_in (received_at nodes rank).puts < 2 ^ 63
+moved_bounded nodes rank few harts = omega (arith, gets-moved nodes rank (issued nodes), puts-moved nodes rank (issued nodes), bytes-transfers nodes harts, few)

@@ -23,7 +23,7 @@ first_range r ranges bytes covered =
     (omega (arith, sum), omega (arith, sum, rest))
 
 -- one range more, with its bytes
-patches_push : (ranges : List Range) (bytes new : List ℕ) (r : Range) → range_bytes ranges ≡ length bytes → r.len ≡ length new → patches_of (ranges ++ r ∷ []) (bytes ++ new) ≡ patches_of ranges bytes ++ record { addr = r.addr; bytes = new } ∷ []
+pub patches_push : (ranges : List Range) (bytes new : List ℕ) (r : Range) → range_bytes ranges ≡ length bytes → r.len ≡ length new → patches_of (ranges ++ r ∷ []) (bytes ++ new) ≡ patches_of ranges bytes ++ record { addr = r.addr; bytes = new } ∷ []
 patches_push [] bytes new r covered size =
     let none : bytes ≡ [] = nil_from_length bytes (sym covered) in
     ap (λ (bs : List ℕ). record { addr = r.addr; bytes = take r.len (bs ++ new) } ∷ []) none

@@ -15,7 +15,7 @@ use Rattle.bsp_exchange.specs.Exchange.{states}
 use Rattle.bsp_exchange.specs.Parts.{Patch, PartState, LieIn, OwnsEach, CanExchange, CanPrepare, bytes_in, part_of, parts_of}
 use Rattle.bsp_exchange.specs.declared.traffic.Traffic.{Traffic}
 use Rattle.bsp_exchange.specs.Traffic.{traffic_of}
-use Rattle.bsp_exchange.proofs.Bounds.{puts_bounded, traffic_bounded}
+use Rattle.bsp_exchange.proofs.Bounds.{moved_bounded, traffic_bounded}
 use Rattle.bsp_exchange.proofs.Gathered.{all_at, length-states}
 use Rattle.bsp_exchange.proofs.Landed.{parts_are, rank_is, whole}
 
@@ -55,12 +55,12 @@ queues_planned ps arrivals can planned =
     rw is (whole nodes can.row can.faultless can.sound k n here).fits.queue in
     rw planned (All-map (λ (r : Received). IsQueue r.messages) (received_at nodes) (range_with_len 0 (length ps)) each)
 
--- and each is put fewer bytes than a number of 64 bits counts
-pub bytes_planned : (ps : List PreparedNode) (arrivals : List Received) → CanExchange (states ps) → arrivals ≡ map (received_at (states ps)) (range_with_len 0 (length ps)) → All (λ (r : Received). bytes_in r.puts < 2 ^ 63) arrivals
+-- and each receives fewer bytes than a number of 64 bits counts
+pub bytes_planned : (ps : List PreparedNode) (arrivals : List Received) → CanExchange (states ps) → arrivals ≡ map (received_at (states ps)) (range_with_len 0 (length ps)) → All (λ (r : Received). bytes_in r.gets + bytes_in r.puts < 2 ^ 63) arrivals
 bytes_planned ps arrivals can planned =
     let nodes = states ps in
     let few = few_nodes nodes can in
-    rw planned (All-map (λ (r : Received). bytes_in r.puts < 2 ^ 63) (received_at nodes) (range_with_len 0 (length ps)) (λ k d below. puts_bounded nodes (get_or (range_with_len 0 (length ps)) k d) few can.sound))
+    rw planned (All-map (λ (r : Received). bytes_in r.gets + bytes_in r.puts < 2 ^ 63) (received_at nodes) (range_with_len 0 (length ps)) (λ k d below. moved_bounded nodes (get_or (range_with_len 0 (length ps)) k d) few can.sound))
 
 pub owns_both : (own : List Bool) (a b : List Patch) → OwnsEach own a → OwnsEach own b → OwnsEach own (a ++ b)
 owns_both own [] b first second = second

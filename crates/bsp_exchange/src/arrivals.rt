@@ -8,6 +8,7 @@ ghost use Rattle.bsp_exchange.specs.Parts.{bytes_in};
 
 use crate::landings::Landings;
 use crate::puts::Puts;
+use crate::smalls::Smalls;
 use bsp_requests::{Inbox, Message};
 use node_core::Node;
 use node_memory::Memory;
@@ -21,7 +22,11 @@ use std::mem;
 #[derive(Drop)]
 pub(crate) struct Arrivals<A: Allocator> {
     alloc: A,
+    // The first gets, up to one that is not small, and those from that one on. For speed, and for the memory that many of them take.
+    small_gets: Smalls<A>,
     gets: Landings<A>,
+    // The same of puts.
+    small_puts: Smalls<A>,
     puts: Puts<A>,
     messages: Vec<Message<A>, A>,
 }
@@ -31,7 +36,9 @@ impl<A: Allocator> Model for Arrivals<A> {
 
     ghost Value = { Received };
 
-    ghost view = { λ p. record { gets = p.gets; puts = p.puts; messages = p.messages.items } };
+    ghost use Rattle.std.specs.Prelude.{◌++◌};
+
+    ghost view = { λ p. record { gets = p.small_gets ++ p.gets; puts = p.small_puts ++ p.puts; messages = p.messages.items } };
 }
 
 impl<A: Allocator + Copy> Arrivals<A> {
@@ -43,7 +50,9 @@ impl<A: Allocator + Copy> Arrivals<A> {
     {
         Arrivals {
             alloc,
+            small_gets: Smalls::new(alloc, expected),
             gets: Landings::new(alloc, expected),
+            small_puts: Smalls::new(alloc, expected),
             puts: Puts::new(alloc, expected),
             messages: Vec::new(alloc),
         }
@@ -62,6 +71,11 @@ impl<A: Allocator + Copy> Arrivals<A> {
           gets = self.old.gets ++ record { addr = addr; bytes = bytes_at memory.now.bytes from len } ∷ [];
         }) }
     {
+        if self.gets.is_empty() {
+            if let Some(room) = memory.read_16(from, len) {
+                return self.small_gets.push(addr, room, len);
+            }
+        }
         self.gets.push_copy_of(addr, memory, from, len)
     }
 
@@ -71,6 +85,12 @@ impl<A: Allocator + Copy> Arrivals<A> {
           puts = self.old.puts ++ record { addr = addr; bytes = bytes.now } ∷ [];
         }) }
     {
+        if self.puts.is_empty() {
+            if let Some(few) = bytes.within_16() {
+                let room = few.0;
+                return self.small_puts.push(addr, room, few.1);
+            }
+        }
         self.puts.push(addr, bytes)
     }
 
@@ -105,17 +125,21 @@ impl<A: Allocator + Copy> Arrivals<A> {
         ensures own { KeepsOwn node.old.own node.new.own }
         ensures ok { OnOk result (IsPrepared self.now node.new) }
     {
+        self.small_gets.prepare(node)?;
         self.gets.prepare(node)?;
+        self.small_puts.prepare(node)?;
         self.puts.prepare(node)?;
         node.prepare_turn()
     }
 
     /// How many bytes come into the node's memory.
     pub(crate) fn bytes(&self) -> u64
-        requires { bytes_in self.now.puts < 2 ^ 63 }
+        requires { bytes_in self.now.gets + bytes_in self.now.puts < 2 ^ 63 }
         ensures { result ≡ bytes_in self.now.gets + bytes_in self.now.puts }
     {
-        self.gets.len() as u64 + self.puts.bytes()
+        let gets = self.small_gets.bytes() + self.gets.len() as u64;
+        let puts = self.small_puts.bytes() + self.puts.bytes();
+        gets + puts
     }
 
     /// Lands all of it in its node, which waits and is prepared for it, and begins the node's next superstep. The messages go
@@ -125,7 +149,9 @@ impl<A: Allocator + Copy> Arrivals<A> {
         ensures node { node.new ≡ with_arrivals self.old node.old }
         ensures rest { self.new ≡ record self.old { messages = [] } }
     {
+        self.small_gets.land(node);
         self.gets.land(node);
+        self.small_puts.land(node);
         self.puts.land(node);
         let messages = mem::replace(&mut self.messages, Vec::new(self.alloc));
         node.finish_turn(Inbox::of(messages));

@@ -114,7 +114,7 @@ fn first_outside_of<A: Allocator + Copy>(nodes: &[Node<A>], node: &Node<A>) -> O
 }
 
 /// Whether a request is a put or a get that does not keep to its area.
-pub(crate) fn leaves_area<A: Allocator + Copy>(nodes: &[Node<A>], request: &Request<A>) -> bool
+fn leaves_area<A: Allocator + Copy>(nodes: &[Node<A>], request: &Request<A>) -> bool
     ensures { result ≡ leaves_area (states nodes.now) (asked request.now) }
 {
     match request {
@@ -129,7 +129,7 @@ pub(crate) fn leaves_area<A: Allocator + Copy>(nodes: &[Node<A>], request: &Requ
 }
 
 /// Whether `len` bytes at an offset of an area end past it.
-fn is_outside<A: Allocator + Copy>(
+pub(crate) fn is_outside<A: Allocator + Copy>(
     nodes: &[Node<A>],
     rank: u16,
     slot: usize,

@@ -3,7 +3,7 @@
 ghost use Rattle.std.specs.Prelude.{◌≡◌, ◌+◌, ◌<◌, ◌≤◌, ◌^◌, false, None, All, IsTrue, length, map, replicate, OnOk, IfOk};
 ghost use Rattle.std.specs.List.{range_with_len};
 ghost use Rattle.node_memory.specs.Bytes.{fits};
-ghost use Rattle.bsp_requests.specs.Request.{asked, asks_get};
+ghost use Rattle.bsp_requests.specs.Request.{asked, asks_get, size_of};
 ghost use Rattle.node_core.specs.Hart.{IsHart, max_nodes};
 ghost use Rattle.node_core.specs.Node.{NodeState};
 ghost use Rattle.bsp_exchange.specs.Exchange.{AreAtSync, states};
@@ -11,13 +11,13 @@ ghost use Rattle.bsp_exchange.specs.Faults.{exchange_fault, first_outside, is_ou
 ghost use Rattle.bsp_exchange.specs.Issued.{issued, issued_by};
 ghost use Rattle.bsp_exchange.specs.Landings.{area_start, memory_of};
 ghost use Rattle.bsp_exchange.specs.Arrivals.{nothing, received_at, fetched, message_of, with_get, with_put, with_message, with_asked, with_issued};
-ghost use Rattle.bsp_exchange.specs.Loads.{no_load, with_transfers, transfers_of, IsWithin};
+ghost use Rattle.bsp_exchange.specs.Loads.{no_load, with_transfer, with_transfers, transfers_of, IsWithin};
 ghost use Rattle.bsp_exchange.specs.Parts.{target_of, changed_at};
-ghost use Rattle.bsp_exchange.specs.Traffic.{transfers, traffic_of};
+ghost use Rattle.bsp_exchange.specs.Traffic.{transfer, transfers, traffic_of};
 
 use crate::arrivals::Arrivals;
-use crate::checks::{area_at, leaves_area, slot_mismatch, tag_mismatch};
-use crate::traffic::{Load, Traffic, add_load, greatest, no_loads};
+use crate::checks::{area_at, is_outside, slot_mismatch, tag_mismatch};
+use crate::traffic::{Load, Traffic, add_transfer, greatest, no_loads};
 use bsp_requests::{Get, Outgoing, Request};
 use node_core::Node;
 use shared_bytes::SharedBytes;
@@ -125,34 +125,57 @@ fn add_requests<A: Allocator + Copy>(
         ≡ with_transfers loads.old (transfers_of node.now.node.hart.rank node.now.node.hart.communication.requests.requests)) }
 {
     for request in node.requests().as_slice() {
-        if leaves_area(nodes, request) {
-            return Err(NotGathered);
-        }
-        add_request(nodes, node.rank(), request, parts)?;
-        add_load(node.rank(), request, loads);
+        add_request(nodes, node.rank(), request, parts, loads)?;
     }
     Ok(())
 }
 
-/// Adds a request of the node `caller` to the part of the node that it reaches.
+/// Adds a request of the node `caller` to the part of the node that it reaches, where it keeps to its area, and what it moves to the
+/// loads.
+// For speed: one look at what it asks for does all of it.
 fn add_request<A: Allocator + Copy>(
     nodes: &[Node<A>],
     caller: u32,
     request: &Request<A>,
     parts: &mut [Arrivals<A>],
-) -> Result<(), AllocError>
+    loads: &mut [Load],
+) -> Result<(), NotGathered>
     requires few { length nodes.now ≤ max_nodes }
     requires parts { length parts.old ≡ length nodes.now }
+    requires ranks { length loads.old ≡ length nodes.now }
     requires caller { caller < length nodes.now }
     requires target { target_of (asked request.now) < length nodes.now }
-    requires inside { leaves_area (states nodes.now) (asked request.now) ≡ false }
-    ensures { OnOk result (parts.new ≡ with_asked (states nodes.now) caller parts.old (asked request.now)) }
+    requires limit { size_of (asked request.now) ≤ 2 ^ 32 }
+    requires room { All (IsWithin (2 ^ 36)) loads.old }
+    ensures inside { OnOk result (leaves_area (states nodes.now) (asked request.now) ≡ false) }
+    ensures ok { OnOk result (parts.new ≡ with_asked (states nodes.now) caller parts.old (asked request.now)) }
+    ensures loads { OnOk result (loads.new ≡ with_transfer loads.old (transfer caller (asked request.now))) }
 {
     match request {
-        Request::Put(put) => { add_put(nodes, put.target, put.slot, put.offset, &put.bytes, parts) }
-        Request::Get(get) => add_get(nodes, caller, get, parts),
-        Request::Send(message) => add_message(caller as u16, message, parts),
+        Request::Put(put) => {
+            let (target, len) = (put.target, put.bytes.len());
+            if is_outside(nodes, target, put.slot, put.offset, len) {
+                return Err(NotGathered);
+            }
+            add_put(nodes, target, put.slot, put.offset, &put.bytes, parts)?;
+            add_transfer(caller as usize, target as usize, len as u64, 0, loads);
+        }
+        Request::Get(get) => {
+            let (target, len) = (get.target, get.len);
+            if is_outside(nodes, target, get.slot, get.offset, len as usize) {
+                return Err(NotGathered);
+            }
+            add_get(nodes, caller, get, parts)?;
+            add_transfer(target as usize, caller as usize, u64::from(len), 0, loads);
+        }
+        Request::Send(message) => {
+            let len = (message.tag.len() + message.payload.len()) as u64;
+            let target = message.target as usize;
+            add_message(caller as u16, message, parts)?;
+            add_transfer(caller as usize, target, len, 1, loads);
+        }
     }
+    Ok(())
 }
 
 /// Adds a put to its target's part.

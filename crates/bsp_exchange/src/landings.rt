@@ -80,6 +80,13 @@ impl<A: Allocator + Copy> Landings<A> {
         Ok(())
     }
 
+    /// Whether nothing waits.
+    pub(crate) fn is_empty(&self) -> bool
+        ensures { IsTrue result → self.now ≡ [] }
+    {
+        self.ranges.is_empty()
+    }
+
     /// How many bytes wait.
     #[tactic(auto, using(crate::proofs::Patches::bytes_waiting))]
     pub(crate) fn len(&self) -> usize

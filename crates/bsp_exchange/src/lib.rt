@@ -44,6 +44,7 @@ mod part;
 mod planning;
 mod puts;
 mod room;
+mod smalls;
 mod span;
 mod sync;
 mod traffic;

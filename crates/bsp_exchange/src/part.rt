@@ -1,6 +1,6 @@
 //! The part of an exchange that one node receives.
 
-ghost use Rattle.std.specs.Prelude.{◌≡◌, ◌<◌, ◌^◌, OnOk};
+ghost use Rattle.std.specs.Prelude.{◌≡◌, ◌+◌, ◌<◌, ◌^◌, OnOk};
 ghost use Rattle.node_memory.specs.Pages.{KeepsOwn};
 ghost use Rattle.bsp_requests.specs.Inbox.{IsQueue};
 ghost use Rattle.bsp_exchange.specs.Arrivals.{Received, part_from};
@@ -32,7 +32,7 @@ pub struct Plan<A: Allocator> {
 }
 
 impl<A: Allocator> Model for Part<A> {
-    ghost use Rattle.std.specs.Prelude.{◌++◌, ◌<◌, ◌^◌};
+    ghost use Rattle.std.specs.Prelude.{◌++◌, ◌+◌, ◌<◌, ◌^◌};
     ghost use Rattle.bsp_requests.specs.Inbox.{IsQueue};
     ghost use Rattle.bsp_exchange.specs.Parts.{PartState, bytes_in};
 
@@ -45,14 +45,14 @@ impl<A: Allocator> Model for Part<A> {
       queue = p.arrivals.messages;
     } };
 
-    ghost invariant = { λ p. IsQueue p.arrivals.messages × (bytes_in p.arrivals.puts < 2 ^ 63) };
+    ghost invariant = { λ p. IsQueue p.arrivals.messages × (bytes_in p.arrivals.gets + bytes_in p.arrivals.puts < 2 ^ 63) };
 }
 
 impl<A: Allocator + Copy> Part<A> {
     /// The part of the node of a rank, at which this arrives.
     pub(crate) fn new(rank: u32, arrivals: Arrivals<A>) -> Part<A>
         requires queue { IsQueue arrivals.messages }
-        requires few { bytes_in arrivals.puts < 2 ^ 63 }
+        requires few { bytes_in arrivals.gets + bytes_in arrivals.puts < 2 ^ 63 }
         ensures { result ≡ part_from (rank, arrivals) }
     {
         Part {

@@ -1,7 +1,7 @@
 //! The plan of an exchange: all of it that takes memory or can be refused, and nothing that changes a node. What of it reads other
 //! nodes than the one at hand is a draft.
 
-ghost use Rattle.std.specs.Prelude.{◌≡◌, ◌^◌, ◌<◌, ◌≤◌, ◌↔◌, All, Some, IfOk, OnOk, OnErr, IsErrOf, length, map};
+ghost use Rattle.std.specs.Prelude.{◌≡◌, ◌+◌, ◌^◌, ◌<◌, ◌≤◌, ◌↔◌, All, Some, IfOk, OnOk, OnErr, IsErrOf, length, map};
 ghost use Rattle.std.specs.List.{AllZip, enumerate_from};
 ghost use Rattle.bsp_requests.specs.Inbox.{IsQueue};
 ghost use Rattle.node_core.specs.Hart.{max_nodes};
@@ -113,7 +113,7 @@ fn parts_from<A: Allocator + Copy>(
 ) -> Result<Vec<Part<A>, A>, AllocError>
     requires few { length arrivals.items ≤ max_nodes }
     requires queues { All (λ (r : Received). IsQueue r.messages) arrivals.items }
-    requires bytes { All (λ (r : Received). bytes_in r.puts < 2 ^ 63) arrivals.items }
+    requires bytes { All (λ (r : Received). bytes_in r.gets + bytes_in r.puts < 2 ^ 63) arrivals.items }
     ensures { IfOk result (λ parts. parts.items ≡ map part_from (enumerate_from 0 arrivals.items)) }
 {
     let mut parts = Vec::with_capacity(alloc, arrivals.len())?;

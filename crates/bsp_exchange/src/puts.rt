@@ -77,6 +77,13 @@ impl<A: Allocator + Copy> Puts<A> {
         self.patches[place].bytes.try_clone_from(bytes)
     }
 
+    /// Whether nothing waits.
+    pub(crate) fn is_empty(&self) -> bool
+        ensures { IsTrue result → self.now ≡ [] }
+    {
+        self.patches.is_empty()
+    }
+
     /// How many bytes wait. They are added up here, since most exchanges do without their sum.
     pub(crate) fn bytes(&self) -> u64
         requires { bytes_in self.now < 2 ^ 63 }

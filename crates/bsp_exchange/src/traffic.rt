@@ -1,12 +1,8 @@
 //! How much an exchange moves.
 
 ghost use Rattle.std.specs.Prelude.{◌≡◌, ◌^◌, ◌<◌, ◌≤◌, length, replicate, All, IfOk};
-ghost use Rattle.bsp_requests.specs.Request.{asked, size_of};
 ghost use Rattle.bsp_exchange.specs.Loads.{no_load, with_transfer, IsWithin, greatest};
-ghost use Rattle.bsp_exchange.specs.Parts.{target_of};
-ghost use Rattle.bsp_exchange.specs.Traffic.{transfer};
 
-use bsp_requests::Request;
 use std::alloc::{AllocError, Allocator};
 
 /// What an exchange moved.
@@ -49,41 +45,8 @@ pub(crate) fn no_loads<A: Allocator + Copy>(
     vec![in alloc; nothing; count]
 }
 
-/// Adds what a request of the node `caller` moves to the loads.
-pub(crate) fn add_load<A: Allocator + Copy>(caller: u32, request: &Request<A>, loads: &mut [Load])
-    requires caller { caller < length loads.old }
-    requires target { target_of (asked request.now) < length loads.old }
-    requires limit { size_of (asked request.now) ≤ 2 ^ 32 }
-    requires room { All (IsWithin (2 ^ 36)) loads.old }
-    ensures { loads.new ≡ with_transfer loads.old (transfer caller (asked request.now)) }
-{
-    match request {
-        Request::Put(put) => add_transfer(
-            caller as usize,
-            put.target as usize,
-            put.bytes.len() as u64,
-            0,
-            loads,
-        ),
-        Request::Get(get) => add_transfer(
-            get.target as usize,
-            caller as usize,
-            u64::from(get.len),
-            0,
-            loads,
-        ),
-        Request::Send(message) => add_transfer(
-            caller as usize,
-            message.target as usize,
-            (message.tag.len() + message.payload.len()) as u64,
-            1,
-            loads,
-        ),
-    }
-}
-
 /// Adds so many bytes, which go from one rank to another, or to itself, and so many messages with them, to the loads.
-fn add_transfer(from: usize, to: usize, bytes: u64, messages: u64, loads: &mut [Load])
+pub(crate) fn add_transfer(from: usize, to: usize, bytes: u64, messages: u64, loads: &mut [Load])
     requires from { from < length loads.old }
     requires to { to < length loads.old }
     requires limit { bytes ≤ 2 ^ 32 }

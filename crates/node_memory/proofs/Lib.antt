@@ -1,5 +1,6 @@
 pub mod Flat
 pub mod ImageBytes
+pub mod InPage
 pub mod Owned
 pub mod Shown
 pub mod Table

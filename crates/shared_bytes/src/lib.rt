@@ -5,7 +5,7 @@
 //! Contracts see it as the list of its bytes. That clones of the same bytes share memory is not proved.
 #![tactic(auto)]
 
-ghost use Rattle.std.specs.Prelude.{◌≡◌, ◌≤◌, ◌==◌, [], length, IfOk, IsOk, OnOk, OnErr};
+ghost use Rattle.std.specs.Prelude.{◌≡◌, ◌≤◌, ◌==◌, [], length, take, IfOk, IfSome, IsOk, OnOk, OnErr};
 
 use std::alloc::{AllocError, Allocator};
 use std::marker::Model;
@@ -84,6 +84,25 @@ impl<A: Allocator + Copy> SharedBytes<A> {
 }
 
 impl<A: Allocator> SharedBytes<A> {
+    /// The first `len` of some bytes, of which there are at least 22. No memory is taken.
+    // For speed: as many bytes are copied whatever `len` is, which takes no call.
+    #[inline(always)]
+    pub fn few_of(bytes: &[u8], len: usize) -> Self
+        requires few { len ≤ 22 }
+        requires room { 22 ≤ length bytes.now }
+        ensures { result ≡ take len bytes.now }
+    {
+        let mut room = [0; 22];
+        room.copy_from_slice(&bytes[..MOST_WITHIN]);
+        let within = Within {
+            len: len as u8,
+            room,
+        };
+        SharedBytes {
+            held: Held::Within(within),
+        }
+    }
+
     /// No bytes. No memory is taken.
     #[inline]
     pub fn empty() -> Self
@@ -136,6 +155,26 @@ impl<A: Allocator> SharedBytes<A> {
         match &self.held {
             Held::Within(within) => &within.room[..within.len as usize],
             Held::Shared(bytes) => bytes.as_slice(),
+        }
+    }
+
+    /// Where they are at most 16, sixteen bytes of which they are the first, and how many they are.
+    // For speed: a value of a known size is copied without a call.
+    #[inline(always)]
+    pub fn within_16(&self) -> Option<([u8; 16], u32)>
+        ensures first { IfSome result (λ few. take few.1 few.0 ≡ self.now) }
+        ensures most { IfSome result (λ few. few.1 ≤ 16) }
+    {
+        match &self.held {
+            Held::Within(within) => {
+                if within.len > 16 {
+                    return None;
+                }
+                let mut few = [0; 16];
+                few.copy_from_slice(&within.room[..16]);
+                Some((few, u32::from(within.len)))
+            }
+            Held::Shared(_) => None,
         }
     }
 

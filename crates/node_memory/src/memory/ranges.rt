@@ -1,12 +1,15 @@
 //! What is read by ranges, page by page.
 
-ghost use Rattle.std.specs.Prelude.{◌≡◌, ◌++◌, false, IsTrue, length, OnOk, OnErr, IfOk, IfSome, IsErrOf, ◌↔◌};
+ghost use Rattle.std.specs.Prelude.{◌≡◌, ◌≤◌, ◌++◌, false, IsTrue, length, take, OnOk, OnErr, IfOk, IfSome, IsErrOf, ◌↔◌};
 ghost use Rattle.node_memory.specs.Bytes.{fits, bytes_at};
 
 use super::{Memory, ReadError};
 use crate::page::PAGE;
 use shared_bytes::SharedBytes;
 use std::alloc::{AllocError, Allocator};
+
+/// As many bytes as a [`SharedBytes`] has in the value itself.
+const FEW: usize = 22;
 
 impl<A: Allocator> Memory<A> {
     /// Appends a copy of the `len` bytes from `addr` on, which lie in the memory, to `bytes`.
@@ -24,7 +27,7 @@ impl<A: Allocator> Memory<A> {
         ensures err { OnErr result (bytes.new.items ≡ bytes.old.items) }
     {
         match self.within_page(addr, len) {
-            Some(part) => bytes.extend_from_slice(part),
+            Some(part) => append(bytes, part),
             None => self.append_pages(addr, len, bytes),
         }
     }
@@ -37,6 +40,26 @@ impl<A: Allocator> Memory<A> {
         let (at, len) = (addr as usize, len as usize);
         if len != 0 && at % PAGE + len <= PAGE {
             Some(self.window(at, len))
+        } else {
+            None
+        }
+    }
+
+    /// Sixteen bytes of which the first are the `len` bytes from `addr` on, which lie in the memory: where these are some and at most 16, and
+    /// stand at least 16 before the end of their page.
+    // For speed: a value of a known size is copied without a call.
+    #[inline(always)]
+    pub fn read_16(&self, addr: u32, len: u32) -> Option<[u8; 16]>
+        requires { IsTrue (fits (length self.now.bytes) addr len) }
+        ensures first { IfSome result (λ few. take len few ≡ bytes_at self.now.bytes addr len) }
+        ensures most { IfSome result (λ few. len ≤ 16) }
+    {
+        let _ = &self.pages;
+        let at = addr as usize;
+        if len != 0 && len <= 16 && at % PAGE <= PAGE - 16 {
+            let mut few = [0; 16];
+            few.copy_from_slice(self.window(at, 16));
+            Some(few)
         } else {
             None
         }
@@ -69,6 +92,7 @@ impl<A: Allocator> Memory<A> {
 
 impl<A: Allocator + Copy> Memory<A> {
     /// A copy of the `len` bytes from `addr` on, which can be shared.
+    #[inline]
     pub fn read_range(&self, addr: u32, len: u32) -> Result<SharedBytes<A>, ReadError>
         ensures within { OnOk result (IsTrue (fits (length self.now.bytes) addr len)) }
         ensures ok { IfOk result (λ v. v ≡ bytes_at self.now.bytes addr len) }
@@ -77,11 +101,54 @@ impl<A: Allocator + Copy> Memory<A> {
         if !self.fits(addr, len) {
             return Err(ReadError::Outside);
         }
+        match self.read_few(addr, len) {
+            Some(bytes) => Ok(bytes),
+            None => Ok(self.read_more(addr, len)?),
+        }
+    }
+
+    /// The `len` bytes from `addr` on, which lie in the memory, where they are few, and stand so far before the end of their page that as
+    /// many as few may be do.
+    #[inline(always)]
+    fn read_few(&self, addr: u32, len: u32) -> Option<SharedBytes<A>>
+        requires { IsTrue (fits (length self.now.bytes) addr len) }
+        ensures { IfSome result (λ v. v ≡ bytes_at self.now.bytes addr len) }
+    {
+        let _ = &self.pages;
+        let (at, len) = (addr as usize, len as usize);
+        if len != 0 && len <= FEW && at % PAGE <= PAGE - FEW {
+            Some(SharedBytes::few_of(self.window(at, FEW), len))
+        } else {
+            None
+        }
+    }
+
+    /// What `read_range` does with more bytes than few, or near the end of a page.
+    #[inline(never)]
+    fn read_more(&self, addr: u32, len: u32) -> Result<SharedBytes<A>, AllocError>
+        requires { IsTrue (fits (length self.now.bytes) addr len) }
+        ensures { IfOk result (λ v. v ≡ bytes_at self.now.bytes addr len) }
+    {
         if let Some(part) = self.within_page(addr, len) {
-            return Ok(SharedBytes::from_slice(self.alloc, part)?);
+            return SharedBytes::from_slice(self.alloc, part);
         }
         let mut bytes = Vec::new(self.alloc);
         self.append_pages(addr, len, &mut bytes)?;
-        Ok(SharedBytes::from_vec(bytes)?)
+        SharedBytes::from_vec(bytes)
+    }
+}
+
+/// Appends a copy of `part`.
+// For speed: what most requests move has one of a few sizes, and bytes whose number is known are copied without a call.
+#[inline(always)]
+fn append<B: Allocator>(bytes: &mut Vec<u8, B>, part: &[u8]) -> Result<(), AllocError>
+    ensures ok { OnOk result (bytes.new.items ≡ bytes.old.items ++ part.now) }
+    ensures err { OnErr result (bytes.new.items ≡ bytes.old.items) }
+{
+    match part.len() {
+        4 => bytes.extend_from_slice(&part[..4]),
+        8 => bytes.extend_from_slice(&part[..8]),
+        16 => bytes.extend_from_slice(&part[..16]),
+        _ => bytes.extend_from_slice(part),
     }
 }

@@ -37,7 +37,8 @@ impl<A: Allocator + Copy> Memory<A> {
         Ok(laid.share(alloc)?)
     }
 
-    /// A memory of the same bytes, of which no page is its own: the pages of this memory's own are copied.
+    /// A memory of the same bytes, of which no page is its own: the pages of this memory's own are copied, and the others shared. So it
+    /// takes a word or two for each page, and a page for each of this memory's own.
     pub fn share(&self, alloc: A) -> Result<Memory<A>, AllocError>
         ensures { IfOk result (λ m. m ≡ record { bytes = self.now.bytes; own = none_own (length self.now.bytes) }) }
     {

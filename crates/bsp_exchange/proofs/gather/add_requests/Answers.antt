@@ -29,32 +29,25 @@ loop-request-preserved g c =
     let r = asked c.request-item.result in
     let lent = c.as_slice-request-items.ensures ∙ ap (λ (q : Requests). q.requests) c.requests.ensures.value in
     let is = asked_here n.hart.communication.requests.requests c.as_slice-request-items.result.now i c.request-item.result lent c.loop-request-test.true c.request-item.is in
-    let new = c.in_ok-add_request.ensures ∙ ap (λ k. with_asked nodes k parts r) c.rank.ensures in
+    let added = c.in_ok-add_request.ensures in
+    let new = added.ok ∙ ap (λ k. with_asked nodes k parts r) c.rank.ensures in
     record {
       size = c.add_request.auto.parts ∙ c.loop-request.invariant.size;
-      inside = sym (keeps_here nodes n i r is (sym c.leaves_area.ensures ∙ c.if-leaves_area.false)) ∙ c.loop-request.invariant.inside;
+      inside = sym (keeps_here nodes n i r is added.inside) ∙ c.loop-request.invariant.inside;
       same = ap (λ (ps : List Received). with_issued nodes ps (issued_from n (i + 1))) new ∙ sym (gathered_here nodes parts n i r is) ∙ c.loop-request.invariant.same;
-      added = next_transfer c.args.loads.now c.loop-request.loads c.add_load.new.loads n.hart.rank n.hart.communication.requests.requests i r c.loop-request.invariant.added is (c.add_load.ensures ∙ ap (λ k. with_transfer c.loop-request.loads (transfer k r)) c.rank-in-loop-request.ensures);
+      added = next_transfer c.args.loads.now c.loop-request.loads c.add_request.new.loads n.hart.rank n.hart.communication.requests.requests i r c.loop-request.invariant.added is (added.loads ∙ ap (λ k. with_transfer c.loop-request.loads (transfer k r)) c.rank.ensures);
     }
 
-pub add_load-requires-clause-target : goal.add_load-requires-clause-target
-add_load-requires-clause-target g c =
-    let i = c.loop-request.request-index in
-    let n = c.args.node.now.node in
-    let lent = c.as_slice-request-items.ensures ∙ ap (λ (q : Requests). q.requests) c.requests.ensures.value in
-    let is = asked_here n.hart.communication.requests.requests c.as_slice-request-items.result.now i c.request-item.result lent c.loop-request-test.true c.request-item.is in
-    rw (c.loop-request.auto.loads ∙ c.requires.ranks) (rw (← c.requires.count) (target_there n i (asked c.request-item.result) c.requests.ensures.sound is))
-
-pub add_load-requires-clause-limit : goal.add_load-requires-clause-limit
-add_load-requires-clause-limit g c =
+pub add_request-requires-clause-limit : goal.add_request-requires-clause-limit
+add_request-requires-clause-limit g c =
     let i = c.loop-request.request-index in
     let n = c.args.node.now.node in
     let lent = c.as_slice-request-items.ensures ∙ ap (λ (q : Requests). q.requests) c.requests.ensures.value in
     let is = asked_here n.hart.communication.requests.requests c.as_slice-request-items.result.now i c.request-item.result lent c.loop-request-test.true c.request-item.is in
     size_within n.hart.communication.requests.requests i (asked c.request-item.result) (2 ^ 32) is (omega (arith, c.requests.ensures.sound.communication.requests.bytes))
 
-pub add_load-requires-clause-room : goal.add_load-requires-clause-room
-add_load-requires-clause-room g c =
+pub add_request-requires-clause-room : goal.add_request-requires-clause-room
+add_request-requires-clause-room g c =
     let i = c.loop-request.request-index in
     let n = c.args.node.now.node in
     let rs = n.hart.communication.requests.requests in

@@ -25,7 +25,8 @@
 //! - Code is decoded once: the pages that the image's bytes reach, when its first node is made, for that node and all that share with
 //!   it. A node steps over what was decoded for as long as a page is not its own, and this shows in no contract: whoever writes into
 //!   code runs what it wrote, at once.
-//! - [`Node::share`] gives the node of another rank, whose memory shares the pages of this one.
+//! - [`Node::try_clone`] gives the same node once more, and [`Node::share`] that of another rank. The memories share their pages, and
+//!   what one of the nodes does shows in none of the others.
 //! - Room for the turn of the registrations, once made, stands until a step pushes or pops.
 //! - At the end of a superstep [`Node::prepare_turn`] makes that room, and [`Node::prepare_land`] makes the pages of a range
 //!   the node's own; both may be refused. Then [`Node::land`] writes what an exchange brings, and [`Node::finish_turn`] begins
@@ -84,6 +85,7 @@ mod entry;
 mod hart;
 pub mod laws;
 mod node;
+mod operands;
 mod state;
 
 pub use call::Call;

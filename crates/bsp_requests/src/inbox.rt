@@ -1,9 +1,9 @@
-ghost use Rattle.std.specs.Prelude.{◌≡◌, ◌^◌, ◌<◌, length, drop, All, option_copied, slice_get};
+ghost use Rattle.std.specs.Prelude.{◌≡◌, ◌^◌, ◌<◌, ◌++◌, length, drop, All, IfOk, OnOk, option_copied, slice_get};
 ghost use Rattle.bsp_requests.specs.Inbox.{payload_bytes, IsQueue};
 ghost use Rattle.bsp_requests.specs.Message.{IsShort};
 
 use shared_bytes::SharedBytes;
-use std::alloc::Allocator;
+use std::alloc::{AllocError, Allocator};
 use std::collections::VecDeque;
 use std::marker::Model;
 
@@ -22,6 +22,19 @@ impl<A: Allocator> Model for Message<A> {
     ghost Value = { MessageValue };
 
     ghost view = { λ m. record { sender = m.sender; tag = m.tag; payload = m.payload } };
+}
+
+impl<A: Allocator> Message<A> {
+    /// The same message, which shares its bytes.
+    fn try_clone(&self) -> Result<Self, AllocError>
+        ensures { IfOk result (λ m. m ≡ self.now) }
+    {
+        Ok(Message {
+            sender: self.sender,
+            tag: self.tag.try_clone()?,
+            payload: self.payload.try_clone()?,
+        })
+    }
 }
 
 /// The messages that a node has not read yet, in order (the queue of BSPlib's bulk synchronous messages): fewer than 2^32,
@@ -60,6 +73,23 @@ impl<A: Allocator> Inbox<A> {
             messages: VecDeque::from_vec(messages),
             bytes,
         }
+    }
+
+    /// The same messages. It costs a few words for each of them, whose bytes are shared.
+    ///
+    /// # Errors
+    /// Where memory is refused.
+    pub fn try_clone(&self, alloc: A) -> Result<Self, AllocError>
+        ensures { IfOk result (λ i. i ≡ self.now) }
+    {
+        let (front, back) = self.messages.as_slices();
+        let mut messages = Vec::with_capacity(alloc, self.messages.len())?;
+        append_clones(front, &mut messages)?;
+        append_clones(back, &mut messages)?;
+        Ok(Inbox {
+            messages: VecDeque::from_vec(messages),
+            bytes: self.bytes,
+        })
     }
 
     pub fn count(&self) -> usize
@@ -104,4 +134,17 @@ fn payload_sum<A: Allocator>(messages: &[Message<A>]) -> u64
     ensures { result ≡ payload_bytes messages.now }
 {
     messages.iter().map(|m| m.payload.len() as u64).sum()
+}
+
+/// Appends the same messages.
+fn append_clones<A: Allocator>(
+    messages: &[Message<A>],
+    clones: &mut Vec<Message<A>, A>,
+) -> Result<(), AllocError>
+    ensures { OnOk result (clones.new.items ≡ clones.old.items ++ messages.now) }
+{
+    for message in messages {
+        clones.push(message.try_clone()?)?;
+    }
+    Ok(())
 }

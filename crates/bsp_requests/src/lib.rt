@@ -10,7 +10,7 @@
 //!   number in the superstep.
 //! - A request or an output that would pass [`MAX_REQUESTS`] or [`MAX_BYTES`] is refused as [`AddError::TooMuch`],
 //!   before any memory is asked for. A refused call changes nothing.
-//! - Only the four calls that add take memory. All else, an inbox too, works on the memory that it was given.
+//! - Only the four calls that add and those that copy take memory. All else, an inbox too, works on the memory that it was given.
 //!
 //! An add takes amortised constant time, beside the bytes that it copies. Taking the first message of an inbox takes
 //! constant time.

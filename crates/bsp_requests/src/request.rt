@@ -1,7 +1,7 @@
-ghost use Rattle.std.specs.Prelude.{◌≡◌, ◌-◌, ◌^◌, min};
+ghost use Rattle.std.specs.Prelude.{◌≡◌, ◌-◌, ◌^◌, min, IfOk};
 
 use shared_bytes::SharedBytes;
-use std::alloc::Allocator;
+use std::alloc::{AllocError, Allocator};
 use std::marker::Model;
 
 /// Bytes for a registered area of another node, copied when the put was issued (BSPlib's `bsp_put`).
@@ -22,6 +22,20 @@ impl<A: Allocator> Model for Put<A> {
     ghost Value = { PutValue };
 
     ghost view = { λ p. record { target = p.target; slot = p.slot; offset = p.offset; bytes = p.bytes } };
+}
+
+impl<A: Allocator> Put<A> {
+    /// The same put, which shares its bytes.
+    fn try_clone(&self) -> Result<Self, AllocError>
+        ensures { IfOk result (λ p. p ≡ self.now) }
+    {
+        Ok(Put {
+            target: self.target,
+            slot: self.slot,
+            offset: self.offset,
+            bytes: self.bytes.try_clone()?,
+        })
+    }
 }
 
 /// A request for bytes of a registered area of another node (BSPlib's `bsp_get`).
@@ -56,6 +70,19 @@ impl<A: Allocator> Model for Outgoing<A> {
     ghost view = { λ s. record { target = s.target; tag = s.tag; payload = s.payload } };
 }
 
+impl<A: Allocator> Outgoing<A> {
+    /// The same message, which shares its bytes.
+    fn try_clone(&self) -> Result<Self, AllocError>
+        ensures { IfOk result (λ s. s ≡ self.now) }
+    {
+        Ok(Outgoing {
+            target: self.target,
+            tag: self.tag.try_clone()?,
+            payload: self.payload.try_clone()?,
+        })
+    }
+}
+
 /// What a node asks of the exchange at the end of the superstep.
 #[derive(Drop)]
 pub enum Request<A: Allocator> {
@@ -66,6 +93,18 @@ pub enum Request<A: Allocator> {
 
 impl<A: Allocator> Request<A> {
     ghost use Rattle.bsp_requests.specs.Request.{asked, size_of};
+
+    /// The same request, which shares its bytes.
+    pub(crate) fn try_clone(&self) -> Result<Self, AllocError>
+        ensures { IfOk result (λ r. asked r ≡ asked self.now) }
+    {
+        let request = match self {
+            Request::Put(put) => Request::Put(put.try_clone()?),
+            Request::Get(get) => Request::Get(*get),
+            Request::Send(message) => Request::Send(message.try_clone()?),
+        };
+        Ok(request)
+    }
 
     /// The bytes that it counts, or the greatest `u64` where there are more.
     pub(crate) fn size(&self) -> u64

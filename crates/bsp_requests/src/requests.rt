@@ -1,4 +1,4 @@
-ghost use Rattle.std.specs.Prelude.{◌≡◌, ◌≤◌, ◌↔◌, length, map, IsTrue, IsErrOf, OnOk, OnErr, option_map, option_copied, slice_get};
+ghost use Rattle.std.specs.Prelude.{◌≡◌, ◌≤◌, ◌↔◌, length, map, IsTrue, IsErrOf, IfOk, OnOk, OnErr, option_map, option_copied, slice_get};
 ghost use Rattle.bsp_requests.specs.Request.{asked, asks_put, asks_get, asks_send};
 ghost use Rattle.bsp_requests.specs.Requests.{no_requests, with_request, with_output, total_bytes, max_requests, max_bytes, are_too_many, is_full_for, is_too_much};
 ghost use Rattle.bsp_requests.specs.declared.requests.AddError.TheVariants.{NoMemory};
@@ -69,6 +69,25 @@ impl<A: Allocator + Copy> Requests<A> {
             output: Vec::new(alloc),
             bytes: 0,
         }
+    }
+
+    /// The same requests and the same output. It costs a few words for each request and a copy of the output: the bytes of puts and
+    /// messages are shared.
+    ///
+    /// # Errors
+    /// Where memory is refused.
+    pub fn try_clone(&self, alloc: A) -> Result<Self, AllocError>
+        ensures { IfOk result (λ r. r ≡ self.now) }
+    {
+        let mut requests = Vec::with_capacity(alloc, self.requests.len())?;
+        for request in self.requests.as_slice() {
+            requests.push(request.try_clone()?)?;
+        }
+        Ok(Requests {
+            requests,
+            output: Vec::from_slice(alloc, &self.output)?,
+            bytes: self.bytes,
+        })
     }
 }
 
@@ -164,6 +183,8 @@ impl<A: Allocator> Requests<A> {
         self.bytes = 0;
     }
 
+    // For speed: it stands where it is called, so that a request is written once, into its place in the list.
+    #[inline(always)]
     fn add(&mut self, request: Request<A>) -> Result<(), AddError>
         ensures ok { OnOk result (self.new ≡ with_request self.old (asked request)) }
         ensures too_much { IsErrOf result AddError.TooMuch ↔ IsTrue (is_too_much self.old (asked request)) }

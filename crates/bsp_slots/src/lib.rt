@@ -14,8 +14,8 @@
 //!   have in common, since all make the same sequence of pushes and pops ([`Slots::same_shape`]), each with addresses
 //!   and sizes of its own.
 //! - A refused call changes nothing, and a refusal that no want of memory causes comes before any memory is asked for.
-//! - Only [`Slots::push`], [`Slots::pop`] and [`Slots::prepare_turn`] take memory. [`Slots::turn`] uses the room that
-//!   [`Slots::prepare_turn`] made.
+//! - Only [`Slots::push`], [`Slots::pop`], [`Slots::prepare_turn`] and [`Slots::try_clone`] take memory. [`Slots::turn`] uses
+//!   the room that [`Slots::prepare_turn`] made.
 //!
 //! A push takes amortised constant time. A pop and a search scan a list of at most [`MAX_ENTRIES`] entries.
 #![tactic(auto)]

@@ -1,4 +1,4 @@
-ghost use Rattle.std.specs.Prelude.{◌≡◌, ◌↔◌, length, slice_get, false, true, IsTrue, IsNone, IsSomeAnd, OnOk, OnErr, IsErrOf};
+ghost use Rattle.std.specs.Prelude.{◌≡◌, ◌↔◌, length, slice_get, false, true, IsTrue, IsNone, IsSomeAnd, IfOk, OnOk, OnErr, IsErrOf};
 ghost use Rattle.bsp_slots.specs.Area.{last_position};
 ghost use Rattle.bsp_slots.specs.Registrations.{no_registrations, next_list, is_full, pushed, popped, turned, HasSameShape, IsSound};
 
@@ -85,6 +85,22 @@ impl<A: Allocator + Copy> Slots<A> {
             pushes: 0,
             ready: false,
         }
+    }
+
+    /// The same registrations, for whose turn no room is made. It costs a copy of both lists and of this superstep's pushes and pops.
+    ///
+    /// # Errors
+    /// Where memory is refused.
+    pub fn try_clone(&self, alloc: A) -> Result<Self, AllocError>
+        ensures { IfOk result (λ s. s ≡ record self.now { ready = false }) }
+    {
+        Ok(Slots {
+            in_effect: Vec::from_slice(alloc, &self.in_effect)?,
+            next: Vec::from_slice(alloc, &self.next)?,
+            changes: Vec::from_slice(alloc, &self.changes)?,
+            pushes: self.pushes,
+            ready: false,
+        })
     }
 
     /// Registers `area` from the next superstep on.

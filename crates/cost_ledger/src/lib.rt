@@ -7,7 +7,7 @@
 //!
 //! Callers may rely on this:
 //!
-//! - A refused [`add`](Ledger::add) or [`prepare`](Ledger::prepare) changes nothing. No other call takes memory.
+//! - A refused [`add`](Ledger::add) or [`prepare`](Ledger::prepare) changes nothing. Beside them only copies and lines take memory.
 //! - After `prepare` a row can be added without being refused, by [`add_prepared`](Ledger::add_prepared).
 //! - A total is exact: under the conditions of `add` no sum of costs passes 128 bits.
 //! - The lines that tell of rows are those of the definitions ([`cost_lines`], [`Ledger::lines`]).
@@ -81,6 +81,19 @@ impl<A: Allocator> Ledger<A> {
             rows: Vec::new(alloc),
             ready: false,
         }
+    }
+
+    /// The same rows, with no room made for another. It costs a copy of the rows.
+    ///
+    /// # Errors
+    /// Where memory is refused.
+    pub fn try_clone(&self, alloc: A) -> Result<Self, AllocError>
+        ensures { IfOk result (λ l. l ≡ record self.now { ready = false }) }
+    {
+        Ok(Ledger {
+            rows: Vec::from_slice(alloc, &self.rows)?,
+            ready: false,
+        })
     }
 
     /// Appends a row.

@@ -6,7 +6,7 @@ use Rattle.std.specs.Option.{option_map_or}
 use Rattle.std.proofs.Math.Seq.{drop-cons}
 use Rattle.std.specs.Ordering.{ord_max}
 use Rattle.std.proofs.lemmas.Grind.{common_steps, flat_map-append}
-use Rattle.std.proofs.lemmas.List.{map-append, map-set, map_more, take_more, length-map, length-take-le, take_all, drop_all}
+use Rattle.std.proofs.lemmas.List.{map-append, map-set, map_more, map_push, take_more, length-map, length-take-le, take_all, drop_all}
 use Rattle.std.proofs.lemmas.Option.{slice_get-map, slice_get_read, slice_get_past}
 use Rattle.node_memory.specs.Pages.{KeepsOwn}
 use Rattle.node_core.specs.Node.{NodeState, PreparedNode, is_running, local_step, local_steps}
@@ -97,6 +97,14 @@ module _ (input : List ℕ) (ps : List PreparedNode) (rank : ℕ) (p q : Prepare
 
   pub found-old : slice_get (states ps) rank ≡ Some (get_or ps rank p).node
   found-old = state_at_place ps rank p within is ∙ ap (λ (x : PreparedNode). Some x.node) is
+
+-- one more of a row of other nodes in the same states
+pub states-more : (ps before now : List PreparedNode) (i : ℕ) (p q : PreparedNode) → i < length ps → p ≡ get_or ps i p → states before ≡ states (take i ps) → now ≡ before ++ q ∷ [] → q.node ≡ p.node → states now ≡ states (take (i + 1) ps)
+states-more ps before now i p q within is so_far more same =
+    ap states more
+    ∙ map_push (λ (x : PreparedNode). x.node) before q
+    ∙ ap₂ (λ (ns : List NodeState) (n : NodeState). ns ++ n ∷ []) so_far (same ∙ ap (λ (x : PreparedNode). x.node) is)
+    ∙ sym (map_more (λ (x : PreparedNode). x.node) ps i p within)
 
 -- no node is past the row's end
 pub none_past : (ps : List PreparedNode) (rank : ℕ) → length ps ≤ rank → slice_get (states ps) rank ≡ None

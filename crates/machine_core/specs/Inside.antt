@@ -8,7 +8,7 @@ use Rattle.machine_core.specs.Machine.{MachineState}
 abbrev pub machine_view : {A : Type 0} → Inside A → MachineState
 machine_view m = record {
   settings = m.settings;
-  input = m.input.items;
+  input = m.input;
   nodes = states m.nodes.items;
   started = m.started.items;
   output = m.output.items;
@@ -20,7 +20,7 @@ machine_view m = record {
 abbrev pub lender_view : {A : Type 0} → LenderInside A → MachineState
 lender_view m = record {
   settings = m.settings;
-  input = m.input.items;
+  input = m.input;
   nodes = states m.lent.value.items;
   started = m.started.items;
   output = m.output.items;

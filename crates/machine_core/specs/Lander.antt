@@ -15,7 +15,7 @@ lander_view m = m.before.value
 abbrev pub kept : {A : Type 0} → Inside A → MachineState
 kept m = record {
   settings = m.settings;
-  input = m.input.items;
+  input = m.input;
   nodes = m.before.value.nodes;
   started = m.started.items;
   output = m.output.items;

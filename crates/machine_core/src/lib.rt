@@ -11,11 +11,14 @@
 //! - A machine is always sound, as `IsSoundMachine` says.
 //! - [`Machine::apply`] makes an event, or changes nothing where it is not enabled. [`Machine::run_plain`] leaves the machine at its
 //!   end, and [`Machine::run_phase_plain`] at the end of its nodes' local parts.
-//! - Only these three, [`Machine::run_node`], [`Machine::run_node_traced`], [`Machine::turn`], [`Machine::begin_turn`] and
-//!   [`Machine::new`] take memory, and after the outcome none of them but `new` does. An event that is refused memory has changed nothing of the record. A run that is refused keeps
-//!   the events that it made, and the call made again leaves what it would have left.
+//! - Only these three, [`Machine::run_node`], [`Machine::run_node_traced`], [`Machine::turn`], [`Machine::begin_turn`],
+//!   [`Machine::new`] and [`Machine::try_clone`] take memory, and after the outcome none of them but the last two does. An event that is
+//!   refused memory has changed nothing of the record. A run that is refused keeps the events that it made, and the call made again
+//!   leaves what it would have left.
 //! - [`Machine::new`] lays the image once: the memory of rank 0 has it, and those of the others begin as shares of that one. A node gets
 //!   a copy of a page when it first writes there. No clause says that pages are shared; the record has bytes alone.
+//! - [`Machine::try_clone`] gives the same machine once more. Nothing that is done with one of the two shows in the other, though their
+//!   nodes share pages; so a state can be kept, and the machine be put back into it.
 //! - [`Machine::lend`] hands out the nodes by value, for threads to step. The [`Lender`] that stays takes them back, each some steps of
 //!   its own further, and nothing else of the machine has changed then. Neither takes memory, and a row that was lent cannot be
 //!   lost: a `Lender` has no other end.

@@ -20,6 +20,7 @@ use crate::start::start_nodes;
 use cost_ledger::Ledger;
 use node_core::Node;
 use node_memory::Image;
+use shared_bytes::SharedBytes;
 use std::alloc::{AllocError, Allocator};
 use std::marker::Model;
 
@@ -41,7 +42,7 @@ pub use turn::{Begun, Landing};
 pub struct Machine<A: Allocator> {
     alloc: A,
     settings: Settings,
-    input: Vec<u8, A>,
+    input: SharedBytes<A>,
     nodes: Vec<Node<A>, A>,
     started: Vec<u64, A>,
     output: Vec<u8, A>,
@@ -88,7 +89,7 @@ impl<A: Allocator + Copy> Machine<A> {
         settings.check()?;
         let nodes = start_nodes(alloc, image, &settings)?;
         let started = vec![in alloc; 0u64; settings.nodes as usize]?;
-        let input = Vec::from_slice(alloc, input)?;
+        let input = SharedBytes::from_slice(alloc, input)?;
         Ok(Machine {
             alloc,
             settings,
@@ -99,6 +100,32 @@ impl<A: Allocator + Copy> Machine<A> {
             ledger: Ledger::new(alloc),
             exchanges: 0,
             outcome: None,
+        })
+    }
+
+    /// The same machine. What it does shows in the other one no more than in any other machine.
+    ///
+    /// The machines share the input and, until one of the two writes to a page, the pages of their nodes' memories. So a copy costs as
+    /// [`Node::try_clone`] for each node, and a copy of the output and the ledger: of the memory that was written since the start, or
+    /// since the machine was itself a copy, and of no other. The pages that were written stay this machine's own, and the next copy of
+    /// it would copy them again. Who makes copies of a machine on its way goes on with a copy of the copy, which shares all pages with
+    /// it.
+    ///
+    /// # Errors
+    /// Where memory is refused.
+    pub fn try_clone(&self) -> Result<Machine<A>, AllocError>
+        ensures { IfOk result (λ m. m ≡ self.now) }
+    {
+        Ok(Machine {
+            alloc: self.alloc,
+            settings: self.settings,
+            input: self.input.try_clone()?,
+            nodes: row::try_clone(self.alloc, &self.nodes)?,
+            started: Vec::from_slice(self.alloc, &self.started)?,
+            output: Vec::from_slice(self.alloc, &self.output)?,
+            ledger: self.ledger.try_clone(self.alloc)?,
+            exchanges: self.exchanges,
+            outcome: self.outcome,
         })
     }
 
@@ -128,7 +155,7 @@ impl<A: Allocator + Copy> Machine<A> {
         ensures err { OnErr result (self.new ≡ self.old) }
         ensures refuses { OnErr result (MayRefuseEvent self.old (step_of rank)) }
     {
-        row::step_at(&mut self.nodes, rank as usize, &self.input)
+        row::step_at(&mut self.nodes, rank as usize, self.input.as_slice())
     }
 
     /// Whether the turn makes the exchange; else it finds the outcome. Nothing is changed.
@@ -182,7 +209,7 @@ impl<A: Allocator + Copy> Machine<A> {
         ensures refuses { OnErr result (MayRefuseEvent self.new (step_of rank)) }
         ensures sound { IsSoundMachine self.old }
     {
-        row::run_at(&mut self.nodes, rank, most, &self.input)
+        row::run_at(&mut self.nodes, rank, most, self.input.as_slice())
     }
 
     /// Runs the machine to its outcome, superstep by superstep. After the outcome nothing is left to run.

@@ -45,6 +45,23 @@ pub(crate) fn step_at<A: Allocator + Copy>(
     Ok(true)
 }
 
+/// The same nodes.
+///
+/// # Errors
+/// Where memory is refused.
+pub(crate) fn try_clone<A: Allocator + Copy>(
+    alloc: A,
+    nodes: &[Node<A>],
+) -> Result<Vec<Node<A>, A>, AllocError>
+    ensures { IfOk result (λ row. states row.items ≡ states nodes.now) }
+{
+    let mut row = Vec::with_capacity(alloc, nodes.len())?;
+    for node in nodes {
+        row.push(node.try_clone(alloc)?)?;
+    }
+    Ok(row)
+}
+
 /// Makes at most `most` steps of the node of a rank, as long as it runs.
 ///
 /// # Errors

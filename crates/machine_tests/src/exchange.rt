@@ -92,7 +92,7 @@ impl<'h> Trial for Exchanges<'h> {
 fn a_refused_plan_can_be_made_again_and_lands(rt: HostRuntime) -> Result<(), Fail> {
     let heap = Heap::new(rt.alloc());
     let call = Exchanges { heap: &heap };
-    expect_requests(&rt, &heap, "plan, all kinds of requests", &call, 16)?;
+    expect_requests(&rt, &heap, "plan, all kinds of requests", &call, 18)?;
     let (mut row, mut other) = (call.subject()?, call.subject()?);
     row.exchange(&heap)?;
     assert!(rt; call.call(&mut other)? == Called::Made);

@@ -191,7 +191,7 @@ quit
 step
 ";
 
-// Lines of a framed session: those that it alone has, and one that has no reply.
+// Lines of a framed session: those that scripts do not have, and one that has no reply.
 const FRAMED_LINES: &str = "\
 break superstep 1
 go
@@ -199,11 +199,17 @@ nodes
 where
 where 1
 where 3
+keep
 go
 output 1
 output 3
 costs 3
 costs 5
+kept
+back 0
+where 1
+forget 0
+back 0
 
 quit
 ";
@@ -224,6 +230,8 @@ rank 1 pc 00000038 superstep 1 state running
 refused 1
 refused: BadRank
 done 1
+kept 0
+done 1
 ended
 done 1
 1
@@ -234,6 +242,16 @@ superstep 3: w 9 h 0 m 0 last
 total 341
 refused 1
 refused: BadRange
+done 1
+kept 0 superstep 1, ranks 0 to 1 pc 00000038 state running
+done 1
+ok
+done 1
+rank 1 pc 00000038 superstep 1 state running
+done 1
+ok
+refused 1
+refused: NoSuchKept
 done 0
 ";
 
@@ -275,49 +293,49 @@ static ROWS: [Row; 10] = [
         name: "session",
         kind: Runs,
         format: Format::Elf,
-        requests: 68,
+        requests: 69,
     },
     Row {
         name: "live_session",
         kind: Tells,
         format: Format::Elf,
-        requests: 68,
+        requests: 69,
     },
     Row {
         name: "profile_session",
         kind: Profiles,
         format: Format::Raw,
-        requests: 95,
+        requests: 96,
     },
     Row {
         name: "counts_session",
         kind: Counts,
         format: Format::Raw,
-        requests: 76,
+        requests: 77,
     },
     Row {
         name: "contested_session",
         kind: Contests,
         format: Format::Raw,
-        requests: 79,
+        requests: 80,
     },
     Row {
         name: "debug_session",
         kind: Debugs,
         format: Format::Raw,
-        requests: 111,
+        requests: 112,
     },
     Row {
         name: "debug_dialogue",
         kind: Talks,
         format: Format::Raw,
-        requests: 111,
+        requests: 112,
     },
     Row {
         name: "debug_framed",
         kind: Frames,
         format: Format::Raw,
-        requests: 122,
+        requests: 205,
     },
 ];
 

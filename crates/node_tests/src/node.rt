@@ -385,5 +385,5 @@ fn refused_nodes_can_be_made_again(rt: HostRuntime) -> Result<(), Fail> {
     let heap = &heap;
     let image = image(heap, SUPERSTEP, &[4, 0, 0, 0, 0, 0])?;
     let name = "Node::new, prepare_land and share, two nodes of 16 pages";
-    expect_requests(&rt, heap, name, &Starts { heap, image }, 58)
+    expect_requests(&rt, heap, name, &Starts { heap, image }, 60)
 }

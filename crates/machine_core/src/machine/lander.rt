@@ -12,6 +12,7 @@ use crate::row;
 use crate::settings::Settings;
 use cost_ledger::{CostRow, Ledger};
 use node_core::Node;
+use shared_bytes::SharedBytes;
 use std::alloc::Allocator;
 use std::marker::Model;
 use std::snapshot::Snapshot;
@@ -24,7 +25,7 @@ use std::snapshot::Snapshot;
 pub struct Lander<A: Allocator> {
     pub(super) alloc: A,
     pub(super) settings: Settings,
-    pub(super) input: Vec<u8, A>,
+    pub(super) input: SharedBytes<A>,
     pub(super) started: Vec<u64, A>,
     /// That of this superstep stands in it.
     pub(super) output: Vec<u8, A>,

@@ -9,6 +9,7 @@ use crate::outcome::Outcome;
 use crate::settings::Settings;
 use cost_ledger::Ledger;
 use node_core::Node;
+use shared_bytes::SharedBytes;
 use std::alloc::Allocator;
 use std::marker::Model;
 use std::snapshot::Snapshot;
@@ -20,7 +21,7 @@ use std::snapshot::Snapshot;
 pub struct Lender<A: Allocator> {
     alloc: A,
     settings: Settings,
-    input: Vec<u8, A>,
+    input: SharedBytes<A>,
     lent: Snapshot<Vec<Node<A>, A>>,
     started: Vec<u64, A>,
     output: Vec<u8, A>,

@@ -39,6 +39,6 @@ impl<A: Allocator + Copy> Machine<A> {
             × (self.new ≡ after self.old (replicate k (step_of rank)))) }
         ensures refuses { OnErr result (MayRefuseEvent self.new (step_of rank)) }
     {
-        row::run_traced_at(&mut self.nodes, rank, pcs, &self.input)
+        row::run_traced_at(&mut self.nodes, rank, pcs, self.input.as_slice())
     }
 }

@@ -9,14 +9,8 @@ index-requires g c =
     let made = length-first c.args.image.now c.args.settings.now c.loop-rank.nodes.items c.loop-rank.rank c.loop-rank.invariant.made in
     omega (arith, made, c.loop-rank.nodes.ok.0, c.loop-rank.invariant.some)
 
-pub share-requires-clause-fresh : goal.share-requires-clause-fresh
-share-requires-clause-fresh g c =
-    let made = length-first c.args.image.now c.args.settings.now c.loop-rank.nodes.items c.loop-rank.rank c.loop-rank.invariant.made in
-    let first = first_of c.args.image.now c.args.settings.now c.loop-rank.nodes.items c.loop-rank.rank c.index.result.now (omega (arith, c.loop-rank.invariant.some)) c.loop-rank.invariant.made (omega (arith, made, c.loop-rank.invariant.some)) c.index.ensures in
-    ap (λ (n : NodeState). n.ticks) first
-
-pub share-requires-clause-ranked : goal.share-requires-clause-ranked
-share-requires-clause-ranked g c =
+pub share-requires : goal.share-requires
+share-requires g c =
     let made = length-first c.args.image.now c.args.settings.now c.loop-rank.nodes.items c.loop-rank.rank c.loop-rank.invariant.made in
     let first = first_of c.args.image.now c.args.settings.now c.loop-rank.nodes.items c.loop-rank.rank c.index.result.now (omega (arith, c.loop-rank.invariant.some)) c.loop-rank.invariant.made (omega (arith, made, c.loop-rank.invariant.some)) c.index.ensures in
     rw (ap (λ (n : NodeState). n.hart.nprocs) first) c.loop-rank-test.true

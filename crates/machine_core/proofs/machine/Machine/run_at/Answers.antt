@@ -18,16 +18,16 @@ run_at-requires g c =
 pub invariant_of-self : goal.invariant_of-self
 invariant_of-self g c =
     let row = with_items_is c.self.inside.nodes c.run_at.new.nodes (omega arith) in
-    sound-steps (machine_view c.self.inside) c.deref.result.now (states c.deref_mut.result.now) (states c.run_at.new.nodes) _ c.args.rank
-    c.deref.ensures.value (ap states c.deref_mut.ensures.value) (ap states row)
+    sound-steps (machine_view c.self.inside) c.as_slice.result.now (states c.deref_mut.result.now) (states c.run_at.new.nodes) _ c.args.rank
+    c.as_slice.ensures (ap states c.deref_mut.ensures.value) (ap states row)
     c.run_at.result c.args.most c.self.invariant c.run_at.ensures.ok c.run_at.ensures.err
 
 pub returns-clause-ok : goal.returns-clause-ok
 returns-clause-ok g c =
     let row = with_items_is c.self.inside.nodes c.run_at.new.nodes (omega arith) in
     on_ok_weaker c.run_at.result
-    (λ made. with-steps (machine_view c.self.inside) c.deref.result.now (states c.deref_mut.result.now) (states c.run_at.new.nodes) _ c.args.rank
-    c.deref.ensures.value (ap states c.deref_mut.ensures.value) (ap states row) c.args.most made
+    (λ made. with-steps (machine_view c.self.inside) c.as_slice.result.now (states c.deref_mut.result.now) (states c.run_at.new.nodes) _ c.args.rank
+    c.as_slice.ensures (ap states c.deref_mut.ensures.value) (ap states row) c.args.most made
     ∙ ap (λ (m : MachineState). after m (steps_of c.args.rank c.args.most)) c.self.view_is)
     c.run_at.ensures.ok
 
@@ -38,8 +38,8 @@ returns-clause-err g c =
     (λ made. (
       made.0,
       made.1,
-      with-steps (machine_view c.self.inside) c.deref.result.now (states c.deref_mut.result.now) (states c.run_at.new.nodes) _ c.args.rank
-          c.deref.ensures.value (ap states c.deref_mut.ensures.value) (ap states row) made.0 made.2
+      with-steps (machine_view c.self.inside) c.as_slice.result.now (states c.deref_mut.result.now) (states c.run_at.new.nodes) _ c.args.rank
+          c.as_slice.ensures (ap states c.deref_mut.ensures.value) (ap states row) made.0 made.2
           ∙ ap (λ (m : MachineState). after m (steps_of c.args.rank made.0)) c.self.view_is,
     ))
     c.run_at.ensures.err
@@ -48,5 +48,5 @@ pub returns-clause-refuses : goal.returns-clause-refuses
 returns-clause-refuses g c =
     let row = with_items_is c.self.inside.nodes c.run_at.new.nodes (omega arith) in
     on_err_weaker c.run_at.result
-    (λ may. may_refuse c.deref.result.now _ (states c.run_at.new.nodes) _ c.args.rank c.deref.ensures.value (ap states row) may)
+    (λ may. may_refuse c.as_slice.result.now _ (states c.run_at.new.nodes) _ c.args.rank c.as_slice.ensures (ap states row) may)
     c.run_at.ensures.refuses

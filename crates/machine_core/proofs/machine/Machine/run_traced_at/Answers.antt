@@ -19,16 +19,16 @@ run_traced_at-requires g c =
 pub invariant_of-self : goal.invariant_of-self
 invariant_of-self g c =
     let row = with_items_is c.self.inside.nodes c.run_traced_at.new.nodes (omega arith) in
-    sound-steps (machine_view c.self.inside) c.deref.result.now (states c.deref_mut.result.now) (states c.run_traced_at.new.nodes) _ c.args.rank
-    c.deref.ensures.value (ap states c.deref_mut.ensures.value) (ap states row)
+    sound-steps (machine_view c.self.inside) c.as_slice.result.now (states c.deref_mut.result.now) (states c.run_traced_at.new.nodes) _ c.args.rank
+    c.as_slice.ensures (ap states c.deref_mut.ensures.value) (ap states row)
     c.run_traced_at.result (length c.args.pcs.now) c.self.invariant c.run_traced_at.ensures.ok c.run_traced_at.ensures.err
 
 pub returns-clause-ok : goal.returns-clause-ok
 returns-clause-ok g c =
     let row = with_items_is c.self.inside.nodes c.run_traced_at.new.nodes (omega arith) in
     on_ok_weaker c.run_traced_at.result
-    (λ made. with-steps (machine_view c.self.inside) c.deref.result.now (states c.deref_mut.result.now) (states c.run_traced_at.new.nodes) _ c.args.rank
-    c.deref.ensures.value (ap states c.deref_mut.ensures.value) (ap states row) (length c.args.pcs.now) made
+    (λ made. with-steps (machine_view c.self.inside) c.as_slice.result.now (states c.deref_mut.result.now) (states c.run_traced_at.new.nodes) _ c.args.rank
+    c.as_slice.ensures (ap states c.deref_mut.ensures.value) (ap states row) (length c.args.pcs.now) made
     ∙ ap (λ (m : MachineState). after m (steps_of c.args.rank (length c.args.pcs.now))) c.self.view_is)
     c.run_traced_at.ensures.ok
 
@@ -39,8 +39,8 @@ returns-clause-err g c =
     (λ made. (
       made.0,
       made.1,
-      with-steps (machine_view c.self.inside) c.deref.result.now (states c.deref_mut.result.now) (states c.run_traced_at.new.nodes) _ c.args.rank
-          c.deref.ensures.value (ap states c.deref_mut.ensures.value) (ap states row) made.0 made.2
+      with-steps (machine_view c.self.inside) c.as_slice.result.now (states c.deref_mut.result.now) (states c.run_traced_at.new.nodes) _ c.args.rank
+          c.as_slice.ensures (ap states c.deref_mut.ensures.value) (ap states row) made.0 made.2
           ∙ ap (λ (m : MachineState). after m (steps_of c.args.rank made.0)) c.self.view_is,
     ))
     c.run_traced_at.ensures.err
@@ -49,7 +49,7 @@ pub returns-clause-refuses : goal.returns-clause-refuses
 returns-clause-refuses g c =
     let row = with_items_is c.self.inside.nodes c.run_traced_at.new.nodes (omega arith) in
     on_err_weaker c.run_traced_at.result
-    (λ may. may_refuse c.deref.result.now _ (states c.run_traced_at.new.nodes) _ c.args.rank c.deref.ensures.value (ap states row) may)
+    (λ may. may_refuse c.as_slice.result.now _ (states c.run_traced_at.new.nodes) _ c.args.rank c.as_slice.ensures (ap states row) may)
     c.run_traced_at.ensures.refuses
 
 pub returns-clause-addresses : goal.returns-clause-addresses
@@ -58,6 +58,6 @@ returns-clause-addresses g c =
     let k = length c.args.pcs.now in
     if_ok_weaker c.run_traced_at.result _ _
     (λ made those. those
-    ∙ ap₂ (λ (i : List ℕ) (xs : List NodeState). next_addresses_at i rank k xs) c.deref.ensures.value (ap states c.deref_mut.ensures.value)
+    ∙ ap₂ (λ (i : List ℕ) (xs : List NodeState). next_addresses_at i rank k xs) c.as_slice.ensures (ap states c.deref_mut.ensures.value)
     ∙ ap (λ (m : MachineState). next_addresses_at m.input rank k m.nodes) c.self.view_is)
     c.run_traced_at.ensures.addresses

@@ -15,16 +15,16 @@ use Rattle.machine_core.proofs.machine.Machine.step.Goals as goal
 pub invariant_of-self : goal.invariant_of-self
 invariant_of-self g c =
     let row = with_items_is c.self.inside.nodes c.step_at.new.nodes (omega arith) in
-    sound-step (machine_view c.self.inside) c.deref.result.now (states c.deref_mut.result.now) (states c.step_at.new.nodes) _ c.args.rank
-    c.deref.ensures.value (ap states c.deref_mut.ensures.value) (ap states row)
+    sound-step (machine_view c.self.inside) c.as_slice.result.now (states c.deref_mut.result.now) (states c.step_at.new.nodes) _ c.args.rank
+    c.as_slice.ensures (ap states c.deref_mut.ensures.value) (ap states row)
     c.step_at.result c.self.invariant c.step_at.ensures.ok c.step_at.ensures.err
 
 pub returns-clause-ok : goal.returns-clause-ok
 returns-clause-ok g c =
     let row = with_items_is c.self.inside.nodes c.step_at.new.nodes (omega arith) in
     on_ok_weaker c.step_at.result
-    (λ made. with-step (machine_view c.self.inside) c.deref.result.now (states c.deref_mut.result.now) (states c.step_at.new.nodes) _ c.args.rank
-    c.deref.ensures.value (ap states c.deref_mut.ensures.value) (ap states row) made
+    (λ made. with-step (machine_view c.self.inside) c.as_slice.result.now (states c.deref_mut.result.now) (states c.step_at.new.nodes) _ c.args.rank
+    c.as_slice.ensures (ap states c.deref_mut.ensures.value) (ap states row) made
     ∙ ap (λ (m : MachineState). event m (Step c.args.rank)) c.self.view_is)
     c.step_at.ensures.ok
 
@@ -39,6 +39,6 @@ pub returns-clause-err : goal.returns-clause-err
 returns-clause-err g c =
     let row = with_items_is c.self.inside.nodes c.step_at.new.nodes (omega arith) in
     on_err_weaker c.step_at.result
-    (λ same. with-none (machine_view c.self.inside) c.deref.result.now (states c.deref_mut.result.now) (states c.step_at.new.nodes) _ c.args.rank
-    c.deref.ensures.value (ap states c.deref_mut.ensures.value) (ap states row) same ∙ c.self.view_is)
+    (λ same. with-none (machine_view c.self.inside) c.as_slice.result.now (states c.deref_mut.result.now) (states c.step_at.new.nodes) _ c.args.rank
+    c.as_slice.ensures (ap states c.deref_mut.ensures.value) (ap states row) same ∙ c.self.view_is)
     c.step_at.ensures.err

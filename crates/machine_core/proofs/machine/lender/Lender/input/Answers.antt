@@ -3,4 +3,4 @@ use Rattle.machine_core.specs.Machine.{MachineState}
 use Rattle.machine_core.proofs.machine.lender.Lender.input.Goals as goal
 
 pub returns : goal.returns
-returns g c = c.as_slice.ensures.value ∙ ap (λ (m : MachineState). m.input) c.self.view_is
+returns g c = c.as_slice.ensures ∙ ap (λ (m : MachineState). m.input) c.self.view_is

@@ -1,0 +1,5 @@
+use Rattle.std.proofs.Common.{◌≡◌, ◌++◌, take}
+use Rattle.bsp_requests.proofs.inbox.append_clones.Given as goal
+
+abbrev pub invariant-loop-message : goal.invariant-loop-message
+invariant-loop-message g l = l.clones.items ≡ l.initial.clones.items ++ take l.message-index l.messages

@@ -9,7 +9,7 @@ use Rattle.counted_io.specs.Counted.{HasRisen}
 use Rattle.counted_io.specs.Lines.{LacksFeed}
 use Rattle.bsp_debug.specs.Debugger.{DebuggerState}
 use Rattle.debug_lines.specs.declared.line.Line.{Line}
-use Rattle.debug_lines.specs.declared.line.Line.TheVariants.{Break, Clear, Command, Output, Nodes, Place, Places, OutputFrom, CostsFrom, Quit, Empty, Unknown}
+use Rattle.debug_lines.specs.declared.line.Line.TheVariants.{Break, Clear, Command, Output, Keep, Back, Forget, Kept, Nodes, Place, Places, OutputFrom, CostsFrom, Quit, Empty, Unknown}
 use Rattle.debug_lines.specs.Lines.{line_of}
 use Rattle.debug_lines.specs.Words.{has_bytes}
 use Rattle.bsp_console.specs.Talk.{LacksQuit, Says, Talks, given_lines, is_quit, lines_of, goes_on, until_quit}
@@ -78,6 +78,10 @@ is_quit-other (Break p) other = refl
 is_quit-other (Clear p) other = refl
 is_quit-other (Command c) other = refl
 is_quit-other Output other = refl
+is_quit-other Keep other = refl
+is_quit-other (Back number) other = refl
+is_quit-other (Forget number) other = refl
+is_quit-other Kept other = refl
 is_quit-other Nodes other = refl
 is_quit-other (Place rank) other = refl
 is_quit-other Places other = refl
@@ -105,6 +109,10 @@ is_quit-true (Break p) is = absurd cc
 is_quit-true (Clear p) is = absurd cc
 is_quit-true (Command c) is = absurd cc
 is_quit-true Output is = absurd cc
+is_quit-true Keep is = absurd cc
+is_quit-true (Back number) is = absurd cc
+is_quit-true (Forget number) is = absurd cc
+is_quit-true Kept is = absurd cc
 is_quit-true Nodes is = absurd cc
 is_quit-true (Place rank) is = absurd cc
 is_quit-true Places is = absurd cc

@@ -43,7 +43,9 @@ pub record StopsAtFiles (c : Console) (e : SessionError) : Type 0 where
 
 -- a debugger of a fresh machine
 abbrev pub first_debugger : Image → List ℕ → Settings → DebuggerState
-first_debugger image input settings = record { machine = fresh image input settings; points = []; last = [] }
+first_debugger image input settings =
+    let m = fresh image input settings in
+    record { first = m; machine = m; kept = []; points = []; last = [] }
 
 -- the file gives an image that fits the memory, and the debugger is that of its machine
 pub record IsDebuggerOf (job : Job) (i n : List ℕ) (d : DebuggerState) : Type 0 where

@@ -7,11 +7,11 @@ use Rattle.bsp_session.specs.declared.errors.SessionError.{SessionError}
 use Rattle.bsp_session.specs.declared.errors.SessionError.TheVariants.{BadSettings, TooLong, Text, BadImage, SegmentOutside, ReadFault, WriteFault, NoWorker, NoMemory}
 use Rattle.bsp_session.specs.Streams.{Stream, IsUntouched, ReadsPast, HasFailed}
 use Rattle.debug_lines.specs.declared.line.Line.{Line}
-use Rattle.debug_lines.specs.Lines.{line_of, framed_line_of}
+use Rattle.debug_lines.specs.Lines.{line_of, dialogue_line_of, framed_line_of}
 use Rattle.bsp_session.specs.declared.job.Job.{Job}
 use Rattle.bsp_console.specs.declared.manner.Manner.{Manner}
-use Rattle.bsp_console.specs.declared.manner.Manner.TheVariants.{Framed, Plain}
-use Rattle.bsp_console.specs.Talk.{Answered, AnsweredFramed, HasQuit, LacksQuit, Says, answered_one_by_one, ended_lines, framed, given_lines, plain, until_quit}
+use Rattle.bsp_console.specs.declared.manner.Manner.TheVariants.{Script, Dialogue, Framed}
+use Rattle.bsp_console.specs.Talk.{Answered, AnsweredFramed, HasQuit, LacksQuit, Says, answered_one_by_one, ended_lines, framed, given_lines, spoken, until_quit}
 use Rattle.bsp_console.specs.Console.{Console, BeginsTo, CutsReply, StopsAtFiles, HasNoDebugger, StopsBefore, WritesReplies, most_script}
 
 -- ---- an answer
@@ -107,10 +107,10 @@ IsErrorOfTalking says c NoMemory = StopsAtFiles c NoMemory ⊎ IsRefusedAtOnce c
 -- ---- a dialogue, whose replies stand by themselves
 
 abbrev pub AnswersDialogue : Console → Type 0
-AnswersDialogue c = AnswersTalk plain c
+AnswersDialogue c = AnswersTalk spoken c
 
 abbrev pub IsErrorOfDialogue : Console → SessionError → Type 0
-IsErrorOfDialogue c e = IsErrorOfTalking plain c e
+IsErrorOfDialogue c e = IsErrorOfTalking spoken c e
 
 -- ---- a framed session, whose replies stand behind headers
 
@@ -120,16 +120,18 @@ AnswersFramed c = AnswersTalk framed c
 abbrev pub IsErrorOfFramed : Console → SessionError → Type 0
 IsErrorOfFramed c e = IsErrorOfTalking framed c e
 
--- ---- both of them, for private contracts
+-- ---- every session, for private contracts
 
 -- what a line asks for
 abbrev pub line_in : Manner → List ℕ → Line
-line_in Plain line = line_of line
+line_in Script line = line_of line
+line_in Dialogue line = dialogue_line_of line
 line_in Framed line = framed_line_of line
 
 -- what it is answered
 abbrev pub AnsweredIn : Manner → Job → Line → (old : DebuggerState) → (text : List ℕ) → (new : DebuggerState) → Type 0
-AnsweredIn Plain job line old text new = Answered job line old text new
+AnsweredIn Script job line old text new = Answered job line old text new
+AnsweredIn Dialogue job line old text new = Answered job line old text new
 AnsweredIn Framed job line old text new = AnsweredFramed job line old text new
 
 abbrev pub says_in : Manner → Job → Says

@@ -1,6 +1,6 @@
 -- What the lines of a session are answered, and what they make of a debugger (own rules).
 use Rattle.std.specs.Prelude.{◌≡◌, ℕ, ◌+◌, ◌-◌, ◌==◌, Bool, true, false, not, List, [], ◌∷◌, ◌++◌, length, take, drop, slice_get, nat_lt, codes, if◌then◌else◌, Option, Some, None, is_some}
-use Rattle.std.specs.List.{slice_split, take_while, filter, flat_map, Any}
+use Rattle.std.specs.List.{slice_split, take_while, filter, flat_map, enumerate_from, Any}
 use Rattle.std.specs.Option.{option_map_or}
 use Rattle.cost_ledger.specs.declared.LedgerText.{LedgerText}
 use Rattle.node_core.specs.Node.{NodeState}
@@ -11,14 +11,16 @@ use Rattle.bsp_debug.specs.declared.error.DebugError.{DebugError}
 use Rattle.bsp_debug.specs.declared.error.DebugError.TheVariants.{BadRange, BadRank}
 use Rattle.bsp_debug.specs.declared.point.Point.{Point}
 use Rattle.bsp_debug.specs.Debugger.{DebuggerState, has_rank, add_fault, remove_fault, command_fault, Makes}
+use Rattle.bsp_debug.specs.Kept.{kept_fault, keeping, back_at, without}
 use Rattle.bsp_debug.specs.Made.{events_of}
 use Rattle.bsp_debug.specs.Points.{is_set, HasAlso, HasNoMore}
 use Rattle.bsp_debug.specs.Reply.{Answer}
 use Rattle.debug_lines.specs.declared.line.Line.{Line}
-use Rattle.debug_lines.specs.declared.line.Line.TheVariants.{Break, Clear, Command, Output, Nodes, Place, Places, OutputFrom, CostsFrom, Quit, Empty, Unknown}
-use Rattle.debug_lines.specs.declared.verdict.Verdict.TheVariants.{Done, Refused, BadCommand}
+use Rattle.debug_lines.specs.declared.line.Line.TheVariants.{Break, Clear, Command, Output, Keep, Back, Forget, Kept, Nodes, Place, Places, OutputFrom, CostsFrom, Quit, Empty, Unknown}
+use Rattle.debug_lines.specs.declared.verdict.Verdict.TheVariants.{Done, Kept as KeptAs, Refused, BadCommand}
 use Rattle.debug_lines.specs.Framed.{cost_lines_from, framed_text, place_text, setup_text}
-use Rattle.debug_lines.specs.Lines.{line_of, framed_line_of}
+use Rattle.debug_lines.specs.Kept.{kept_text}
+use Rattle.debug_lines.specs.Lines.{line_of, dialogue_line_of, framed_line_of}
 use Rattle.debug_lines.specs.Replies.{reply_text}
 use Rattle.debug_lines.specs.Verdicts.{verdict_text}
 use Rattle.debug_lines.specs.Words.{has_bytes}
@@ -41,7 +43,7 @@ pub record Replies (version : LedgerText) (g l : ℕ) (c : Asked) (old new : Deb
   pub reply : Answer
   pub makes : Makes old.points old.machine c (events_of new.last) reply
   pub machine : new.machine ≡ after old.machine (events_of new.last)
-  pub points : new.points ≡ old.points
+  pub others : new ≡ record old { machine = new.machine; last = new.last }
   pub told : text ≡ reply_text version g l reply
 
 -- a debugger that may refuse: where it does not, something is done, and else the refusal is told, and the debugger is as it is then
@@ -66,6 +68,14 @@ abbrev pub costs_or_refusal : Job → MachineState → (from : ℕ) → List ℕ
 costs_or_refusal job m from =
     if nat_lt (length m.ledger) from then verdict_text (Refused BadRange) else cost_lines_from job.ledger job.g job.l from m.ledger
 
+-- the line of a state that is kept, at its number; none of one that was forgotten
+abbrev pub kept_line : ℕ × Option MachineState → List ℕ
+kept_line at = option_map_or (λ (m : MachineState). kept_text at.0 m.exchanges m.nodes) at.1 []
+
+-- the states that are kept, a line for each
+abbrev pub kept_lines : List (Option MachineState) → List ℕ
+kept_lines kept = flat_map kept_line (enumerate_from 0 kept)
+
 -- what a line is answered: a text, and the debugger after it. A command that is refused has made no event
 abbrev pub Answered : Job → Line → (old : DebuggerState) → (text : List ℕ) → (new : DebuggerState) → Type 0
 Answered job (Break p) old text new =
@@ -75,6 +85,12 @@ Answered job (Clear p) old text new =
 Answered job (Command c) old text new =
     DoesOrRefuses (command_fault old.machine c) (Replies job.ledger job.g job.l c old new text) (record old { last = [] }) new text
 Answered job Output old text new = (new ≡ old) × (text ≡ old.machine.output ++ codes "\n")
+Answered job Keep old text new = (new ≡ keeping old) × (text ≡ verdict_text (KeptAs (length old.kept)))
+Answered job (Back number) old text new =
+    DoesOrRefuses (kept_fault old.kept number) ((new ≡ back_at number old) × (text ≡ verdict_text Done)) old new text
+Answered job (Forget number) old text new =
+    DoesOrRefuses (kept_fault old.kept number) ((new ≡ without number old) × (text ≡ verdict_text Done)) old new text
+Answered job Kept old text new = (new ≡ old) × (text ≡ kept_lines old.kept)
 Answered job Nodes old text new = (new ≡ old) × (text ≡ setup_text old.machine.settings job.ledger job.g job.l)
 Answered job (Place rank) old text new = (new ≡ old) × (text ≡ place_or_refusal old.machine rank)
 Answered job Places old text new = (new ≡ old) × (text ≡ flat_map (place_line old.machine) old.machine.nodes)
@@ -90,6 +106,10 @@ is_refused (Break p) d = is_some (add_fault d.points d.machine p)
 is_refused (Clear p) d = is_some (remove_fault d.points p)
 is_refused (Command c) d = is_some (command_fault d.machine c)
 is_refused Output d = false
+is_refused Keep d = false
+is_refused (Back number) d = is_some (kept_fault d.kept number)
+is_refused (Forget number) d = is_some (kept_fault d.kept number)
+is_refused Kept d = false
 is_refused Nodes d = false
 is_refused (Place rank) d = not (has_rank d.machine rank)
 is_refused Places d = false
@@ -108,9 +128,13 @@ AnsweredFramed job line old text new =
 abbrev pub Says : Type 1
 Says = (line : List ℕ) → (old : DebuggerState) → (text : List ℕ) → (new : DebuggerState) → Type 0
 
--- in a script and in a dialogue
+-- in a script
 abbrev pub plain : Job → Says
 plain job line old text new = Answered job (line_of line) old text new
+
+-- in a dialogue
+abbrev pub spoken : Job → Says
+spoken job line old text new = Answered job (dialogue_line_of line) old text new
 
 -- in a framed session
 abbrev pub framed : Job → Says

@@ -5,19 +5,22 @@ ghost use Rattle.std.specs.Io.KnownBytes.{Appends};
 ghost use Rattle.std.specs.List.{flat_map};
 ghost use Rattle.node_core.specs.Node.{PreparedNode};
 ghost use Rattle.bsp_debug.specs.Debugger.{add_fault, has_rank, remove_fault, command_fault};
-ghost use Rattle.debug_lines.specs.declared.verdict.Verdict.TheVariants.{Done as done_verdict, Refused as refused_verdict};
+ghost use Rattle.bsp_debug.specs.Kept.{kept_fault, keeping, back_at, without};
+ghost use Rattle.debug_lines.specs.declared.verdict.Verdict.TheVariants.{Done as done_verdict, Kept as kept_verdict, Refused as refused_verdict};
 ghost use Rattle.debug_lines.specs.Framed.{setup_text};
 ghost use Rattle.debug_lines.specs.Verdicts.{verdict_text};
 ghost use Rattle.counted_io.specs.Counted.{HasRisen};
 ghost use Rattle.counted_io.specs.Transfers.{AppendsPrefix};
 ghost use Rattle.bsp_console.specs.Dialogue.{AnsweredIn};
-ghost use Rattle.bsp_console.specs.Talk.{Answered, DoesOrRefuses, HasPoint, LacksPoint, Replies, is_quit as is_quit_line, costs_or_refusal, is_refused, output_or_refusal, place_line, place_or_refusal};
+ghost use Rattle.bsp_console.specs.Talk.{Answered, DoesOrRefuses, HasPoint, LacksPoint, Replies, is_quit as is_quit_line, costs_or_refusal, is_refused, kept_line, kept_lines, output_or_refusal, place_line, place_or_refusal};
 
 use crate::manner::Manner;
 use bsp_debug::{Command, DebugError, Debugger, Point};
 use bsp_session::{Job, SessionError};
 use counted_io::{Counted, write_whole};
-use debug_lines::{Line, Verdict, add_place, costs_from, framed_text, reply_text, setup_line};
+use debug_lines::{
+    Line, Verdict, add_kept, add_place, costs_from, framed_text, reply_text, setup_line,
+};
 use machine_core::Machine;
 use node_core::Node;
 use std::alloc::{AllocError, Allocator};
@@ -75,7 +78,8 @@ fn text_for<A: Allocator + Copy>(
 {
     let answer = answer_line(alloc, debugger, line, job)?;
     match manner {
-        Manner::Plain => Ok(answer.text),
+        Manner::Script => Ok(answer.text),
+        Manner::Dialogue => Ok(answer.text),
         Manner::Framed => framed_text(alloc, answer.refused, answer.text.as_slice()),
     }
 }
@@ -95,6 +99,10 @@ fn answer_line<A: Allocator + Copy>(
         Line::Clear(point) => clear_point(alloc, debugger, point),
         Line::Command(command) => answer_command(alloc, debugger, command, job),
         Line::Output => output_line(alloc, debugger.machine().output()),
+        Line::Keep => keep_state(alloc, debugger),
+        Line::Back(number) => go_back(alloc, debugger, number),
+        Line::Forget(number) => forget_state(alloc, debugger, number),
+        Line::Kept => kept_states(alloc, debugger.kept()),
         Line::Nodes => nodes_line(alloc, debugger.machine(), job),
         Line::Place(rank) => place_of(alloc, debugger.machine(), rank),
         Line::Places => places(alloc, debugger.machine()),
@@ -145,6 +153,79 @@ fn clear_point<A: Allocator + Copy>(
 {
     let outcome = debugger.remove(point);
     verdict_of(alloc, outcome)
+}
+
+/// Keeps the state of the machine, and tells its number.
+fn keep_state<A: Allocator + Copy>(
+    alloc: A,
+    debugger: &mut Debugger<A>,
+) -> Result<Answer<A>, AllocError>
+    ensures { IfOk result (λ a. (debugger.new ≡ keeping debugger.old)
+        × (a.text.items ≡ verdict_text (kept_verdict (length debugger.old.kept)))
+        × (a.refused ≡ false)) }
+{
+    let number = debugger.keep()?;
+    Ok(done(verdict_line(alloc, Verdict::Kept(number))?))
+}
+
+/// Brings the machine back to a state that is kept.
+fn go_back<A: Allocator + Copy>(
+    alloc: A,
+    debugger: &mut Debugger<A>,
+    number: u64,
+) -> Result<Answer<A>, AllocError>
+    ensures told { IfOk result (λ a. DoesOrRefuses (kept_fault debugger.old.kept number)
+        ((debugger.new ≡ back_at number debugger.old) × (a.text.items ≡ verdict_text done_verdict))
+        debugger.old debugger.new a.text.items) }
+    ensures refused { IfOk result (λ a. a.refused ≡ is_some (kept_fault debugger.old.kept number)) }
+{
+    let outcome = debugger.back(number);
+    verdict_of(alloc, outcome)
+}
+
+/// Forgets a state that is kept.
+fn forget_state<A: Allocator + Copy>(
+    alloc: A,
+    debugger: &mut Debugger<A>,
+    number: u64,
+) -> Result<Answer<A>, AllocError>
+    ensures told { IfOk result (λ a. DoesOrRefuses (kept_fault debugger.old.kept number)
+        ((debugger.new ≡ without number debugger.old) × (a.text.items ≡ verdict_text done_verdict))
+        debugger.old debugger.new a.text.items) }
+    ensures refused { IfOk result (λ a. a.refused ≡ is_some (kept_fault debugger.old.kept number)) }
+{
+    let outcome = debugger.forget(number);
+    verdict_of(alloc, outcome)
+}
+
+/// The lines of states, each at the place of its number, of those that are kept.
+fn kept_states<A: Allocator + Copy>(
+    alloc: A,
+    states: &[Option<Machine<A>>],
+) -> Result<Answer<A>, AllocError>
+    ensures { IfOk result (λ a. (a.text.items ≡ kept_lines states.now) × (a.refused ≡ false)) }
+{
+    let mut text = String::new(alloc);
+    for (number, state) in states.iter().enumerate() {
+        add_state(alloc, &mut text, number as u64, state)?;
+    }
+    Ok(done(text.into_bytes()))
+}
+
+/// Adds to a text the line of the state of a number, if it is kept.
+fn add_state<A: Allocator + Copy>(
+    alloc: A,
+    text: &mut String<A>,
+    number: u64,
+    state: &Option<Machine<A>>,
+) -> Result<(), AllocError>
+    ensures { IfOk result (λ _. string_bytes text.new
+        ≡ string_bytes text.old ++ kept_line (number, state.now)) }
+{
+    match state {
+        Some(machine) => add_kept(alloc, text, number, machine.superstep(), machine.nodes()),
+        None => Ok(()),
+    }
 }
 
 /// `ok`, or why not. Refused memory is an error.

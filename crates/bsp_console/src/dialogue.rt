@@ -22,7 +22,8 @@ use std::io::{Read, Write};
 /// Makes a machine of the program that `image` gives and of the bytes of `input`, and answers the lines of `commands` with a debugger
 /// of it: each is read when it is wanted, done, and answered to `out`, which is flushed, before the next one is read. It ends at a line
 /// `quit`, or at the end of the lines. The image and the input are read to their ends first. Of the job the workers, the slice and the
-/// report are not looked at.
+/// report are not looked at. It has some lines more than a script: `keep`, `back N`, `forget N`, `kept`, and `where` with a rank or
+/// without.
 ///
 /// # Errors
 /// That of the first stage that failed:
@@ -61,11 +62,11 @@ pub fn debug_dialogue<A: Allocator + Copy, I: Read, R: Read, C: Read, W: Write>(
     ensures no_lines { IfErr result (λ e. RefusesImage e
         → (commands.new ≡ commands.old) × (out.new ≡ out.old)) }
 {
-    talk(alloc, image, input, job, Manner::Plain, commands, out)
+    talk(alloc, image, input, job, Manner::Dialogue, commands, out)
 }
 
 /// Does what [`debug_dialogue`] does, in frames: a header comes before each reply, and says whether the line was refused and how many
-/// lines the reply has. It has some lines more: `nodes`, `where` with a rank or without, `output FROM` and `costs FROM`.
+/// lines the reply has. It has some lines more: `nodes`, `output FROM` and `costs FROM`.
 ///
 /// # Errors
 /// Those of [`debug_dialogue`], in the same order. The header is part of the reply.

@@ -2,13 +2,13 @@
 //!
 //! Each session reads an image and an input to their ends, makes a machine of them, puts it into a
 //! [`Debugger`](bsp_debug::Debugger), and answers lines with it, each before the next one is looked at. What lines are answered is one
-//! definition; what differs is when they are read, and how the replies stand:
+//! definition; what differs is which lines there are, when they are read, and how the replies stand:
 //!
 //! - [`debug_session`] reads its script whole before anything is made of the image, as it reads the other files.
 //! - [`debug_dialogue`] reads a line when it wants one, and flushes each reply before that, so that the lines can be typed at a
-//!   terminal, or come from a program that waits for the replies.
+//!   terminal, or come from a program that waits for the replies. It has some lines more than a script.
 //! - [`debug_framed`] is such a dialogue with a program: each reply stands behind a header, by which its end is found, and there are some
-//!   lines more.
+//!   lines more than in a dialogue.
 //!
 //! All are generic over their readers, their writer and their allocator; the language of the lines is that of the crate `debug_lines`.
 //!

@@ -86,7 +86,7 @@ fn answer_script<A: Allocator + Copy, W: Write>(
         if is_quit(line) {
             return Ok(());
         }
-        answer_to(alloc, debugger, line, job, Manner::Plain, out)?;
+        answer_to(alloc, debugger, line, job, Manner::Script, out)?;
         rest = after;
     }
     Ok(())

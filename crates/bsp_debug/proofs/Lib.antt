@@ -2,6 +2,7 @@ pub mod Again
 pub mod Counts
 pub mod Entries
 pub mod Going
+pub mod Keeps
 pub mod Phases
 pub mod PointOrder
 pub mod Stops

@@ -1,5 +1,5 @@
--- A debugger: a machine, the points that are set, and what the last command made. What each command makes of the machine's events,
--- and what it answers (own rules).
+-- A debugger: a machine, the states that were kept of it, the points that are set, and what the last command made. What each command
+-- makes of the machine's events, and what it answers (own rules).
 use Rattle.std.specs.Prelude.{◌≡◌, ℕ, ◌-◌, ◌≤◌, Bool, true, false, List, [], ◌∷◌, length, replicate, slice_get, nat_lt, if◌then◌else◌, Option, Some, None, is_some, is_none, option_map}
 use Rattle.std.specs.Option.{option_or, option_map_or}
 use Rattle.node_memory.specs.Bytes.{fits, bytes_at}
@@ -23,7 +23,11 @@ use Rattle.bsp_debug.specs.Reply.{Answer, moved, turned, finished, registers, by
 use Rattle.bsp_debug.specs.Stops.{Goes, IsOnTheWay}
 
 pub record DebuggerState : Type 0 where
+  -- the machine as it was when the debugger was made of it
+  pub first : MachineState
   pub machine : MachineState
+  -- the states that were kept, each at the place of its number, and none where it was forgotten
+  pub kept : List (Option MachineState)
   -- each once: setting one lengthens the list by one where it was not set, and taking one away shortens it by one
   pub points : List Point
   -- the events that the last command made
@@ -33,7 +37,7 @@ abbrev pub has_rank : MachineState → ℕ → Bool
 has_rank m rank = is_some (slice_get m.nodes rank)
 
 -- a test that gives no refusal, or the refusal
-abbrev refused_unless : Bool → DebugError → Option DebugError
+abbrev pub refused_unless : Bool → DebugError → Option DebugError
 refused_unless test e = if test then None else Some e
 
 -- why a point cannot be set: it names no node, or it would be one too many. One that is set can be set again

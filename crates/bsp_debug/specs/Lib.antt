@@ -2,8 +2,10 @@ pub mod Debugger
 pub mod Errors
 pub mod Going
 pub mod Inside
+pub mod Kept
 pub mod Made
 pub mod Points
+pub mod Reached
 pub mod Reply
 pub mod Stops
 pub mod Trace

@@ -1,12 +1,14 @@
 //! The debugger.
 
-ghost use Rattle.std.specs.Prelude.{◌≡◌, ◌+◌, ◌⊎◌, [], length, slice_get, true, false, Some, None, IsSome, is_none, Err, IfOk, IfErr, OnOk, OnErr, if◌then◌else◌};
+ghost use Rattle.std.specs.Prelude.{◌≡◌, ◌+◌, ◌⊎◌, [], length, slice_get, option_copied, true, false, Some, None, IsSome, is_none, Err, IfOk, IfErr, OnOk, OnErr, if◌then◌else◌};
 ghost use Rattle.machine_core.specs.Events.{after};
 ghost use Rattle.bsp_debug.specs.declared.command.Command.TheVariants.{Bytes as bytes_command};
 ghost use Rattle.bsp_debug.specs.declared.error.DebugError.{DebugError as DebugErrorValue};
 ghost use Rattle.bsp_debug.specs.Debugger.{has_rank, add_fault, remove_fault, command_fault, Makes, MakesPart};
+ghost use Rattle.bsp_debug.specs.Kept.{state_at, kept_fault, keeping, back_at, without};
 ghost use Rattle.bsp_debug.specs.Made.{events_of, AreFew};
 ghost use Rattle.bsp_debug.specs.Points.{is_set, HasAlso, HasNoMore};
+ghost use Rattle.bsp_debug.specs.Reached.{HasReachedStates};
 ghost use Rattle.bsp_debug.specs.Reply.{answer};
 ghost use Rattle.bsp_debug.specs.Trace.{IsTrace};
 
@@ -22,17 +24,22 @@ use machine_core::Machine;
 use node_core::Node;
 use std::alloc::{AllocError, Allocator};
 use std::marker::Model;
+use std::snapshot::Snapshot;
 
 /// The most points that can be set (own limit).
 const MOST_POINTS: usize = 1024;
 
-/// A machine that is stepped by commands, and the points at which it stops.
+/// A machine that is stepped by commands, the states that were kept of it, and the points at which it stops.
 ///
-/// Contracts see it as a `DebuggerState`: the machine, the set of points, and the events that the last command made.
+/// Contracts see it as a `DebuggerState`: the machine as it began and as it is, the states that are kept, the set of points, and the
+/// events that the last command made. Some events lead from the machine as it began to the machine as it is, and to each state that
+/// is kept, as `HasReachedStates` says.
 #[derive(Drop)]
 pub struct Debugger<A: Allocator> {
     alloc: A,
+    first: Snapshot<Machine<A>>,
     trace: Trace<A>,
+    kept: Vec<Option<Machine<A>>, A>,
     points: Points<A>,
 }
 
@@ -42,18 +49,23 @@ impl<A: Allocator> Model for Debugger<A> {
     ghost Value = { DebuggerState };
 
     ghost use Rattle.bsp_debug.specs.Inside.{debugger_view};
+    ghost use Rattle.bsp_debug.specs.Reached.{HasReachedStates};
 
     ghost view = { debugger_view };
+
+    ghost invariant = { λ d. HasReachedStates (debugger_view d) };
 }
 
 impl<A: Allocator + Copy> Debugger<A> {
-    /// A debugger of a machine, as it stands, without a point. No memory is taken.
+    /// A debugger of a machine, as it stands, without a point, that keeps nothing. No memory is taken.
     pub fn new(alloc: A, machine: Machine<A>) -> Self
-        ensures { result ≡ record { machine = machine; points = []; last = [] } }
+        ensures { result ≡ record { first = machine; machine = machine; kept = []; points = []; last = [] } }
     {
         Debugger {
             alloc,
+            first: Snapshot::of(&machine),
             trace: Trace::new(alloc, machine),
+            kept: Vec::new(alloc),
             points: Points::new(alloc),
         }
     }
@@ -75,13 +87,22 @@ impl<A: Allocator + Copy> Debugger<A> {
             → add_fault self.old.points self.old.machine point ≡ None }
         ensures err { OnErr result (self.new ≡ self.old) }
     {
+        self.check_point(point)?;
+        self.points.add(point)?;
+        Ok(())
+    }
+
+    /// Whether a point may be set.
+    fn check_point(&self, point: Point) -> Result<(), DebugError>
+        ensures ok { OnOk result (add_fault self.now.points self.now.machine point ≡ None) }
+        ensures err { IfErr result (λ e. add_fault self.now.points self.now.machine point ≡ Some e) }
+    {
         if let Point::Address { rank, .. } = point {
             self.check_rank(rank)?;
         }
         if !self.points.has(point) && self.points.len() >= MOST_POINTS {
             return Err(DebugError::TooMany);
         }
-        self.points.add(point)?;
         Ok(())
     }
 
@@ -114,7 +135,7 @@ impl<A: Allocator + Copy> Debugger<A> {
     pub fn command(&mut self, command: Command) -> Result<Reply<A>, DebugError>
         ensures machine { self.new.machine ≡ after self.old.machine (events_of self.new.last) }
         ensures few { AreFew self.new.last }
-        ensures points { self.new.points ≡ self.old.points }
+        ensures others { self.new ≡ record self.old { machine = self.new.machine; last = self.new.last } }
         ensures ok { IfOk result (λ reply.
             Makes self.old.points self.old.machine command (events_of self.new.last) (answer reply)) }
         ensures faultless { OnOk result (command_fault self.old.machine command ≡ None) }
@@ -129,6 +150,64 @@ impl<A: Allocator + Copy> Debugger<A> {
         self.check(command)?;
         let reply = reply_to(self.alloc, &mut self.trace, &self.points, command)?;
         Ok(reply)
+    }
+
+    /// Keeps the state in which the machine is, and answers its number: how many were kept before it, forgotten ones too. The machine
+    /// and its states share their memory page by page. So a state takes the pages that were written since the last one, and besides
+    /// what the nodes have in registers, messages and requests, the output and the costs.
+    ///
+    /// # Errors
+    /// Where memory is refused. Nothing has changed then.
+    pub fn keep(&mut self) -> Result<u64, AllocError>
+        ensures number { IfOk result (λ number. number ≡ length self.old.kept) }
+        ensures ok { OnOk result (self.new ≡ keeping self.old) }
+        ensures err { OnErr result (self.new ≡ self.old) }
+    {
+        self.kept.reserve(1)?;
+        let (state, again) = copies_of(self.machine())?;
+        let number = self.kept.len() as u64;
+        self.kept.push_reserved(Some(state));
+        self.trace.renew(again);
+        Ok(number)
+    }
+
+    /// Brings the machine back, or forward, to the state that is kept under a number. It stays kept, and so do the others; points
+    /// stay set.
+    ///
+    /// # Errors
+    /// [`DebugError::NoSuchKept`] where no state is kept under the number, and then [`DebugError::NoMemory`]. Nothing has changed
+    /// then.
+    pub fn back(&mut self, number: u64) -> Result<(), DebugError>
+        ensures ok { OnOk result (self.new ≡ back_at number self.old) }
+        ensures faultless { OnOk result (kept_fault self.old.kept number ≡ None) }
+        ensures refused { IfErr result (λ e. (e ≡ DebugError.NoMemory)
+            ⊎ (kept_fault self.old.kept number ≡ Some e)) }
+        ensures no_memory { result ≡ Err DebugError.NoMemory → kept_fault self.old.kept number ≡ None }
+        ensures err { OnErr result (self.new ≡ self.old) }
+    {
+        let Some(state) = self.state(number) else {
+            return Err(DebugError::NoSuchKept);
+        };
+        let again = state.try_clone()?;
+        self.trace.begin(again);
+        Ok(())
+    }
+
+    /// Forgets the state that is kept under a number. No other state gets the number. No memory is taken.
+    ///
+    /// # Errors
+    /// [`DebugError::NoSuchKept`] where no state is kept under the number. Nothing has changed then.
+    pub fn forget(&mut self, number: u64) -> Result<(), DebugError>
+        ensures ok { OnOk result (self.new ≡ without number self.old) }
+        ensures faultless { OnOk result (kept_fault self.old.kept number ≡ None) }
+        ensures refused { IfErr result (λ e. kept_fault self.old.kept number ≡ Some e) }
+        ensures err { OnErr result (self.new ≡ self.old) }
+    {
+        if self.state(number).is_none() {
+            return Err(DebugError::NoSuchKept);
+        }
+        self.kept[number as usize] = None;
+        Ok(())
     }
 
     /// Whether a command is to be refused.
@@ -183,9 +262,28 @@ impl<A: Allocator + Copy> Debugger<A> {
 impl<A: Allocator> Debugger<A> {
     /// The machine, as it stands.
     pub fn machine(&self) -> &Machine<A>
-        ensures { result.now ≡ self.now.machine }
+        ensures value { result.now ≡ self.now.machine }
+        ensures reached { HasReachedStates self.now }
     {
         self.trace.machine()
+    }
+
+    /// The states that were kept, each at the place of its number, and none where it was forgotten.
+    pub fn kept(&self) -> &[Option<Machine<A>>]
+        ensures value { result.now ≡ self.now.kept }
+        ensures reached { HasReachedStates self.now }
+    {
+        self.kept.as_slice()
+    }
+
+    /// The state that is kept under a number.
+    fn state(&self, number: u64) -> Option<&Machine<A>>
+        ensures { option_copied result ≡ state_at self.now.kept number }
+    {
+        match self.kept.get(number as usize) {
+            Some(Some(state)) => Some(state),
+            _ => None,
+        }
     }
 
     /// The machine, as it stands.
@@ -196,12 +294,25 @@ impl<A: Allocator> Debugger<A> {
     }
 
     /// The events that the last command made, those of one rank in a row as one entry. None were made before the first command, by
-    /// a command that reads, or by one that was refused anything but memory. Setting points and taking them away has no part in it.
+    /// a command that reads, by one that was refused anything but memory, or since the machine was brought back. Setting points and
+    /// taking them away has no part in it, and neither has keeping and forgetting states.
     pub fn events_of_last(&self) -> &[Made]
         ensures { result.now ≡ self.now.last }
     {
         self.trace.made()
     }
+}
+
+/// Two machines in the state of this one, which share all their pages.
+fn copies_of<A: Allocator + Copy>(
+    machine: &Machine<A>,
+) -> Result<(Machine<A>, Machine<A>), AllocError>
+    ensures { IfOk result (λ copies. (copies.0 ≡ machine.now) × (copies.1 ≡ machine.now)) }
+{
+    // What the machine has written since its last copy is copied here, and shared from then on.
+    let copy = machine.try_clone()?;
+    let again = copy.try_clone()?;
+    Ok((copy, again))
 }
 
 /// Does what a command says that is not refused, and answers it.

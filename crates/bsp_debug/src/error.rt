@@ -14,6 +14,8 @@ pub enum DebugError {
     TooMany,
     /// The point is not set.
     NoSuchBreak,
+    /// No state is kept under the number.
+    NoSuchKept,
     /// The machine has its outcome.
     Over,
     /// A request for memory was refused.
@@ -32,6 +34,7 @@ impl fmt::Display for DebugError {
             DebugError::BadRange => "BadRange",
             DebugError::TooMany => "TooMany",
             DebugError::NoSuchBreak => "NoSuchBreak",
+            DebugError::NoSuchKept => "NoSuchKept",
             DebugError::Over => "Over",
             DebugError::NoMemory => "NoMemory",
         })

@@ -11,6 +11,7 @@ ghost use Rattle.bsp_debug.specs.declared.made.Made.{Made};
 ghost use Rattle.bsp_debug.specs.declared.point.Point.{Point};
 ghost use Rattle.bsp_debug.specs.Debugger.{Makes, MakesPart, rest_of};
 ghost use Rattle.bsp_debug.specs.Made.{events_of};
+ghost use Rattle.bsp_debug.specs.Reached.{IsReached};
 ghost use Rattle.bsp_debug.specs.Reply.{Answer};
 ghost use Rattle.bsp_debug.specs.Stops.{Goes};
 
@@ -38,4 +39,14 @@ pub fn a_debugger_changes_no_end()
         → IsSoundMachine m → end_of (after m (events_of entries)) ≡ end_of m }
     ensures there { (m : MachineState) (entries : List Made)
         → IsSoundMachine m → IsSome (after m (events_of entries)).outcome → after m (events_of entries) ≡ end_of m }
+{}
+
+/// Going back changes no end either. A debugger's machine is reached at all times from the machine with which it began, and so is each
+/// state that it keeps. What is reached from a sound machine has the end of that machine; and every schedule that finishes from
+/// there, whatever it is, leaves that end.
+pub fn going_back_changes_no_end()
+    ensures same { (first m : MachineState) → IsSoundMachine first → IsReached first m → end_of m ≡ end_of first }
+    ensures every_schedule { (first m : MachineState) (schedule : List Event)
+        → IsSoundMachine first → IsReached first m
+        → IsSome (after m schedule).outcome → after m schedule ≡ end_of first }
 {}

@@ -55,6 +55,23 @@ impl<A: Allocator + Copy> Trace<A> {
         self.made.clear();
     }
 
+    /// Takes another machine in the place of this one, of which no event has been made.
+    pub fn begin(&mut self, machine: Machine<A>)
+        ensures { self.new ≡ record { start = machine; machine = machine; made = [] } }
+    {
+        self.start = Snapshot::of(&machine);
+        self.machine = machine;
+        self.made.clear();
+    }
+
+    /// Takes a machine that is the same in the place of this one, and keeps the events that were made.
+    pub fn renew(&mut self, same: Machine<A>)
+        requires { same ≡ self.old.machine }
+        ensures { self.new ≡ self.old }
+    {
+        self.machine = same;
+    }
+
     /// Makes at most `most` steps of the node of a rank, while it runs, and answers how many it made.
     ///
     /// # Errors

@@ -56,10 +56,15 @@ const DEBUG_AFTER_HELP: &str =
   costs                show the costs of the supersteps so far, and their total
   output               show what was written in the supersteps so far
   quit                 end
-With --framed a line comes before each reply: `done N`, or `refused N` if the line is refused, where N is how many lines
-the reply has. And there are more lines:
-  nodes                show how many ranks there are, and the other settings
+There are more lines at a terminal, and with --interactive or --framed:
   where [RANK]         show where this rank, or each rank, is: its address, superstep and state
+  keep                 keep the state of the machine, under the next number from 0
+  back N               bring the machine back to state N, or forward; points stay as they are
+  kept                 show the states that are kept, and where their ranks are
+  forget N             keep state N no longer; no other state gets this number
+With --framed a line comes before each reply: `done N`, or `refused N` if the line is refused, where N is how many lines
+the reply has. And there are still more lines:
+  nodes                show how many ranks there are, and the other settings
   output FROM          show what was written, from byte FROM on
   costs FROM           show the costs from superstep FROM on, and the total of all
 Numbers are decimal, or hexadecimal as in 0x1f. All lines together may have 1048576 bytes. Where IMAGE is -, there are
@@ -71,6 +76,7 @@ A line that is refused changes nothing, and is answered `refused: NAME`:
   BadRange     not all of these bytes lie in the memory
   TooMany      1024 other points are set
   NoSuchBreak  the point is not set
+  NoSuchKept   no state is kept under this number
   Over         the run has ended
 The exit status is 0 whatever was refused and however the run ended; only an error ends it with 1, 5 or 6.
 docs/manual/debugger.md has an example of each line.";

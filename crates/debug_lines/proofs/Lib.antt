@@ -1,2 +1,3 @@
 pub mod FirstWords
+pub mod Groups
 pub mod Values

@@ -1,4 +1,5 @@
--- What framed sessions add to the replies (own format): a header before each of them, and the replies that only these sessions have.
+-- What dialogues and framed sessions add to the replies (own format): in the second a header before each of them, and replies that scripts
+-- do not have.
 use Rattle.std.specs.Prelude.{ℕ, ◌==◌, Bool, if◌then◌else◌, List, ◌++◌, length, drop, codes}
 use Rattle.std.specs.Fmt.{decimal}
 use Rattle.std.specs.List.{enumerate_from, filter, flat_map}

@@ -1,4 +1,5 @@
 pub mod Framed
+pub mod Kept
 pub mod Lines
 pub mod Numbers
 pub mod Replies

@@ -6,7 +6,7 @@ use Rattle.bsp_debug.specs.declared.command.Command.TheVariants.{Step, Phase, Tu
 use Rattle.bsp_debug.specs.declared.point.Point.{Point}
 use Rattle.bsp_debug.specs.declared.point.Point.TheVariants.{Address, Superstep}
 use Rattle.debug_lines.specs.declared.line.Line.{Line}
-use Rattle.debug_lines.specs.declared.line.Line.TheVariants.{Break, Clear, Command, Output, Nodes, Place, Places, OutputFrom, CostsFrom, Quit, Empty, Unknown}
+use Rattle.debug_lines.specs.declared.line.Line.TheVariants.{Break, Clear, Command, Output, Keep, Back, Forget, Kept, Nodes, Place, Places, OutputFrom, CostsFrom, Quit, Empty, Unknown}
 use Rattle.debug_lines.specs.Numbers.{number_in}
 use Rattle.debug_lines.specs.Words.{words}
 
@@ -66,24 +66,52 @@ line_of_words (word ∷ a ∷ b ∷ []) = line_of_three word a b
 line_of_words (word ∷ a ∷ b ∷ c ∷ []) = line_of_four word a b c
 line_of_words (word ∷ a ∷ b ∷ c ∷ d ∷ more) = None
 
--- what a line asks for
+-- a line, if its words are those of one
+abbrev pub or_unknown : Option Line → Line
+or_unknown line = option_map_or (λ known. known) line Unknown
+
+-- what a line of a script asks for
 unfoldable pub line_of : List ℕ → Line
-line_of line = option_map_or (λ known. known) (line_of_words (words line)) Unknown
+line_of line = or_unknown (line_of_words (words line))
+
+-- ---- dialogues
+
+-- a line of one word that scripts do not have
+abbrev pub dialogue_of_one : List ℕ → Option Line
+dialogue_of_one word =
+    if bytes_eq word (codes "keep") then Some Keep else
+    (if bytes_eq word (codes "kept") then Some Kept else
+    (if bytes_eq word (codes "where") then Some Places else None))
+
+-- a line of two: `back N`, `forget N`, `where RANK`
+abbrev pub dialogue_of_two : (word number : List ℕ) → Option Line
+dialogue_of_two word number =
+    if bytes_eq word (codes "back") then option_map Back (number_in 64 number) else
+    (if bytes_eq word (codes "forget") then option_map Forget (number_in 64 number) else
+    (if bytes_eq word (codes "where") then option_map Place (number_in 32 number) else None))
+
+-- a line of these words that scripts do not have; none for words of no such line
+abbrev pub dialogue_of_words : List (List ℕ) → Option Line
+dialogue_of_words [] = None
+dialogue_of_words (word ∷ []) = dialogue_of_one word
+dialogue_of_words (word ∷ a ∷ []) = dialogue_of_two word a
+dialogue_of_words (word ∷ a ∷ b ∷ more) = None
+
+-- what a line of a dialogue asks for: that of a script, or else what scripts do not have
+unfoldable pub dialogue_line_of : List ℕ → Line
+dialogue_line_of line = or_unknown (option_or (line_of_words (words line)) (dialogue_of_words (words line)))
 
 -- ---- framed sessions
 
 -- a line of one word that only framed sessions have
 abbrev pub framed_of_one : List ℕ → Option Line
-framed_of_one word =
-    if bytes_eq word (codes "nodes") then Some Nodes else
-    (if bytes_eq word (codes "where") then Some Places else None)
+framed_of_one word = if bytes_eq word (codes "nodes") then Some Nodes else None
 
--- a line of two: `where RANK`, `output FROM`, `costs FROM`
+-- a line of two: `output FROM`, `costs FROM`
 abbrev pub framed_of_two : (word number : List ℕ) → Option Line
 framed_of_two word number =
-    if bytes_eq word (codes "where") then option_map Place (number_in 32 number) else
-    (if bytes_eq word (codes "output") then option_map OutputFrom (number_in 64 number) else
-    (if bytes_eq word (codes "costs") then option_map CostsFrom (number_in 64 number) else None))
+    if bytes_eq word (codes "output") then option_map OutputFrom (number_in 64 number) else
+    (if bytes_eq word (codes "costs") then option_map CostsFrom (number_in 64 number) else None)
 
 -- a line of these words that only framed sessions have; none for words of no such line
 abbrev pub framed_of_words : List (List ℕ) → Option Line
@@ -92,6 +120,7 @@ framed_of_words (word ∷ []) = framed_of_one word
 framed_of_words (word ∷ a ∷ []) = framed_of_two word a
 framed_of_words (word ∷ a ∷ b ∷ more) = None
 
--- what a line of a framed session asks for: that of any session, or else what only framed ones have
+-- what a line of a framed session asks for: that of a dialogue, or else what only framed ones have
 unfoldable pub framed_line_of : List ℕ → Line
-framed_line_of line = option_map_or (λ known. known) (option_or (line_of_words (words line)) (framed_of_words (words line))) Unknown
+framed_line_of line =
+    or_unknown (option_or (option_or (line_of_words (words line)) (dialogue_of_words (words line))) (framed_of_words (words line)))

@@ -1,10 +1,12 @@
 -- What a line is answered that no reply of a debugger answers (own format).
 use Rattle.std.specs.Prelude.{ℕ, List, ◌++◌, codes}
+use Rattle.std.specs.Fmt.{decimal}
 use Rattle.bsp_debug.specs.Errors.{name_of}
 use Rattle.debug_lines.specs.declared.verdict.Verdict.{Verdict}
-use Rattle.debug_lines.specs.declared.verdict.Verdict.TheVariants.{Done, Refused, BadCommand}
+use Rattle.debug_lines.specs.declared.verdict.Verdict.TheVariants.{Done, Kept, Refused, BadCommand}
 
 abbrev pub verdict_text : Verdict → List ℕ
 verdict_text Done = codes "ok\n"
+verdict_text (Kept number) = codes "kept " ++ decimal number ++ codes "\n"
 verdict_text (Refused error) = codes "refused: " ++ name_of error ++ codes "\n"
 verdict_text BadCommand = codes "refused: BadCommand\n"

@@ -1,4 +1,4 @@
-//! What framed sessions add to the replies: headers, and the replies that only these sessions have.
+//! What dialogues and framed sessions add to the replies: headers, and replies that scripts do not have.
 
 ghost use Rattle.std.specs.Prelude.{◌≡◌, ◌≤◌, ◌++◌, length, IfOk, string_bytes};
 ghost use Rattle.cost_ledger.specs.CostRow.{ending_text, superstep_line, total_in as total_of, total_line};

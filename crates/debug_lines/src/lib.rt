@@ -4,12 +4,14 @@
 //! [`reply_text`] gives the lines that tell of a [`Reply`](bsp_debug::Reply); and a [`Verdict`] displays as the line of an answer
 //! that has none.
 //!
-//! A framed session has some lines more: [`parse_framed_line`] knows them too, and [`setup_line`], [`add_place`] and [`costs_from`] give
-//! what answers them. Each reply stands behind a header there ([`framed_text`]).
+//! There are three such languages, each with the lines of the one before it and some more: that of scripts, that of dialogues
+//! ([`parse_dialogue_line`]) and that of framed sessions ([`parse_framed_line`]). [`add_place`], [`add_kept`], [`setup_line`] and
+//! [`costs_from`] give what answers the lines that scripts do not have. Each reply stands behind a header in a framed session
+//! ([`framed_text`]).
 //!
 //! Callers may rely on this:
 //!
-//! - `parse_line` takes no memory, and each line is what the definitions make of its words, [`Line::Unknown`] where they are those of
+//! - No line takes memory to parse, and each is what the definitions make of its words, [`Line::Unknown`] where they are those of
 //!   no line.
 //! - The words are parted by spaces alone, of any number, and those at the ends count for nothing. Any other byte is part of a word.
 //! - A number is decimal digits, or `0x` and hexadecimal digits of either case, of any number and without a sign. A line with a
@@ -21,6 +23,7 @@
 #![tactic(auto)]
 
 mod framed;
+mod kept;
 mod line;
 mod number;
 mod octets;
@@ -29,6 +32,7 @@ mod verdict;
 mod word;
 
 pub use framed::{add_place, costs_from, framed_text, setup_line};
-pub use line::{Line, parse_framed_line, parse_line};
+pub use kept::add_kept;
+pub use line::{Line, parse_dialogue_line, parse_framed_line, parse_line};
 pub use reply::reply_text;
 pub use verdict::Verdict;

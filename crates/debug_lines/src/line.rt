@@ -2,6 +2,7 @@
 
 ghost use Rattle.std.specs.Prelude.{◌≡◌};
 ghost use Rattle.debug_lines.specs.Lines.{line_of, line_of_words, line_of_one, command_of_one, line_of_two, line_of_three, line_of_four, point_of, step_of, bytes_of};
+ghost use Rattle.debug_lines.specs.Lines.{dialogue_line_of, dialogue_of_words, dialogue_of_one, dialogue_of_two};
 ghost use Rattle.debug_lines.specs.Lines.{framed_line_of, framed_of_words, framed_of_one, framed_of_two};
 ghost use Rattle.debug_lines.specs.Words.{words};
 
@@ -21,12 +22,20 @@ pub enum Line {
     Command(Command),
     /// What the nodes wrote: `output`.
     Output,
+    /// To keep the state in which the machine is: `keep`. Scripts do not have it.
+    Keep,
+    /// To go back to the state that is kept under a number: `back N`. Scripts do not have it.
+    Back(u64),
+    /// To forget the state that is kept under a number: `forget N`. Scripts do not have it.
+    Forget(u64),
+    /// The states that are kept: `kept`. Scripts do not have it.
+    Kept,
+    /// Where the node of a rank is: `where RANK`. Scripts do not have it.
+    Place(u32),
+    /// Where each node is: `where`. Scripts do not have it.
+    Places,
     /// How many nodes there are, and what else the machine and its costs are set to: `nodes`. Only framed sessions have it.
     Nodes,
-    /// Where the node of a rank is: `where RANK`. Only framed sessions have it.
-    Place(u32),
-    /// Where each node is: `where`. Only framed sessions have it.
-    Places,
     /// What the nodes wrote, from the byte of a number on: `output FROM`. Only framed sessions have it.
     OutputFrom(u64),
     /// What the supersteps that are over cost, from that of a number on: `costs FROM`. Only framed sessions have it.
@@ -39,7 +48,7 @@ pub enum Line {
     Unknown,
 }
 
-/// What a line asks for. It is given without the line feed that ends it.
+/// What a line of a script asks for. It is given without the line feed that ends it.
 #[tactic(auto, unfolding(crate::specs::Lines::line_of))]
 pub fn parse_line(line: &[u8]) -> Line
     ensures { result ≡ line_of line.now }
@@ -50,17 +59,74 @@ pub fn parse_line(line: &[u8]) -> Line
     }
 }
 
-/// What a line of a framed session asks for: that of any session, and two commands more. It is given without the line feed that ends it.
+/// What a line of a dialogue asks for: that of a script, and some lines more. It is given without the line feed that ends it.
+#[tactic(auto, unfolding(crate::specs::Lines::dialogue_line_of))]
+pub fn parse_dialogue_line(line: &[u8]) -> Line
+    ensures { result ≡ dialogue_line_of line.now }
+{
+    match known_line(line).or(dialogue_line(line)) {
+        Some(known) => known,
+        None => Line::Unknown,
+    }
+}
+
+/// What a line of a framed session asks for: that of a dialogue, and some lines more. It is given without the line feed that ends it.
 #[tactic(auto, unfolding(crate::specs::Lines::framed_line_of))]
 pub fn parse_framed_line(line: &[u8]) -> Line
     ensures { result ≡ framed_line_of line.now }
 {
-    match known_line(line) {
+    match known_line(line)
+        .or(dialogue_line(line))
+        .or(framed_line(line))
+    {
         Some(known) => known,
-        None => match framed_line(line) {
-            Some(framed) => framed,
-            None => Line::Unknown,
-        },
+        None => Line::Unknown,
+    }
+}
+
+/// What a line asks for that scripts do not have, if its words are those of one.
+fn dialogue_line(line: &[u8]) -> Option<Line>
+    ensures { result ≡ dialogue_of_words (words line.now) }
+{
+    let Some((word, rest)) = split_word(line) else {
+        return None;
+    };
+    let Some((number, rest)) = split_word(rest) else {
+        return dialogue_of_one(word);
+    };
+    match split_word(rest) {
+        Some(_) => None,
+        None => dialogue_of_two(word, number),
+    }
+}
+
+/// A line of one word that scripts do not have.
+fn dialogue_of_one(word: &[u8]) -> Option<Line>
+    ensures { result ≡ dialogue_of_one word.now }
+{
+    if word == b"keep".as_slice() {
+        Some(Line::Keep)
+    } else if word == b"kept".as_slice() {
+        Some(Line::Kept)
+    } else if word == b"where".as_slice() {
+        Some(Line::Places)
+    } else {
+        None
+    }
+}
+
+/// A line of two words that scripts do not have.
+fn dialogue_of_two(word: &[u8], number: &[u8]) -> Option<Line>
+    ensures { result ≡ dialogue_of_two word.now number.now }
+{
+    if word == b"back".as_slice() {
+        Some(Line::Back(u64_of(number)?))
+    } else if word == b"forget".as_slice() {
+        Some(Line::Forget(u64_of(number)?))
+    } else if word == b"where".as_slice() {
+        Some(Line::Place(u32_of(number)?))
+    } else {
+        None
     }
 }
 
@@ -86,8 +152,6 @@ fn framed_of_one(word: &[u8]) -> Option<Line>
 {
     if word == b"nodes".as_slice() {
         Some(Line::Nodes)
-    } else if word == b"where".as_slice() {
-        Some(Line::Places)
     } else {
         None
     }
@@ -97,9 +161,7 @@ fn framed_of_one(word: &[u8]) -> Option<Line>
 fn framed_of_two(word: &[u8], number: &[u8]) -> Option<Line>
     ensures { result ≡ framed_of_two word.now number.now }
 {
-    if word == b"where".as_slice() {
-        Some(Line::Place(u32_of(number)?))
-    } else if word == b"output".as_slice() {
+    if word == b"output".as_slice() {
         Some(Line::OutputFrom(u64_of(number)?))
     } else if word == b"costs".as_slice() {
         Some(Line::CostsFrom(u64_of(number)?))
@@ -108,7 +170,7 @@ fn framed_of_two(word: &[u8], number: &[u8]) -> Option<Line>
     }
 }
 
-/// What a line asks for, if its words are those of some line.
+/// What a line asks for, if its words are those of a line of a script.
 fn known_line(line: &[u8]) -> Option<Line>
     ensures { result ≡ line_of_words (words line.now) }
 {

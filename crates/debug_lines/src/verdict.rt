@@ -6,8 +6,10 @@ use std::fmt;
 /// What a line is answered that no [`Reply`](bsp_debug::Reply) answers. It displays as a line, with the line feed that ends it.
 #[derive(Clone, Copy, Debug, PartialEq, Eq)]
 pub enum Verdict {
-    /// A point was set or taken away: `ok`.
+    /// It was done, as a point was set or the machine brought back: `ok`.
     Done,
+    /// The state of the machine is kept under this number: `kept 0`.
+    Kept(u64),
     /// The debugger refused it: `refused: BadRank`.
     Refused(DebugError),
     /// It asks for nothing that there is: `refused: BadCommand`.
@@ -23,6 +25,7 @@ impl fmt::Display for Verdict {
     fn fmt<W: fmt::Write>(&self, f: &mut fmt::Formatter<W>) -> fmt::Result {
         match self {
             Verdict::Done => write!(f, "ok\n"),
+            Verdict::Kept(number) => write!(f, "kept {number}\n"),
             Verdict::Refused(error) => write!(f, "refused: {error}\n"),
             Verdict::BadCommand => write!(f, "refused: BadCommand\n"),
         }

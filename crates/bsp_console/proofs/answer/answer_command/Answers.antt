@@ -20,25 +20,25 @@ reply_text-requires g c = λ rows is.
     let makes = subst (Makes d.points d.machine c.args.command (events_of c.command.new.self.last)) is c.in-Ok.ensures.ok in
     let are = costs_are _ _ c.args.command _ rows makes in
     let same : c.command.new.self.machine ≡ d.machine = rw are.0 at c.command.ensures.machine in
-    are.1 ∙ sym (c.ledger-ledger.ensures ∙ ap (λ m. m.ledger) c.machine.ensures ∙ ap (λ m. m.ledger) same)
+    are.1 ∙ sym (c.ledger-ledger.ensures ∙ ap (λ m. m.ledger) c.machine.ensures.value ∙ ap (λ m. m.ledger) same)
 
 -- a refusal is told of a debugger that is as it was, but for what the last command made
 told : (fault : Option DebugError) (done : Type 0) (old new : DebuggerState) (text : List ℕ) (e : DebugError)
     → ((e ≡ NoMemory) ⊎ (fault ≡ Some e)) → (e ≡ NoMemory → ⊥) → text ≡ verdict_text (Refused e)
-    → new.machine ≡ after old.machine (events_of new.last) → new.points ≡ old.points → (IsSome fault → new.last ≡ [])
+    → new.machine ≡ after old.machine (events_of new.last) → new ≡ record old { machine = new.machine; last = new.last } → (IsSome fault → new.last ≡ [])
     → DoesOrRefuses fault done (record old { last = [] }) new text
 unfolding after
-told fault done old new text e (inl memory) other is machine points unmade = absurd (other memory)
-told fault done old new text e (inr refused) other is machine points unmade =
+told fault done old new text e (inl memory) other is machine others unmade = absurd (other memory)
+told fault done old new text e (inr refused) other is machine others unmade =
     let none : new.last ≡ [] = unmade (rw refused refl) in
     let same : new.machine ≡ old.machine = rw none at machine in
-    let as_it_was : new ≡ record old { last = [] } = λ i. record { machine = same i; points = points i; last = none i } in
+    let as_it_was : new ≡ record old { last = [] } = others ∙ (λ i. record old { machine = same i; last = none i }) in
     rw refused (as_it_was, is)
 
 pub returns-in-Err-clause-told : goal.returns-in-Err-clause-told
 returns-in-Err-clause-told g c =
     IfOk-weaker c.verdict_of.result _ _ (λ a verdict. told _ _ c.args.debugger.now c.command.new.self a.text.items c.in-Err.error c.in-Err.ensures.refused verdict.0 verdict.1
-    c.command.ensures.machine c.command.ensures.points c.command.ensures.unmade) c.verdict_of.ensures
+    c.command.ensures.machine c.command.ensures.others c.command.ensures.unmade) c.verdict_of.ensures
 
 -- and it is one
 is_refusal : (fault : Option DebugError) (e : DebugError) (refused : Bool) → ((e ≡ NoMemory) ⊎ (fault ≡ Some e)) → (e ≡ NoMemory → ⊥) → refused ≡ true → refused ≡ is_some fault

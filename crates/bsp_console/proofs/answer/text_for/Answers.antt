@@ -4,8 +4,11 @@ use Rattle.std.proofs.lemmas.Result.{IfOk-weaker}
 use Rattle.debug_lines.specs.Framed.{framed_text}
 use Rattle.bsp_console.proofs.answer.text_for.Goals as goal
 
-pub returns-in-Plain : goal.returns-in-Plain
-returns-in-Plain g c = rw c.in-Plain.is c.in_ok-answer.ensures.told
+pub returns-in-Script : goal.returns-in-Script
+returns-in-Script g c = rw c.in-Script.is c.in_ok-answer.ensures.told
+
+pub returns-in-Dialogue : goal.returns-in-Dialogue
+returns-in-Dialogue g c = rw c.in-Dialogue.is c.in_ok-answer.ensures.told
 
 pub returns-in-Framed : goal.returns-in-Framed
 returns-in-Framed g c =

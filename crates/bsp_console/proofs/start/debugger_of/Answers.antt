@@ -23,5 +23,5 @@ returns-clause-ok g c = record {
     fits = within (settings_fault c.args.job.now.settings) (is_segment_outside c.in_ok-image.image c.args.job.now.settings.memory) c.requires.settings
         (λ outside. let refused = c.in_ok-machine.ensures.segment_outside.1 outside in cc);
   };
-  is = c.new-2.ensures ∙ ap (λ (m : MachineState). let d : DebuggerState = record { machine = m; points = []; last = [] } in d) c.in_ok-machine.ensures.ok;
+  is = c.new-2.ensures ∙ ap (λ (m : MachineState). let d : DebuggerState = record { first = m; machine = m; kept = []; points = []; last = [] } in d) c.in_ok-machine.ensures.ok;
 }

@@ -8,7 +8,7 @@ A fenced block is what the first word behind its fence says:
     - `status=N`: the commands of the block end with status N, which is 0 if not said.
     - `any-output`: what the commands write is not shown.
     - `not-run`: the commands are not run: they want a network, rights, other hosts, another end of a connection, or minutes.
-    - `dialogue`: lines that begin with `> ` or `(gdb) ` are typed while the command runs, and what it answers follows. A block that
+    - `dialogue`: lines that begin with `> `, `(gdb) ` or `(bsp) ` are typed while the command runs, and what it answers follows. A block that
       begins with such a line goes on with the last dialogue.
 - `asm`: a whole text of assembly, which the emulator takes.
 - any other word, as `text` or `csv`: no command.
@@ -23,7 +23,7 @@ from typing import Dict, Iterator, List, Optional
 
 FENCE = re.compile(r"( *)```(.*)")
 HERE_DOCUMENT = re.compile(r"<<'?(\w+)'?")
-PROMPTS = ("> ", "(gdb) ")
+PROMPTS = ("> ", "(gdb) ", "(bsp) ")
 ANY_LINES = "..."
 LISTING = "./bspemu list - --format asm"
 WORDS = {"any-output", "not-run", "dialogue"}

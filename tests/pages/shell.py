@@ -14,7 +14,8 @@ SECONDS = 120
 # Two lines that the debugger refuses, which changes nothing; so its answers to the lines between them can be told apart.
 MARK = "-\nclear superstep 0xffffffffffffffff\n"
 MARKED = "refused: BadCommand\nrefused: NoSuchBreak\n"
-GDB = "(gdb) "
+# Those that write their prompt also where no person is.
+GDB, LINES = "(gdb) ", "(bsp) "
 
 
 class Shell:
@@ -48,12 +49,13 @@ class Shell:
             status, text = self.run(command.text, command.given)
             return status, [text.splitlines()]
         lines = [part.typed + "\n" for part in command.parts[1:]]
-        if command.prompt == GDB:
-            status, text = self.run(command.text, "set width 0\n" + "".join(lines))
-            start, _, rest = text.partition(GDB)
-            answers = [start, *rest.split(GDB)[1:]]
+        if command.prompt in (GDB, LINES):
+            status, text = self.run(command.text, ("set width 0\n" if command.prompt == GDB else "\n") + "".join(lines))
+            start, _, rest = text.partition(command.prompt)
+            answers = [start, *rest.split(command.prompt)[1:]]
         else:
-            status, text = self.run(command.text, MARK + "".join(line + MARK for line in lines))
+            # A page is typed in at a terminal, where the debugger has a dialogue by itself.
+            status, text = self.run(f"{command.text} --interactive", MARK + "".join(line + MARK for line in lines))
             answers = text.split(MARKED)
         # What was typed last is often `quit`, after which nothing is written; else an empty answer follows.
         parts = len(command.parts)

@@ -82,6 +82,27 @@ class Reply(NamedTuple):
         return self.lines
 
 
+class Shown:
+    """A node as a reply shows it, of which no more is read than is asked for."""
+
+    def __init__(self, reply: Reply) -> None:
+        self._reply = reply
+        head = reply.data.split(b" ", 7)
+        if not reply.is_done or len(head) < 8:
+            raise Refused("the debugger shows no node")
+        self.pc = int(head[3], 16)
+        self.runs = head[7].startswith(b"running")
+        self.has_failed = head[7].startswith(b"fault")
+
+    @property
+    def node(self) -> Node:
+        """All of it."""
+        node = node_of(self._reply.lines)
+        if node is None:
+            raise Refused("the debugger shows no node")
+        return node
+
+
 class Session:
     """A session with the debugger. `room` is how many bytes of lines it still reads."""
 
@@ -91,9 +112,11 @@ class Session:
         assert self._process.stdin is not None and self._process.stdout is not None
         self._lines, self._replies = self._process.stdin, self._process.stdout
         self.room = limits.MOST_LINES
+        self.is_open = True
 
     def close(self) -> None:
         """Ends the process, also in the midst of a long `go`."""
+        self.is_open = False
         children.end(self._process)
 
     def send(self, *lines: str) -> None:

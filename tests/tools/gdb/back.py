@@ -2,13 +2,14 @@
 
 from __future__ import annotations
 
+import contextlib
 import pathlib
 import random
 import re
 import tempfile
-from typing import Callable, List, NamedTuple, Optional, Sequence, Set, Tuple
+from typing import Callable, Iterator, List, NamedTuple, Optional, Sequence, Set, Tuple
 
-from bsptools.debug import history, machine, runner
+from bsptools.debug import arrivals, halts, history, kept, machine, runner
 from sessions import SHOW_REGISTERS, Bench, expect, in_order, registers_in
 
 NO_MORE = "No more reverse-execution history."
@@ -56,7 +57,7 @@ def back_by_instructions(bench: Bench) -> None:
     for count in (1, 30):
         commands = ["monitor superstep 2", "continue", "thread 2", *["reverse-stepi"] * count, "info threads", SHOW_REGISTERS]
         text = bench.gdb(program, commands, "--nodes", "3")
-        in_order(text, '1    Thread 1 "rank 0" (synced, superstep 1)', '* 2    Thread 2 "rank 1" (running, superstep 1)')
+        in_order(text, '1    Thread 1 "rank 0, superstep 1" (synced)', '* 2    Thread 2 "rank 1, superstep 1" (running)')
         lines = ["break superstep 1", "go", "step 0 100000", "step 2 100000", f"step 1 {ticks[1] - count - begun[1]}"]
         expect(registers_in(text, 3) == bench.registers_told(program, lines, 3), text)
 
@@ -75,7 +76,7 @@ def back_by_lines(bench: Bench) -> None:
     in_order(text, "hit Breakpoint 1, main ()", "43\t        bsp_sync();", "42\t        printf", "41\t        note(round);", "40\t")
     in_order(text, "39\t        mine.numbers[round] = twice", "(gdb) 38\t", "44\t")
     text = bench.gdb(program, ["break 40", "continue", "reverse-step", "bt", "reverse-finish", "info threads"], "--nodes", "2")
-    in_order(text, "twice (number=0) at", "19\t}", "#1 ", "39\t", '* 1    Thread 1 "rank 0" (running, superstep 1)')
+    in_order(text, "twice (number=0) at", "19\t}", "#1 ", "39\t", '* 1    Thread 1 "rank 0, superstep 1" (running)')
 
 
 @case
@@ -84,15 +85,15 @@ def back_to_breakpoints(bench: Bench) -> None:
     program = bench.build("tests/tools/gdb/rounds.c")
     commands = ["break note if round != 2", *["continue"] * 8, "monitor superstep", *["reverse-continue"] * 8, "monitor superstep"]
     text = bench.gdb(program, [*commands, *["continue"] * 8, "delete", "continue"], "--nodes", "3")
-    stops = re.findall(r'"rank (\d)" hit Breakpoint 1, note \(round=(\d)\)', text)
+    stops = re.findall(r'"rank (\d), superstep \d" hit Breakpoint 1, note \(round=(\d)\)', text)
     forth = [(str(rank), str(round)) for round in (0, 1, 3) for rank in range(3)][:8]
     expect(stops == [*forth, *forth[-2::-1], *forth], text)
     in_order(text, "superstep 4\n", NO_MORE, "_start ()", "superstep 0\n", "exited normally")
     expect(text.count("rank 1 has made round 0\n") == 1 and text.count("rank 1 has made round 3\n") == 1, text)
     commands = ["break note thread 2", *["continue"] * 2, "reverse-continue", "set scheduler-locking on", "delete", "break twice"]
     text = bench.gdb(program, [*commands, "reverse-continue", "info threads"], "--nodes", "3")
-    in_order(text, *['Thread 2 "rank 1" hit Breakpoint 1, note (round=0)'] * 2, 'Thread 2 "rank 1" hit Breakpoint 2, twice (number=10)')
-    in_order(text, '1    Thread 1 "rank 0" (synced, superstep 1)', '* 2    Thread 2 "rank 1" (running, superstep 1)')
+    in_order(text, *['Thread 2 "rank 1, superstep 1" hit Breakpoint 1, note (round=0)'] * 2, 'Thread 2 "rank 1, superstep 1" hit Breakpoint 2, twice (number=10)')
+    in_order(text, '1    Thread 1 "rank 0, superstep 1" (synced)', '* 2    Thread 2 "rank 1, superstep 1" (running)')
 
 
 @case
@@ -101,7 +102,7 @@ def back_to_supersteps(bench: Bench) -> None:
     program = bench.build("tests/tools/gdb/rounds.c")
     commands = ["monitor end", "continue", "info threads", "monitor superstep 2", "reverse-continue", "info threads", SHOW_REGISTERS]
     text = bench.gdb(program, [*commands, "reverse-continue", "continue", "continue", "continue"], "--nodes", "2")
-    in_order(text, "ended\n", "stopped.", "(ended, superstep 5)", "superstep 2 has begun already", "superstep 2 begins", "(running, superstep 2)")
+    in_order(text, "ended\n", "stopped.", 'superstep 5" (ended)', "superstep 2 has begun already", "superstep 2 begins", 'superstep 2" (running)')
     expect(registers_in(text, 2) == bench.registers_told(program, ["break superstep 2", "go"], 2), text)
     in_order(text, NO_MORE, "superstep 2 begins", "ended\n", "stopped.", "exited normally")
 
@@ -112,7 +113,7 @@ def back_from_a_fault(bench: Bench) -> None:
     for options, signal in ((["-DEND=8"], "SIGSEGV"), (["-DEND=12"], "stopped.")):
         program = bench.build("examples/c/ends.c", *options)
         text = bench.gdb(program, ["continue", "reverse-stepi", "info threads", "reverse-step", "continue", "continue"], "--nodes", "2")
-        in_order(text, signal, '* 1    Thread 1 "rank 0" (running, superstep ', "main () at examples/c/ends.c", signal, "exited with code 0")
+        in_order(text, signal, '* 1    Thread 1 "rank 0, superstep ', '" (running)', "main () at examples/c/ends.c", signal, "exited with code 0")
         expect(text.count("begun\n") == 2, text)
 
 
@@ -122,16 +123,16 @@ def watch_back(bench: Bench) -> None:
     program = bench.build("tests/tools/gdb/rounds.c")
     commands = ["break 44 if s == 1 && round == 1", "continue", "delete", "watch mine.numbers[1]", "info threads", "reverse-continue"]
     text = bench.gdb(program, [*commands, "reverse-step"], "--nodes", "3")
-    in_order(text, 'Thread 2 "rank 1" hit Watchpoint 2', "Old value = 22", "New value = 0", "39\t", "twice (number=11)")
+    in_order(text, 'Thread 2 "rank 1, superstep 2" hit Hardware watchpoint 2', "Old value = 22", "New value = 0", "39\t", "twice (number=11)")
 
 
 @case
 def back_interrupted(bench: Bench) -> None:
     """Ctrl-C as a run goes back, and as a watch does: the machine stands at what it shows, and goes on from there."""
     program = bench.build("tests/tools/gdb/rounds.c", "-DLOOP=4000")
-    commands = ["break rounds.c:53 if seen >= 0", "continue", "delete", "watch mine.from", *SOON_INTERRUPTED, "reverse-continue"]
+    commands = ["monitor superstep 3500", "continue", "watch mine.from", *SOON_INTERRUPTED, "reverse-continue"]
     text = bench.gdb(program, [*commands, "info threads", "delete", "reverse-continue", "info threads"], "--nodes", "2")
-    in_order(text, "received signal SIGINT", "(running, superstep ", NO_MORE, "(running, superstep 0)")
+    in_order(text, "received signal SIGINT", 'superstep 3500" (running)', NO_MORE, 'superstep 0" (running)')
 
 
 @case
@@ -145,7 +146,9 @@ def back_refused(bench: Bench) -> None:
     commands = ["break note", "continue", full, "reverse-stepi", "reverse-continue", "bt", room, *["reverse-stepi"] * 2, full, "stepi", room]
     text = scarce.gdb(scarce.build("tests/tools/gdb/rounds.c"), [*commands, "stepi", "reverse-continue", "continue"], "-n", "2")
     refused = "bspgdb: it stays where it is: the debugger has ended"
-    in_order(text, refused, refused, "#0  note (round=0)", "22\t{", "22\t{", refused, "22\t{", NO_MORE, "hit Breakpoint 1, note")
+    # Forwards from there it goes by what the process itself has kept.
+    in_order(text, refused, refused, "#0  note (round=0)", *["22\t{"] * 3, "23\t", NO_MORE, "hit Breakpoint 1, note")
+    expect(text.count(refused) == 2, text)
 
 
 class Hit(NamedTuple):
@@ -170,7 +173,7 @@ class Past:
                 self._note(run, 0)
             points = [(rank, addr) for rank in range(run.ranks) for addr in addresses]
             arrival = run.advance([*points, run.superstep + 1])
-            while isinstance(arrival, machine.AtRank):
+            while isinstance(arrival, arrivals.AtRank):
                 self._note(run, arrival.rank)
                 arrival = run.advance([*points, run.superstep + 1])
         run.close()
@@ -179,27 +182,27 @@ class Past:
         node = run.node(rank)
         self.hits.append(Hit(run.superstep, rank, node.ticks, node.pc))
 
-    def before(self, place: machine.Place, addresses: Set[int], rank: Optional[int]) -> Optional[Hit]:
+    def before(self, place: arrivals.Place, addresses: Set[int], rank: Optional[int]) -> Optional[Hit]:
         """The last time before a place at which a rank, or this one, was at one of these addresses."""
         hits = [it for it in self.hits if it.pc in addresses and rank in (None, it.rank)]
         behind = [it for it in hits if it.superstep < place.superstep or it[0] == place.superstep and it.ticks < place.ticks[it.rank]]
         return behind[-1] if behind else None
 
-    def back_at(self, hit: Optional[Hit], place: machine.Place, is_alone: bool) -> machine.Place:
+    def back_at(self, hit: Optional[Hit], place: arrivals.Place, is_alone: bool) -> arrivals.Place:
         """Where a machine stands that has gone back to a hit, or to the start."""
         if hit is None:
-            return machine.Place(0, self.begins[0], False)
+            return arrivals.Place(0, self.begins[0], False)
         begin = self.begins[hit.superstep]
         end = place.ticks if hit.superstep == place.superstep else self.begins[hit.superstep + 1]
         ticks = end[: hit.rank] + (hit.ticks,) + (end if is_alone else begin)[hit.rank + 1 :]
-        return machine.Place(hit.superstep, ticks, False)
+        return arrivals.Place(hit.superstep, ticks, False)
 
-    def step_back(self, place: machine.Place, rank: int) -> machine.Place:
+    def step_back(self, place: arrivals.Place, rank: int) -> arrivals.Place:
         """Where a machine stands of which a rank has gone an instruction back."""
         begin = self.begins[place.superstep]
         if place.ticks[rank] > begin[rank]:
-            return machine.Place(place.superstep, _one_less(place.ticks, rank), False)
-        return machine.Place(place.superstep - 1, _one_less(begin, rank), False) if place.superstep else place
+            return arrivals.Place(place.superstep, _one_less(place.ticks, rank), False)
+        return arrivals.Place(place.superstep - 1, _one_less(begin, rank), False) if place.superstep else place
 
 
 def _one_less(ticks: Tuple[int, ...], rank: int) -> Tuple[int, ...]:
@@ -215,13 +218,75 @@ def back_in_any_order(bench: Bench) -> None:
     past = Past(command, addresses)
     # So that few stops are many.
     with bench.machines:
-        kept = history.MOST_STOPS, history.WINDOW, history.WIDER
+        before = history.MOST_STOPS, history.WINDOW, history.WIDER
         history.MOST_STOPS, history.WINDOW, history.WIDER = 2, 50, 3
         try:
             for seed in range(2):
                 Walk(seed, command, past, addresses).make(40)
+            # States are kept wherever it goes, and most of them forgotten.
+            with _keeping(0.0, 6, 2):
+                for seed in range(2, 4):
+                    Walk(seed, command, past, addresses).make(40)
         finally:
-            history.MOST_STOPS, history.WINDOW, history.WIDER = kept
+            history.MOST_STOPS, history.WINDOW, history.WIDER = before
+
+
+@contextlib.contextmanager
+def _keeping(every: float, most: int, latest: int) -> Iterator[None]:
+    """While this lasts, states are kept so often, and so many of them."""
+    before = kept.EVERY, kept.MOST_KEPT, kept.LATEST
+    kept.EVERY, kept.MOST_KEPT, kept.LATEST = every, most, latest
+    try:
+        yield
+    finally:
+        kept.EVERY, kept.MOST_KEPT, kept.LATEST = before
+
+
+# A rank that makes 300 million instructions in a superstep.
+LONG_LOOP = """\
+        li s0, 150000000
+loop:   addi s0, s0, -1
+        bnez s0, loop
+        li a7, 1
+        ecall
+"""
+
+
+class Counting(machine.Machine):
+    """A machine that counts, with all that come from it, the instructions that are made by steps."""
+
+    made = 0
+
+    def step(self, rank: int, count: int, must_break_off: arrivals.Asked = arrivals.never) -> int:
+        moved = super().step(rank, count, must_break_off)
+        Counting.made += moved
+        return moved
+
+    def limited(self, limit: int) -> machine.Machine:
+        other = super().limited(limit)
+        other.__class__ = Counting
+        return other
+
+
+@case
+def back_after_long(bench: Bench) -> None:
+    """A step back after a long superstep makes little of it again, and so does a second one, and one forwards."""
+    source = bench.folder / "long.s"
+    source.write_text(LONG_LOOP)
+    with bench.machines, _keeping(0.02, 32, 8):
+        run = Counting([bench.bspemu, "debug", str(source), "--format", "asm", "--nodes", "2", "--limit", "1000000000"])
+        there = runner.Runner(run, lambda text: None, lambda: False, breakpoints={16})
+        try:
+            there.go(0)
+            place = run.place()
+            for way, left in ((there.step_back, 1), (there.step_back, 2), (there.step, 1), (there.step_back, 2)):
+                Counting.made = 0
+                way(0)
+                expect(Counting.made < place.ticks[0] // 2, f"{Counting.made} instructions are made again")
+                expect(run.place() == place._replace(ticks=(place.ticks[0] - left, 0)), (run.place(), place))
+            expect([run.node(0).pc, run.node(0).x[8]] == [8, 1], run.node(0))
+        finally:
+            run.close()
 
 
 class Walk:
@@ -242,7 +307,7 @@ class Walk:
             self.chance.choice([self._forth, self._step_back, self._step_back, self._go_back])(rank)
             self._compare()
         self.runner.breakpoints = set()
-        while not isinstance(self.runner.go(0), runner.Exit):
+        while not isinstance(self.runner.go(0), halts.Exit):
             pass
         wanted = "".join(f"rank {rank} has made round {round}\n" for round in range(4) for rank in range(3)).encode()
         expect(bytes(self.shown).replace(b"ended\n", b"") == wanted, self.shown)
@@ -250,7 +315,7 @@ class Walk:
 
     def _forth(self, rank: int) -> None:
         pc = self.machine.node(rank).pc
-        ways: List[Callable[[int], runner.Halt]] = [self.runner.go, self.runner.go_alone]
+        ways: List[Callable[[int], halts.Halt]] = [self.runner.go, self.runner.go_alone]
         ways.append(lambda rank: self.runner.step_range(rank, pc - 64, pc + 64))
         if self.machine.outcome is None:
             self.chance.choice(ways)(rank)
@@ -261,7 +326,7 @@ class Walk:
             wanted = self.past.step_back(place, rank)
             halt = self.runner.step_back(rank)
             found = self.machine.place()
-            expect(found == wanted and halt == runner.Stop(rank, 5, is_begin=wanted == place), (rank, place, wanted, found, halt))
+            expect(found == wanted and halt == halts.Stop(rank, 5, is_begin=wanted == place), (rank, place, wanted, found, halt))
 
     def _go_back(self, rank: int) -> None:
         alone = self.chance.choice([None, rank])
@@ -269,7 +334,7 @@ class Walk:
         hit = self.past.before(place, self.runner.breakpoints, alone)
         halt = self.runner.go_back(alone, rank)
         wanted, found = self.past.back_at(hit, place, alone is not None), self.machine.place()
-        right = runner.Stop(rank, 5, is_begin=True) if hit is None else runner.Stop(hit.rank, 5, is_breakpoint=True)
+        right = halts.Stop(rank, 5, is_begin=True) if hit is None else halts.Stop(hit.rank, 5, is_breakpoint=True)
         expect(found == wanted and halt == right, (alone, place, wanted, found, halt))
 
     def _compare(self) -> None:

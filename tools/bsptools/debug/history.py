@@ -8,10 +8,11 @@ where the superstep began; then to the end of the superstep before that, and thr
 from __future__ import annotations
 
 import contextlib
-from typing import FrozenSet, Iterator, List, NamedTuple, Optional, Sequence, Tuple
+from typing import Callable, FrozenSet, Iterator, List, NamedTuple, Optional, Sequence, Tuple
 
-from ..debugger import ALL
-from .machine import MOST_BREAKPOINTS, Asked, AtRank, Interrupted, Machine, Place, Point
+from ..debugger import ALL, Node
+from .arrivals import Asked, AtRank, Interrupted, Place, Point
+from .machine import MOST_BREAKPOINTS, Machine
 
 # Of how many instructions it is kept what they change: of few at first, and of more where it goes back over all of these.
 LEAST_RECORDED, MORE_RECORDED, MOST_RECORDED = 16, 8, 4096
@@ -31,11 +32,13 @@ class Hit(NamedTuple):
 
 
 class Goal(NamedTuple):
-    """What is looked for in history: a rank at one of these addresses, any rank or this one alone, or the beginning of a superstep."""
+    """What is looked for in history: a rank at one of these addresses that is accepted there, any rank or this one alone, or the beginning
+    of a superstep."""
 
     addresses: FrozenSet[int]
     supersteps: FrozenSet[int]
     rank: Optional[int]
+    accepts: Callable[[Node], bool] = lambda node: True
 
 
 class History:
@@ -45,6 +48,8 @@ class History:
         self._machine = machine
         self._must_break_off = must_break_off
         self._recorded = LEAST_RECORDED
+        # The machine with a limit that a search goes through again and again.
+        self._limited: Optional[Machine] = None
 
     def step_back(self, rank: int) -> bool:
         """A rank goes an instruction back. Where it has made none in this superstep, all go back over the turn, and then this rank.
@@ -55,24 +60,22 @@ class History:
         before = self._before(self._machine.place(), rank)
         if before is None:
             return False
-        other = self._at(before._replace(ticks=_with(before.ticks, rank, 0)))
+        other = self._at(before._replace(ticks=_with(before.ticks, rank, max(0, before.ticks[rank] - self._recorded))))
         try:
-            count = before.ticks[rank] - other.node(rank).ticks
-            recorded = min(count, self._recorded)
-            other.step(rank, count - recorded, self._must_break_off)
-            other.record(rank, recorded, self._must_break_off)
+            other.record(rank, before.ticks[rank] - other.node(rank).ticks, self._must_break_off)
         except BaseException:
             other.close()
             raise
         self._become(other)
         return True
 
-    def go_back(self, goal: Goal) -> Optional[Hit]:
-        """Goes back to the last place that is looked for, or else to the start. Answers which it is."""
-        place = self._machine.place()
-        hit = self._last(goal, place)
-        self._become(self._at(self._place_of(hit or Hit(0, BEGIN, 0), goal.rank, place)))
-        return hit
+    def last(self, goal: Goal) -> Optional[Hit]:
+        """The last place that is looked for."""
+        return self._last(goal, self._machine.place())
+
+    def go_to(self, hit: Optional[Hit], alone: Optional[int]) -> None:
+        """Goes back to a place, or to the start; one rank alone, where it is said."""
+        self._become(self._at(self._place_of(hit or Hit(0, BEGIN, 0), alone, self._machine.place())))
 
     def _become(self, other: Machine) -> None:
         self._machine.become(other)
@@ -101,7 +104,16 @@ class History:
         return Place(hit.superstep, ticks, False)
 
     def _at(self, place: Place, limit: Optional[int] = None) -> Machine:
-        return self._machine.at(place, self._must_break_off, limit)
+        if limit is None:
+            return self._machine.at(place, self._must_break_off)
+        if self._limited is None:
+            self._limited = self._machine.limited(limit)
+        return self._limited.at(place, self._must_break_off)
+
+    def _close_limited(self) -> None:
+        if self._limited is not None:
+            self._limited.close()
+        self._limited = None
 
     def _begin_of(self, superstep: int) -> Tuple[int, ...]:
         return self._machine.begin_of(superstep, self._must_break_off)
@@ -116,7 +128,10 @@ class History:
         moved = [rank for rank, ticks in enumerate(place.ticks) if ticks > begin[rank]]
         # A rank may go on for ever behind where it stands. None has come further than this.
         limit = min(self._machine.limit, max(*begin, *place.ticks) + 1)
-        hit = self._last_in(place.superstep, goal, moved, place.ticks, limit)
+        try:
+            hit = self._last_in(place.superstep, goal, moved, place.ticks, limit)
+        finally:
+            self._close_limited()
         if hit is not None:
             return hit
         begun = [it for it in goal.supersteps if it < place.superstep or it == place.superstep and (moved or place.is_over)]
@@ -133,10 +148,22 @@ class History:
             start = first if found is None else found + 1
             if start == end:
                 break
-            with self._scout(self._start_of(start), ranks, goal) as scout:
-                while scout.superstep < end and scout.next(end) is not None:
-                    found = scout.superstep
-                    scout.skip_superstep()
+            # From where states are kept, the latest first.
+            begins = [it for it in self._machine.begun_before(end) if it > start]
+            for window, behind in reversed(list(zip([start, *begins], [*begins, end]))):
+                later = self._last_between(window, behind, ranks, goal)
+                if later is not None:
+                    found = later
+                    break
+        return found
+
+    def _last_between(self, first: int, end: int, ranks: Sequence[int], goal: Goal) -> Optional[int]:
+        """The same of some ranks that have room for their points."""
+        found: Optional[int] = None
+        with self._scout(self._start_of(first), ranks, goal, is_in_superstep=False) as scout:
+            while scout.superstep < end and scout.next(end) is not None:
+                found = scout.superstep
+                scout.skip_superstep()
         return found
 
     def _last_in(
@@ -191,10 +218,12 @@ class History:
         return [looked_at[first : first + size] for first in range(0, len(looked_at) if goal.addresses else 0, size)]
 
     @contextlib.contextmanager
-    def _scout(self, place: Place, ranks: Sequence[int], goal: Goal, limit: Optional[int] = None) -> Iterator[Scout]:
+    def _scout(
+        self, place: Place, ranks: Sequence[int], goal: Goal, limit: Optional[int] = None, is_in_superstep: bool = True
+    ) -> Iterator[Scout]:
         machine = self._at(place, limit)
         try:
-            yield Scout(machine, ranks, goal.addresses, self._must_break_off)
+            yield Scout(machine, ranks, goal, self._must_break_off, is_in_superstep)
         finally:
             machine.close()
 
@@ -202,11 +231,15 @@ class History:
 class Scout:
     """Another machine, which goes through history from breakpoint to breakpoint."""
 
-    def __init__(self, machine: Machine, ranks: Sequence[int], addresses: FrozenSet[int], must_break_off: Asked) -> None:
+    def __init__(self, machine: Machine, ranks: Sequence[int], goal: Goal, must_break_off: Asked, is_in_superstep: bool = False) -> None:
+        """Where it stays in one superstep, it does not go past the last of the ranks."""
         self._machine = machine
         self._ranks = frozenset(ranks)
-        self._addresses = addresses
-        self._points: List[Point] = [(rank, addr) for rank in ranks for addr in addresses]
+        self._goal = goal
+        self._points: List[Point] = [(rank, addr) for rank in ranks for addr in goal.addresses]
+        if is_in_superstep and max(ranks) + 1 < machine.ranks:
+            # The rank behind them, which has not begun.
+            self._points.append((max(ranks) + 1, machine.node(max(ranks) + 1).pc))
         self._must_break_off = must_break_off
         # `go` does not look where it begins.
         self._must_look = True
@@ -218,16 +251,19 @@ class Scout:
 
     def next(self, end: int) -> Optional[Hit]:
         """Goes on to the next breakpoint, if there is one before this superstep."""
-        if self._must_break_off():
-            raise Interrupted
-        rank = self._standing() if self._must_look else None
-        self._must_look = False
-        if rank is None:
-            arrival = self._machine.advance([*self._points, end], self._must_break_off)
-            if not isinstance(arrival, AtRank):
-                return None
-            rank = arrival.rank
-        return Hit(self.superstep, rank, self._machine.node(rank).ticks)
+        while True:
+            if self._must_break_off():
+                raise Interrupted
+            rank = self._standing() if self._must_look else None
+            self._must_look = False
+            if rank is None:
+                arrival = self._machine.advance([*self._points, end], self._must_break_off)
+                if not isinstance(arrival, AtRank) or arrival.rank not in self._ranks:
+                    return None
+                rank = arrival.rank
+            node = self._machine.node(rank)
+            if self._goal.accepts(node):
+                return Hit(self.superstep, rank, node.ticks)
 
     def skip_rank(self, rank: int) -> int:
         """Goes past what this rank still does in this superstep. Answers how many instructions it has made then."""
@@ -243,7 +279,7 @@ class Scout:
     def _standing(self) -> Optional[int]:
         """The rank that stands at a breakpoint, and goes on next."""
         running = next((node for node in self._machine.nodes() if node.runs), None)
-        return running.rank if running and running.rank in self._ranks and running.pc in self._addresses else None
+        return running.rank if running and running.rank in self._ranks and running.pc in self._goal.addresses else None
 
 
 def _with(ticks: Tuple[int, ...], rank: int, count: int) -> Tuple[int, ...]:

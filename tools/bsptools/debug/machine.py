@@ -1,22 +1,25 @@
 """The machine, as the lines of its debugger show it and move it.
 
-What is kept of it here is a cache, of which each change drops what it may have touched. A place, which is a superstep and how many
-instructions each rank has made, says all of a machine's state, since each run of a program is the same. So a machine can be brought to
-a place that it has left, by a new process, or by one that stands spare where a superstep begins. And for some instructions of one rank it
-is kept what each has changed: there it goes back without one.
+A place, which is a superstep and how many instructions each rank has made, says all of a machine's state, since each run of a program is the
+same. So a machine can be brought to a place that it has left: from a state that its process has kept, from one that the process of a spare
+machine has kept, which goes the same way, or by a new process. And for some instructions of one rank it is kept what each has changed: there
+it goes back without all that.
 """
 
 from __future__ import annotations
 
 import contextlib
-import re
+import copy
 import time
-from typing import Callable, Dict, FrozenSet, Iterable, List, NamedTuple, Optional, Sequence, Tuple, Union
+from typing import Callable, Dict, Iterable, List, Optional, Sequence, Tuple
 
-from ..debugger import Node, Reply, Session, node_of
+from ..debugger import Session
 from ..limits import MOST_POINTS
 from ..refusals import Refused
-from .spare import Spare
+from .arrivals import Arrival, Asked, AtSuperstep, BrokenOff, Interrupted, Over, Place, Point, never
+from .kept import Kept, State
+from .process import Process
+from .spare import PIECE, Spare
 from .trace import Moment, Trace, stored
 
 # How many addresses may have breakpoints: beside these a superstep and a rank are points of the bridge's own.
@@ -25,85 +28,37 @@ MOST_BREAKPOINTS = MOST_POINTS - 2
 RESERVE = 1 << 16
 # From how many seconds on a run is so long that a spare machine is kept.
 LONG = 0.2
+# From how many seconds on a run to a place is so long that the state there is kept.
+SHORT = 0.05
 # Of how many supersteps it is kept how many instructions had been made where they began.
 MOST_BEGINS = 64
-# How long an answer is waited for before it is asked whether to break off, in seconds, and after how many recorded instructions it is asked.
-POLL, RECORDED = 0.05, 64
-# How many bytes of code are read at once.
-CODE = 64
-
-# A rank and an address, or a superstep.
-Point = Union[Tuple[int, int], int]
-Points = FrozenSet[Point]
-
-_AT_RANK = re.compile(r"stopped at rank (\d+) pc ([0-9a-f]{8})")
-_AT_SUPERSTEP = re.compile(r"stopped at superstep (\d+)")
+# After how many recorded instructions it is asked whether to break off.
+RECORDED = 64
 
 
-class Place(NamedTuple):
-    """Where a machine stands: all of its state follows from that."""
-
-    superstep: int
-    ticks: Tuple[int, ...]
-    is_over: bool
-
-
-class AtRank(NamedTuple):
-    """`go` has come to the point of a rank."""
-
-    rank: int
-    pc: int
-
-
-class AtSuperstep(NamedTuple):
-    """`go` has come to where a superstep begins."""
-
-    superstep: int
-
-
-class Over(NamedTuple):
-    """The run has its outcome."""
-
-    outcome: str
-
-
-class BrokenOff(NamedTuple):
-    """It was asked to break off a `go`. The machine stands where it stood before."""
-
-
-Arrival = Union[AtRank, AtSuperstep, Over, BrokenOff]
-
-
-class Interrupted(Exception):
-    """It was asked to break off what goes on. A machine that went on so is of no more use."""
-
-
-Asked = Callable[[], bool]
-
-
-def never() -> bool:
-    """Nothing is to be broken off."""
-    return False
-
-
-class Machine:
-    """A machine that is shown and moved by the lines of the debugger."""
+class Machine(Process):
+    """A machine that is shown and moved by the lines of the debugger, also back."""
 
     def __init__(self, command: Sequence[str]) -> None:
-        self.command = list(command)
+        super().__init__(command)
         self._begins: Dict[int, Tuple[int, ...]] = {}
-        self._session = Session(self.command)
-        self._points: Points = frozenset()
-        self._nodes: Dict[int, Node] = {}
-        self._superstep: Optional[int] = 0
-        self._is_at_begin = True
-        self._trace: Optional[Trace] = None
-        self.outcome: Optional[str] = None
-        self.spare = Spare(lambda: Machine(self.command))
-        settings = self._session.settings()
-        self.ranks, self._memory, self.limit = settings["nodes"], settings["memory"], settings["limit"]
+        self._kept = Kept(self._session)
+        # What is done with a machine of which another one has no more need; without that its process ends.
+        self._give_back: Optional[Callable[[Machine], None]] = None
+        # The state that comes back then, where the process is that of another machine, and the rank that goes on by itself.
+        self._mark: Optional[int] = None
+        self._stepping: Optional[int] = None
+        self.spare = Spare(self._started)
 
     def close(self) -> None:
+        """Ends the process, and that of the spare machine; or gives it back, where it was lent."""
+        give_back, self._give_back = self._give_back, None
+        if give_back is None:
+            self.discard()
+        else:
+            give_back(self)
+
+    def discard(self) -> None:
         """Ends the process, and that of the spare machine."""
         self._session.close()
         self.spare.close()
@@ -113,113 +68,16 @@ class Machine:
         """Whether the debugger would soon read no more lines."""
         return self._session.room < RESERVE
 
-    # What there is.
-
-    def node(self, rank: int) -> Node:
-        """A node."""
-        self._make_room()
-        return self._look_at([rank])[0]
-
-    def nodes(self) -> List[Node]:
-        """All nodes."""
-        self._make_room()
-        return self._look_at(range(self.ranks))
-
-    @property
-    def superstep(self) -> int:
-        """The superstep that has begun last."""
-        self._make_room()
-        return self._look_at_superstep()
-
-    def memory(self, rank: int, addr: int, length: int) -> bytes:
-        """Memory of a rank: these bytes, or those of them that come before the memory's end."""
-        count = min(length, self._memory - addr)
-        if count <= 0:
-            return b""
-        self._make_room()
-        data = bytes.fromhex(" ".join(self._session.ask(f"bytes {rank} {addr} {count}").accepted()))
-        return data if self._trace is None or self._trace.rank != rank else self._trace.restored(addr, data)
-
-    def queue(self, rank: int) -> List[str]:
-        """The lines of the messages that wait at a rank."""
-        self._make_room()
-        return self._session.ask(f"queue {rank}").accepted()
-
-    def costs(self) -> List[str]:
-        """The lines of the costs of the supersteps that are over, and of their total."""
-        self._make_room()
-        return self._session.ask("costs").accepted()
-
-    def output(self, start: int = 0) -> bytes:
-        """What was written in the supersteps that are over, from this byte on; nothing where there are fewer."""
-        self._make_room()
-        reply = self._session.ask(f"output {start}")
-        return reply.data[:-1] if reply.is_done else b""
-
-    # What changes it.
-
-    def step(self, rank: int, count: int, must_break_off: Asked = never) -> int:
-        """Steps of a rank, fewer if it stops by itself. Answers how many were made."""
-        self.settle(must_break_off)
-        self._make_room()
-        self._is_at_begin = False
-        moved = self._ask(f"step {rank} {count}", must_break_off).accepted()[0]
-        self._nodes.pop(rank, None)
-        return int(moved.split()[1])
-
-    def turn(self) -> str:
-        """Makes the turn, if no rank runs. Answers the debugger's line."""
-        self.settle()
-        self._make_room()
-        reply = self._session.ask("turn")
-        line = reply.lines[0]
-        if line == "turned":
-            self._nodes.clear()
-            self._superstep = None if self._superstep is None else self._superstep + 1
-            self._is_at_begin = True
-        elif reply.is_done and line != "not turned":
-            self.outcome = line
-        return line
-
-    def finish(self, must_break_off: Asked = never) -> str:
-        """All ranks go on to the superstep's end, past all points, and the turn is made. Answers the debugger's line for that."""
-        self.settle(must_break_off)
-        self._make_room()
-        self._ask("phase", must_break_off)
-        self._nodes.clear()
-        self._is_at_begin = False
-        return self.turn()
-
     def go(self, points: Iterable[Point], must_break_off: Asked = never) -> Arrival:
         """Goes on to the first of these points, or to the outcome. Where that is broken off, it stands where it stood."""
         start = Place(self.superstep, (0,) * self.ranks, False) if self._is_at_begin else self.place()
         try:
-            return self.advance(points, must_break_off)
+            arrival = self.advance(points, must_break_off)
         except Interrupted:
             self.restart_at(start)
             return BrokenOff()
-
-    def advance(self, points: Iterable[Point], must_break_off: Asked = never) -> Arrival:
-        """Goes on so, but is broken off by an exception."""
-        if self.outcome is not None:
-            return Over(self.outcome)
-        self.settle(must_break_off)
-        self.depart(points)
-        return self.arrive(must_break_off)
-
-    def depart(self, points: Iterable[Point]) -> None:
-        """Begins to go on. Nothing else may be asked before it is waited for."""
-        self._make_room()
-        self._set_points(frozenset(points))
-        self._session.send("go")
-
-    def has_arrived(self) -> bool:
-        """Whether it has come there."""
-        return self._session.is_answered(0)
-
-    def arrive(self, must_break_off: Asked = never) -> Arrival:
-        """Waits for it. Where that is broken off, it can be waited for again."""
-        return self._arrive(self._reply(must_break_off), self._points)
+        self._keep_if_due()
+        return arrival
 
     # Where it stands.
 
@@ -229,58 +87,227 @@ class Machine:
         return self._place()
 
     def at(self, place: Place, must_break_off: Asked = never, limit: Optional[int] = None) -> Machine:
-        """Another machine, with the same program and input, that stands at this place. It may have another limit of instructions."""
-        spare = self.spare.take(place.superstep, must_break_off) if limit is None else None
-        if spare is not None:
-            # Its process may have ended since.
-            with contextlib.suppress(Refused):
-                return self._brought(spare, place, must_break_off)
-        return self._brought(Machine(self.command if limit is None else _limited(self.command, limit)), place, must_break_off)
+        """Another machine, with the same program and input, that stands at this place. It may have another limit of instructions.
 
-    def _brought(self, other: Machine, place: Place, must_break_off: Asked) -> Machine:
-        """Another machine, from where a superstep begins to a place."""
+        It may have this one's process. So nothing is asked of this one before the other is closed, or this one has become it.
+        """
+        if limit is not None:
+            return self._brought(self.limited(limit), place, must_break_off)
+        with contextlib.suppress(Refused):
+            # A process may have ended since.
+            other = self.spare.take(self._full(place), self._nearest_kept(place), must_break_off) or self._lent(place)
+            if other is not None:
+                other._give_back = other._give_back or self.spare.give
+                return self._brought(other, place, must_break_off)
+        other = self._started()
+        other._give_back = self.spare.give
+        return self._brought(other, place, must_break_off)
+
+    def limited(self, limit: int) -> Machine:
+        """Another machine, with another limit of instructions, at the start of the run, which it keeps."""
+        other = Machine(_limited(self.command, limit))
         other._begins = self._begins
-        started = time.monotonic()
-        try:
-            other._go_to(place, must_break_off)
-        except BaseException:
-            other.close()
-            raise
-        if time.monotonic() - started > LONG:
-            self.spare.is_wanted = True
+        other.keep()
         return other
 
     def restart_at(self, place: Place) -> None:
-        """Brings the machine to a place by another process, also one that it has left."""
-        self._session.close()
+        """Brings the machine to a place, also one that it has left."""
+        if self.is_lost or self.is_used_up or self._nearest_kept(place) is None:
+            self._session.close()
         self.become(self.at(place))
+
+    def hand_over(self) -> Session:
+        """The session of a machine that is of no more use, without a point in it, and with nothing that it keeps."""
+        self._set_points(frozenset())
+        self._kept.clear()
+        self.spare.close()
+        return self._session
 
     def become(self, other: Machine) -> None:
         """From now on this is the other one, which is of no more use."""
-        self._session.close()
-        self._session, self._points, self._nodes = other._session, other._points, other._nodes
+        old = copy.copy(self)
+        self._session, self._points, self._nodes, self._kept = other._session, other._points, other._nodes, other._kept
         self._superstep, self._is_at_begin = other._superstep, other._is_at_begin
-        self._trace, self.outcome = other._trace, other.outcome
+        self._trace, self.outcome, self._is_unheard = other._trace, other.outcome, other._is_unheard
+        if old._session is self._session:
+            if other._mark is not None:
+                self._kept.forget(other._mark)
+            return
+        # Where it stood, it goes on as the spare one.
+        old._give_back, old._trace, old._nodes, old._superstep, old._is_at_begin = None, None, {}, None, False
+        old.spare = Spare(old._started)
+        if self.spare.is_wanted and not old.is_lost and old.keeps and old.outcome is None:
+            self.spare.give(old)
+        else:
+            old.discard()
 
     def begin_of(self, superstep: int, must_break_off: Asked = never) -> Tuple[int, ...]:
         """How many instructions each rank had made where a superstep began that is over, or has begun."""
         if superstep not in self._begins:
-            self.spare.give(self.at(Place(superstep, (0,) * self.ranks, False), must_break_off), superstep)
+            other = self.at(Place(superstep, (0,) * self.ranks, False), must_break_off)
+            self._note_begin(superstep, other.place().ticks)
+            other.close()
         return self._begins[superstep]
 
+    def _started(self) -> Machine:
+        """Another machine, at the start of the run, which it keeps."""
+        return self.limited(self.limit)
+
+    def _brought(self, other: Machine, place: Place, must_break_off: Asked) -> Machine:
+        """Another machine, from where it stands, or from a state that it has kept, to a place."""
+        other._begins = self._begins
+        started = time.monotonic()
+        try:
+            other._return_before(place)
+            other._go_to(place, must_break_off)
+        except BaseException as fault:
+            if isinstance(fault, Refused):
+                other.discard()
+            other.close()
+            raise
+        seconds = time.monotonic() - started
+        if seconds > SHORT:
+            other.keep()
+        self.spare.is_wanted = self.spare.is_wanted or seconds > LONG
+        return other
+
+    def _lent(self, place: Place) -> Optional[Machine]:
+        """A machine with this one's process, where that has kept a state before a place. When it is closed, the process comes back to where
+        it stands now."""
+        if self.is_lost or self._nearest_kept(place) is None:
+            return None
+        here, marked = self._place(), self._kept.mark()
+        if marked is None:
+            return None
+        number: int = marked
+        other = copy.copy(self)
+        other.spare, other._mark, other._trace = Spare(self._started), number, None
+        # Where this one has gone back without its process, the process stands elsewhere.
+        other._nodes = dict(self._nodes) if self._trace is None else {}
+
+        def give_back(lent: Machine) -> None:
+            if lent.is_lost or lent._session is not self._session:
+                lent.discard()
+                self._session.close()
+                self.restart_at(here)
+            else:
+                self._points = lent._points
+                self._kept.back(number)
+                self._kept.forget(number)
+
+        other._give_back = give_back
+        return other
+
     def _go_to(self, place: Place, must_break_off: Asked) -> None:
-        """From where a superstep begins to a place, or as far towards it as each rank comes in its superstep."""
-        if place.superstep > self.superstep:
-            self.advance([place.superstep], must_break_off)
+        """To a place, or as far towards it as each rank comes in its superstep. Once in a while a state is kept on the way."""
+        count = 1
+        while self.superstep < place.superstep:
+            started = time.monotonic()
+            if not isinstance(self.advance([min(place.superstep, self.superstep + count)], must_break_off), AtSuperstep):
+                break
+            count = 2 * count if time.monotonic() - started < LONG else max(1, count // 2)
+            self._keep_if_due()
         nodes = self._look_at(range(self.ranks))
-        if len(self._begins) >= MOST_BEGINS:
-            self._begins.clear()
-        self._begins[place.superstep] = tuple(node.ticks for node in nodes)
+        if self._is_at_begin:
+            self._note_begin(self.superstep, tuple(node.ticks for node in nodes))
         for node, ticks in zip(nodes, place.ticks):
-            if node.runs and ticks > node.ticks:
-                self.step(node.rank, ticks - node.ticks, must_break_off)
+            left = ticks - node.ticks if node.runs else 0
+            while left > 0:
+                made = self.step(node.rank, min(PIECE, left), must_break_off)
+                left = left - made if made == PIECE else 0
+                self._keep_if_due()
         if place.is_over:
             self.turn()
+
+    def _note_begin(self, superstep: int, ticks: Tuple[int, ...]) -> None:
+        if len(self._begins) >= MOST_BEGINS:
+            self._begins.clear()
+        self._begins[superstep] = ticks
+
+    # What it keeps.
+
+    @property
+    def keeps(self) -> bool:
+        """Whether the process keeps states."""
+        return not self._kept.is_refused
+
+    def keep(self) -> None:
+        """Keeps the state of the machine, where the run is not over."""
+        if self.outcome is None and not self.is_lost and (self._trace is None or not self._trace.is_behind):
+            place = self._place()
+            if self._is_at_begin:
+                self._note_begin(place.superstep, place.ticks)
+            self._kept.keep(place, self._is_at_begin)
+
+    def nearest(self, place: Place) -> Optional[State]:
+        """Where it stands, or the last state that is kept before a place: whichever is nearer; nothing where both are beyond."""
+        kept = self._kept.nearest(place)
+        if self.outcome is not None:
+            return kept
+        here = State(None, self._place(), self._is_at_begin)
+        return here if here.leads_to(place) and (kept is None or here.progress >= kept.progress) else kept
+
+    def begun_before(self, superstep: int) -> List[int]:
+        """The supersteps before this one where a state is kept that leads to their beginning."""
+        return [it for it in self._kept.begins() if it < superstep]
+
+    def _nearest_kept(self, place: Place) -> Optional[State]:
+        return self._kept.nearest(self._full(place))
+
+    def _keep_if_due(self) -> None:
+        if self._kept.is_due:
+            self.keep()
+
+    def _return_before(self, place: Place) -> None:
+        """Brings the process to the last state before a place, if it does not stand nearer."""
+        state = self.nearest(self._full(place))
+        if state is not None and state.number is not None:
+            self._kept.back(state.number)
+            self._nodes, self._superstep, self._is_at_begin = {}, state.place.superstep, state.is_begin
+            self._trace, self.outcome = None, None
+
+    def _full(self, place: Place) -> Place:
+        """The same place, with what is known of how many instructions each rank had made before its superstep."""
+        begin = self._begins.get(place.superstep, (0,) * self.ranks)
+        return place._replace(ticks=tuple(max(made, ticks) for made, ticks in zip(begin, place.ticks)))
+
+    # On the way by itself, as a spare one.
+
+    def is_at_begin_of(self, superstep: int) -> bool:
+        """Whether it comes to where a superstep begins at once."""
+        return self._is_at_begin and self._superstep == superstep or superstep in self._kept.begins()
+
+    @property
+    def is_stepping(self) -> bool:
+        """Whether it is on its way into a superstep, and so arrives soon."""
+        return self._stepping is not None
+
+    def depart_on_the_way(self, superstep: int, is_long: bool) -> bool:
+        """Begins to go on to where a superstep begins; or a little into that which has begun, if this takes long. Answers whether it does so.
+        Then nothing else may be asked before it has arrived."""
+        if self.outcome is not None or self.superstep > superstep:
+            return False
+        if self.superstep < superstep:
+            self.depart([superstep])
+            return True
+        running = next((node.rank for node in self.nodes() if node.runs), None) if is_long and self.keeps else None
+        if running is None:
+            return False
+        if self._is_at_begin:
+            self.keep()
+        self._is_at_begin, self._stepping = False, running
+        self._nodes.pop(running)
+        self._session.send(f"step {running} {PIECE}")
+        return True
+
+    def arrive_on_the_way(self, must_break_off: Asked = never) -> None:
+        """Waits for that."""
+        if self._stepping is None:
+            self.arrive(must_break_off)
+        else:
+            self._reply(must_break_off).accepted()
+            self._stepping = None
+        self._keep_if_due()
 
     # Back.
 
@@ -293,7 +320,7 @@ class Machine:
             if number % RECORDED == 0 and must_break_off():
                 raise Interrupted
             node = self.node(rank)
-            change = stored(self._code(rank, node.pc, code), node.x)
+            change = stored(self.code_at(rank, node.pc, code), node.x)
             lines = [] if not change else [f"bytes {rank} {change.addr} {change.length}"]
             replies = self._session.ask_all([*lines, f"step {rank} 1", f"regs {rank}"])
             old = bytes.fromhex("".join(replies[0].lines)) if change and replies[0].is_done else b""
@@ -326,93 +353,11 @@ class Machine:
             self.spare.follow(self.superstep)
         self._trace = None
 
-    def _code(self, rank: int, pc: int, code: Dict[int, bytes]) -> bytes:
-        """The bytes of an instruction, or of the memory's end, by way of a table."""
-        if pc not in code:
-            data = self.memory(rank, pc, CODE)
-            code.update((pc + place, data[place : place + 4]) for place in range(0, max(1, len(data) - 3), 2))
-        return code[pc]
-
-    def _arrive(self, reply: Reply, points: Points) -> Arrival:
-        """What the reply to `go` says, and what it leaves of the cache."""
-        line = reply.accepted()[0]
-        at_rank, at_superstep = _AT_RANK.fullmatch(line), _AT_SUPERSTEP.fullmatch(line)
-        self._is_at_begin = at_superstep is not None
-        if at_rank is not None:
-            rank = int(at_rank[1])
-            self._forget_up_to(rank, points)
-            return AtRank(rank, int(at_rank[2], 16))
-        self._nodes.clear()
-        if at_superstep is not None:
-            self._superstep = int(at_superstep[1])
-            return AtSuperstep(self._superstep)
-        self.outcome, self._superstep = line, None
-        return Over(line)
-
-    def _forget_up_to(self, rank: int, points: Points) -> None:
-        """Drops what a `go` that stopped at a rank may have changed: where it has made no turn, the nodes up to this one that ran."""
-        if self._superstep is None or self._superstep + 1 not in points:
-            self._nodes.clear()
-            self._superstep = None
-        else:
-            self._nodes = {it.rank: it for it in self._nodes.values() if it.rank > rank or not it.runs}
-
-    # How it is asked.
-
-    def _ask(self, line: str, must_break_off: Asked) -> Reply:
-        """The reply to a line that may take long."""
-        self._session.send(line)
-        return self._reply(must_break_off)
-
-    def _reply(self, must_break_off: Asked) -> Reply:
-        while not self._session.is_answered(POLL):
-            if must_break_off():
-                raise Interrupted
-        return self._session.reply()
-
     def _make_room(self) -> None:
         """Goes on in a new process where the debugger would soon read no more lines. The reserve is what that takes itself, and any
         of what is asked for at once."""
         if self.is_used_up:
             self.restart_at(self._place())
-
-    def _place(self) -> Place:
-        ticks = tuple(node.ticks for node in self._look_at(range(self.ranks)))
-        return Place(self._look_at_superstep(), ticks, self.outcome is not None)
-
-    def _look_at_superstep(self) -> int:
-        if self._superstep is None:
-            self._superstep = self._session.superstep()
-        return self._superstep
-
-    def _look_at(self, ranks: Iterable[int]) -> List[Node]:
-        """Nodes, by way of the cache."""
-        wanted = [rank for rank in ranks if rank not in self._nodes]
-        for reply in self._session.ask_all([f"regs {rank}" for rank in wanted]):
-            self._keep(reply)
-        return [self._nodes[rank] for rank in ranks]
-
-    def _keep(self, reply: Reply) -> None:
-        """Keeps a node that is shown."""
-        node = node_of(reply.accepted())
-        if node is None:
-            raise Refused("the debugger shows no node")
-        self._nodes[node.rank] = node
-
-    def _set_points(self, points: Points) -> None:
-        """Sets just these points."""
-        lines = [f"clear {_spelled(point)}" for point in self._points - points]
-        lines += [f"break {_spelled(point)}" for point in points - self._points]
-        for reply in self._session.ask_all(lines):
-            reply.accepted()
-        self._points = points
-
-
-def _spelled(point: Point) -> str:
-    """A point as the lines have it."""
-    if isinstance(point, int):
-        return f"superstep {point}"
-    return f"{point[0]} {point[1]:#x}"
 
 
 def _limited(command: List[str], limit: int) -> List[str]:

@@ -3,57 +3,143 @@
 from __future__ import annotations
 
 import re
-from typing import List
+from typing import List, Optional, Sequence, Tuple
 
-from ..refusals import printable
+from ..debugger import Node
+from ..refusals import Refused, printable
+from ..run.calls import spelled
+from .arrivals import Interrupted
+from .calls import Awaited, addresses_of, awaited
+from .machine import MOST_BREAKPOINTS
+from .names import STACK, Names
 from .runner import Runner
+from .telling import Teller
 
 HELP = """\
-monitor superstep K  stop where superstep K begins: a point, to which continue goes, and reverse-continue
-monitor superstep    the superstep that has begun
-monitor end          stop where the run ends, from where one can go back, before gdb's program ends
-monitor turn         end the superstep, if no rank runs any more: make the exchange
-monitor queue R      the messages that rank R has received and not moved yet
-monitor costs        what the supersteps that are over cost
-monitor output       what was written in the supersteps that are over
-monitor help         these lines
+monitor superstep K     stop where superstep K begins: a point, to which continue goes, and reverse-continue
+monitor superstep       the superstep that has begun
+monitor call NAME       stop before each call of a function of BSPlib, as bsp_put; `to R` and `from R` behind it: to rank R, by rank R alone
+monitor points          at which supersteps and calls it stops
+monitor delete          take all of these away
+monitor end             stop where the run ends, from where one can go back, before gdb's program ends
+monitor turn            end the superstep, if no rank runs any more: make the exchange
+monitor wrote R ADDR N  who wrote each of N bytes of rank R last; without R this rank, and without N 4 bytes. ADDR is a number, or a name, as sum+4
+monitor sent K          the requests of superstep K, each with its line; without K of this one so far
+monitor queue R         the messages that rank R has received and not moved yet
+monitor costs           what the supersteps that are over cost
+monitor output          what was written in the supersteps that are over
+monitor help            these lines
 """
+FURTHER = "watch it, and reverse-continue looks on from there"
+# How many bytes `wrote` tells of, if it is not said.
+BYTES = 4
 _NUMBER = re.compile(r"[0-9]{1,18}")
 
 
-def answer(runner: Runner, command: str) -> bytes:
-    """The text that answers a command."""
-    words = command.split()
-    name, operands = (words[0] if words else "help"), words[1:]
-    machine = runner.machine
-    if name == "superstep" and _are_numbers(operands, 1):
-        return _add_superstep(runner, int(operands[0]))
-    if name == "queue" and _are_numbers(operands, 1) and int(operands[0]) < machine.ranks:
-        return _text(machine.queue(int(operands[0])))
-    if operands or name not in ("superstep", "end", "turn", "costs", "output", "help"):
-        return f"bspgdb: no such command: monitor {printable(command)}\n{HELP}".encode()
-    if name == "superstep":
-        return _text([f"superstep {machine.superstep}"])
-    if name == "end":
-        runner.stops_at_end = True
-        return _text(["continue stops where the run ends"])
-    if name == "turn":
-        return _text([runner.turn()])
-    if name == "costs":
-        return _text(machine.costs())
-    return machine.output() if name == "output" else HELP.encode()
+class Monitor:
+    """Answers commands."""
+
+    def __init__(self, runner: Runner) -> None:
+        self._runner, self._names = runner, runner.names
+        runner.spell = self._spelled
+
+    def answer(self, command: str, current: int) -> bytes:
+        """The text that answers a command, where gdb looks at this rank."""
+        words = command.split()
+        name, operands = (words[0] if words else "help"), words[1:]
+        machine = self._runner.machine
+        try:
+            if name == "output" and not operands:
+                return machine.output()
+            lines = self._lines(name, operands, current)
+        except Refused as refused:
+            return _text([f"bspgdb: {refused.args[0]}", *refused.args[1:]])
+        except Interrupted:
+            return _text(["bspgdb: interrupted"])
+        if lines is None:
+            known = [line for line in HELP.splitlines() if line.split()[1] == name]
+            lines = [f"bspgdb: no such command: monitor {printable(command)}", *(known or HELP.splitlines())]
+        return _text(lines)
+
+    def _lines(self, name: str, operands: List[str], current: int) -> Optional[List[str]]:
+        """The lines of an answer; nothing where there is no such command."""
+        machine = self._runner.machine
+        if name == "wrote" and operands:
+            return self._teller().wrote(*asked_bytes(self._names, operands, machine.ranks, current))
+        if name == "superstep" and _are_numbers(operands, 1):
+            return self._add_superstep(int(operands[0]))
+        if name == "queue" and _are_numbers(operands, 1) and int(operands[0]) < machine.ranks:
+            return machine.queue(int(operands[0]))
+        if name == "sent" and (not operands or _are_numbers(operands, 1)):
+            return self._teller().sent(int(operands[0]) if operands else machine.superstep)
+        if name == "call" and operands:
+            return self._add_call(awaited(self._names, operands, machine.ranks))
+        return self._line(name) if not operands else None
+
+    def _line(self, name: str) -> Optional[List[str]]:
+        """The lines of an answer to a command that is one word."""
+        runner = self._runner
+        if name == "superstep":
+            return [f"superstep {runner.machine.superstep}"]
+        if name == "end":
+            runner.stops_at_end = True
+            return ["continue stops where the run ends"]
+        if name == "turn":
+            return [runner.turn()]
+        if name == "points":
+            return [*(f"superstep {it}" for it in sorted(runner.supersteps)), *(f"call {it}" for it in runner.calls)] or ["none"]
+        if name == "delete":
+            runner.supersteps.clear()
+            runner.calls.clear()
+            return ["continue stops at no superstep and at no call"]
+        if name == "costs":
+            return runner.machine.costs()
+        return HELP.splitlines() if name == "help" else None
+
+    def _teller(self) -> Teller:
+        runner = self._runner
+        return Teller(runner.machine, self._names, runner.machine.place(), runner.is_interrupted, FURTHER)
+
+    def _spelled(self, node: Node) -> str:
+        """The call that a node is about to make, and where."""
+        machine = self._runner.machine
+        there = node._replace(stack=machine.memory(node.rank, node.x[2], STACK))
+        return printable(f"{spelled(self._names.code, node)}, at {self._names.place(there)}")
+
+    def _add_call(self, call: Awaited) -> List[str]:
+        if call not in self._runner.calls:
+            size = len({*self._runner.breakpoints, *addresses_of([*self._runner.calls, call])})
+            if size > MOST_BREAKPOINTS:
+                raise Refused(f"these are {size} addresses with the breakpoints, and {MOST_BREAKPOINTS} are the most")
+            self._runner.calls.append(call)
+        return [f"continue stops before each {call}, and so does reverse-continue"]
+
+    def _add_superstep(self, superstep: int) -> List[str]:
+        self._runner.supersteps.add(superstep)
+        if superstep <= self._runner.machine.superstep:
+            return [f"superstep {superstep} has begun already: reverse-continue stops where it began"]
+        return [f"continue stops where superstep {superstep} begins"]
 
 
-def _are_numbers(operands: List[str], count: int) -> bool:
+def asked_bytes(names: Names, operands: Sequence[str], ranks: int, current: int) -> Tuple[int, int, int]:
+    """The rank, the address and the number of bytes that `wrote` asks for: `R ADDR N`, of which R and N may be left out."""
+    words = list(operands)
+    has_rank = len(words) > 1 and _NUMBER.fullmatch(words[0]) and (len(words) > 2 or int(words[0]) < ranks or names.is_name(words[1]))
+    rank = int(words.pop(0)) if has_rank else current
+    if rank >= ranks:
+        raise Refused(f"there is no rank {rank}: the ranks are 0 to {ranks - 1}")
+    count = BYTES if len(words) == 1 else names.address(words[1]) if len(words) == 2 and not names.is_name(words[1]) else None
+    if count is None:
+        raise Refused(f"{printable(' '.join(operands))}: give a rank, an address and a number of bytes, as `wrote 0 sum+4 8`")
+    addr = names.address(words[0])
+    if addr is None:
+        raise Refused(f"{printable(words[0])} is neither an address nor a name of the program: `info variables` and `print &x` tell more")
+    return rank, addr, count
+
+
+def _are_numbers(operands: Sequence[str], count: int) -> bool:
     return len(operands) == count and all(_NUMBER.fullmatch(word) for word in operands)
 
 
-def _add_superstep(runner: Runner, superstep: int) -> bytes:
-    runner.supersteps.add(superstep)
-    if superstep <= runner.machine.superstep:
-        return _text([f"superstep {superstep} has begun already: reverse-continue stops where it began"])
-    return _text([f"continue stops where superstep {superstep} begins"])
-
-
-def _text(lines: List[str]) -> bytes:
-    return "".join(line + "\n" for line in lines).encode()
+def _text(lines: Sequence[str]) -> bytes:
+    return "".join(printable(line) + "\n" for line in lines).encode()

@@ -5,13 +5,18 @@ from __future__ import annotations
 import contextlib
 import time
 from dataclasses import dataclass, field
-from typing import Callable, Iterable, List, NamedTuple, Optional, Set, Union
+from typing import Callable, Iterable, List, Optional, Sequence, Set
 
 from ..debugger import ALL, Node
 from ..refusals import Refused
 from . import words
-from .history import BEGIN, Goal, History
-from .machine import LONG, MOST_BREAKPOINTS, Arrival, AtRank, AtSuperstep, BrokenOff, Interrupted, Machine, Over, Point
+from .arrivals import Arrival, AtRank, AtSuperstep, BrokenOff, Interrupted, Over, Point
+from .calls import Awaited, addresses_of
+from .halts import Exit, Halt, Stop, halt_of_outcome
+from .history import BEGIN, Goal, History, Hit
+from .machine import LONG, MOST_BREAKPOINTS, Machine
+from .names import Names
+from .watches import Watches, Written, last_written
 
 # For how many seconds an interrupt waits for the superstep's end, and for how many the ranks then go on a little.
 PATIENCE, LOOK = 0.15, 0.1
@@ -23,30 +28,13 @@ SINGLY = 0.5
 PIECE = 0.01
 
 
-class Stop(NamedTuple):
-    """A rank at which gdb is told that the machine has stopped, and the signal that says why."""
-
-    rank: int
-    signal: int
-    is_breakpoint: bool = False
-    is_begin: bool = False
-
-
-class Exit(NamedTuple):
-    """The run is over, and gdb's program with it."""
-
-    status: int
-
-
-Halt = Union[Stop, Exit]
-
-
 @dataclass
 class Runner:
     """Makes a machine go on.
 
     `show` shows bytes on gdb's console, and `is_interrupted` asks whether gdb wants a run to be broken off. What is kept here is gdb's:
-    where its breakpoints are, at which supersteps it wants to stop, and whether at the end, and how much of the output it has been shown.
+    where its breakpoints are, at which supersteps and calls it wants to stop, and whether at the end, and how much of the output it has been
+    shown. `spell` says which call a node is about to make.
     """
 
     machine: Machine
@@ -54,7 +42,9 @@ class Runner:
     is_interrupted: Callable[[], bool]
     breakpoints: Set[int] = field(default_factory=set)
     supersteps: Set[int] = field(default_factory=set)
+    calls: List[Awaited] = field(default_factory=list)
     stops_at_end: bool = False
+    spell: Callable[[Node], str] = lambda node: "a call"
     _shown: int = 0
     # Until when an interrupt waits, and whether it is already known that some superstep takes longer.
     _deadline: Optional[float] = None
@@ -67,6 +57,8 @@ class Runner:
 
     def __post_init__(self) -> None:
         self._history = History(self.machine, self.is_interrupted)
+        self.watches = Watches(self.machine)
+        self.names = Names(self.machine.command)
 
     # What gdb can say.
 
@@ -74,6 +66,10 @@ class Runner:
         """All ranks go on, in the debugger's order. A stop that is at no rank is told at the current one."""
         self._deadline = None
         count = 1
+        while self.watches.all:
+            halt = self._go_watching(current)
+            if halt is not None:
+                return halt
         while True:
             started = time.monotonic()
             halt = self._go_piece(count, current)
@@ -86,10 +82,12 @@ class Runner:
         self._deadline = None
         while True:
             nodes = self.machine.nodes()
-            if nodes[rank].runs and any(node.runs for node in nodes[:rank]):
+            if nodes[rank].runs and self.watches.of(rank):
+                halt = self._follow(rank)
+            elif nodes[rank].runs and any(node.runs for node in nodes[:rank]):
                 halt = self._run_alone(nodes, rank)
             else:
-                halt = self._go_piece(1, rank)
+                halt = self._go_watching(rank)
             if halt is not None:
                 return halt
 
@@ -97,10 +95,15 @@ class Runner:
         """A rank makes an instruction; before that, where it has stopped by itself, the others go on, and the turn is made."""
         self._deadline = None
         while not self.machine.node(rank).runs:
-            halt = self._go_piece(1, rank)
+            halt = self._go_watching(rank)
             if halt is not None:
                 return self._as_end_of_step(halt)
-        self.machine.step(rank, 1)
+        if self.watches.of(rank):
+            watch = self.watches.step(rank)
+            if watch is not None:
+                return Stop(rank, words.TRAP, watch=watch)
+        else:
+            self.machine.step(rank, 1)
         return self._as_end_of_step(self._stop_at(rank) or Stop(rank, words.TRAP))
 
     def step_range(self, rank: int, start: int, end: int) -> Halt:
@@ -112,28 +115,53 @@ class Runner:
             node = self.machine.node(rank)
             if not start <= node.pc < end or node.pc in self.breakpoints:
                 return halt
+            if self._stops_at(node):
+                return self._stop_before(node)
             if self.is_interrupted():
                 return Stop(rank, words.INTERRUPTED)
 
     def step_back(self, rank: int) -> Halt:
         """A rank goes an instruction back, and where it has made none in this superstep, all go back over the turn."""
+        before = self.watches.contents()
         try:
-            return Stop(rank, words.TRAP, is_begin=not self._history.step_back(rank))
+            is_begin = not self._history.step_back(rank)
+            return Stop(rank, words.TRAP, is_begin=is_begin, watch=None if is_begin else self.watches.changed(before))
         except (Interrupted, Refused) as fault:
             return self._stay(rank, fault)
 
     def go_back(self, rank: Optional[int], current: int) -> Halt:
         """All ranks go back, or one alone, to the last breakpoint, the last beginning of a superstep that is wanted, or the start."""
         try:
-            hit = self._history.go_back(Goal(frozenset(self.breakpoints), frozenset(self.supersteps), rank))
+            if self.watches.met is not None and self.watches.met == self.machine.place():
+                self._history.step_back(current)
+            addresses = frozenset([*self.breakpoints, *addresses_of(self.calls)])
+            hit = self._history.last(Goal(addresses, frozenset(self.supersteps), rank, self._stops_at))
+            written = last_written(self.machine, self.names, self.watches.all, self.is_interrupted)
+            if written is not None and written.is_behind(hit):
+                return self._go_back_to(written, rank)
+            self._history.go_to(hit, rank)
         except (Interrupted, Refused) as fault:
             return self._stay(current, fault)
         if hit is None:
             return Stop(current, words.TRAP, is_begin=True)
         if hit.rank != BEGIN:
-            return Stop(hit.rank, words.TRAP, is_breakpoint=True)
+            return self._stop_before(self.machine.node(hit.rank))
         self.show(f"superstep {hit.superstep} begins\n".encode())
         return Stop(current, words.NONE)
+
+    def _go_back_to(self, written: Written, alone: Optional[int]) -> Halt:
+        """All ranks go back, or one alone, to where bytes have just been written that are watched, or as far as was looked for that. From
+        there gdb makes the step back over the write."""
+        hit = written.hit
+        if written.is_landing:
+            hit = Hit(hit.superstep + 1, BEGIN, 0)
+        elif written.watch is not None:
+            hit = hit._replace(ticks=hit.ticks + 1)
+        self._history.go_to(hit, None if hit.rank == BEGIN else alone)
+        self.watches.met = self.machine.place() if written.watch is not None else None
+        if written.watch is None:
+            self.show(b"bspgdb: what is watched was not written from here on; reverse-continue looks further back\n")
+        return Stop(written.hit.rank, words.TRAP if written.watch else words.NONE, watch=written.watch)
 
     def settle(self, current: int) -> Optional[Halt]:
         """To be called before anything goes on: what stands where it has gone back to is made to go on from there. Answers where it is
@@ -159,12 +187,40 @@ class Runner:
 
     # Pieces of a run.
 
+    def _go_watching(self, current: int) -> Optional[Halt]:
+        """All ranks go on for a piece of a superstep: up to where one stands that is watched, that one by itself, or to the superstep's end."""
+        running = [node for node in self.machine.nodes() if node.runs]
+        watched = next((at for at, node in enumerate(running) if self.watches.of(node.rank)), None)
+        if watched is None or self.machine.outcome is not None:
+            before = self.watches.contents()
+            halt = self._go_piece(1, current)
+            watch = self.watches.changed(before)
+            return halt if watch is None or isinstance(halt, Exit) else Stop(watch.rank, words.TRAP, watch=watch)
+        if watched == 0:
+            return self._follow(running[0].rank)
+        size = min(watched, max(1, MOST_BREAKPOINTS // max(1, self._size())))
+        guard = AtRank(running[size].rank, running[size].pc)
+        points = self._points([node.rank for node in running[:size]]) + [(guard.rank, guard.pc), self.machine.superstep + 1]
+        arrival = self._go_to(points, [guard])
+        return None if arrival == guard and not self._stops_at(self.machine.node(guard.rank)) else self._halt_of(arrival, current)
+
+    def _follow(self, rank: int) -> Optional[Halt]:
+        """A rank that is watched goes on by itself, to the next stop or to where it stops by itself."""
+        addresses = {*self.breakpoints, *addresses_of(self.calls)}
+        watch = self.watches.follow(rank, lambda it: it.pc in addresses and self._stops_at(it.node), self.is_interrupted)
+        node = self.machine.node(rank)
+        if watch is not None:
+            return Stop(rank, words.TRAP, watch=watch)
+        if node.runs:
+            return self._stop_before(node) if self._stops_at(node) else Stop(rank, words.INTERRUPTED)
+        return None
+
     def _go_piece(self, count: int, current: int) -> Optional[Halt]:
         """All ranks go on for up to so many supersteps. Answers nothing where there is nothing to stop for."""
         if self.machine.outcome is not None:
             return Exit(words.status_of(self.machine.outcome))
         before, self._count = self.machine.superstep, count
-        if len(self.breakpoints) * self.machine.ranks <= MOST_BREAKPOINTS:
+        if self._size() * self.machine.ranks <= MOST_BREAKPOINTS:
             ahead = [superstep for superstep in self.supersteps if superstep > before]
             arrival = self._go_to(self._points(range(self.machine.ranks)) + [min([before + count] + ahead)])
         else:
@@ -185,13 +241,13 @@ class Runner:
 
         `go` takes the ranks in their order. So some first ones have their points, and the one behind them has one where it stands.
         """
-        size = max(1, MOST_BREAKPOINTS // len(self.breakpoints))
+        size = max(1, MOST_BREAKPOINTS // self._size())
         while True:
             running = [node for node in self.machine.nodes() if node.runs]
             points = self._points([node.rank for node in running[:size]]) + [superstep + 1]
             guards = [AtRank(node.rank, node.pc) for node in running[size : size + 1]]
-            arrival = self._go_to(points + [(guard.rank, guard.pc) for guard in guards])
-            if arrival not in guards or guards[0].pc in self.breakpoints:
+            arrival = self._go_to(points + [(guard.rank, guard.pc) for guard in guards], guards)
+            if arrival not in guards or self._stops_at(self.machine.node(guards[0].rank)):
                 return arrival
 
     def _run_alone(self, nodes: List[Node], rank: int) -> Optional[Halt]:
@@ -209,13 +265,17 @@ class Runner:
             made += self.machine.step(rank, min(FAR, count - made))
             if self.is_interrupted():
                 return Stop(rank, words.INTERRUPTED)
-        return Stop(rank, words.TRAP, is_breakpoint=True) if count != ALL else self._stop_at(rank)
+        return self._stop_before(self.machine.node(rank)) if count != ALL else self._stop_at(rank)
 
     def _count_alone(self, nodes: List[Node], rank: int) -> int:
         """How many instructions a rank makes up to a breakpoint; all, where it meets none."""
         with contextlib.closing(self.machine.at(self.machine.place(), self._must_break_off)) as scout:
-            arrival = scout.advance(self._points([rank]) + [scout.superstep + 1], self._must_break_off)
-            return scout.node(rank).ticks - nodes[rank].ticks if isinstance(arrival, AtRank) else ALL
+            while isinstance(scout.advance(self._points([rank]) + [scout.superstep + 1], self._must_break_off), AtRank):
+                if self._stops_at(scout.node(rank)):
+                    return scout.node(rank).ticks - nodes[rank].ticks
+                if self._must_break_off():
+                    raise Interrupted
+        return ALL
 
     def _go_singly(self, count: int, current: int) -> Optional[Halt]:
         """Goes on for so many supersteps, one by one."""
@@ -231,7 +291,7 @@ class Runner:
         try:
             for _ in range(count):
                 self._deadline = time.monotonic() + PATIENCE
-                halt = None if self.breakpoints else self._creep(self._deadline)
+                halt = None if self._size() else self._creep(self._deadline)
                 halt = halt or self._go_piece(1, current)
                 if halt is not None:
                     return halt
@@ -251,21 +311,39 @@ class Runner:
     def _look_on(self, rank: int) -> Halt:
         """After an interrupt, with the machine where it stood before: a rank that runs goes on a little, for gdb to show where it is."""
         until = time.monotonic() + LOOK
-        count = 1 if self.breakpoints else FAR
+        count = 1 if self._size() else FAR
         while self.machine.node(rank).runs and time.monotonic() < until:
             self.machine.step(rank, count)
-            if self.machine.node(rank).pc in self.breakpoints:
-                return Stop(rank, words.TRAP, is_breakpoint=True)
+            if self._stops_at(self.machine.node(rank)):
+                return self._stop_before(self.machine.node(rank))
         return Stop(rank, words.INTERRUPTED)
 
     # Parts of a piece.
 
     def _points(self, ranks: Iterable[int]) -> List[Point]:
-        return [(rank, addr) for rank in ranks for addr in self.breakpoints]
+        return [(rank, addr) for rank in ranks for addr in {*self.breakpoints, *addresses_of(self.calls, rank)}]
 
-    def _go_to(self, points: List[Point]) -> Arrival:
+    def _size(self) -> int:
+        """How many points a rank may have."""
+        return len({*self.breakpoints, *addresses_of(self.calls)})
+
+    def _stops_at(self, node: Node) -> bool:
+        """Whether gdb wants to stop where a node stands."""
+        return node.pc in self.breakpoints or any(it.is_at(node) for it in self.calls)
+
+    def _stop_before(self, node: Node) -> Stop:
+        """The stop at such a place. Of a call gdb knows nothing, so that a line says which it is."""
+        if node.pc in self.breakpoints:
+            return Stop(node.rank, words.TRAP, is_breakpoint=True)
+        self.show(f"rank {node.rank} is about to call {self.spell(node)}\n".encode())
+        return Stop(node.rank, words.NONE)
+
+    def _go_to(self, points: List[Point], guards: Sequence[AtRank] = ()) -> Arrival:
+        """Goes on to one of these points at which gdb wants to stop, or to a guard."""
         self._started, self._superstep = time.monotonic(), self.machine.superstep
         arrival = self.machine.go(points, self._must_break_piece)
+        while isinstance(arrival, AtRank) and arrival not in guards and not self._stops_at(self.machine.node(arrival.rank)):
+            arrival = BrokenOff() if self._must_break_off() else self.machine.go(points, self._must_break_piece)
         self._seconds += time.monotonic() - self._started
         if not isinstance(arrival, Over):
             self.machine.spare.follow(self.machine.superstep)
@@ -294,21 +372,15 @@ class Runner:
     def _halt_of(self, arrival: Arrival, current: int) -> Optional[Halt]:
         """What gdb is told of where a piece has come to; nothing where it is to go on."""
         if isinstance(arrival, AtRank):
-            return Stop(arrival.rank, words.TRAP, is_breakpoint=True)
+            return self._stop_before(self.machine.node(arrival.rank))
         if isinstance(arrival, Over):
-            return self._halt_of_outcome(arrival.outcome, current)
+            return halt_of_outcome(arrival.outcome, current, self.stops_at_end)
         if isinstance(arrival, BrokenOff):
             running = [node.rank for node in self.machine.nodes() if node.runs]
             return self._look_on(running[0] if running else current)
         if arrival.superstep in self.supersteps:
             return Stop(current, words.NONE)
         return Stop(current, words.INTERRUPTED) if self._has_interrupt() and not self._is_searching else None
-
-    def _halt_of_outcome(self, outcome: str, current: int) -> Halt:
-        if outcome == "ended":
-            return Stop(current, words.NONE) if self.stops_at_end else Exit(words.ENDED)
-        rank = words.rank_of(outcome, current)
-        return Stop(rank, words.signal_of(outcome.partition("stopped: ")[2]) if "stopped" in outcome else words.NONE)
 
     def _stop_at(self, rank: int) -> Optional[Stop]:
         """The stop of a rank that has failed by itself, with a line that says at what."""

@@ -3,8 +3,8 @@
 # Memory and registers are read only.
 set may-write-memory off
 set may-write-registers off
-# Watchpoints are looked at after each step.
-set can-use-hw-watchpoints 0
+# What is watched is watched in the rank that is looked at where it is typed: it has to be told then.
+set breakpoint always-inserted on
 # Each rank has a memory of its own, so what was read of one says nothing of another.
 set stack-cache off
 set code-cache off
@@ -20,6 +20,13 @@ end
 define hook-reverse-continue
 if $_thread && *(char *)0
 end
+end
+
+define wrote
+eval "monitor wrote %u %u", (unsigned)&($arg0), (unsigned)sizeof($arg0)
+end
+document wrote
+Who wrote a variable of this rank last, byte by byte: wrote EXPRESSION, without blanks.
 end
 
 # The functions of the library have no debugging information. Where one is about to return, gdb would look for its caller by the room on the

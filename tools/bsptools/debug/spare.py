@@ -1,35 +1,47 @@
-"""A second machine beside a first one: it stands where a superstep begins, so that the first is brought back to there without the whole
-run. It goes on by itself while the first one does, or while gdb's user looks at it."""
+"""A second machine beside a first one, which goes the same way by itself while the first one does, or while gdb's user looks at it.
+
+It keeps states on its way, so that the first one is brought back to any place without the whole run. Where the emulator keeps none, it stands
+where a superstep begins.
+"""
 
 from __future__ import annotations
 
+import time
 from typing import TYPE_CHECKING, Callable, Optional
 
 from ..refusals import Refused
 
 if TYPE_CHECKING:
-    from .machine import Asked, Machine
+    from .arrivals import Asked, Place
+    from .kept import State
+    from .machine import Machine
+
+# For how many seconds a superstep has gone on when the second machine goes into it, and how many instructions it makes there at once.
+PATIENCE, PIECE = 0.2, 1 << 24
 
 
 class Spare:
-    """At most one machine, which stands where a superstep begins, or is on its way there. It is kept once that is worth a process."""
+    """At most one machine, which stands somewhere in the run, or is on its way there. It is kept once that is worth a process."""
 
     def __init__(self, start: Callable[[], Machine]) -> None:
         self._start = start
         self._machine: Optional[Machine] = None
-        # Where it stands, or where it will stand when it arrives.
-        self._superstep = 0
         self._is_under_way = False
+        # Where the first machine is, and since when.
+        self._target, self._since = 0, 0.0
         self.is_wanted = self._is_refused = False
 
     def close(self) -> None:
         """Ends its process."""
         if self._machine is not None:
-            self._machine.close()
+            self._machine.discard()
         self._machine, self._is_under_way = None, False
 
     def follow(self, superstep: int) -> None:
-        """Sends it to where a superstep begins, if it is wanted. As long as it is under way, it is sent no further."""
+        """Sends it on to where a superstep begins, or into that where it is there, if it is wanted. As long as it is under way, it is sent
+        no further."""
+        if superstep != self._target:
+            self._target, self._since = superstep, time.monotonic()
         if self.is_wanted and not self._is_refused:
             try:
                 self._send(superstep)
@@ -39,39 +51,53 @@ class Spare:
                 self._is_refused = True
 
     def stands_at(self, superstep: int) -> bool:
-        """Whether it stands where this superstep begins."""
-        return self._machine is not None and self._superstep == superstep and not self._is_under_way
+        """Whether it comes to where this superstep begins at once."""
+        if self._machine is None:
+            return False
+        if self._is_under_way and not self._machine.is_stepping and not self._has_arrived():
+            return False
+        return self._machine.is_at_begin_of(superstep)
 
-    def take(self, superstep: int, must_break_off: Asked) -> Optional[Machine]:
-        """The machine, if it is not beyond where this superstep begins. From then on there is none."""
-        if self._machine is None or self._superstep > superstep:
+    def take(self, place: Place, other: Optional[State], must_break_off: Asked) -> Optional[Machine]:
+        """The machine, if there is a way from it to this place, and a shorter one than from another state. From then on there is none, until
+        it is given back."""
+        if self._machine is None:
             return None
-        if self._is_under_way:
-            try:
-                self._machine.arrive(must_break_off)
-            except Refused:
-                self.close()
-        taken, self._machine, self._is_under_way = self._machine, None, False
+        try:
+            if self._is_under_way and other is not None and not self._machine.is_stepping and not self._has_arrived():
+                return None
+            if self._is_under_way:
+                self._machine.arrive_on_the_way(must_break_off)
+                self._is_under_way = False
+            nearest = self._machine.nearest(place)
+        except Refused:
+            self.close()
+            return None
+        if nearest is None or other is not None and other.progress >= nearest.progress:
+            return None
+        taken, self._machine = self._machine, None
         return taken
 
-    def give(self, machine: Machine, superstep: int) -> None:
-        """Keeps this machine, which stands where a superstep begins."""
-        self.close()
-        self._machine, self._superstep = machine, superstep
+    def give(self, machine: Machine) -> None:
+        """Keeps this machine, if there is none that has kept states."""
+        if machine.is_lost or self._machine is not None and self._machine.keeps:
+            machine.discard()
+        else:
+            self.close()
+            self._machine = machine
 
     def _send(self, superstep: int) -> None:
-        if self._is_under_way and self._superstep <= superstep and not self._has_arrived():
+        if self._machine is not None and self._is_under_way and not self._has_arrived():
             return
-        if self._machine is None or self._superstep > superstep or self._machine.is_used_up:
+        if self._machine is not None and (self._machine.is_used_up or self._machine.superstep > superstep and not self._machine.keeps):
             self.close()
-            self._machine, self._superstep = self._start(), 0
-        if self._superstep < superstep:
-            self._machine.depart([superstep])
-            self._superstep, self._is_under_way = superstep, True
+        if self._machine is None:
+            self._machine = self._start()
+        self._is_under_way = self._machine.depart_on_the_way(superstep, time.monotonic() - self._since > PATIENCE)
 
     def _has_arrived(self) -> bool:
         if self._machine is None or not self._machine.has_arrived():
             return False
-        self._machine.arrive()
+        self._machine.arrive_on_the_way()
         self._is_under_way = False
         return True

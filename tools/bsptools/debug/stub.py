@@ -2,14 +2,19 @@
 
 from __future__ import annotations
 
+import functools
 import re
 import time
 from typing import Callable, Dict, List, Optional, Tuple
 
-from . import monitor, numbers, words
+from . import numbers, words
+from .calls import addresses_of
+from .halts import Exit, Halt, Stop
 from .machine import MOST_BREAKPOINTS, Machine
+from .monitor import Monitor
 from .packets import INTERRUPT, PACKET_SIZE, Closed, Connection, escape, hexadecimal
-from .runner import Exit, Halt, Runner, Stop
+from .runner import Runner
+from .watches import KINDS, Watch
 
 OK = b"OK"
 # What the protocol has for a packet that is not known.
@@ -20,10 +25,13 @@ FEATURES = (
     f"PacketSize={PACKET_SIZE:x};QStartNoAckMode+;qXfer:features:read+;qXfer:threads:read+;swbreak+;hwbreak+;vContSupported+"
     ";ReverseStep+;ReverseContinue+"
 )
-# Bytes of output that one packet shows.
-CHUNK = 4096
+# Bytes of output that one packet shows, and of an answer to `monitor` that is one packet.
+CHUNK, MOST_ANSWER = 4096, 1 << 20
 # For how many seconds an interrupt stands that came after a stop was told. gdb goes on by itself after most steps, and at once.
 LATE = 0.5
+
+# Of how many bytes one watch may be, and how many watches there may be.
+MOST_WATCHED, MOST_WATCHES = 4096, 64
 
 _ACTION = re.compile(r"[cs]|[CS][0-9a-fA-F]{2}|r[0-9a-fA-F]+,[0-9a-fA-F]+")
 
@@ -37,10 +45,14 @@ class Stub:
         self._connection = connection
         self._machine = machine
         self._runner = Runner(machine, self._show, connection.is_interrupted)
+        self._monitored = Monitor(self._runner)
         self._current = 0
         self._resumed: Optional[int] = None
         self._halt: Halt = Stop(0, words.TRAP)
         self._is_hardware: Dict[int, bool] = {}
+        # Whether bytes that are watched were met as the run went on, and those that are taken away for a step past that.
+        self._is_met = False
+        self._passed: List[Watch] = []
         self._is_over = False
         self._interrupted_at: Optional[float] = None
         self._exact = self._answers_to_words()
@@ -79,6 +91,8 @@ class Stub:
             "m": self._read_memory,
             "Z0,": lambda text: self._add_breakpoint(text, is_hardware=False),
             "Z1,": lambda text: self._add_breakpoint(text, is_hardware=True),
+            **{f"Z{kind},": functools.partial(self._add_watch, kind=KINDS[kind]) for kind in KINDS},
+            **{f"z{kind},": functools.partial(self._remove_watch, kind=KINDS[kind]) for kind in KINDS},
             "z0,": self._remove_breakpoint,
             "z1,": self._remove_breakpoint,
             "c": lambda text: self._resume_chosen("c", text),
@@ -131,8 +145,11 @@ class Stub:
             self._connection.send(b"O" + hexadecimal(output[start : start + CHUNK]))
 
     def _monitor(self, text: str) -> bytes:
-        self._show(monitor.answer(self._runner, bytes.fromhex(text).decode("utf-8", "replace")))
-        return OK
+        """A command's output. The end of it is the reply: between output and a reply of its own Ctrl-C would have gdb leave that one unread,
+        and take it for the next."""
+        output = self._monitored.answer(bytes.fromhex(text).decode("utf-8", "replace"), self._current)
+        self._show(output[:-MOST_ANSWER])
+        return hexadecimal(output[-MOST_ANSWER:]) or OK
 
     def _transfer(self, text: str) -> bytes:
         """A part of a text: `OBJECT:read:ANNEX:OFFSET,LENGTH`."""
@@ -141,7 +158,7 @@ class Stub:
         if (kind, operation, annex) == ("features", "read", "target.xml"):
             whole = words.target_description()
         elif (kind, operation, annex) == ("threads", "read", ""):
-            whole = words.thread_list(self._state(rank) for rank in range(self._machine.ranks))
+            whole = words.thread_list(self._machine.superstep, (node.state for node in self._machine.nodes()))
         else:
             return UNKNOWN if operation != "read" else BAD
         data = whole.encode()
@@ -190,7 +207,7 @@ class Stub:
 
     def _add_breakpoint(self, text: str, is_hardware: bool) -> bytes:
         addr = numbers.address(text.split(",")[0])
-        if len(self._runner.breakpoints | {addr}) > MOST_BREAKPOINTS:
+        if len({addr, *self._runner.breakpoints, *addresses_of(self._runner.calls)}) > MOST_BREAKPOINTS:
             return b"E.too many breakpoints"
         self._runner.breakpoints.add(addr)
         self._is_hardware[addr] = is_hardware
@@ -198,6 +215,24 @@ class Stub:
 
     def _remove_breakpoint(self, text: str) -> bytes:
         self._runner.breakpoints.discard(numbers.address(text.split(",")[0]))
+        return OK
+
+    def _add_watch(self, text: str, kind: str) -> bytes:
+        """Bytes are watched of the rank that gdb looks at, since each has a memory of its own; or again of that of which they were."""
+        addr, length = numbers.pair(text)
+        if addr + length > self._machine.size or length > MOST_WATCHED or len(self._runner.watches.all) >= MOST_WATCHES:
+            return b"E.these bytes cannot be watched"
+        again = [it for it in self._passed if it.is_of(kind, addr, length)]
+        self._runner.watches.all.append(again[0] if again else Watch(kind, self._current, addr, length))
+        return OK
+
+    def _remove_watch(self, text: str, kind: str) -> bytes:
+        """Where they have just been met, gdb takes them away only for a step."""
+        addr, length = numbers.pair(text)
+        found = [it for it in self._runner.watches.all if it.is_of(kind, addr, length)]
+        for it in found[-1:]:
+            self._runner.watches.all.remove(it)
+            self._passed += [it] if self._is_met else []
         return OK
 
     def _resume(self, text: str) -> bytes:
@@ -231,22 +266,28 @@ class Stub:
         if self._is_interrupted_late():
             return self._tell(Stop(self._current, words.INTERRUPTED))
         halt = self._runner.settle(self._current)
-        if halt is not None:
-            return self._tell(halt)
-        if rank is None:
-            return self._tell(self._runner.go(self._current))
-        if action[0] in "cC":
-            return self._tell(self._runner.go_alone(rank))
-        if action[0] == "r":
-            return self._tell(self._runner.step_range(rank, *numbers.pair(action[1:])))
-        return self._tell(self._runner.step(rank))
+        return self._tell(halt if halt is not None else self._halt_of(action, rank))
+
+    def _halt_of(self, action: str, rank: Optional[int]) -> Halt:
+        """Goes on, up to the next stop."""
+        if rank is None or action[0] in "cC":
+            self._passed.clear()
+            halt = self._runner.go(self._current) if rank is None else self._runner.go_alone(rank)
+        elif action[0] == "r":
+            halt = self._runner.step_range(rank, *numbers.pair(action[1:]))
+        else:
+            halt = self._runner.step(rank)
+        self._is_met = isinstance(halt, Stop) and halt.watch is not None
+        return halt
 
     def _step_back(self, _: str) -> bytes:
+        self._is_met = False
         rank = self._current if self._resumed is None else self._resumed
         return self._tell(Stop(rank, words.INTERRUPTED) if self._is_interrupted_late() else self._runner.step_back(rank))
 
     def _go_back(self, _: str) -> bytes:
         """All ranks go back, or that which an old `c` would resume."""
+        self._is_met = False
         is_late = self._is_interrupted_late()
         return self._tell(Stop(self._current, words.INTERRUPTED) if is_late else self._runner.go_back(self._resumed, self._current))
 
@@ -272,6 +313,8 @@ class Stub:
         parts.append(b"thread:%x" % (halt.rank + 1))
         if halt.is_breakpoint:
             parts.append(b"hwbreak:" if self._is_hardware.get(node.pc) else b"swbreak:")
+        if halt.watch is not None:
+            parts.append(b"%s:%x" % (halt.watch.kind.encode(), halt.watch.addr))
         if halt.is_begin:
             parts.append(b"replaylog:begin")
         return b"T%02x" % halt.signal + b"".join(part + b";" for part in parts)

@@ -8,7 +8,7 @@ from ..debugger import Node
 
 # Opcodes that change no memory: LOAD, MISC-MEM, OP-IMM, AUIPC, OP, LUI, BRANCH, JALR, JAL.
 QUIET = {0x03, 0x0F, 0x13, 0x17, 0x33, 0x37, 0x63, 0x67, 0x6F}
-STORE = 0x23
+LOAD, STORE = 0x03, 0x23
 # Calls that change no memory before the turn, by their number, and the one that stores a word at its operand. The others that store do so at
 # more places, or take from a queue.
 ECALL = 0x00000073
@@ -66,6 +66,30 @@ def _stored_compressed(half: int, x: Tuple[int, ...]) -> Optional[Stored]:
         # C.SWSP
         return Stored((x[SP] + ((half >> 9 & 15) << 2 | (half >> 7 & 3) << 6)) % (1 << 32), 4)
     return None
+
+
+def value_of(code: bytes, x: Tuple[int, ...]) -> int:
+    """The register that a store takes its bytes from, which are the lowest."""
+    word = int.from_bytes(code, "little")
+    if word & 3 == 3:
+        return x[word >> 20 & 31]
+    return x[8 + (word >> 2 & 7)] if word & 3 == 0 else x[word >> 2 & 31]
+
+
+def loaded(code: bytes, x: Tuple[int, ...]) -> Stored:
+    """Where an instruction loads from, with these registers. What a call reads is not told."""
+    word = int.from_bytes(code, "little")
+    if len(code) == 4 and word & 0x7F == LOAD:
+        offset = word >> 20
+        return Stored((x[word >> 15 & 31] + offset - (offset >> 11 << 12)) % (1 << 32), 1 << (word >> 12 & 3))
+    half = word & 0xFFFF
+    if (half & 3, half >> 13) == (0, 2):
+        # C.LW
+        return Stored((x[8 + (half >> 7 & 7)] + ((half >> 10 & 7) << 3 | (half >> 6 & 1) << 2 | (half >> 5 & 1) << 6)) % (1 << 32), 4)
+    if (half & 3, half >> 13) == (2, 2):
+        # C.LWSP
+        return Stored((x[SP] + ((half >> 12 & 1) << 5 | (half >> 4 & 7) << 2 | (half >> 2 & 3) << 6)) % (1 << 32), 4)
+    return NOTHING
 
 
 class Moment(NamedTuple):

@@ -67,7 +67,11 @@ def target_description() -> str:
     )
 
 
-def thread_list(states: Iterable[str]) -> str:
-    """What gdb is told of the ranks in these states: thread R + 1 is rank R."""
-    rows = "".join(f'<thread id="{rank + 1:x}" name={quoteattr(f"rank {rank}")}>{state}</thread>' for rank, state in enumerate(states))
+def thread_list(superstep: int, states: Iterable[str]) -> str:
+    """What gdb is told of the ranks in these states: thread R + 1 is rank R, whose name says the superstep, too, as gdb shows it at each
+    stop."""
+    rows = "".join(
+        f'<thread id="{rank + 1:x}" name={quoteattr(f"rank {rank}, superstep {superstep}")}>{state}</thread>'
+        for rank, state in enumerate(states)
+    )
     return f'<?xml version="1.0"?><threads>{rows}</threads>'

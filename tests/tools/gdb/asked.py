@@ -1,0 +1,236 @@
+"""Cases of what is asked of a run's past: who wrote bytes, and what was sent. For tests/tools/gdb/run."""
+
+from __future__ import annotations
+
+import math
+import re
+from typing import Callable, Dict, List, Tuple
+
+from bsptools.debug import arrivals, machine, names, writers
+from checks import REPO
+from sessions import Bench, expect, in_order
+
+SOURCE = "tests/tools/gdb/writers.c"
+# Bytes of its variables.
+SIZE = 120
+# Where rank 0 is asked for its variables: what is told of each, by the marks of the source.
+TOLD = {
+    "first": "a store by rank 0 in superstep 0: main, writers.c:<first>, pc 0x",
+    "again": "a store by rank 0 in superstep 1: main, writers.c:<again>, pc 0x",
+    "meeting": "bsp_hpput by rank 2, at the end of superstep 1: main, writers.c:<meeting>",
+    "got": "bsp_hpget from rank 1 by rank 0, at the end of superstep 1: main, writers.c:<got>",
+    "here": "bsp_put by rank 2, at the end of superstep 1: main, writers.c:<elsewhere>",
+    "elsewhere": "never written: 0 from the start",
+    "messages": "bsp_qsize by rank 0 in superstep 2: main, writers.c:<qsize>, pc 0x",
+    "replaced": "bsp_set_tagsize by rank 0 in superstep 0: main, writers.c:<tagsize>, pc 0x",
+    "rest": "a store by rank 0 in superstep 2: main, writers.c:<rest>, pc 0x",
+    "told": "a store by rank 0 in superstep 42: main, writers.c:<told>, pc 0x",
+    "fresh": "never written: 0 from the start",
+    "constant": "never written: as the image has it",
+}
+# The same where a message has brought it.
+SENT = "of what rank 1 sent in superstep 1 (main, writers.c:<sent>): main, writers.c:"
+TOLD["moved"] = f"bsp_move by rank 0 in superstep 2, {SENT}<moved>, pc 0x"
+TOLD["tag"] = TOLD["status"] = f"bsp_get_tag by rank 0 in superstep 2, {SENT}<tag>, pc 0x"
+
+# A rank that reads its input, and stops itself.
+READS = """\
+        la a0, place
+        li a1, 4
+        li a7, 18
+read:   ecall
+        sb a0, 5(a0)
+        la a0, place + 1
+        sb a7, 0(a0)
+        ebreak
+place:  .word 0
+"""
+
+CASES: List[Callable[[Bench], None]] = []
+
+
+def case(function: Callable[[Bench], None]) -> Callable[[Bench], None]:
+    """A function that is tried."""
+    CASES.append(function)
+    return function
+
+
+def marked(text: str) -> str:
+    """A text with the lines of the source for its marks."""
+    lines = (REPO / SOURCE).read_text().splitlines()
+    marks: Dict[str, int] = {}
+    for number, line in enumerate(lines, 1):
+        found = re.search(r"/\* (\w+) \*/$", line)
+        if found:
+            marks[found[1]] = number
+    return re.sub(r"<(\w+)>", lambda it: str(marks[it[1]]), text)
+
+
+@case
+def who_wrote(bench: Bench) -> None:
+    """Each way in which a byte is written, and a byte that nobody writes, from the end of the run."""
+    text = bench.gdb(bench.build(SOURCE, "-DREST=50"), ["monitor end", "continue", *[f"monitor wrote 0 {name}" for name in TOLD]], "-n", "3")
+    for name, wanted in TOLD.items():
+        told = re.findall(rf"<{name}(?:\.0)?> to 0x[0-9a-f]+: (.*)", text)
+        expect(len(told) == 1 and told[0].startswith(marked(wanted)), (name, told, text))
+
+
+@case
+def who_wrote_bytes(bench: Bench) -> None:
+    """Bytes of several writers, a line for each; of another rank; of a function that was called; from where the run stands."""
+    commands = ["break copy", "continue", "monitor wrote both", "monitor wrote both+2 1", "monitor wrote copied 8", "finish"]
+    commands += ["monitor wrote 0 copied 8", "monitor wrote 1 both", "reverse-stepi", "monitor wrote copied+7 1", "wrote both", "up"]
+    text = bench.gdb(bench.build(SOURCE, "-DREST=50"), commands, "-n", "3")
+    address = int(re.findall(r"(0x[0-9a-f]+) <copied> to", text)[0], 16) + 7
+    put = "bsp_put by rank 2, at the end of superstep 1: put, writers.c:<put>"
+    byte = "a store by rank 0 in superstep 2: main, writers.c:<byte>, pc 0x"
+    both = ["<both>, 0x", marked(put), "<both+1>: " + marked(byte)]
+    in_order(text, "hit Breakpoint 1", *both, "<both+2>: " + marked(put), "<copied> to 0x", "never written: 0 from the start")
+    copied = marked("a store by rank 0 in superstep 2: copy, writers.c:<copied>, pc 0x")
+    in_order(text, "Run till exit", f"<copied> to 0x{address:x}: {copied}", "> and others")
+    in_order(text, "> and others", "a store by rank 1 in superstep 1: main, writers.c:", f"<copied+7>: {copied}", *both)
+
+
+@case
+def who_wrote_in_assembly(bench: Bench) -> None:
+    """What was read, in a text, whose labels and lines are told; and a rank that has failed."""
+    source, given = bench.folder / "reads.s", bench.folder / "given"
+    source.write_text(READS)
+    given.write_text("abc")
+    text = bench.gdb(str(source), ["continue", "monitor wrote place", "monitor wrote 8 2"], "--input", str(given))
+    in_order(text, "<place>, 0x", "<place+2>: read by rank 0 in superstep 0: read, reads.s:4, pc 0x", "<read>")
+    in_order(text, "<place+1>: a store by rank 0 in superstep 0: read, reads.s:7", "<place+3>: never written: as the image has it")
+    in_order(text, "0x8: a store by rank 0 in superstep 0: read, reads.s:5", "0x9: never written: as the image has it")
+
+
+@case
+def who_wrote_by_pieces(bench: Bench) -> None:
+    """In pieces of any size the same is found, wherever the run stands."""
+    program = bench.build(SOURCE, "-DREST=50")
+    command = [bench.bspemu, "debug", program, "--format", "elf", "--nodes", "3"]
+    addr = int(re.findall(r"0x[0-9a-f]+", bench.gdb(program, ["info address first"]))[-1], 16)
+    with bench.machines:
+        kept = writers.PIECE, writers.MOST_PIECE
+        run = machine.Machine(command)
+        try:
+            for superstep in (1, 2, 3, 20):
+                run.go([superstep])
+                run.step(0, 300)
+                found = []
+                for writers.PIECE, writers.MOST_PIECE in ((1 << 16, 1 << 16), (40, 160), (1000, 2000)):
+                    search = writers.Search(run, names.Names(command), run.place(), 0, arrivals.never)
+                    found.append({at: (it.superstep, it.node.rank, it.node.ticks) for at, it in search.find(addr, 80).writers.items()})
+                expect(found[0] == found[1] == found[2] and len(found[0]) > 8, (superstep, found))
+        finally:
+            writers.PIECE, writers.MOST_PIECE = kept
+            run.close()
+
+
+@case
+def who_wrote_by_changes(bench: Bench) -> None:
+    """No byte was written last before it changed last, as a look at the memory after each instruction and each turn tells."""
+    program = bench.build(SOURCE, "-DREST=50")
+    command = [bench.bspemu, "debug", program, "--format", "elf", "--nodes", "3"]
+    addr = int(re.findall(r"0x[0-9a-f]+", bench.gdb(program, ["info address first"]))[-1], 16) - 32
+    changed: Dict[int, Tuple[int, float]] = {}
+    run = machine.Machine(command)
+    before = run.memory(0, addr, SIZE)
+    while run.superstep < 4:
+        superstep = run.superstep
+        run.step(1, 1 << 30)
+        run.step(2, 1 << 30)
+        while run.node(0).runs:
+            ticks = run.node(0).ticks
+            run.step(0, 1)
+            before = note_changes(changed, addr, before, run.memory(0, addr, SIZE), (superstep, ticks))
+        run.turn()
+        before = note_changes(changed, addr, before, run.memory(0, addr, SIZE), (superstep, math.inf))
+    found = writers.Search(run, names.Names(command), run.place(), 0, arrivals.never).find(addr, SIZE)
+    run.close()
+    for place, when in changed.items():
+        writer = found.writers.get(place)
+        expect(writer is not None, (hex(place), when))
+        assert writer is not None
+        last = (writer.superstep, writer.node.ticks if isinstance(writer, writers.Own) else math.inf)
+        expect(last >= when, (hex(place), when, writer))
+    expect(found.is_whole or len(found.writers) == SIZE, found)
+    expect(len(changed) > 15, changed)
+
+
+def note_changes(changed: Dict[int, Tuple[int, float]], addr: int, before: bytes, after: bytes, when: Tuple[int, float]) -> bytes:
+    """Notes when bytes have changed. Answers what they are now."""
+    changed.update((addr + at, when) for at in range(len(after)) if after[at] != before[at])
+    return after
+
+
+@case
+def who_wrote_is_bounded(bench: Bench) -> None:
+    """Behind more instructions than are made once more, a line says how far it was looked, and from there it goes on."""
+    program = bench.build(SOURCE, "-DREST=100000")
+    commands = ["monitor end", "continue", "monitor wrote 0 first", "monitor superstep 2", "reverse-continue", "monitor wrote 0 first"]
+    text = bench.gdb(program, commands, "-n", "3")
+    in_order(text, "not written in the last ", " instructions of rank 0, back into superstep 2; ", "watch it, and reverse-continue looks on from there")
+    in_order(text, "superstep 2 begins", marked("a store by rank 0 in superstep 0: main, writers.c:<first>"))
+
+
+@case
+def what_was_sent(bench: Bench) -> None:
+    """The requests of a superstep that is over, and of one that is not, up to where each rank stands; none that failed."""
+    program = bench.build(SOURCE, "-DREST=50")
+    commands = ["monitor sent", "break bsp_sync thread 2", "continue", "continue", "monitor sent", "monitor sent 0"]
+    text = bench.gdb(program, commands, "-n", "3")
+    in_order(text, "superstep 0: 0 requests so far", "superstep 1: 8 requests so far")
+    now = text.partition("superstep 1: ")[2]
+    in_order(now, "rank 0: bsp_hpput(pid 0, src 0x", marked("at main, writers.c:<meeting>"), "rank 0: bsp_get(pid 1, src 0x")
+    in_order(now, "rank 1: bsp_send(pid 0, tag 0x", marked("at main, writers.c:<sent>"), "superstep 0: 12 requests\n")
+    in_order(now, "rank 2: bsp_push_reg(ident 0x", "(elsewhere), size 4), at main, writers.c:")
+    expect("rank 2: bsp_hpput" not in now, now)
+    failed = bench.gdb(bench.build("examples/c/ends.c", "-DEND=10"), ["continue", "monitor sent"], "-n", "2")
+    in_order(failed, "received signal SIGSYS", ": 0 requests")
+
+
+@case
+def calls_awaited(bench: Bench) -> None:
+    """A call by its name, to a rank and from one, forwards and backwards, for a rank that goes alone, beside a breakpoint, and no more once
+    it is deleted."""
+    program = bench.build("tests/tools/gdb/rounds.c")
+    put = "rank 1 is about to call bsp_put(pid 2, src 0x"
+    commands = ["monitor call bsp_put to 2", *["continue"] * 2, "bt", "reverse-continue", "info threads", "break 41", "continue", "monitor points"]
+    text = bench.gdb(program, [*commands, "monitor delete", "monitor points", "delete", "continue"], "-n", "3")
+    in_order(text, "continue stops before each bsp_put to 2", put, 'Thread 2 "rank 1, superstep 1" stopped.', "in bsp_put ()", put)
+    in_order(text, 'Thread 2 "rank 1, superstep 2" stopped.', "#1 ", "in main () at tests/tools/gdb/rounds.c:40", put, "rounds.c:40")
+    in_order(text, '1    Thread 1 "rank 0, superstep 1" (synced)', '* 2    Thread 2 "rank 1, superstep 1" (running)')
+    in_order(text, "call bsp_put to 2\n", "continue stops at no superstep and at no call", "none\n", "exited normally")
+    expect(text.count("is about to call") == 3, text)
+    commands = ["break 40 if s == 2", "continue", "monitor call bsp_put to 2", "monitor call bsp_send from 2", "set scheduler-locking on"]
+    text = bench.gdb(program, [*commands, "continue", "info threads", "reverse-continue"], "-n", "3")
+    in_order(text, 'Thread 3 "rank 2, superstep 1" hit Breakpoint 1', "rank 2 is about to call bsp_send(pid 0, tag 0x", "at note, rounds.c:24")
+    in_order(text, '* 3    Thread 3 "rank 2, superstep 1" (running)', 'Thread 3 "rank 2, superstep 1" hit Breakpoint 1')
+    commands = ["monitor call bsp_send", "break 40", "continue", *["next"] * 2, "continue", "monitor call bsp_put from 0", "continue"]
+    text = bench.gdb(program, commands, "-n", "2")
+    in_order(text, "hit Breakpoint 1", "41\t", "rank 0 is about to call bsp_send(pid 0, tag 0x", "in bsp_send ()", 'Thread 2 "rank 1, superstep 1" hit')
+
+
+@case
+def calls_awaited_of_many(bench: Bench) -> None:
+    """More places of calls over all ranks than the debugger has points."""
+    commands = [f"break *{addr}" for addr in range(256, 284, 4)] + ["monitor call bsp_put to 250", "continue", "monitor call bsp_send from 9"]
+    text = bench.gdb(bench.build("tests/tools/gdb/rounds.c"), [*commands, "reverse-continue"], "--nodes", "256", "--memory", "262144")
+    in_order(text, "rank 249 is about to call bsp_put(pid 250, ", "before each bsp_send from 9", "rank 9 is about to call bsp_send(pid 0, ")
+
+
+@case
+def asked_wrongly(bench: Bench) -> None:
+    """What cannot be told is refused with a line that says what can."""
+    program = bench.build(SOURCE, "-DREST=50")
+    commands = ["monitor wrote", "monitor wrote nothing", "monitor wrote 3 first", "monitor wrote first 0", "monitor wrote first 5000"]
+    commands += ["monitor wrote 0xfffffc", "monitor wrote 0xffffff", "monitor wrote 0 first 4 4", "monitor sent 3", "monitor sent x"]
+    commands += ["monitor call", "monitor call put", "monitor call bsp_sync to 2", "monitor call bsp_put to 9", "monitor call bsp_put 2"]
+    commands += ["monitor call bsp_put to"]
+    text = bench.gdb(program, commands, "-n", "3")
+    in_order(text, "no such command: monitor wrote\n", "nothing is neither an address nor a name of the program", "there is no rank 3: the ranks are 0 to 2")
+    in_order(text, *["the writers of 1 to 4096 bytes are told at once"] * 2, "0xfffffc to 0xffffff: never written: 0 from the start")
+    in_order(text, "there are no 4 bytes at 0xffffff: a rank's memory ends at 0x1000000", "0 first 4 4: give a rank, an address and a number")
+    in_order(text, "superstep 3 has not begun: the last one is superstep 0", "no such command: monitor sent x")
+    in_order(text, "no such command: monitor call\n", "put is no call: the calls are bsp_abort, bsp_get, ", "bsp_sync is to no rank: leave out `to 2`")
+    in_order(text, "there is no rank 9", *["behind the name there are `to RANK` and `from RANK` alone"] * 2)

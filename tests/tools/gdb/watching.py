@@ -1,0 +1,135 @@
+"""Cases of watched variables, for tests/tools/gdb/run: each of its own rank, whatever the others do."""
+
+from __future__ import annotations
+
+import re
+from typing import Callable, List, Tuple
+
+from back import SOON_INTERRUPTED
+from bsptools.debug import halts, machine, runner, watches
+from sessions import Bench, expect, in_order
+
+PROGRAM = "tests/tools/gdb/rounds.c"
+
+CASES: List[Callable[[Bench], None]] = []
+
+
+def case(function: Callable[[Bench], None]) -> Callable[[Bench], None]:
+    """A function that is tried."""
+    CASES.append(function)
+    return function
+
+
+@case
+def watch_by_ranks(bench: Bench) -> None:
+    """A variable that an exchange changes, and one that its rank changes, each of another rank, with a breakpoint in a third one between:
+    the values are those of the rank that it was said for."""
+    commands = ["thread 2", "watch received.numbers[1]", "thread 1", "watch seen", "break note thread 3", *["continue"] * 7, "delete", "continue"]
+    text = bench.gdb(bench.build(PROGRAM), commands, "-n", "3")
+    in_order(text, 'Thread 3 "rank 2, superstep 1" hit Breakpoint 3, note (round=0)')
+    in_order(text, 'Thread 1 "rank 0, superstep 2" hit Hardware watchpoint 2: seen', "Old value = 0", "New value = 40")
+    in_order(text, "New value = 40", 'Thread 3 "rank 2, superstep 2" hit Breakpoint 3', 'Thread 2 "rank 1, superstep 3" hit Hardware watchpoint 1: ')
+    in_order(text, "hit Hardware watchpoint 1: received.numbers[1]", "Old value = 0", "New value = 2", "bsp_sync ()")
+    in_order(text, "New value = 2", 'Thread 1 "rank 0, superstep 3" hit Hardware watchpoint 2: seen', "Old value = 40", "New value = 82")
+    in_order(text, "New value = 82", 'Thread 3 "rank 2, superstep 3" hit Breakpoint 3', "exited normally")
+    expect(text.count("Old value") == 4, text)
+
+
+@case
+def watch_loads(bench: Bench) -> None:
+    """Where a variable is read, and where it is read or written: over the ends of supersteps, and only in its rank."""
+    commands = ["thread 2", "rwatch seen", *["continue"] * 2, "delete", "awatch seen", *["continue"] * 2, "delete", "continue"]
+    text = bench.gdb(bench.build(PROGRAM), commands, "-n", "3")
+    in_order(text, 'Thread 2 "rank 1, superstep 2" hit Hardware read watchpoint 1: seen', "Value = 0", "rounds.c:44")
+    in_order(text, 'Thread 2 "rank 1, superstep 3" hit Hardware read watchpoint 1: seen', "Value = 0", "rounds.c:44")
+    in_order(text, "Hardware access (read/write) watchpoint 2: seen", "Old value = 0", "New value = 2", "Value = 2", "exited normally")
+
+
+@case
+def watch_steps(bench: Bench) -> None:
+    """A line that changes what is watched is left in its midst, forwards and backwards; also a variable of a function, up to its end."""
+    program = bench.build(PROGRAM)
+    commands = ["break 39 if s == 1 && round == 1", "continue", "watch mine.numbers[1]", *["next"] * 3, *["reverse-next"] * 3, "info threads"]
+    text = bench.gdb(program, commands, "-n", "3")
+    in_order(text, "hit Hardware watchpoint 2: mine.numbers[1]", "Old value = 0", "New value = 22", "40\t", "41\t", "40\t")
+    in_order(text, "41\t", "hit Hardware watchpoint 2: mine.numbers[1]", "Old value = 22", "New value = 0", '* 2    Thread 2 "rank 1, superstep 2"')
+    text = bench.gdb(program, ["break twice if number == 11", "continue", "watch result", "continue", "continue", "info watchpoints"], "-n", "3")
+    in_order(text, "twice (number=11)", "Hardware watchpoint 2: result", "New value = 22", "Watchpoint 2 deleted because the program has left the block")
+
+
+@case
+def watch_far_back(bench: Bench) -> None:
+    """To a store behind more instructions than are looked at in one go: there it stops, and goes on from there."""
+    program = bench.build(PROGRAM, "-DLOOP=4500")
+    commands = ["monitor superstep 4500", "continue", "watch seen", *["reverse-continue"] * 2]
+    text = bench.gdb(program, commands, "-n", "2")
+    in_order(text, "superstep 4500 begins", "what is watched was not written from here on; reverse-continue looks further back", "stopped.")
+    in_order(text, "stopped.", "hit Hardware watchpoint 1: seen", "44\t")
+
+
+@case
+def watch_interrupted(bench: Bench) -> None:
+    """Ctrl-C as a rank goes on for ever that is watched."""
+    program = bench.build(PROGRAM, "-DLOOP=10")
+    text = bench.gdb(program, ["watch received.from", "continue", *SOON_INTERRUPTED, "continue", "info threads"], "-n", "2")
+    in_order(text, "New value = 1", "received signal SIGINT", '* 1    Thread 1 "rank 0, superstep ')
+
+
+@case
+def watch_by_changes(bench: Bench) -> None:
+    """As gdb goes from one stop to the next, it sees all changes of some bytes, and no other, forwards and backwards: those that a look after
+    each instruction and each turn tells."""
+    program = bench.build(PROGRAM)
+    command = [bench.bspemu, "debug", program, "--format", "elf", "--nodes", "3"]
+    for place, rank in (("received.numbers[1]", 1), ("mine.numbers[2]", 2), ("seen", 0)):
+        text = bench.gdb(program, [f"output/x (int)&{place}"])
+        addr = int(re.findall(r"0x[0-9a-f]+(?=\(gdb\))", text)[-1], 16)
+        wanted = looked_at(command, rank, addr)
+        run = machine.Machine(command)
+        goes = runner.Runner(run, lambda _: None, lambda: False)
+        goes.stops_at_end = True
+        watch = watches.Watch("watch", rank, addr, 4)
+        forth = stops(goes, watch, goes.go, goes.step)
+        expect(forth == wanted and len(wanted) > 0, (place, wanted, forth))
+        back = stops(goes, watch, lambda at: goes.go_back(None, at), goes.step_back)
+        values = [b"\0" * 4, *(value for _, value in wanted)]
+        expect(back == list(zip([superstep for superstep, _ in wanted], values))[::-1], (place, wanted, back))
+        run.close()
+
+
+def stops(
+    goes: runner.Runner, watch: watches.Watch, go: Callable[[int], halts.Halt], step: Callable[[int], halts.Halt]
+) -> List[Tuple[int, bytes]]:
+    """The supersteps of the stops at which gdb sees a change, and the bytes behind it: it makes a step from each stop, and then looks."""
+    found: List[Tuple[int, bytes]] = []
+    old = goes.machine.memory(watch.rank, watch.addr, watch.length)
+    while True:
+        goes.watches.all = [watch]
+        halt = go(watch.rank)
+        if not isinstance(halt, halts.Stop) or halt.watch is None:
+            return found
+        goes.watches.all = []
+        superstep = goes.machine.superstep
+        step(watch.rank)
+        new = goes.machine.memory(watch.rank, watch.addr, watch.length)
+        if new != old:
+            found.append((superstep, new))
+        old = new
+
+
+def looked_at(command: List[str], rank: int, addr: int) -> List[Tuple[int, bytes]]:
+    """The supersteps in which a word of a rank changes, or before which, and what it is then."""
+    run = machine.Machine(command)
+    found: List[Tuple[int, bytes]] = []
+    old = run.memory(rank, addr, 4)
+    while run.outcome is None:
+        if run.node(rank).runs:
+            run.step(rank, 1)
+        else:
+            run.finish()
+        new = run.memory(rank, addr, 4)
+        if new != old:
+            found.append((run.superstep, new))
+        old = new
+    run.close()
+    return found

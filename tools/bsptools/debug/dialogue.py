@@ -1,0 +1,265 @@
+"""A dialogue with a person: the lines of the debugger, with names for addresses, defaults, and refusals that say what would be accepted."""
+
+from __future__ import annotations
+
+import re
+from typing import Callable, Dict, Iterator, List, Optional, Sequence, Set
+
+from ..debugger import DebuggerEnded, Node, Reply, Session
+from ..refusals import Refused, printable, put
+from . import showing
+from .arrivals import Asked as Question
+from .arrivals import Interrupted, Place, told
+from .lines import Asked, help_of, parsed
+from .machine import RESERVE, Machine
+from .names import STACK, Names
+from .process import POLL
+from .telling import Teller
+from .words import REGISTERS
+
+# How many bytes, words and instructions are shown, if it is not said, of how many at the most, and of how many bytes a text.
+DEFAULTS = {"bytes": 16, "words": 8, "list": 8, "wrote": 4}
+MOST_SHOWN, MOST_TEXT = 1 << 16, 1 << 12
+FURTHER = "ask again where an earlier superstep begins"
+# Lines that go on for as long as the program does, and those that bring a state back.
+LONG = {"go", "phase", "step", "turn"}
+# Of so many ranks it is told where they are when the run is over.
+MOST_PLACES = 16
+
+_PC = re.compile(r"\bpc ([0-9a-f]{8})\b")
+_REGISTER = re.compile(r"\$(\w+)(?:\+([0-9]+|0x[0-9a-fA-F]+))?")
+
+
+class Dialogue:
+    """Answers lines of a session of its own. `is_interrupted` asks whether what goes on is to be broken off."""
+
+    def __init__(self, command: Sequence[str], is_interrupted: Question) -> None:
+        self._command, self._is_interrupted = list(command), is_interrupted
+        self.names = Names(command)
+        self._session = Session(self._command)
+        settings = self._session.settings()
+        self._ranks, self._size = settings["nodes"], settings["memory"]
+        self._points: Set[str] = set()
+        self._is_told = self._is_kept = False
+        self._past: Optional[Machine] = None
+        self._own: Dict[str, Callable[[Asked], Iterator[str]]] = {
+            "help": lambda asked: iter(help_of("".join(asked.words))),
+            "points": self._shown_points,
+            "regs": lambda asked: iter(showing.registers(self.names, self._node(asked.operands["RANK"]))),
+            "bytes": self._bytes,
+            "words": self._words,
+            "text": self._text,
+            "list": self._list,
+            "where": self._where,
+            "wrote": self._wrote,
+            "sent": self._sent,
+        }
+
+    def close(self) -> None:
+        """Ends all processes."""
+        self._session.close()
+        if self._past is not None:
+            self._past.close()
+
+    def answer(self, line: str) -> bool:
+        """Answers a line. Answers whether the session goes on."""
+        if not line.split():
+            return True
+        if self._session.room < RESERVE:
+            self._return_to(self._place())
+            put("nothing is kept any more: a new process goes on from here\n" if self._is_kept else "")
+            self._is_kept = False
+        try:
+            asked = parsed(line, self._ranks, self._address)
+            if asked.verb == "quit":
+                return False
+            own = self._own.get(asked.verb)
+            if own is None:
+                self._pass_on(asked)
+            else:
+                for text in own(asked):
+                    _tell(text)
+        except DebuggerEnded:
+            raise
+        except Refused as refused:
+            _tell(*refused.args)
+        except Interrupted:
+            put("broken off\n")
+        return True
+
+    # The debugger's own lines.
+
+    def _pass_on(self, asked: Asked) -> None:
+        """Has the debugger answer a line."""
+        spelled = _spelled(asked)
+        before = self._place() if asked.verb in LONG else None
+        reply = self._wait(spelled, before)
+        if reply is None:
+            put("broken off: all stands where it stood" + (", and nothing is kept any more\n" if self._is_kept else "\n"))
+            self._is_kept = False
+            return
+        if not reply.is_done:
+            raise Refused(f"{reply.lines[0]}{self._why(reply.lines[0])}")
+        if asked.verb in ("output", "costs"):
+            put(reply.data)
+            return
+        self._note_point(asked, spelled)
+        self._is_kept = self._is_kept or asked.verb == "keep"
+        for line in reply.lines:
+            _tell(self._with_place(line))
+        if asked.verb in ("go", "turn") and reply.lines[0] != "not turned" and reply.lines[0] != "turned":
+            self._tell_outcome(reply.lines[0])
+        elif asked.verb == "back":
+            self._is_told = False
+
+    def _wait(self, line: str, before: Optional[Place]) -> Optional[Reply]:
+        """The reply to a line; nothing where it was broken off. Then all is brought back to where it stood."""
+        self._session.send(line)
+        while before is not None and not self._session.is_answered(POLL):
+            if self._is_interrupted():
+                self._return_to(before)
+                return None
+        return self._session.reply()
+
+    def _return_to(self, place: Place) -> None:
+        self._session.close()
+        machine, self._past = self._machine(), None
+        machine.become(machine.at(place))
+        self._session = machine.hand_over()
+        for reply in self._session.ask_all([f"break {point}" for point in sorted(self._points)]):
+            reply.accepted()
+
+    def _note_point(self, asked: Asked, spelled: str) -> None:
+        point = spelled.partition(" ")[2]
+        if asked.verb == "break":
+            self._points.add(point)
+        elif asked.verb == "clear":
+            self._points.discard(point)
+
+    def _shown_points(self, _: Asked) -> Iterator[str]:
+        for point in sorted(self._points):
+            rank, addr = point.split()
+            yield point if rank == "superstep" else f"rank {rank} pc {showing.behind(self.names, int(addr))}"
+        if not self._points:
+            yield "none is set"
+
+    def _tell_outcome(self, line: str) -> None:
+        """Says once where the ranks are at the end of the run, where that is not that all have ended."""
+        if told(line) == told("ended") or self._is_told or line.startswith("stopped at "):
+            return
+        self._is_told = True
+        lines = list(self._where(Asked("where", {}, [])))
+        _tell(*lines[:MOST_PLACES], *([f"and {len(lines) - MOST_PLACES} ranks more: where"] if len(lines) > MOST_PLACES else []))
+
+    def _with_place(self, line: str) -> str:
+        """A line in which ranks are told to be somewhere, with the name of that."""
+        return _PC.sub(lambda found: f"pc {showing.behind(self.names, int(found[1], 16))}", line)
+
+    def _why(self, refusal: str) -> str:
+        """What would be accepted where the debugger refuses a line."""
+        texts = {
+            "BadRank": f"the ranks are 0 to {self._ranks - 1}",
+            "BadRange": "there is not so much yet; without a number all is shown",
+            "TooMany": "1,024 points are set; clear takes one away",
+            "NoSuchBreak": "points tells which are set",
+            "NoSuchKept": "kept tells which are",
+            "Over": "the run is over; all can be looked at, and a new session begins at the start",
+            "BadCommand": "this emulator has no such line",
+        }
+        text = texts.get(refusal.rpartition(" ")[2])
+        return f": {text}" if text else ""
+
+    # What there is.
+
+    def _address(self, text: str, rank: int) -> Optional[int]:
+        """The address that a text tells, for a rank: a number, a name, or a register."""
+        found = _REGISTER.fullmatch(text)
+        if found is None:
+            return self.names.address(text)
+        node = self._node(rank)
+        known = {**dict(zip(REGISTERS, node.x)), "fp": node.x[8], "pc": node.pc, **{f"x{at}": value for at, value in enumerate(node.x)}}
+        if found[1] not in known:
+            return None
+        return (known[found[1]] + int(found[2] or "0", 0)) % (1 << 32)
+
+    def _node(self, rank: int) -> Node:
+        node = self._session.node(rank)
+        if node is None:
+            raise Refused("the debugger shows no node")
+        return node
+
+    def _memory(self, rank: int, addr: int, count: int) -> bytes:
+        """Bytes of a rank; those that come before the memory's end."""
+        count = min(count, self._size - addr)
+        if count <= 0:
+            raise Refused(f"refused: BadRange: there is nothing at {addr:#x}: a rank's memory ends at {self._size:#x}")
+        return bytes.fromhex(" ".join(self._session.ask(f"bytes {rank} {addr} {count}").accepted()))
+
+    def _shown(self, asked: Asked, unit: int) -> bytes:
+        """The memory that a line asks for, in units of so many bytes."""
+        count = asked.operands.get("N", DEFAULTS[asked.verb])
+        if count * unit > MOST_SHOWN:
+            raise Refused(f"refused: BadRange: {MOST_SHOWN // unit} are the most that are shown at once")
+        return self._memory(asked.operands["RANK"], asked.operands["ADDR"], count * unit) if count else b""
+
+    def _bytes(self, asked: Asked) -> Iterator[str]:
+        yield from showing.hexadecimal(self.names, asked.operands["ADDR"], self._shown(asked, 1))
+
+    def _words(self, asked: Asked) -> Iterator[str]:
+        yield from showing.words(self.names, asked.operands["ADDR"], self._shown(asked, 4))
+
+    def _text(self, asked: Asked) -> Iterator[str]:
+        count = min(asked.operands.get("N", MOST_TEXT), MOST_TEXT)
+        yield showing.text(self._memory(asked.operands["RANK"], asked.operands["ADDR"], count) if count else b"", "N" not in asked.operands)
+
+    def _list(self, asked: Asked) -> Iterator[str]:
+        node = self._node(asked.operands["RANK"])
+        asked.operands.setdefault("ADDR", node.pc)
+        count = asked.operands.get("N", DEFAULTS["list"])
+        yield from showing.instructions(self.names, asked.operands["ADDR"], self._shown(asked, 4), count, node.pc)
+
+    def _where(self, asked: Asked) -> Iterator[str]:
+        """Where the ranks are, with function and line of each."""
+        rank = asked.operands.get("RANK")
+        for line in self._session.ask("where" if rank is None else f"where {rank}").accepted():
+            node = self._node(int(line.split()[1]))
+            stack = self._memory(node.rank, node.x[2], STACK) if node.x[2] < self._size else b""
+            place = self.names.place(node._replace(stack=stack))
+            yield self._with_place(line) + ("" if place.startswith("pc ") else f": {place}")
+
+    # What there was.
+
+    def _place(self) -> Place:
+        """Where all stands."""
+        ticks = tuple(self._node(rank).ticks for rank in range(self._ranks))
+        return Place(self._session.superstep(), ticks, not self._session.ask("step 0 0").is_done)
+
+    def _machine(self) -> Machine:
+        """A machine by which earlier places are found."""
+        if self._past is None:
+            self._past = Machine(self._command)
+        return self._past
+
+    def _teller(self) -> Teller:
+        return Teller(self._machine(), self.names, self._place(), self._is_interrupted, FURTHER)
+
+    def _wrote(self, asked: Asked) -> Iterator[str]:
+        operands = asked.operands
+        yield from self._teller().wrote(operands["RANK"], operands["ADDR"], operands.get("N", DEFAULTS["wrote"]))
+
+    def _sent(self, asked: Asked) -> Iterator[str]:
+        teller = self._teller()
+        yield from teller.sent(asked.operands.get("K", teller.superstep))
+
+
+def _tell(*lines: str) -> None:
+    """Writes lines. Names come from a file, and are no commands to a terminal."""
+    put("".join(printable(line) + "\n" for line in lines))
+
+
+def _spelled(asked: Asked) -> str:
+    """A line as the debugger takes it."""
+    operands: List[object] = [*asked.words, *asked.operands.values()]
+    if asked.verb == "step" and "COUNT" not in asked.operands:
+        operands.append(1)
+    return " ".join(map(str, [asked.verb, *operands]))

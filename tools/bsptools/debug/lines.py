@@ -1,0 +1,130 @@
+"""The lines of the dialogue: which there are, and what the words of one say."""
+
+from __future__ import annotations
+
+import re
+from typing import Callable, Dict, List, NamedTuple, Optional, Sequence
+
+from ..refusals import Refused, printable
+
+# Each line as it is spelled, with operands in capitals and in brackets what may be left out, and what it does.
+LINES = {
+    "break RANK ADDR": "a point: go stops before this rank makes the instruction there",
+    "break superstep K": "a point: go stops where superstep K begins",
+    "clear RANK ADDR": "takes the point away",
+    "clear superstep K": "takes the point away",
+    "points": "the points that are set",
+    "go": "goes on to a point or to the outcome",
+    "step RANK [COUNT]": "so many instructions of a rank, or one",
+    "phase": "every rank goes on until it stops by itself",
+    "turn": "ends the superstep, if no rank runs any more",
+    "where [RANK]": "where the ranks are, or one",
+    "regs RANK": "the registers of a rank",
+    "list RANK [ADDR] [N]": "N instructions, or 8, of a rank's memory, from ADDR or from where it stands",
+    "bytes RANK ADDR [N]": "N bytes, or 16",
+    "words RANK ADDR [N]": "N words, or 8",
+    "text RANK ADDR [N]": "the text there, up to its end or to N bytes",
+    "queue RANK": "the messages that a rank has received and not moved yet",
+    "wrote RANK ADDR [N]": "who wrote each of N bytes last, or of 4",
+    "sent [K]": "the requests of superstep K, or of this one so far",
+    "keep": "keeps the state under the next number",
+    "kept": "the states that are kept",
+    "back N": "goes back to a state that is kept",
+    "forget N": "keeps a state no longer",
+    "costs [FROM]": "what the supersteps that are over cost",
+    "output [FROM]": "what was written in the supersteps that are over",
+    "nodes": "how many ranks there are, and the other settings",
+    "help [LINE]": "the lines, or one",
+    "quit": "ends the session; so does Ctrl-D",
+}
+OPERANDS = (
+    "RANK, K, N, COUNT and FROM are numbers. ADDR is a number, a name of the program, or a register, as $sp or $a0, and behind each"
+    " may be +N, as table+4."
+)
+VERBS = sorted({usage.split()[0] for usage in LINES})
+MOST = (1 << 64) - 1
+
+_NUMBER = re.compile(r"[0-9]{1,20}|0[xX][0-9a-fA-F]{1,16}")
+
+
+class Asked(NamedTuple):
+    """What a line asks for: its verb, and its operands by their names, and the words in small letters behind the verb."""
+
+    verb: str
+    operands: Dict[str, int]
+    words: List[str]
+
+
+class NoRank(Refused):
+    """There is no rank of a number."""
+
+
+# An address that a text tells, for a rank.
+Reader = Callable[[str, int], Optional[int]]
+
+
+def parsed(text: str, ranks: int, address: Reader) -> Asked:
+    """What a line asks for. What is no line is refused, with what would be one."""
+    verb, *words = text.split()
+    usages = [usage for usage in LINES if usage.split()[0] == verb]
+    if not usages:
+        raise Refused(f"refused: BadCommand: there is no line {printable(verb)}; help tells the lines")
+    refusals: List[Refused] = []
+    for usage in usages:
+        try:
+            return Asked(verb, *_matched(usage.split()[1:], words, ranks, address))
+        except NoRank as refused:
+            raise Refused(f"refused: BadRank: {refused}") from refused
+        except Refused as refused:
+            refusals.append(refused)
+    told = [str(it) for it in refusals if str(it)]
+    accepted = ", or ".join(usages)
+    raise Refused(f"refused: BadCommand: {told[0] + '; ' if told else ''}the line is {accepted}")
+
+
+def _matched(usage: Sequence[str], words: Sequence[str], ranks: int, address: Reader) -> tuple[Dict[str, int], List[str]]:
+    """The operands that words give a line. What they cannot be is refused; with no text where it is no word of this line at all."""
+    operands: Dict[str, int] = {}
+    small: List[str] = []
+    rest = list(words)
+    for name in usage:
+        is_optional, name = name.startswith("["), name.strip("[]")
+        if not rest:
+            if is_optional:
+                continue
+            raise Refused("")
+        word = rest.pop(0)
+        if name == "LINE":
+            small.append(word)
+        elif name.islower():
+            if word != name:
+                raise Refused("")
+            small.append(word)
+        else:
+            operands[name] = _value(name, word, operands.get("RANK", 0), ranks, address)
+    if rest:
+        raise Refused(f"{printable(rest[0])} is a word too many")
+    return operands, small
+
+
+def _value(name: str, word: str, rank: int, ranks: int, address: Reader) -> int:
+    if name == "ADDR":
+        found = address(word, rank)
+        if found is None:
+            raise Refused(f"{printable(word)} is neither an address nor a name of the program")
+        return found
+    value = int(word, 16 if word[1:2] in ("x", "X") else 10) if _NUMBER.fullmatch(word) else MOST + 1
+    if value > MOST:
+        raise Refused(f"{printable(word)} is no number" if name != "RANK" else f"{printable(word)} is no rank: the ranks are 0 to {ranks - 1}")
+    if name == "RANK" and value >= ranks:
+        raise NoRank(f"there is no rank {value}: the ranks are 0 to {ranks - 1}")
+    return value
+
+
+def help_of(verb: str) -> List[str]:
+    """What is told of all lines, or of those with a verb."""
+    usages = [usage for usage in LINES if verb in ("", usage.split()[0])]
+    if not usages:
+        raise Refused(f"refused: BadCommand: there is no line {printable(verb)}; help tells the lines")
+    width = max(map(len, usages))
+    return [f"{usage:{width}}  {LINES[usage]}" for usage in usages] + ([OPERANDS] if not verb else [])

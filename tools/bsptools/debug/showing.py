@@ -1,0 +1,64 @@
+"""What the dialogue shows of registers and memory, with the names of a program."""
+
+from __future__ import annotations
+
+import re
+from typing import Iterator, List
+
+from ..debugger import Node
+from ..run.program import listing
+from .names import Names
+from .words import REGISTERS
+
+WORDS, BYTES = 4, 16
+
+_REGISTER = re.compile(r"\bx([0-9]|[12][0-9]|3[01])\b")
+_TARGET = re.compile(r"0x[0-9a-f]{8}$")
+
+
+def registers(names: Names, node: Node) -> List[str]:
+    """Where a node stands, and its registers by the names that programs have for them."""
+    cells = [f"{name}={value:08x}" for name, value in zip(REGISTERS, node.x)]
+    rows = [" ".join(f"{cell:13}" for cell in cells[at : at + WORDS]).rstrip() for at in range(0, len(cells), WORDS)]
+    return [f"rank {node.rank} pc {behind(names, node.pc)} ticks {node.ticks} state {node.state}", *rows]
+
+
+def behind(names: Names, address: int) -> str:
+    """An address as the debugger spells it, and its name."""
+    name = names.named(address)
+    return f"{address:08x} <{name}>" if name else f"{address:08x}"
+
+
+def hexadecimal(names: Names, addr: int, data: bytes) -> List[str]:
+    """Bytes in rows, behind their addresses."""
+    return [f"{behind(names, addr + at)}: {data[at : at + BYTES].hex(' ')}" for at in range(0, len(data), BYTES)]
+
+
+def words(names: Names, addr: int, data: bytes) -> List[str]:
+    """Words in rows, behind their addresses."""
+    found = [f"{int.from_bytes(data[at : at + 4], 'little'):08x}" for at in range(0, len(data) - 3, 4)]
+    return [f"{behind(names, addr + 4 * at)}: {' '.join(found[at : at + WORDS])}" for at in range(0, len(found), WORDS)]
+
+
+def text(data: bytes, is_cut: bool) -> str:
+    """A text in quotes, up to its end; with what follows it where that was not reached."""
+    content, end, _ = data.partition(b"\0")
+    shown = content.decode("latin-1").encode("unicode_escape").decode().replace('"', '\\"')
+    return f'"{shown}"' + ("" if end or not is_cut else "...")
+
+
+def instructions(names: Names, addr: int, data: bytes, count: int, pc: int) -> Iterator[str]:
+    """So many instructions, with the names of where they stand and go to; the one at which a node stands is marked."""
+    for number, (place, _, name, operands) in enumerate(listing(data)):
+        if number == count:
+            return
+        mark = "=>" if addr + place == pc else "  "
+        told = [_operand(names, addr, it) for it in operands] if not name.startswith(".") else operands
+        yield f"{mark} {behind(names, addr + place)}: {name} {','.join(told)}".rstrip()
+
+
+def _operand(names: Names, addr: int, operand: str) -> str:
+    """An operand, of which a target is told from address 0 on."""
+    if _TARGET.fullmatch(operand):
+        return behind(names, (int(operand, 16) + addr) % (1 << 32))
+    return _REGISTER.sub(lambda found: REGISTERS[int(found[1])], operand)

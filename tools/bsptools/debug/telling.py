@@ -1,0 +1,131 @@
+"""Lines that tell who has written bytes, and what was asked for in a superstep."""
+
+from __future__ import annotations
+
+import contextlib
+from typing import Dict, List, Sequence, Set, Tuple
+
+from ..debugger import Node
+from ..refusals import Refused, counted
+from ..run.calls import GETS, NAMES, spelled
+from .arrivals import Asked, Place
+from .machine import Machine
+from .names import STACK, Names
+from .requests import Made, Requests, called
+from .trace import A7, ECALL
+from .writers import Found, Own, Search, Writer
+
+# Of how many bytes the writers are told at once, how many of them by their lines, and how many requests of a superstep.
+MOST_BYTES, MOST_WRITERS, MOST_SENT = 4096, 32, 256
+
+
+class Teller:
+    """Tells of a machine that stands at a place. `advice` says how to go on where a search was given up."""
+
+    def __init__(self, machine: Machine, names: Names, place: Place, must_break_off: Asked, advice: str) -> None:
+        self._machine, self._names, self._place, self._must_break_off = machine, names, place, must_break_off
+        self._advice = advice
+
+    # Who has written this?
+
+    def wrote(self, rank: int, addr: int, count: int) -> List[str]:
+        """A line for each writer of so many bytes, by their addresses."""
+        self._expect(addr, count)
+        search = Search(self._machine, self._names, self._place, rank, self._must_break_off)
+        found = search.find(addr, count)
+        told: Dict[str, List[int]] = {}
+        # What is told of instructions of one line is told once, with the address of the first.
+        behind: Dict[str, Set[str]] = {}
+        known: Dict[object, Tuple[str, str]] = {}
+        for it in range(addr, addr + count):
+            writer = found.writers.get(it)
+            key = self._rest(rank, found, it) if writer is None else (writer.superstep, _rank(rank, writer), writer.node.ticks)
+            if key not in known:
+                known[key] = (str(key), "") if writer is None else self._writer(search, rank, writer, len(known))
+            text, pc = known[key]
+            told.setdefault(text, []).append(it)
+            behind.setdefault(text, set()).add(pc)
+        lines = [f"{self._ranges(addresses)}: {text}{_one(behind[text])}" for text, addresses in told.items()]
+        more = len(lines) - MOST_WRITERS
+        return lines[:MOST_WRITERS] + ([f"and {counted(more, 'writer')} more: ask for fewer bytes"] if more > 0 else [])
+
+    def _expect(self, addr: int, count: int) -> None:
+        end = self._machine.size
+        if not 0 < count <= MOST_BYTES:
+            raise Refused(f"the writers of 1 to {MOST_BYTES} bytes are told at once")
+        if addr + count > end:
+            raise Refused(f"there are no {counted(count, 'byte')} at {addr:#x}: a rank's memory ends at {end:#x}")
+
+    def _rest(self, rank: int, found: Found, addr: int) -> str:
+        """What is told of a byte of which no writer was found."""
+        if found.is_whole:
+            return "never written: as the image has it" if self._is_in_image(addr) else "never written: 0 from the start"
+        return (
+            f"not written in the last {counted(found.instructions, 'instruction')} of rank {rank}, back into superstep {found.superstep};"
+            f" what was before is not looked at: {self._advice}"
+        )
+
+    def _is_in_image(self, addr: int) -> bool:
+        return any(start <= addr < start + len(content) for start, content in self._names.code.segments)
+
+    def _writer(self, search: Search, rank: int, writer: Writer, number: int) -> Tuple[str, str]:
+        """What is told of a writer, and the address of the instruction where that is the rank's own."""
+        if isinstance(writer, Made):
+            source = f" from rank {writer.call.operand('pid')}" if writer.call.number in GETS else ""
+            text = f"{called(writer)}{source} by rank {writer.rank}, at the end of superstep {writer.superstep}"
+            return f"{text}: {self._names.place(writer.node)}", ""
+        # Where it was takes a run to there.
+        node = self._look(rank, writer) if number < MOST_WRITERS else writer.node
+        place, pc = self._names.place(node), f"pc {self._names.written(node.pc)}"
+        text = f"{_name(self._names, node)} by rank {rank} in superstep {writer.superstep}"
+        sent = search.message(writer)
+        if sent is not None:
+            text += f", of what rank {sent.rank} sent in superstep {sent.superstep} ({self._names.place(sent.node)})"
+        return f"{text}: {place}", "" if place == pc else f", {pc}"
+
+    def _look(self, rank: int, own: Own) -> Node:
+        """The rank before the instruction, with its stack."""
+        ticks = [0] * self._machine.ranks
+        ticks[rank] = own.node.ticks
+        with contextlib.closing(self._machine.at(Place(own.superstep, tuple(ticks), False), self._must_break_off)) as there:
+            return there.node(rank)._replace(stack=there.memory(rank, own.node.x[2], STACK))
+
+    def _ranges(self, addresses: Sequence[int]) -> str:
+        """Addresses in a few words, with the name of the first of each run."""
+        runs: List[Tuple[int, int]] = []
+        for it in addresses:
+            runs = [*runs[:-1], (runs[-1][0], it)] if runs and runs[-1][1] + 1 == it else [*runs, (it, it)]
+        return ", ".join(self._names.written(first) + (f" to {last:#x}" if last > first else "") for first, last in runs)
+
+    # What was asked for?
+
+    @property
+    def superstep(self) -> int:
+        """The superstep of the place."""
+        return self._place.superstep
+
+    def sent(self, superstep: int) -> List[str]:
+        """A line for each request of a superstep."""
+        if superstep > self._place.superstep:
+            raise Refused(f"superstep {superstep} has not begun: the last one is superstep {self._place.superstep}")
+        made = Requests(self._machine, self._names, self._place, self._must_break_off).of(superstep)
+        is_now = superstep == self._place.superstep and not self._place.is_over
+        head = f"superstep {superstep}: {counted(len(made), 'request')}{' so far' if is_now else ''}"
+        more = len(made) - MOST_SENT
+        lines = [f"rank {it.rank}: {spelled(self._names.code, it.node)}, at {self._names.place(it.node)}" for it in made[:MOST_SENT]]
+        return [head, *lines, *([f"and {more} more"] if more > 0 else [])]
+
+
+def _one(pcs: Set[str]) -> str:
+    """One of these texts, and whether there are more."""
+    return min(pcs) + (" and others" if len(pcs) > 1 else "")
+
+
+def _rank(rank: int, writer: Writer) -> int:
+    return writer.rank if isinstance(writer, Made) else rank
+
+
+def _name(names: Names, node: Node) -> str:
+    """What an instruction of the rank itself is: a store, or a call by its name."""
+    is_call = int.from_bytes(names.code.stored(node.pc), "little") == ECALL
+    return NAMES[node.x[A7]][0] if is_call and node.x[A7] in NAMES else "a store"

@@ -2,6 +2,7 @@
 
 from __future__ import annotations
 
+import contextlib
 import re
 import select
 import subprocess
@@ -15,6 +16,8 @@ from .refusals import Refused
 ALL = (1 << 64) - 1
 # Of how many lines there may be replies in the pipes at once, so that neither side waits for the other one.
 BATCH = 64
+# For how many seconds its end is waited for, where its replies have ended.
+ENDING = 1.0
 
 _HEADER = re.compile(rb"(done|refused) (\d+)\n")
 _NODE = re.compile(r"rank (\d+) pc ([0-9a-f]{8}) ticks (\d+) state (.+)")
@@ -23,10 +26,11 @@ _REGISTER = re.compile(r"=([0-9a-f]{8})")
 
 class DebuggerEnded(Refused):
     """The debugger has ended, though it was not told to, or answers nothing that it could. What it had to say of that stands on standard
-    error."""
+    error. `status` is its exit status, where it has one."""
 
-    def __init__(self) -> None:
+    def __init__(self, status: int | None) -> None:
         super().__init__("the debugger has ended")
+        self.status = status
 
 
 class Node(NamedTuple):
@@ -127,13 +131,13 @@ class Session:
             self._lines.write(data)
             self._lines.flush()
         except BrokenPipeError as fault:
-            raise DebuggerEnded from fault
+            raise self._ended() from fault
 
     def reply(self) -> Reply:
         """The reply to the first line that has none yet. A header says how many lines it has."""
         header = _HEADER.fullmatch(self._line())
         if header is None:
-            raise DebuggerEnded
+            raise self._ended()
         return Reply(header[1] == b"done", b"".join(self._line() for _ in range(int(header[2]))))
 
     def is_answered(self, seconds: float) -> bool:
@@ -177,5 +181,11 @@ class Session:
         """The next line, with its line feed."""
         line: bytes = self._replies.readline()
         if not line.endswith(b"\n"):
-            raise DebuggerEnded
+            raise self._ended()
         return line
+
+    def _ended(self) -> DebuggerEnded:
+        """What says that the debugger has ended."""
+        with contextlib.suppress(subprocess.TimeoutExpired):
+            self._process.wait(ENDING)
+        return DebuggerEnded(self._process.returncode)

@@ -178,12 +178,14 @@ def what_was_sent(bench: Bench) -> None:
     """The requests of a superstep that is over, and of one that is not, up to where each rank stands; none that failed."""
     program = bench.build(SOURCE, "-DREST=50")
     commands = ["monitor sent", "break bsp_sync thread 2", "continue", "continue", "monitor sent", "monitor sent 0"]
+    commands += ["monitor sent 0 from 2", "monitor sent 0 from 3", "monitor sent 0 2"]
     text = bench.gdb(program, commands, "-n", "3")
     in_order(text, "superstep 0: 0 requests so far", "superstep 1: 8 requests so far")
     now = text.partition("superstep 1: ")[2]
     in_order(now, "rank 0: bsp_hpput(pid 0, src 0x", marked("at main, writers.c:<meeting>"), "rank 0: bsp_get(pid 1, src 0x")
     in_order(now, "rank 1: bsp_send(pid 0, tag 0x", marked("at main, writers.c:<sent>"), "superstep 0: 12 requests\n")
     in_order(now, "rank 2: bsp_push_reg(ident 0x", "(elsewhere), size 4), at main, writers.c:")
+    in_order(now, "superstep 0: 4 requests of rank 2\nrank 2: ", "there is no rank 3", "monitor sent 0 2: the line is\nmonitor sent K ")
     expect("rank 2: bsp_hpput" not in now, now)
     failed = bench.gdb(bench.build("examples/c/ends.c", "-DEND=10"), ["continue", "monitor sent"], "-n", "2")
     in_order(failed, "received signal SIGSYS", ": 0 requests")
@@ -196,11 +198,12 @@ def calls_awaited(bench: Bench) -> None:
     program = bench.build("tests/tools/gdb/rounds.c")
     put = "rank 1 is about to call bsp_put(pid 2, src 0x"
     commands = ["monitor call bsp_put to 2", *["continue"] * 2, "bt", "reverse-continue", "info threads", "break 41", "continue", "monitor points"]
-    text = bench.gdb(program, [*commands, "monitor delete", "monitor points", "delete", "continue"], "-n", "3")
+    commands += ["monitor end", "monitor points", "monitor delete", "monitor points", "delete", "continue"]
+    text = bench.gdb(program, commands, "-n", "3")
     in_order(text, "continue stops before each bsp_put to 2", put, 'Thread 2 "rank 1, superstep 1" stopped.', "in bsp_put ()", put)
     in_order(text, 'Thread 2 "rank 1, superstep 2" stopped.', "#1 ", "in main () at tests/tools/gdb/rounds.c:40", put, "rounds.c:40")
     in_order(text, '1    Thread 1 "rank 0, superstep 1" (synced)', '* 2    Thread 2 "rank 1, superstep 1" (running)')
-    in_order(text, "call bsp_put to 2\n", "continue stops at no superstep and at no call", "none\n", "exited normally")
+    in_order(text, "call bsp_put to 2\n", "call bsp_put to 2\nend\n", "continue stops at no superstep, at no call, and not at the end", "none\n", "exited normally")
     expect(text.count("is about to call") == 3, text)
     commands = ["break 40 if s == 2", "continue", "monitor call bsp_put to 2", "monitor call bsp_send from 2", "set scheduler-locking on"]
     text = bench.gdb(program, [*commands, "continue", "info threads", "reverse-continue"], "-n", "3")
@@ -226,11 +229,14 @@ def asked_wrongly(bench: Bench) -> None:
     commands = ["monitor wrote", "monitor wrote nothing", "monitor wrote 3 first", "monitor wrote first 0", "monitor wrote first 5000"]
     commands += ["monitor wrote 0xfffffc", "monitor wrote 0xffffff", "monitor wrote 0 first 4 4", "monitor sent 3", "monitor sent x"]
     commands += ["monitor call", "monitor call put", "monitor call bsp_sync to 2", "monitor call bsp_put to 9", "monitor call bsp_put 2"]
-    commands += ["monitor call bsp_put to"]
+    commands += ["monitor call bsp_put to", "monitor superstep x", "monitor queue 3", "monitor queue x", "monitor queue", "monitor call bsp_put to 2 to 1", "monitor points", "wrote first + 1", "wrote", "wrote first"]
     text = bench.gdb(program, commands, "-n", "3")
-    in_order(text, "no such command: monitor wrote\n", "nothing is neither an address nor a name of the program", "there is no rank 3: the ranks are 0 to 2")
+    in_order(text, "bspgdb: monitor wrote: the line is\n", "nothing is neither an address nor a name of the program", "there is no rank 3: the ranks are 0 to 2")
     in_order(text, *["the writers of 1 to 4096 bytes are told at once"] * 2, "0xfffffc to 0xffffff: never written: 0 from the start")
-    in_order(text, "there are no 4 bytes at 0xffffff: a rank's memory ends at 0x1000000", "0 first 4 4: give a rank, an address and a number")
-    in_order(text, "superstep 3 has not begun: the last one is superstep 0", "no such command: monitor sent x")
-    in_order(text, "no such command: monitor call\n", "put is no call: the calls are bsp_abort, bsp_get, ", "bsp_sync is to no rank: leave out `to 2`")
+    in_order(text, "there are no 4 bytes at 0xffffff: a rank's memory ends at 0x1000000", "0 first 4 4: give a rank, an address and a number", "as `monitor wrote 0 sum+4 8`")
+    in_order(text, "superstep 3 has not begun: the last one is superstep 0", "bspgdb: x is no number: give that of a superstep, as `monitor sent 1`")
+    in_order(text, "bspgdb: monitor call: the line is\n", "put is no call: the calls are bsp_abort, bsp_get, ", "bsp_sync is to no rank: leave out `to 2`")
     in_order(text, "there is no rank 9", *["behind the name there are `to RANK` and `from RANK` alone"] * 2)
+    in_order(text, "x is no number: give that of a superstep, as `monitor superstep 1`", "there is no rank 3: the ranks are 0 to 2", "x is no rank: the ranks")
+    in_order(text, "monitor queue: the line is\nmonitor queue R ", "`to` stands there twice", "none\n")
+    in_order(text, "none\n", *["bspgdb: wrote takes one expression, without blanks"] * 2, "never written")

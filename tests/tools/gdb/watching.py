@@ -7,6 +7,7 @@ from typing import Callable, List, Tuple
 
 from back import SOON_INTERRUPTED
 from bsptools.debug import halts, machine, runner, watches
+from bsptools.debug.machine import MOST_BREAKPOINTS
 from sessions import Bench, expect, in_order
 
 PROGRAM = "tests/tools/gdb/rounds.c"
@@ -36,6 +37,40 @@ def watch_by_ranks(bench: Bench) -> None:
 
 
 @case
+def watch_back_by_ranks(bench: Bench) -> None:
+    """Two variables, each of another rank: gdb takes both away where one is met on the way back, and each stays its rank's. One that is
+    deleted there, and watched again, is of the rank that is looked at then."""
+    commands = ["monitor end", "continue", "thread 1", "watch mine.numbers[1]", "thread 3", "watch received.from", *["reverse-continue"] * 2]
+    commands += ["delete 2", "thread 2", "watch received.from", "continue", "continue"]
+    text = bench.gdb(bench.build(PROGRAM), commands, "-n", "3")
+    in_order(text, 'Thread 1 "rank 0, superstep 2" hit Hardware watchpoint 1: mine.numbers[1]', "Old value = 2", "New value = 0")
+    in_order(text, "New value = 0", 'Thread 3 "rank 2, superstep 1" hit Hardware watchpoint 2: received.from', "Old value = 1", "New value = 0")
+    in_order(text, "Hardware watchpoint 3: received.from", 'Thread 1 "rank 0, superstep 2" hit Hardware watchpoint 1: mine.numbers[1]', "ended\n")
+    commands = ["thread 3", "watch mine.numbers[1]", "continue", "delete", "thread 1", "watch mine.numbers[1]", "reverse-continue"]
+    text = bench.gdb(bench.build(PROGRAM), commands, "-n", "3")
+    in_order(text, 'Thread 3 "rank 2, superstep 2" hit Hardware watchpoint 1', "New value = 42", 'Thread 1 "rank 0, superstep 2" hit Hardware watchpoint 2')
+
+
+@case
+def watch_beside_breakpoints(bench: Bench) -> None:
+    """What is watched is met, and the run goes on from there, also where there are as many breakpoints as there may be."""
+    commands = [*[f"break *{addr}" for addr in range(0x40000, 0x40000 + 4 * MOST_BREAKPOINTS, 4)], "thread 2", "watch mine.from"]
+    text = bench.gdb(bench.build(PROGRAM), [*commands, *["continue"] * 2], "-n", "2")
+    in_order(text, 'Thread 2 "rank 1, superstep 0" hit Hardware watchpoint', "New value = 1", "exited normally")
+
+
+@case
+def watch_two_ranks(bench: Bench) -> None:
+    """What gdb takes for one watch, or for one of another rank, is told; by awatch two ranks are watched."""
+    commands = ["watch mine.from", "thread 3", "watch mine.from", "watch seen thread 2", "delete 2 3", "awatch mine.from", *["continue"] * 3]
+    text = bench.gdb(bench.build(PROGRAM), ["thread 2", *commands], "-n", "3")
+    in_order(text, "Hardware watchpoint 2: mine.from", "watched already, and stays of the rank for which it was typed first: for a second rank type awatch")
+    in_order(text, "Hardware watchpoint 3: seen", "watched in rank 2, and never stops rank 1: type `thread 2` first", "watchpoint 4: mine.from")
+    in_order(text, "watchpoint 4: mine.from", 'Thread 2 "rank 1, superstep 0" hit ', "New value = 1", 'Thread 3 "rank 2, superstep 0" hit ', "New value = 2")
+    expect(text.count("watched already") == 1, text)
+
+
+@case
 def watch_loads(bench: Bench) -> None:
     """Where a variable is read, and where it is read or written: over the ends of supersteps, and only in its rank."""
     commands = ["thread 2", "rwatch seen", *["continue"] * 2, "delete", "awatch seen", *["continue"] * 2, "delete", "continue"]
@@ -43,6 +78,14 @@ def watch_loads(bench: Bench) -> None:
     in_order(text, 'Thread 2 "rank 1, superstep 2" hit Hardware read watchpoint 1: seen', "Value = 0", "rounds.c:44")
     in_order(text, 'Thread 2 "rank 1, superstep 3" hit Hardware read watchpoint 1: seen', "Value = 0", "rounds.c:44")
     in_order(text, "Hardware access (read/write) watchpoint 2: seen", "Old value = 0", "New value = 2", "Value = 2", "exited normally")
+
+
+@case
+def watch_loads_back(bench: Bench) -> None:
+    """Reads are not looked for on the way back, and a line says so."""
+    text = bench.gdb(bench.build(PROGRAM), ["monitor end", "continue", "rwatch seen", *["reverse-continue"] * 2, "delete", "continue"], "-n", "3")
+    in_order(text, "rwatch stops nowhere on the way back; awatch stops at the last write", "No more reverse-execution history.", "ended\n")
+    expect(text.count("rwatch stops nowhere") == 1, text)
 
 
 @case

@@ -51,6 +51,8 @@ def awaited(names: Names, words: Sequence[str], ranks: int) -> Awaited:
             raise Refused(f"{printable(' '.join(words))}: behind the name there are `to RANK` and `from RANK` alone")
         if int(value) >= ranks:
             raise Refused(f"there is no rank {int(value)}: the ranks are 0 to {ranks - 1}")
+        if found[which] is not None:
+            raise Refused(f"{printable(' '.join(words))}: `{which}` stands there twice: stop at one rank, and type another line for the other")
         found[which] = int(value)
         rest = rest[2:]
     if found["to"] is not None and number not in REQUESTS:

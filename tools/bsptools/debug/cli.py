@@ -14,9 +14,10 @@ import sys
 from typing import List, Sequence
 
 from .. import children, emulator
+from ..debugger import DebuggerEnded
 from ..machines import Take
 from ..options import Parser
-from ..refusals import BY_SIGNAL, Refused, tell
+from ..refusals import BY_SIGNAL, NO_MEMORY, Refused, tell
 from ..run.job import Job, prepared
 from . import prompt, server
 from .packets import Closed, Connection
@@ -74,13 +75,24 @@ def main(words: Sequence[str]) -> int:
         if asked.stdio:
             bridge(command(job))
         elif asked.lines:
-            prompt.talk(command(job))
+            return talk(job)
         elif asked.tcp is not None:
             server.serve(command(job), server.Loopback(asked.tcp))
         elif asked.server:
             server.serve(command(job), server.LocalSocket(folder / "socket"))
         else:
             return start_gdb(job)
+    return 0
+
+
+def talk(job: Job) -> int:
+    """Makes a session of lines. Answers the exit status: the debugger's, where that was refused memory, which it says by itself."""
+    try:
+        prompt.talk(command(job))
+    except DebuggerEnded as ended:
+        if ended.status != NO_MEMORY:
+            raise
+        return NO_MEMORY
     return 0
 
 

@@ -20,9 +20,11 @@ from .words import REGISTERS
 # How many bytes, words and instructions are shown, if it is not said, of how many at the most, and of how many bytes a text.
 DEFAULTS = {"bytes": 16, "words": 8, "list": 8, "wrote": 4}
 MOST_SHOWN, MOST_TEXT = 1 << 16, 1 << 12
-FURTHER = "ask again where an earlier superstep begins"
+FURTHER = "ask again {into} instructions into it: by step {rank} {into} from where it begins, to which back goes where it was kept"
 # Lines that go on for as long as the program does, and those that bring a state back.
 LONG = {"go", "phase", "step", "turn"}
+# How a refusal begins.
+REFUSAL = "refused: "
 # Of so many ranks it is told where they are when the run is over.
 MOST_PLACES = 16
 
@@ -82,7 +84,8 @@ class Dialogue:
         except DebuggerEnded:
             raise
         except Refused as refused:
-            _tell(*refused.args)
+            why = str(refused.args[0])
+            _tell(why if why.startswith(REFUSAL) else REFUSAL + why, *refused.args[1:])
         except Interrupted:
             put("broken off\n")
         return True
@@ -105,7 +108,7 @@ class Dialogue:
             return
         self._note_point(asked, spelled)
         self._is_kept = self._is_kept or asked.verb == "keep"
-        for line in reply.lines:
+        for line in reply.lines or (["none is kept"] if asked.verb == "kept" else []):
             _tell(self._with_place(line))
         if asked.verb in ("go", "turn") and reply.lines[0] != "not turned" and reply.lines[0] != "turned":
             self._tell_outcome(reply.lines[0])
@@ -241,7 +244,7 @@ class Dialogue:
         return self._past
 
     def _teller(self) -> Teller:
-        return Teller(self._machine(), self.names, self._place(), self._is_interrupted, FURTHER)
+        return Teller(self._machine(), self.names, self._place(), self._is_interrupted, FURTHER, "sent")
 
     def _wrote(self, asked: Asked) -> Iterator[str]:
         operands = asked.operands
@@ -249,7 +252,7 @@ class Dialogue:
 
     def _sent(self, asked: Asked) -> Iterator[str]:
         teller = self._teller()
-        yield from teller.sent(asked.operands.get("K", teller.superstep))
+        yield from teller.sent(asked.operands.get("K", teller.superstep), asked.operands.get("RANK"))
 
 
 def _tell(*lines: str) -> None:

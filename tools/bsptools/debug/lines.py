@@ -26,7 +26,8 @@ LINES = {
     "text RANK ADDR [N]": "the text there, up to its end or to N bytes",
     "queue RANK": "the messages that a rank has received and not moved yet",
     "wrote RANK ADDR [N]": "who wrote each of N bytes last, or of 4",
-    "sent [K]": "the requests of superstep K, or of this one so far",
+    "sent [K]": "the requests of superstep K, or of this one so far: the first 256",
+    "sent K from RANK": "all requests of a rank in superstep K",
     "keep": "keeps the state under the next number",
     "kept": "the states that are kept",
     "back N": "goes back to a state that is kept",
@@ -69,6 +70,8 @@ def parsed(text: str, ranks: int, address: Reader) -> Asked:
     usages = [usage for usage in LINES if usage.split()[0] == verb]
     if not usages:
         raise Refused(f"refused: BadCommand: there is no line {printable(verb)}; help tells the lines")
+    # Where the word behind the verb is that of a line, it is that line.
+    usages = [usage for usage in usages if usage.split()[1:2] == words[:1]] or usages
     refusals: List[Refused] = []
     for usage in usages:
         try:

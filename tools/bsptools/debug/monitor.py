@@ -19,12 +19,13 @@ HELP = """\
 monitor superstep K     stop where superstep K begins: a point, to which continue goes, and reverse-continue
 monitor superstep       the superstep that has begun
 monitor call NAME       stop before each call of a function of BSPlib, as bsp_put; `to R` and `from R` behind it: to rank R, by rank R alone
-monitor points          at which supersteps and calls it stops
+monitor points          at which supersteps and calls it stops, and whether at the end
 monitor delete          take all of these away
 monitor end             stop where the run ends, from where one can go back, before gdb's program ends
 monitor turn            end the superstep, if no rank runs any more: make the exchange
 monitor wrote R ADDR N  who wrote each of N bytes of rank R last; without R this rank, and without N 4 bytes. ADDR is a number, or a name, as sum+4
-monitor sent K          the requests of superstep K, each with its line; without K of this one so far
+monitor sent K          the requests of superstep K, each with its line, the first 256; without K of this one so far
+monitor sent K from R   all requests of rank R in superstep K
 monitor queue R         the messages that rank R has received and not moved yet
 monitor costs           what the supersteps that are over cost
 monitor output          what was written in the supersteps that are over
@@ -58,7 +59,8 @@ class Monitor:
             return _text(["bspgdb: interrupted"])
         if lines is None:
             known = [line for line in HELP.splitlines() if line.split()[1] == name]
-            lines = [f"bspgdb: no such command: monitor {printable(command)}", *(known or HELP.splitlines())]
+            wrong = f"monitor {printable(command)}"
+            lines = [f"bspgdb: {wrong}: the line is", *known] if known else [f"bspgdb: no such command: {wrong}", *HELP.splitlines()]
         return _text(lines)
 
     def _lines(self, name: str, operands: List[str], current: int) -> Optional[List[str]]:
@@ -66,12 +68,13 @@ class Monitor:
         machine = self._runner.machine
         if name == "wrote" and operands:
             return self._teller().wrote(*asked_bytes(self._names, operands, machine.ranks, current))
-        if name == "superstep" and _are_numbers(operands, 1):
-            return self._add_superstep(int(operands[0]))
-        if name == "queue" and _are_numbers(operands, 1) and int(operands[0]) < machine.ranks:
-            return machine.queue(int(operands[0]))
-        if name == "sent" and (not operands or _are_numbers(operands, 1)):
-            return self._teller().sent(int(operands[0]) if operands else machine.superstep)
+        if name == "superstep" and len(operands) == 1:
+            return self._add_superstep(_superstep(name, operands[0]))
+        if name == "queue" and len(operands) == 1:
+            return machine.queue(_rank(operands[0], machine.ranks))
+        if name == "sent" and (len(operands) < 2 or len(operands) == 3 and operands[1] == "from"):
+            superstep = _superstep(name, operands[0]) if operands else machine.superstep
+            return self._teller().sent(superstep, _rank(operands[2], machine.ranks) if operands[2:] else None)
         if name == "call" and operands:
             return self._add_call(awaited(self._names, operands, machine.ranks))
         return self._line(name) if not operands else None
@@ -87,18 +90,20 @@ class Monitor:
         if name == "turn":
             return [runner.turn()]
         if name == "points":
-            return [*(f"superstep {it}" for it in sorted(runner.supersteps)), *(f"call {it}" for it in runner.calls)] or ["none"]
+            supersteps, calls = [f"superstep {it}" for it in sorted(runner.supersteps)], [f"call {it}" for it in runner.calls]
+            return [*supersteps, *calls, *(["end"] if runner.stops_at_end else [])] or ["none"]
         if name == "delete":
             runner.supersteps.clear()
             runner.calls.clear()
-            return ["continue stops at no superstep and at no call"]
+            runner.stops_at_end = False
+            return ["continue stops at no superstep, at no call, and not at the end"]
         if name == "costs":
             return runner.machine.costs()
         return HELP.splitlines() if name == "help" else None
 
     def _teller(self) -> Teller:
         runner = self._runner
-        return Teller(runner.machine, self._names, runner.machine.place(), runner.is_interrupted, FURTHER)
+        return Teller(runner.machine, self._names, runner.machine.place(), runner.is_interrupted, FURTHER, "monitor sent")
 
     def _spelled(self, node: Node) -> str:
         """The call that a node is about to make, and where."""
@@ -126,19 +131,32 @@ def asked_bytes(names: Names, operands: Sequence[str], ranks: int, current: int)
     words = list(operands)
     has_rank = len(words) > 1 and _NUMBER.fullmatch(words[0]) and (len(words) > 2 or int(words[0]) < ranks or names.is_name(words[1]))
     rank = int(words.pop(0)) if has_rank else current
-    if rank >= ranks:
-        raise Refused(f"there is no rank {rank}: the ranks are 0 to {ranks - 1}")
+    _expect_rank(rank, ranks)
     count = BYTES if len(words) == 1 else names.address(words[1]) if len(words) == 2 and not names.is_name(words[1]) else None
     if count is None:
-        raise Refused(f"{printable(' '.join(operands))}: give a rank, an address and a number of bytes, as `wrote 0 sum+4 8`")
+        raise Refused(f"{printable(' '.join(operands))}: give a rank, an address and a number of bytes, as `monitor wrote 0 sum+4 8`")
     addr = names.address(words[0])
     if addr is None:
         raise Refused(f"{printable(words[0])} is neither an address nor a name of the program: `info variables` and `print &x` tell more")
     return rank, addr, count
 
 
-def _are_numbers(operands: Sequence[str], count: int) -> bool:
-    return len(operands) == count and all(_NUMBER.fullmatch(word) for word in operands)
+def _superstep(name: str, word: str) -> int:
+    if not _NUMBER.fullmatch(word):
+        raise Refused(f"{printable(word)} is no number: give that of a superstep, as `monitor {name} 1`")
+    return int(word)
+
+
+def _rank(word: str, ranks: int) -> int:
+    if not _NUMBER.fullmatch(word):
+        raise Refused(f"{printable(word)} is no rank: the ranks are 0 to {ranks - 1}")
+    _expect_rank(int(word), ranks)
+    return int(word)
+
+
+def _expect_rank(rank: int, ranks: int) -> None:
+    if rank >= ranks:
+        raise Refused(f"there is no rank {rank}: the ranks are 0 to {ranks - 1}")
 
 
 def _text(lines: Sequence[str]) -> bytes:

@@ -7,8 +7,9 @@ import os
 import pathlib
 import re
 import tempfile
-from typing import List, NamedTuple, Optional, Sequence
+from typing import Any, Dict, List, NamedTuple, Optional, Sequence
 
+from .. import elf
 from ..debugger import Node
 from ..files import content_of
 from ..limits import MOST_PROGRAM
@@ -19,6 +20,9 @@ from ..run.program import Code, read_elf, read_text
 # Bytes of the stack in which the callers of a place are looked for.
 STACK = 1 << 12
 MOST_ADDRESS = (1 << 32) - 1
+# What symbols of an ELF file are that are names of addresses: functions, objects, and labels, which have no type. Those that stand in no
+# section, as files and numbers of the linker, are none.
+KINDS = {elf.FUNCTION, elf.OBJECT, "STT_NOTYPE"}
 
 _NUMBER = re.compile(r"[0-9]{1,10}|0[xX][0-9a-fA-F]{1,8}")
 _NAMED = re.compile(r"([^\s+]+)\+([0-9]+|0[xX][0-9a-fA-F]+)")
@@ -40,15 +44,20 @@ class Names:
         self._command = list(command)
         self._code: Optional[Code] = None
         self._symbols: List[Symbol] = []
+        self._labels: Dict[str, int] = {}
 
     @property
     def code(self) -> Code:
         """The program's code, with what the file has for debuggers."""
+        return self._know()
+
+    def _know(self) -> Code:
         if self._code is None:
             # What lists code is the emulator that runs it.
             os.environ["BSPEMU"] = self._command[0]
             self._code = self._read().know_names()
-            self._symbols = _symbols(self._code)
+            self._labels = _labels(self._code)
+            self._symbols = _symbols(self._code, self._labels)
         return self._code
 
     @staticmethod
@@ -63,14 +72,14 @@ class Names:
             return value if value <= MOST_ADDRESS else None
         with_offset = _NAMED.fullmatch(text)
         name, offset = (with_offset[1], int(with_offset[2], 0)) if with_offset else (text, 0)
-        code = self.code
-        found = [it.address for it in self._symbols if it.name == name] or [code.names[it] for it in [name] if it in code.names]
+        self._know()
+        found = [it.address for it in self._symbols if it.name == name] or [self._labels[it] for it in [name] if it in self._labels]
         return found[0] + offset if found and found[0] + offset <= MOST_ADDRESS else None
 
     def all(self) -> List[str]:
         """All names."""
-        names = set(self.code.names)
-        return sorted(it for it in names.union(it.name for it in self._symbols) if it.isprintable())
+        self._know()
+        return sorted(it for it in {*self._labels, *(it.name for it in self._symbols)} if it.isprintable())
 
     def named(self, address: int) -> str:
         """An address as a name and the bytes behind it; nothing where no name is known."""
@@ -111,7 +120,20 @@ class Names:
         return read_elf(content)
 
 
-def _symbols(code: Code) -> List[Symbol]:
+def _labels(code: Code) -> Dict[str, int]:
+    """The addresses of a program by all their names."""
+    if code.debug is None:
+        return {name: address for name, address in code.names.items() if name}
+    return {it.name: it["st_value"] for it in code.debug.symbols if it.name and _is_label(it)}
+
+
+def _is_label(symbol: Any) -> bool:
+    """Whether a symbol of an ELF file is a name of an address. Those with a dollar in front mark code and data for tools."""
+    is_in_section = isinstance(symbol["st_shndx"], int)
+    return is_in_section and symbol["st_info"]["type"] in KINDS and not symbol.name.startswith("$")
+
+
+def _symbols(code: Code, labels: Dict[str, int]) -> List[Symbol]:
     """The functions and variables of a program by their addresses, or all names where the file does not tell which are."""
     found = [Symbol(*it) for it in (*code.functions, *code.variables) if it[2]]
-    return sorted(found or [Symbol(address, 0, name) for name, address in code.names.items() if name])
+    return sorted(found or [Symbol(address, 0, name) for name, address in labels.items()])

@@ -16,7 +16,7 @@ from .halts import Exit, Halt, Stop, halt_of_outcome
 from .history import BEGIN, Goal, History, Hit
 from .machine import LONG, MOST_BREAKPOINTS, Machine
 from .names import Names
-from .watches import Watches, Written, last_written
+from .watches import Watch, Watches, Written, last_written
 
 # For how many seconds an interrupt waits for the superstep's end, and for how many the ranks then go on a little.
 PATIENCE, LOOK = 0.15, 0.1
@@ -46,6 +46,8 @@ class Runner:
     stops_at_end: bool = False
     spell: Callable[[Node], str] = lambda node: "a call"
     _shown: int = 0
+    # Of which watches it was said that they do not stop on the way back.
+    _told: Set[Watch] = field(default_factory=set)
     # Until when an interrupt waits, and whether it is already known that some superstep takes longer.
     _deadline: Optional[float] = None
     _is_searching: bool = False
@@ -131,6 +133,7 @@ class Runner:
 
     def go_back(self, rank: Optional[int], current: int) -> Halt:
         """All ranks go back, or one alone, to the last breakpoint, the last beginning of a superstep that is wanted, or the start."""
+        self._tell_of_reads()
         try:
             if self.watches.met is not None and self.watches.met == self.machine.place():
                 self._history.step_back(current)
@@ -148,6 +151,13 @@ class Runner:
             return self._stop_before(self.machine.node(hit.rank))
         self.show(f"superstep {hit.superstep} begins\n".encode())
         return Stop(current, words.NONE)
+
+    def _tell_of_reads(self) -> None:
+        """Says once of each watch for reads that it does not stop on the way back: gdb goes back several times for one command."""
+        reads = {it for it in self.watches.all if it.kind == "rwatch"}
+        if not reads <= self._told:
+            self.show(b"bspgdb: rwatch stops nowhere on the way back; awatch stops at the last write\n")
+        self._told |= reads
 
     def _go_back_to(self, written: Written, alone: Optional[int]) -> Halt:
         """All ranks go back, or one alone, to where bytes have just been written that are watched, or as far as was looked for that. From

@@ -23,7 +23,11 @@ end
 end
 
 define wrote
+if $argc == 1
 eval "monitor wrote %u %u", (unsigned)&($arg0), (unsigned)sizeof($arg0)
+else
+echo bspgdb: wrote takes one expression, without blanks, as wrote total or wrote parts[i+1]\n
+end
 end
 document wrote
 Who wrote a variable of this rank last, byte by byte: wrote EXPRESSION, without blanks.
@@ -76,4 +80,44 @@ class Returning(gdb.unwinder.Unwinder):
 
 
 gdb.unwinder.register_unwinder(None, Returning(), replace=True)
+
+WATCHES = (gdb.BP_HARDWARE_WATCHPOINT, gdb.BP_READ_WATCHPOINT, gdb.BP_ACCESS_WATCHPOINT)
+
+
+def watch_on(_stop):
+    """Where it has met what is watched, gdb watches nothing until it goes on. So what is deleted before that and watched anew would be taken
+    for the same, of the rank that it was of. A new breakpoint has gdb watch at once; this one is where no node has memory."""
+    if any(it.type in WATCHES for it in gdb.breakpoints() or ()):
+        try:
+            gdb.Breakpoint("*0xfffffffe", internal=True).delete()
+        except gdb.error:
+            pass
+
+
+gdb.events.stop.connect(watch_on)
+
+WATCHED = {}
+
+
+def watch_begins(watch):
+    """gdb takes what is watched at one address for one, and knows nothing of ranks: a line says where that is not what it looks like."""
+    if watch.type not in WATCHES:
+        return
+    thread = gdb.selected_thread()
+    if watch.thread is not None and thread is not None and watch.thread != thread.num:
+        print("bspgdb: this is watched in rank %d, and never stops rank %d: " % (thread.num - 1, watch.thread - 1), end="")
+        print("type `thread %d` first, and leave it out here" % watch.thread)
+    try:
+        place = gdb.parse_and_eval("&(%s)" % watch.expression.replace("-location ", "", 1))
+        address = int(place.cast(gdb.lookup_type("unsigned int")))
+    except gdb.error:
+        return
+    there = {it.number for it in gdb.breakpoints()}
+    WATCHED[watch.number] = (watch.type, address, place.type.target().sizeof)
+    if any(WATCHED[it] == WATCHED[watch.number] for it in WATCHED if it in there and it != watch.number):
+        print("bspgdb: this is watched already, and stays of the rank for which it was typed first: for a second rank type awatch")
+
+
+if hasattr(gdb.events, "breakpoint_created"):
+    gdb.events.breakpoint_created.connect(watch_begins)
 end

@@ -50,7 +50,7 @@ class Stub:
         self._resumed: Optional[int] = None
         self._halt: Halt = Stop(0, words.TRAP)
         self._is_hardware: Dict[int, bool] = {}
-        # Whether bytes that are watched were met as the run went on, and those that are taken away for a step past that.
+        # Whether the last stop is that bytes were met which are watched, and those that are taken away for a step past that.
         self._is_met = False
         self._passed: List[Watch] = []
         self._is_over = False
@@ -207,6 +207,9 @@ class Stub:
 
     def _add_breakpoint(self, text: str, is_hardware: bool) -> bytes:
         addr = numbers.address(text.split(",")[0])
+        if addr >= self._machine.size:
+            # No rank comes there, and it takes no room.
+            return OK
         if len({addr, *self._runner.breakpoints, *addresses_of(self._runner.calls)}) > MOST_BREAKPOINTS:
             return b"E.too many breakpoints"
         self._runner.breakpoints.add(addr)
@@ -223,6 +226,8 @@ class Stub:
         if addr + length > self._machine.size or length > MOST_WATCHED or len(self._runner.watches.all) >= MOST_WATCHES:
             return b"E.these bytes cannot be watched"
         again = [it for it in self._passed if it.is_of(kind, addr, length)]
+        for it in again:
+            self._passed.remove(it)
         self._runner.watches.all.append(again[0] if again else Watch(kind, self._current, addr, length))
         return OK
 
@@ -270,24 +275,26 @@ class Stub:
 
     def _halt_of(self, action: str, rank: Optional[int]) -> Halt:
         """Goes on, up to the next stop."""
-        if rank is None or action[0] in "cC":
+        self._forget_passed()
+        if rank is None:
+            return self._runner.go(self._current)
+        if action[0] in "cC":
+            return self._runner.go_alone(rank)
+        return self._runner.step_range(rank, *numbers.pair(action[1:])) if action[0] == "r" else self._runner.step(rank)
+
+    def _forget_passed(self) -> None:
+        """What gdb has not watched again as it goes on, it watches no more; but for the step for which it has taken them away."""
+        if not self._is_met:
             self._passed.clear()
-            halt = self._runner.go(self._current) if rank is None else self._runner.go_alone(rank)
-        elif action[0] == "r":
-            halt = self._runner.step_range(rank, *numbers.pair(action[1:]))
-        else:
-            halt = self._runner.step(rank)
-        self._is_met = isinstance(halt, Stop) and halt.watch is not None
-        return halt
 
     def _step_back(self, _: str) -> bytes:
-        self._is_met = False
+        self._forget_passed()
         rank = self._current if self._resumed is None else self._resumed
         return self._tell(Stop(rank, words.INTERRUPTED) if self._is_interrupted_late() else self._runner.step_back(rank))
 
     def _go_back(self, _: str) -> bytes:
         """All ranks go back, or that which an old `c` would resume."""
-        self._is_met = False
+        self._forget_passed()
         is_late = self._is_interrupted_late()
         return self._tell(Stop(self._current, words.INTERRUPTED) if is_late else self._runner.go_back(self._resumed, self._current))
 
@@ -299,6 +306,7 @@ class Stub:
     def _tell(self, halt: Halt) -> bytes:
         """The reply that tells gdb of a stop that is new."""
         self._halt = halt
+        self._is_met = isinstance(halt, Stop) and halt.watch is not None
         if isinstance(halt, Stop):
             self._current = halt.rank
         return self._told(halt)

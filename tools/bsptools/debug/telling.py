@@ -3,12 +3,12 @@
 from __future__ import annotations
 
 import contextlib
-from typing import Dict, List, Sequence, Set, Tuple
+from typing import Dict, List, Optional, Sequence, Set, Tuple
 
 from ..debugger import Node
 from ..refusals import Refused, counted
 from ..run.calls import GETS, NAMES, spelled
-from .arrivals import Asked, Place
+from .arrivals import Asked, Interrupted, Place
 from .machine import Machine
 from .names import STACK, Names
 from .requests import Made, Requests, called
@@ -20,11 +20,12 @@ MOST_BYTES, MOST_WRITERS, MOST_SENT = 4096, 32, 256
 
 
 class Teller:
-    """Tells of a machine that stands at a place. `advice` says how to go on where a search was given up."""
+    """Tells of a machine that stands at a place. `advice` says how to go on where a search was given up, by `rank`, which stood there so many
+    instructions, `into`, behind where its superstep began. `verb` is what asks for requests."""
 
-    def __init__(self, machine: Machine, names: Names, place: Place, must_break_off: Asked, advice: str) -> None:
+    def __init__(self, machine: Machine, names: Names, place: Place, must_break_off: Asked, advice: str, verb: str) -> None:
         self._machine, self._names, self._place, self._must_break_off = machine, names, place, must_break_off
-        self._advice = advice
+        self._advice, self._verb = advice, verb
 
     # Who has written this?
 
@@ -62,7 +63,7 @@ class Teller:
             return "never written: as the image has it" if self._is_in_image(addr) else "never written: 0 from the start"
         return (
             f"not written in the last {counted(found.instructions, 'instruction')} of rank {rank}, back into superstep {found.superstep};"
-            f" what was before is not looked at: {self._advice}"
+            f" what was before is not looked at: {self._advice.format(rank=rank, into=found.into)}"
         )
 
     def _is_in_image(self, addr: int) -> bool:
@@ -104,16 +105,25 @@ class Teller:
         """The superstep of the place."""
         return self._place.superstep
 
-    def sent(self, superstep: int) -> List[str]:
-        """A line for each request of a superstep."""
+    def sent(self, superstep: int, rank: Optional[int] = None) -> List[str]:
+        """A line for each request of a superstep: of all ranks for the first ones, or of one rank for all of its own."""
         if superstep > self._place.superstep:
             raise Refused(f"superstep {superstep} has not begun: the last one is superstep {self._place.superstep}")
         made = Requests(self._machine, self._names, self._place, self._must_break_off).of(superstep)
+        if rank is not None:
+            made = [it for it in made if it.rank == rank]
         is_now = superstep == self._place.superstep and not self._place.is_over
-        head = f"superstep {superstep}: {counted(len(made), 'request')}{' so far' if is_now else ''}"
-        more = len(made) - MOST_SENT
-        lines = [f"rank {it.rank}: {spelled(self._names.code, it.node)}, at {self._names.place(it.node)}" for it in made[:MOST_SENT]]
-        return [head, *lines, *([f"and {more} more"] if more > 0 else [])]
+        whose = "" if rank is None else f" of rank {rank}"
+        head = f"superstep {superstep}: {counted(len(made), 'request')}{whose}{' so far' if is_now else ''}"
+        most = MOST_SENT if rank is None else len(made)
+        more = len(made) - most
+        rest = [f"and {more} more, from rank {made[most].rank} on: {self._verb} {superstep} from R tells all of rank R"] if more > 0 else []
+        return [head, *map(self._request, made[:most]), *rest]
+
+    def _request(self, made: Made) -> str:
+        if self._must_break_off():
+            raise Interrupted
+        return f"rank {made.rank}: {spelled(self._names.code, made.node)}, at {self._names.place(made.node)}"
 
 
 def _one(pcs: Set[str]) -> str:

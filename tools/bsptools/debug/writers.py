@@ -39,12 +39,13 @@ Writer = Union[Own, Made]
 
 class Found(NamedTuple):
     """The writers of bytes by their addresses; over how many instructions it was gone back for the others, into which superstep and up to
-    how many instructions of the rank, and whether that is the start of the run."""
+    how many instructions of the rank, of the run and of this superstep, and whether that is the start of the run."""
 
     writers: Dict[int, Writer]
     instructions: int
     superstep: int
     ticks: int
+    into: int
     is_whole: bool
 
 
@@ -82,7 +83,7 @@ class Search:
             made += last - end
             self._left -= last - end
             width = min(WIDER * width, MOST_PIECE)
-        return Found(self._found, made, superstep, end, (superstep, end) == (0, 0))
+        return Found(self._found, made, superstep, end, end - begins[superstep], (superstep, end) == (0, 0))
 
     def message(self, own: Own) -> Optional[Made]:
         """The request by which the message was sent that a call has moved."""

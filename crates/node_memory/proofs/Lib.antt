@@ -1,3 +1,4 @@
+pub mod Bytes
 pub mod Flat
 pub mod ImageBytes
 pub mod InPage

@@ -1,3 +1,4 @@
+pub mod Access
 pub mod Bytes
 pub mod Image
 pub mod Pages

@@ -1,5 +1,6 @@
 -- The flags of each operation (IEEE 754-2008, sections 7.2 "Invalid operation" and 7.3 "Division by zero"; RISC-V Unprivileged ISA
--- 20191213, sections 11.6, 11.8, 12.4 and 12.6). Arithmetic on a quiet NaN raises nothing, and on a signaling one invalid alone.
+-- 20191213, sections 11.6, 11.8, 12.4 and 12.6). Arithmetic on a quiet NaN raises nothing, but for a
+-- fused product of 0 and infinity, and on a signaling one invalid alone.
 use Rattle.std.specs.Prelude.{ℕ, ◌*◌, ◌==◌, Bool, not, ◌&&◌, ◌||◌, is_nan, if◌then◌else◌}
 use Rattle.std.specs.Float.{float_zero, float_is_finite, float_is_infinite, is_sign_negative}
 use Rattle.rv_floats.specs.Classes.{is_signaling}

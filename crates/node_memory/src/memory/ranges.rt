@@ -1,6 +1,7 @@
 //! What is read by ranges, page by page.
 
-ghost use Rattle.std.specs.Prelude.{◌≡◌, ◌≤◌, ◌++◌, false, IsTrue, length, take, OnOk, OnErr, IfOk, IfSome, IsErrOf, ◌↔◌};
+ghost use Rattle.std.specs.Prelude.{◌≡◌, ◌≤◌, ◌++◌, IsTrue, length, take, OnOk, OnErr, IfOk, IfSome};
+ghost use Rattle.node_memory.specs.Access.{IsRead};
 ghost use Rattle.node_memory.specs.Bytes.{fits, bytes_at};
 
 use super::{Memory, ReadError};
@@ -94,9 +95,7 @@ impl<A: Allocator + Copy> Memory<A> {
     /// A copy of the `len` bytes from `addr` on, which can be shared.
     #[inline]
     pub fn read_range(&self, addr: u32, len: u32) -> Result<SharedBytes<A>, ReadError>
-        ensures within { OnOk result (IsTrue (fits (length self.now.bytes) addr len)) }
-        ensures ok { IfOk result (λ v. v ≡ bytes_at self.now.bytes addr len) }
-        ensures outside { IsErrOf result ReadError.Outside ↔ (fits (length self.now.bytes) addr len ≡ false) }
+        ensures { IsRead result self.now.bytes addr len }
     {
         if !self.fits(addr, len) {
             return Err(ReadError::Outside);

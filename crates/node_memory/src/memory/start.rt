@@ -1,8 +1,9 @@
 //! How memories begin: from an image, or as another's share.
 
-ghost use Rattle.std.specs.Prelude.{◌≡◌, ◌+◌, ◌*◌, ◌/◌, ◌%◌, ◌<◌, ◌≤◌, ◌↔◌, false, IsTrue, length, replicate, slice_set, OnOk, OnErr, IfOk, IfErr, IsErrOf};
+ghost use Rattle.std.specs.Prelude.{◌≡◌, ◌+◌, ◌*◌, ◌/◌, ◌%◌, ◌<◌, ◌≤◌, false, IsTrue, length, replicate, slice_set, OnOk, IfOk};
+ghost use Rattle.node_memory.specs.Access.{IsMade};
 ghost use Rattle.node_memory.specs.Bytes.{is_memory_size, with_bytes};
-ghost use Rattle.node_memory.specs.Image.{image_bytes, with_segment, ends_past, is_segment_outside, IsSegment};
+ghost use Rattle.node_memory.specs.Image.{with_segment, ends_past, IsSegment};
 ghost use Rattle.node_memory.specs.Pages.{none_own, IsOwn, SharesZeros};
 ghost use Rattle.node_memory.specs.Table.{IsPageOfZeros};
 
@@ -17,11 +18,7 @@ impl<A: Allocator + Copy> Memory<A> {
     /// # Errors
     /// As [`MemoryError`] has them.
     pub fn new(alloc: A, image: &Image<A>, size: u32) -> Result<Memory<A>, MemoryError>
-        ensures bad_size { IsErrOf result MemoryError.BadSize ↔ (is_memory_size size ≡ false) }
-        ensures segment_outside { IsErrOf result MemoryError.SegmentOutside
-            ↔ (IsTrue (is_memory_size size) × IsTrue (is_segment_outside image.now size)) }
-        ensures ok { IfOk result (λ m. m ≡ record { bytes = image_bytes image.now size; own = none_own size }) }
-        ensures len { IfOk result (λ m. length m.bytes ≡ size) }
+        ensures { IsMade result image.now size }
     {
         if !is_memory_size(size) {
             return Err(MemoryError::BadSize);

@@ -1,4 +1,4 @@
-use Rattle.std.proofs.Common.{◌≡◌, ℕ, ◌*◌, ◌/◌, length, replicate, sym, ap, ◌∙◌, List}
+use Rattle.std.proofs.Common.{◌≡◌, ℕ, ◌*◌, ◌/◌, length, replicate, sym, ap, ◌∙◌, List, rules}
 use Rattle.node_memory.specs.Image.{Image, image_bytes}
 use Rattle.node_memory.specs.Pages.{PagedMemory, none_own}
 use Rattle.node_memory.proofs.ImageBytes.{length-image_bytes, image_bytes_none, lay_fits, image_bytes_more, all_laid, whole_pages}
@@ -27,16 +27,18 @@ loop-segment-preserved g c =
       c.loop-segment.invariant.2,
     )
 
-pub returns-clause-ok : goal.returns-clause-ok
-returns-clause-ok g c =
-    let segments = c.as_slice-segment-items.ensures ∙ ap (λ (i : Image). i.segments) c.image.view_is in
-    let laid : c.loop-segment.laid.bytes ≡ image_bytes c.args.image.now c.args.size = all_laid _ _ _ _ _ _ segments c.loop-segment-test.false c.loop-segment.invariant.0 in
-    let size : length c.loop-segment.laid.bytes ≡ c.args.size = ap length laid ∙ length-image_bytes c.args.image.now c.args.size in
-    c.in_ok-share.ensures
-    ∙ ap (λ (bs : List ℕ). record { bytes = bs; own = none_own (length c.loop-segment.laid.bytes) }) laid
-    ∙ ap (λ (n : ℕ). record { bytes = image_bytes c.args.image.now c.args.size; own = none_own n }) size
-
-pub returns-clause-len : goal.returns-clause-len
-returns-clause-len g c =
-    let laid = ap length c.loop-segment.invariant.0 ∙ length-image_bytes _ _ in
-    ap (λ (m : PagedMemory). length m.bytes) c.in_ok-share.ensures ∙ laid
+pub returns : goal.returns
+returns g c = record {
+  bad_size = search rules;
+  segment_outside = search rules;
+  ok =
+      let segments = c.as_slice-segment-items.ensures ∙ ap (λ (i : Image). i.segments) c.image.view_is in
+      let laid : c.loop-segment.laid.bytes ≡ image_bytes c.args.image.now c.args.size = all_laid _ _ _ _ _ _ segments c.loop-segment-test.false c.loop-segment.invariant.0 in
+      let size : length c.loop-segment.laid.bytes ≡ c.args.size = ap length laid ∙ length-image_bytes c.args.image.now c.args.size in
+      c.in_ok-share.ensures
+      ∙ ap (λ (bs : List ℕ). record { bytes = bs; own = none_own (length c.loop-segment.laid.bytes) }) laid
+      ∙ ap (λ (n : ℕ). record { bytes = image_bytes c.args.image.now c.args.size; own = none_own n }) size;
+  len =
+      let laid = ap length c.loop-segment.invariant.0 ∙ length-image_bytes _ _ in
+      ap (λ (m : PagedMemory). length m.bytes) c.in_ok-share.ensures ∙ laid;
+}

@@ -20,7 +20,7 @@ use Rattle.node_core.specs.declared.state.State.TheVariants.{Running, Aborted}
 use Rattle.node_core.specs.Communication.{IsWellAddressed, max_tag_size}
 use Rattle.node_core.specs.Hart.{Hart, After, with_reg, with_memory, advanced}
 use Rattle.node_core.specs.Calls.{Check, HaveNoFault, checked, checks, performed, call_effect, ecall_effect, a0, a1, a2, a3, a4, put_checks, get_checks, send_checks, get_tag_checks, move_checks, output_checks, put_effect, get_effect, send_effect, get_tag_effect, move_effect, output_effect, set_tagsize_effect, qsize_effect, taken, moved, first_message, place, with_word}
-use Rattle.node_core.proofs.Bytes.{fits-le, length-bytes_at}
+use Rattle.node_memory.proofs.Bytes.{fits-le, length-bytes_at}
 use Rattle.node_core.proofs.Harts.{Keeps, Keeps-same, Keeps-then, Keeps-pc, Keeps-cursor, Keeps-reg, Keeps-memory, Keeps-pushed, Keeps-popped, Keeps-requested, Keeps-written, Keeps-taken, Keeps-sized}
 
 -- a choice keeps what both of its sides keep

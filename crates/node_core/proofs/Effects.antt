@@ -10,10 +10,10 @@ use Rattle.rv_tables.specs.declared.instr.PlainOp.{PlainOp}
 use Rattle.rv_tables.specs.declared.instr.PlainOp.TheVariants.{Fence, FenceI, Ecall, Ebreak}
 use Rattle.rv_tables.specs.Codes.{decoded, length_of}
 use Rattle.node_core.specs.Hart.{Hart, reg, with_reg, with_memory, past, goes_on, next_pc}
-use Rattle.node_core.specs.Arithmetic.{modulo, is_taken}
+use Rattle.rv_values.specs.Arithmetic.{modulo, is_taken}
 use Rattle.node_core.specs.Calls.{named_call}
 use Rattle.node_core.specs.Effects.{effect_of, effect_if_any, code_effect, executed, fetched, plain_effect, jumps, store_effect}
-use Rattle.node_core.proofs.Bytes.{fits-le}
+use Rattle.node_memory.proofs.Bytes.{fits-le}
 use Rattle.node_core.proofs.Harts.{Keeps, Keeps-same, Keeps-then, Keeps-pc, Keeps-reg, Keeps-memory}
 use Rattle.node_core.proofs.Calls.{Keeps-if, Keeps-ecall}
 

@@ -1,9 +1,7 @@
 pub mod Addresses
 pub mod Answered
-pub mod Bytes
 pub mod Calls
 pub mod Clocks
-pub mod CodePages
 pub mod Communications
 pub mod Decoded
 pub mod Effects
@@ -17,7 +15,6 @@ pub mod OwnStores
 pub mod Ranks
 pub mod Refused
 pub mod Room
-pub mod Signed
 pub mod Sound
 pub mod Steps
 pub mod Straight

@@ -1,11 +1,11 @@
--- The environment calls: what an ECALL does. Tables say of each call its number (`numbered_calls`), its checks in their
--- order (`checks`), what it does where they all pass (`performed`), and whether it may ask for memory (`takes_memory`). The
--- number stands in a7 (x17), and operands from a0 (x10) on.
+-- The environment calls: what an ECALL does. A table has a row for each call (`row`): its number, its checks in their order, what it does
+-- where they all pass, and whether it may ask for memory. The number stands in a7 (x17), and operands from a0 (x10) on, in the order in
+-- which the row's comment names them. The clock's call has no row: a node that has a clock answers it (Clock.antt).
 -- Calls are after BSPlib's functions of their names (Hill and others 1998). Own rules: `write` and `read`; numbers, checks
 -- and limits; that `hpput` and `hpget` are `put` and `get`, and copy their bytes at the call; that `abort` stops its own node
 -- alone; that pc goes on at `end`, `sync` and `abort` too; that of two stores of one call that overlap the later named lands
 -- over the earlier.
-use Rattle.std.specs.Prelude.{◌≡◌, ℕ, ◌+◌, ◌-◌, ◌^◌, ◌==◌, Bool, true, false, not, List, [], ◌∷◌, length, min, nat_lt, nat_le, take, drop, find, IsTrue, slice_get, Option, Some, None, is_some, unwrap_or, option_map, if◌then◌else◌}
+use Rattle.std.specs.Prelude.{◌≡◌, ℕ, ◌+◌, ◌-◌, ◌^◌, ◌==◌, Bool, true, false, not, List, [], ◌∷◌, length, min, nat_lt, nat_le, take, drop, find, IsTrue, slice_get, Option, Some, None, is_some, unwrap_or, if◌then◌else◌}
 use Rattle.std.specs.Int.{w32, to_le_bytes}
 use Rattle.std.specs.Option.{option_map_or}
 use Rattle.node_memory.specs.Bytes.{fits, bytes_at, with_bytes, word_at}
@@ -24,23 +24,6 @@ use Rattle.node_core.specs.declared.state.Fault.{Fault}
 use Rattle.node_core.specs.declared.state.Fault.TheVariants.{UnknownCall, BadRank, RangeOutside, NotRegistered, TooMuch, BadSize}
 use Rattle.node_core.specs.Communication.{max_tag_size}
 use Rattle.node_core.specs.Hart.{Hart, After, reg, with_reg, with_memory, with_registrations, with_requests, advanced, goes_on, faults}
-
--- the calls with their numbers
-abbrev pub numbered_calls : List (ℕ × Call)
-numbered_calls =
-    (1, End) ∷ (2, Nprocs) ∷ (3, Pid) ∷ (4, Sync)
-    ∷ (5, PushReg) ∷ (6, PopReg)
-    ∷ (7, Put) ∷ (8, Get) ∷ (9, Hpput) ∷ (10, Hpget)
-    ∷ (11, SetTagsize) ∷ (12, Send) ∷ (13, Qsize) ∷ (14, GetTag) ∷ (15, Move)
-    ∷ (16, Abort) ∷ (17, Write) ∷ (18, Read) ∷ []
-
--- the call of a number
-abbrev pub call_of : ℕ → Option Call
-call_of n = option_map (λ row. row.1) (find (λ row. row.0 == n) numbered_calls)
-
--- the call that an ECALL makes, and its operands
-abbrev pub named_call : Hart → Option Call
-named_call h = call_of (reg h 17)
 
 abbrev pub a0 : Hart → ℕ
 a0 h = reg h 10
@@ -142,32 +125,6 @@ move_checks (Some m) h = range (a0 h) (moved (a1 h) m) h ∷ []
 abbrev pub output_checks : Hart → List Check
 output_checks h = range (a0 h) (a1 h) h ∷ room_for_output (a1 h) h ∷ []
 
--- a call's checks, in their order
-abbrev pub checks : Call → List ℕ → Hart → List Check
-checks End input h = []
-checks Nprocs input h = []
-checks Pid input h = []
-checks Sync input h = []
--- push_reg(addr, size)
-checks PushReg input h = range (a0 h) (a1 h) h ∷ room_for_push h ∷ []
--- pop_reg(addr)
-checks PopReg input h = registered (a0 h) (next_list h.communication.registrations) ∷ []
-checks Put input h = put_checks h
-checks Get input h = get_checks h
-checks Hpput input h = put_checks h
-checks Hpget input h = get_checks h
--- set_tagsize(addr)
-checks SetTagsize input h = range (a0 h) 4 h ∷ tag_sized (word_at h.memory (a0 h)) ∷ []
-checks Send input h = send_checks h
--- qsize(packets, bytes)
-checks Qsize input h = range (a0 h) 4 h ∷ range (a1 h) 4 h ∷ []
-checks GetTag input h = get_tag_checks (first_message h) h
-checks Move input h = move_checks (first_message h) h
-checks Abort input h = output_checks h
-checks Write input h = output_checks h
--- read(addr, n)
-checks Read input h = range (a0 h) (taken input (a1 h) h) h ∷ []
-
 -- a call that answers a value in a0
 abbrev pub answers : ℕ → Hart → After
 answers value h = goes_on (advanced (with_reg 10 value h))
@@ -176,6 +133,16 @@ answers value h = goes_on (advanced (with_reg 10 value h))
 -- keeps out)
 abbrev pub place : List Area → ℕ → ℕ
 place areas addr = unwrap_or (last_position areas addr) 0
+
+-- the area of `size` bytes at `addr` is registered from the next superstep on
+abbrev pub push_effect : Hart → After
+push_effect h = goes_on (advanced (with_registrations (pushed h.communication.registrations (record { addr = a0 h; size = a1 h })) h))
+
+-- the last registration of `addr` in the next list goes
+abbrev pub pop_effect : Hart → After
+pop_effect h =
+    let r = h.communication.registrations in
+    goes_on (advanced (with_registrations (popped r (a0 h) (place (next_list r) (a0 h))) h))
 
 -- a call that makes a request, issued after those before it
 abbrev pub issues : Asked → Hart → After
@@ -255,28 +222,91 @@ abbrev pub read_effect : List ℕ → ℕ → Hart → After
 read_effect input k h =
     answers k (record h { memory = with_bytes h.memory (a0 h) (take k (drop h.cursor input)); cursor = h.cursor + k })
 
+-- a call: its number, its checks in their order, what it does where they all pass, and whether it may ask for memory: to note a push, a
+-- pop or a request; for the bytes that it copies, also where these are none; or for copies of the pages into which it stores some
+pub record CallRow : Type 0 where
+  pub number : ℕ
+  pub checks : List ℕ → Hart → List Check
+  pub effect : List ℕ → Hart → After
+  pub may_ask : List ℕ → Hart → Bool
+
+-- the row of a call that tests nothing and asks for nothing
+abbrev pub plain_row : ℕ → (Hart → After) → CallRow
+plain_row number effect = record { number = number; checks = λ input h. []; effect = λ input h. effect h; may_ask = λ input h. false }
+
+-- that of one that may ask for memory, whatever its operands are
+abbrev pub asking_row : ℕ → (Hart → List Check) → (Hart → After) → CallRow
+asking_row number checks effect =
+    record { number = number; checks = λ input h. checks h; effect = λ input h. effect h; may_ask = λ input h. true }
+
+abbrev pub row : Call → CallRow
+-- end()
+row End = plain_row 1 (λ h. record { hart = advanced h; state = Ended })
+-- nprocs()
+row Nprocs = plain_row 2 (λ h. answers h.nprocs h)
+-- pid()
+row Pid = plain_row 3 (λ h. answers h.rank h)
+-- sync()
+row Sync = plain_row 4 (λ h. record { hart = advanced h; state = Synced })
+-- push_reg(addr, size)
+row PushReg = asking_row 5 (λ h. range (a0 h) (a1 h) h ∷ room_for_push h ∷ []) push_effect
+-- pop_reg(addr)
+row PopReg = asking_row 6 (λ h. registered (a0 h) (next_list h.communication.registrations) ∷ []) pop_effect
+-- put(pid, src, dst, offset, n)
+row Put = asking_row 7 put_checks put_effect
+-- get(pid, src, offset, dst, n)
+row Get = asking_row 8 get_checks get_effect
+-- hpput(pid, src, dst, offset, n)
+row Hpput = asking_row 9 put_checks put_effect
+-- hpget(pid, src, offset, dst, n)
+row Hpget = asking_row 10 get_checks get_effect
+-- set_tagsize(addr)
+row SetTagsize = asking_row 11 (λ h. range (a0 h) 4 h ∷ tag_sized (word_at h.memory (a0 h)) ∷ []) set_tagsize_effect
+-- send(pid, tag, payload, n)
+row Send = asking_row 12 send_checks send_effect
+-- qsize(packets, bytes)
+row Qsize = asking_row 13 (λ h. range (a0 h) 4 h ∷ range (a1 h) 4 h ∷ []) qsize_effect
+-- get_tag(status, tag)
+row GetTag = asking_row 14 (λ h. get_tag_checks (first_message h) h) (λ h. get_tag_effect (first_message h) h)
+-- move(addr, n)
+row Move = record {
+  number = 15;
+  checks = λ input h. move_checks (first_message h) h;
+  effect = λ input h. move_effect (first_message h) h;
+  may_ask = λ input h. option_map_or (λ m. nat_lt 0 (moved (a1 h) m)) (first_message h) false;
+}
+-- abort(addr, n)
+row Abort = asking_row 16 output_checks (output_effect Aborted)
+-- write(addr, n)
+row Write = asking_row 17 output_checks (output_effect Running)
+-- read(addr, n)
+row Read = record {
+  number = 18;
+  checks = λ input h. range (a0 h) (taken input (a1 h) h) h ∷ [];
+  effect = λ input h. read_effect input (taken input (a1 h) h) h;
+  may_ask = λ input h. nat_lt 0 (taken input (a1 h) h);
+}
+
+-- all calls
+abbrev pub all_calls : List Call
+all_calls =
+    End ∷ Nprocs ∷ Pid ∷ Sync ∷ PushReg ∷ PopReg ∷ Put ∷ Get ∷ Hpput ∷ Hpget
+    ∷ SetTagsize ∷ Send ∷ Qsize ∷ GetTag ∷ Move ∷ Abort ∷ Write ∷ Read ∷ []
+
+-- the call of a number
+abbrev pub call_of : ℕ → Option Call
+call_of n = find (λ call. (row call).number == n) all_calls
+
+-- the call that an ECALL makes
+abbrev pub named_call : Hart → Option Call
+named_call h = call_of (reg h 17)
+
+abbrev pub checks : Call → List ℕ → Hart → List Check
+checks call = (row call).checks
+
 -- what a call does where its checks pass
 abbrev pub performed : Call → List ℕ → Hart → After
-performed End input h = record { hart = advanced h; state = Ended }
-performed Nprocs input h = answers h.nprocs h
-performed Pid input h = answers h.rank h
-performed Sync input h = record { hart = advanced h; state = Synced }
-performed PushReg input h = goes_on (advanced (with_registrations (pushed h.communication.registrations (record { addr = a0 h; size = a1 h })) h))
-performed PopReg input h =
-    let r = h.communication.registrations in
-    goes_on (advanced (with_registrations (popped r (a0 h) (place (next_list r) (a0 h))) h))
-performed Put input h = put_effect h
-performed Get input h = get_effect h
-performed Hpput input h = put_effect h
-performed Hpget input h = get_effect h
-performed SetTagsize input h = set_tagsize_effect h
-performed Send input h = send_effect h
-performed Qsize input h = qsize_effect h
-performed GetTag input h = get_tag_effect (first_message h) h
-performed Move input h = move_effect (first_message h) h
-performed Abort input h = output_effect Aborted h
-performed Write input h = output_effect Running h
-performed Read input h = read_effect input (taken input (a1 h) h) h
+performed call = (row call).effect
 
 -- the effect of a call
 abbrev pub call_effect : Call → List ℕ → Hart → After
@@ -287,31 +317,9 @@ abbrev pub ecall_effect : Option Call → List ℕ → Hart → After
 ecall_effect None input h = faults UnknownCall h
 ecall_effect (Some call) input h = call_effect call input h
 
--- a call that may ask for memory: to note a push, a pop or a request, for bytes that it copies, even if there are none, or for copies
--- of the pages into which it stores some
-abbrev pub takes_memory : Call → List ℕ → Hart → Bool
-takes_memory End input h = false
-takes_memory Nprocs input h = false
-takes_memory Pid input h = false
-takes_memory Sync input h = false
-takes_memory PushReg input h = true
-takes_memory PopReg input h = true
-takes_memory Put input h = true
-takes_memory Get input h = true
-takes_memory Hpput input h = true
-takes_memory Hpget input h = true
-takes_memory SetTagsize input h = true
-takes_memory Send input h = true
-takes_memory Qsize input h = true
-takes_memory GetTag input h = true
-takes_memory Move input h = option_map_or (λ m. nat_lt 0 (moved (a1 h) m)) (first_message h) false
-takes_memory Abort input h = true
-takes_memory Write input h = true
-takes_memory Read input h = nat_lt 0 (taken input (a1 h) h)
-
 -- a call that may be refused memory: it may ask for some, and has no fault
 pub record MayRefuseCall (call : Call) (input : List ℕ) (h : Hart) : Type 0 where
-  pub may_ask : takes_memory call input h ≡ true
+  pub may_ask : (row call).may_ask input h ≡ true
   pub no_fault : HaveNoFault (checks call input h)
 
 -- likewise an ECALL

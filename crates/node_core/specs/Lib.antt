@@ -1,9 +1,8 @@
 pub mod Addresses
-pub mod Arithmetic
 pub mod Calls
 pub mod Clock
 pub mod Communication
-pub mod Decoded
+pub mod DecodedSteps
 pub mod Effects
 pub mod Hart
 pub mod Inside

@@ -76,16 +76,11 @@
 //! `hpput` and `hpget` are `put` and `get`. Own rules for faults, ticks, output, input, limits and the numbers of the calls.
 #![tactic(auto)]
 
-mod arithmetic;
 mod call;
 mod clock;
-mod code_memory;
-mod code_pages;
-mod entry;
 mod hart;
 pub mod laws;
 mod node;
-mod operands;
 mod state;
 
 pub use call::Call;

@@ -10,9 +10,9 @@ ghost use Rattle.node_core.specs.Calls.{call_effect, with_word, MayRefuseCall};
 
 use super::Hart;
 use super::calls::{A0, A1, not_written};
-use crate::code_memory::CodeMemory;
 use crate::state::State;
 use bsp_requests::Inbox;
+use code_pages::CodeMemory;
 use node_memory::WriteError;
 use std::alloc::{AllocError, Allocator};
 

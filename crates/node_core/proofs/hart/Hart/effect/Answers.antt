@@ -1,6 +1,6 @@
 use Rattle.std.proofs.Common.{sym, ap, ◌∙◌, SFits, w32, rules, pos, ◌+ℤ◌}
 use Rattle.std.proofs.lemmas.Int.{to_z-of_z}
-use Rattle.node_core.specs.Arithmetic.{modulo}
+use Rattle.rv_values.specs.Arithmetic.{modulo}
 use Rattle.node_core.specs.Communication.{Communication}
 use Rattle.node_core.specs.Hart.{After, PreparedHart}
 use Rattle.node_core.proofs.Answered.{on_err}

@@ -3,7 +3,8 @@ use Rattle.std.specs.Prelude.{option_map}
 use Rattle.rv_tables.specs.Codes.{code_in, code_length}
 use Rattle.node_core.specs.Effects.{fetched}
 use Rattle.node_core.specs.Hart.{PreparedHart}
-use Rattle.node_core.proofs.Fetch.{code_at_word, instruction_at_pc-word}
+use Rattle.code_pages.proofs.Fetch.{code_at_word}
+use Rattle.node_core.proofs.Fetch.{instruction_at_pc-word}
 use Rattle.node_core.proofs.Refused.{may_refuse}
 use Rattle.node_core.proofs.hart.Hart.execute.Goals.{in-Some, in-None+in-Some-fetch}
 use Rattle.node_core.proofs.hart.Hart.execute.Goals as goal

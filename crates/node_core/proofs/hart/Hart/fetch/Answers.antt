@@ -1,7 +1,7 @@
 use Rattle.std.proofs.Common.{◌∙◌, ap}
 use Rattle.node_core.specs.Effects.{fetched}
 use Rattle.node_core.specs.Hart.{PreparedHart}
-use Rattle.node_core.proofs.Fetch.{code_at_word}
+use Rattle.code_pages.proofs.Fetch.{code_at_word}
 use Rattle.node_core.proofs.hart.Hart.fetch.Goals as goal
 
 pub returns-in-Some : goal.returns-in-Some

@@ -6,7 +6,7 @@ use Rattle.bsp_requests.specs.Request.{asks_put}
 use Rattle.node_memory.specs.Bytes.{fits, bytes_at}
 use Rattle.node_core.specs.Communication.{IsWellAddressed}
 use Rattle.node_core.specs.Inside.{hart_view}
-use Rattle.node_core.proofs.Bytes.{length-bytes_at}
+use Rattle.node_memory.proofs.Bytes.{length-bytes_at}
 use Rattle.node_core.proofs.Harts.{Keeps-requested}
 use Rattle.node_core.proofs.Ranks.{rank-fits}
 use Rattle.node_core.proofs.hart.Hart.issue_put.Goals as goal

@@ -4,7 +4,7 @@ use Rattle.bsp_requests.specs.Requests.{is_full_for}
 use Rattle.bsp_requests.specs.Request.{asks_send, size_of}
 use Rattle.node_memory.specs.Bytes.{fits, bytes_at}
 use Rattle.node_core.specs.Inside.{hart_view}
-use Rattle.node_core.proofs.Bytes.{length-bytes_at}
+use Rattle.node_memory.proofs.Bytes.{length-bytes_at}
 use Rattle.node_core.proofs.Harts.{Keeps-requested}
 use Rattle.node_core.proofs.Ranks.{rank-fits}
 use Rattle.node_core.proofs.hart.Hart.issue_send.Goals as goal

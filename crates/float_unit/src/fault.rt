@@ -1,0 +1,11 @@
+//! Why an instruction is not carried out.
+
+/// Why an instruction of floating point is not carried out. Nothing has changed then.
+#[derive(Clone, Copy, Debug, PartialEq, Eq)]
+pub enum FloatFault {
+    /// It asks for the rounding mode in `frm`, and there is none.
+    IllegalInstruction,
+    /// Its result goes into a register of floating point and may have to be rounded, whatever the operands are, and the mode is another
+    /// than to the nearest, ties to even.
+    UnsupportedRounding,
+}

@@ -1,0 +1,28 @@
+//! The unit of floating point: its registers and fcsr, and what each instruction of F, D and Zicsr does to them.
+//!
+//! A [`FloatUnit`] is the patterns of f0 to f31, the dynamic rounding mode and the accrued exceptions. Contracts see it as a record of
+//! these. [`FloatUnit::apply`] carries an instruction out; what of an instruction is not the unit's, the integer registers and memory,
+//! comes in and goes out as values.
+//!
+//! What callers may rely on:
+//!
+//! - An effect is one function of the unit's record, with one clause for each form of instruction (`specs/Effects.antt`). What operations
+//!   give and raise is what `rv_floats` and `rv_float_flags` say.
+//! - Singles stand in a register in a box of ones. One that does not is the canonical NaN to each operation, but not to moves and stores.
+//! - Flags are sticky, and only a write of a CSR clears them.
+//! - What goes into a register of floating point, and may have to be rounded, is rounded to the nearest, ties to even; with each other
+//!   mode the instruction is refused as [`FloatFault::UnsupportedRounding`], whatever its operands are. Conversions to words have all five
+//!   modes, and one that is always exact takes any. Where the mode in `frm` is asked for and is none, an
+//!   instruction is illegal. Whatever is refused changes nothing.
+//!
+//! Source: The RISC-V Instruction Set Manual, Volume I: Unprivileged ISA, 20191213, chapters 9, 11 and 12.
+#![tactic(auto)]
+
+mod double;
+mod effect;
+mod fault;
+mod single;
+mod unit;
+
+pub use fault::FloatFault;
+pub use unit::FloatUnit;

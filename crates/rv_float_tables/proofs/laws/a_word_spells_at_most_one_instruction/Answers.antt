@@ -1,0 +1,5 @@
+use Rattle.rv_float_tables.proofs.Spelling.{same_from_Spells}
+use Rattle.rv_float_tables.proofs.laws.a_word_spells_at_most_one_instruction.Goals as goal
+
+pub returns : goal.returns
+returns c = same_from_Spells

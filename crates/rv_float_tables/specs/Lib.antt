@@ -1,0 +1,9 @@
+pub mod Codes
+pub mod Compressed
+pub mod Fields
+pub mod Halfwords
+pub mod Mnemonics
+pub mod Operands
+pub mod Registers
+pub mod Rows
+pub mod Words

@@ -1,0 +1,99 @@
+//! The instruction that a halfword expands to.
+
+ghost use Rattle.std.specs.Prelude.{◌≡◌, IfSome};
+ghost use Rattle.rv_tables.specs.Halfwords as Halfwords;
+ghost use Rattle.rv_float_tables.specs.Compressed.{expansion_of};
+ghost use Rattle.rv_float_tables.specs.Operands.{IsEncodable};
+
+use crate::halfword;
+use crate::instr::{FloatInstr, Format};
+
+/// The instruction of floating point that a halfword expands to, or none where it meets no row of these.
+///
+/// By matches on the quadrant and on funct3.
+#[tactic(auto, using(crate::proofs::CompressedRows::no_quadrant))]
+pub fn decode16(half: u16) -> Option<FloatInstr>
+    ensures value { result ≡ expansion_of half }
+    ensures encodable { IfSome result IsEncodable }
+{
+    let half = u32::from(half);
+    match halfword::quadrant(half) {
+        0 => quadrant_0(half),
+        2 => quadrant_2(half),
+        _ => None,
+    }
+}
+
+/// The rows through one of x8 to x15.
+#[tactic(auto, using(crate::proofs::CompressedRows::quadrant_0))]
+fn quadrant_0(half: u32) -> Option<FloatInstr>
+    requires { Halfwords.quadrant half ≡ 0 }
+    ensures { result ≡ expansion_of half }
+{
+    match halfword::funct3(half) {
+        1 => Some(load(half, Format::Double, halfword::double_offset(half))),
+        3 => Some(load(half, Format::Single, halfword::single_offset(half))),
+        5 => Some(store(half, Format::Double, halfword::double_offset(half))),
+        7 => Some(store(half, Format::Single, halfword::single_offset(half))),
+        _ => None,
+    }
+}
+
+/// The rows through the stack pointer.
+#[tactic(auto, using(crate::proofs::CompressedRows::quadrant_2))]
+fn quadrant_2(half: u32) -> Option<FloatInstr>
+    requires { Halfwords.quadrant half ≡ 2 }
+    ensures { result ≡ expansion_of half }
+{
+    match halfword::funct3(half) {
+        1 => Some(load_sp(half, Format::Double, halfword::fldsp_offset(half))),
+        3 => Some(load_sp(half, Format::Single, halfword::flwsp_offset(half))),
+        5 => Some(store_sp(half, Format::Double, halfword::fsdsp_offset(half))),
+        7 => Some(store_sp(half, Format::Single, halfword::fswsp_offset(half))),
+        _ => None,
+    }
+}
+
+fn load(half: u32, format: Format, imm: i32) -> FloatInstr
+    ensures { result ≡ FloatInstr.Load format (Halfwords.rs2_prime half) (Halfwords.rs1_prime half) imm }
+{
+    FloatInstr::Load {
+        format,
+        rd: halfword::rs2_prime(half),
+        rs1: halfword::rs1_prime(half),
+        imm,
+    }
+}
+
+fn store(half: u32, format: Format, imm: i32) -> FloatInstr
+    ensures { result ≡ FloatInstr.Store format (Halfwords.rs1_prime half) (Halfwords.rs2_prime half) imm }
+{
+    FloatInstr::Store {
+        format,
+        rs1: halfword::rs1_prime(half),
+        rs2: halfword::rs2_prime(half),
+        imm,
+    }
+}
+
+fn load_sp(half: u32, format: Format, imm: i32) -> FloatInstr
+    ensures { result ≡ FloatInstr.Load format (Halfwords.rd half) 2 imm }
+{
+    FloatInstr::Load {
+        format,
+        rd: halfword::rd(half),
+        rs1: 2,
+        imm,
+    }
+}
+
+fn store_sp(half: u32, format: Format, imm: i32) -> FloatInstr
+    ensures { result ≡ FloatInstr.Store format 2 (Halfwords.rs2 half) imm }
+{
+    FloatInstr::Store {
+        format,
+        rs1: 2,
+        rs2: halfword::rs2(half),
+        imm,
+    }
+}

@@ -1,0 +1,170 @@
+//! The bit fields of a word, as the manual cuts them.
+
+ghost use Rattle.std.specs.Prelude.{◌≡◌, ◌+◌, ◌^◌, ◌<◌, ◌≤◌};
+ghost use Rattle.rv_tables.specs.Fields as Fields;
+ghost use Rattle.rv_float_tables.specs.Fields.{funct5, fmt, rm, csr, uimm, rs3, format_of, format_code, rounding_of, rounding_code, csr_of, csr_number};
+
+use crate::instr::{FloatCsr, Format, RoundingField};
+
+/// The bits of a word from `high` down to `low`, as a number.
+#[inline]
+pub fn bits(word: u32, high: u32, low: u32) -> u32
+    requires ordered { low ≤ high }
+    requires narrow { high < low + 31 }
+    requires within { high < 32 }
+    ensures { result ≡ Fields.bits word high low }
+{
+    let width = high - low + 1;
+    word >> low & ((1 << width) - 1)
+}
+
+#[inline]
+pub fn opcode(word: u32) -> u32
+    ensures { result ≡ Fields.opcode word }
+{
+    word & 0x7F
+}
+
+#[inline]
+pub fn funct3(word: u32) -> u32
+    ensures { result ≡ Fields.funct3 word }
+{
+    bits(word, 14, 12)
+}
+
+#[inline]
+pub fn funct5(word: u32) -> u32
+    ensures { result ≡ funct5 word }
+{
+    bits(word, 31, 27)
+}
+
+#[inline]
+pub fn rd(word: u32) -> u8
+    ensures { result ≡ Fields.rd word }
+{
+    bits(word, 11, 7) as u8
+}
+
+#[inline]
+pub fn rs1(word: u32) -> u8
+    ensures { result ≡ Fields.rs1 word }
+{
+    bits(word, 19, 15) as u8
+}
+
+#[inline]
+pub fn rs2(word: u32) -> u8
+    ensures { result ≡ Fields.rs2 word }
+{
+    bits(word, 24, 20) as u8
+}
+
+#[inline]
+pub fn rs3(word: u32) -> u8
+    ensures { result ≡ rs3 word }
+{
+    bits(word, 31, 27) as u8
+}
+
+#[inline]
+pub fn uimm(word: u32) -> u8
+    ensures { result ≡ uimm word }
+{
+    bits(word, 19, 15) as u8
+}
+
+// The sign of each immediate is bit 31 of its word: an arithmetic shift to the right fills the bits above with it.
+
+#[inline]
+pub fn i_immediate(word: u32) -> i32
+    ensures { result ≡ Fields.i_immediate word }
+{
+    word.cast_signed() >> 20
+}
+
+#[inline]
+pub fn s_immediate(word: u32) -> i32
+    ensures { result ≡ Fields.s_immediate word }
+{
+    (word.cast_signed() >> 25) * 0x20 + bits(word, 11, 7) as i32
+}
+
+/// The format of an operation, or none where it is one that neither F nor D has.
+#[inline]
+pub fn format(word: u32) -> Option<Format>
+    ensures { result ≡ format_of (fmt word) }
+{
+    match bits(word, 26, 25) {
+        0 => Some(Format::Single),
+        1 => Some(Format::Double),
+        _ => None,
+    }
+}
+
+/// The rounding mode of an operation, or none where it is reserved.
+#[inline]
+pub fn rounding(word: u32) -> Option<RoundingField>
+    ensures { result ≡ rounding_of (rm word) }
+{
+    match bits(word, 14, 12) {
+        0 => Some(RoundingField::Rne),
+        1 => Some(RoundingField::Rtz),
+        2 => Some(RoundingField::Rdn),
+        3 => Some(RoundingField::Rup),
+        4 => Some(RoundingField::Rmm),
+        7 => Some(RoundingField::Dyn),
+        _ => None,
+    }
+}
+
+/// The control and status register that a word names, or none where it is not one of floating point.
+#[inline]
+pub fn csr(word: u32) -> Option<FloatCsr>
+    ensures { result ≡ csr_of (csr word) }
+{
+    match bits(word, 31, 20) {
+        1 => Some(FloatCsr::Fflags),
+        2 => Some(FloatCsr::Frm),
+        3 => Some(FloatCsr::Fcsr),
+        _ => None,
+    }
+}
+
+/// The code of a format.
+#[inline]
+pub fn format_code(format: Format) -> u32
+    ensures { result ≡ format_code format }
+{
+    match format {
+        Format::Single => 0,
+        Format::Double => 1,
+    }
+}
+
+/// The code of a rounding mode.
+#[inline]
+pub fn rounding_code(rounding: RoundingField) -> u32
+    ensures { result ≡ rounding_code rounding }
+{
+    match rounding {
+        RoundingField::Rne => 0,
+        RoundingField::Rtz => 1,
+        RoundingField::Rdn => 2,
+        RoundingField::Rup => 3,
+        RoundingField::Rmm => 4,
+        RoundingField::Dyn => 7,
+    }
+}
+
+/// The number of a control and status register.
+#[inline]
+pub fn csr_number(csr: FloatCsr) -> u8
+    ensures { result ≡ csr_number csr }
+{
+    match csr {
+        FloatCsr::Fflags => 1,
+        FloatCsr::Frm => 2,
+        FloatCsr::Fcsr => 3,
+    }
+}

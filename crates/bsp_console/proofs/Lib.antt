@@ -4,3 +4,4 @@ pub mod Errors
 pub mod Manners
 pub mod Scripts
 pub mod Talking
+pub mod Theres

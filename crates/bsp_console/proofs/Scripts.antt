@@ -9,7 +9,7 @@ use Rattle.counted_io.specs.Counted.{HasRisen}
 use Rattle.counted_io.specs.Lines.{LacksFeed}
 use Rattle.bsp_debug.specs.Debugger.{DebuggerState}
 use Rattle.debug_lines.specs.declared.line.Line.{Line}
-use Rattle.debug_lines.specs.declared.line.Line.TheVariants.{Break, Clear, Command, Output, Keep, Back, Forget, Kept, Nodes, Place, Places, OutputFrom, CostsFrom, Quit, Empty, Unknown}
+use Rattle.debug_lines.specs.declared.line.Line.TheVariants.{Break, Clear, Command, Output, Keep, Back, Forget, Kept, Points, Shown, Areas, Requests, StepNext, Over, Nodes, Place, Places, OutputFrom, CostsFrom, Help, HelpOn, Quit, Empty, Unknown, Misused, NoLine}
 use Rattle.debug_lines.specs.Lines.{line_of}
 use Rattle.debug_lines.specs.Words.{has_bytes}
 use Rattle.bsp_console.specs.Talk.{LacksQuit, Says, Talks, given_lines, is_quit, lines_of, goes_on, until_quit}
@@ -85,6 +85,16 @@ is_quit-other Kept other = refl
 is_quit-other Nodes other = refl
 is_quit-other (Place rank) other = refl
 is_quit-other Places other = refl
+is_quit-other Points other = refl
+is_quit-other (Shown form rank addr count) other = refl
+is_quit-other (Areas rank) other = refl
+is_quit-other (Requests rank) other = refl
+is_quit-other StepNext other = refl
+is_quit-other (Over rank) other = refl
+is_quit-other Help other = refl
+is_quit-other (HelpOn topic) other = refl
+is_quit-other (Misused topic) other = refl
+is_quit-other NoLine other = refl
 is_quit-other (OutputFrom from) other = refl
 is_quit-other (CostsFrom from) other = refl
 is_quit-other Empty other = refl
@@ -116,6 +126,16 @@ is_quit-true Kept is = absurd cc
 is_quit-true Nodes is = absurd cc
 is_quit-true (Place rank) is = absurd cc
 is_quit-true Places is = absurd cc
+is_quit-true Points is = absurd cc
+is_quit-true (Shown form rank addr count) is = absurd cc
+is_quit-true (Areas rank) is = absurd cc
+is_quit-true (Requests rank) is = absurd cc
+is_quit-true StepNext is = absurd cc
+is_quit-true (Over rank) is = absurd cc
+is_quit-true Help is = absurd cc
+is_quit-true (HelpOn topic) is = absurd cc
+is_quit-true (Misused topic) is = absurd cc
+is_quit-true NoLine is = absurd cc
 is_quit-true (OutputFrom from) is = absurd cc
 is_quit-true (CostsFrom from) is = absurd cc
 is_quit-true Empty is = absurd cc

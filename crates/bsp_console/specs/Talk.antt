@@ -3,10 +3,12 @@ use Rattle.std.specs.Prelude.{◌≡◌, ℕ, ◌+◌, ◌-◌, ◌==◌, Bool, 
 use Rattle.std.specs.List.{slice_split, take_while, filter, flat_map, enumerate_from, Any}
 use Rattle.std.specs.Option.{option_map_or}
 use Rattle.cost_ledger.specs.declared.LedgerText.{LedgerText}
+use Rattle.node_memory.specs.Bytes.{bytes_at}
 use Rattle.node_core.specs.Node.{NodeState}
 use Rattle.machine_core.specs.Events.{after}
 use Rattle.machine_core.specs.Machine.{MachineState}
 use Rattle.bsp_debug.specs.declared.command.Command.{Command as Asked}
+use Rattle.bsp_debug.specs.declared.command.Command.TheVariants.{Step}
 use Rattle.bsp_debug.specs.declared.error.DebugError.{DebugError}
 use Rattle.bsp_debug.specs.declared.error.DebugError.TheVariants.{BadRange, BadRank}
 use Rattle.bsp_debug.specs.declared.point.Point.{Point}
@@ -15,13 +17,17 @@ use Rattle.bsp_debug.specs.Kept.{kept_fault, keeping, back_at, without}
 use Rattle.bsp_debug.specs.Made.{events_of}
 use Rattle.bsp_debug.specs.Points.{is_set, HasAlso, HasNoMore}
 use Rattle.bsp_debug.specs.Reply.{Answer}
+use Rattle.bsp_debug.specs.Returns.{next_rank, over}
 use Rattle.debug_lines.specs.declared.line.Line.{Line}
-use Rattle.debug_lines.specs.declared.line.Line.TheVariants.{Break, Clear, Command, Output, Keep, Back, Forget, Kept, Nodes, Place, Places, OutputFrom, CostsFrom, Quit, Empty, Unknown}
-use Rattle.debug_lines.specs.declared.verdict.Verdict.TheVariants.{Done, Kept as KeptAs, Refused, BadCommand}
+use Rattle.debug_lines.specs.declared.line.Line.TheVariants.{Break, Clear, Command, Output, Keep, Back, Forget, Kept, Points, Shown, Areas, Requests, StepNext, Over, Nodes, Place, Places, OutputFrom, CostsFrom, Help, HelpOn, Quit, Empty, Unknown, Misused, NoLine}
+use Rattle.debug_lines.specs.declared.verdict.Verdict.TheVariants.{Done, Kept as KeptAs, Refused, BadCommand, Misused as MisusedAs, NoLine as NoLineAs}
+use Rattle.debug_lines.specs.declared.form.Form.{Form}
 use Rattle.debug_lines.specs.Framed.{cost_lines_from, framed_text, place_text, setup_text}
 use Rattle.debug_lines.specs.Kept.{kept_text}
 use Rattle.debug_lines.specs.Lines.{line_of, dialogue_line_of, framed_line_of}
 use Rattle.debug_lines.specs.Replies.{reply_text}
+use Rattle.debug_lines.specs.Shown.{area_lines, point_lines, request_lines, shown_len, shown_text}
+use Rattle.debug_lines.specs.Topics.{help_line, help_lines}
 use Rattle.debug_lines.specs.Verdicts.{verdict_text}
 use Rattle.debug_lines.specs.Words.{has_bytes}
 use Rattle.bsp_session.specs.declared.job.Job.{Job}
@@ -59,6 +65,17 @@ place_line m n = place_text n.hart.rank n.hart.pc m.exchanges n.state
 abbrev pub place_or_refusal : MachineState → (rank : ℕ) → List ℕ
 place_or_refusal m rank = option_map_or (place_line m) (slice_get m.nodes rank) (verdict_text (Refused BadRank))
 
+-- a debugger that did what a command says, and the text of its reply, behind which stands where the node of a rank is then
+pub record RepliesThere (version : LedgerText) (g l rank : ℕ) (c : Asked) (old new : DebuggerState) (text : List ℕ) : Type 0 where
+  pub reply : List ℕ
+  pub does : Replies version g l c old new reply
+  pub told : text ≡ reply ++ place_or_refusal new.machine rank
+
+-- and where the command may be refused
+abbrev pub DoesThere : Job → (rank : ℕ) → Asked → (old : DebuggerState) → (text : List ℕ) → (new : DebuggerState) → Type 0
+DoesThere job rank c old text new =
+    DoesOrRefuses (command_fault old.machine c) (RepliesThere job.ledger job.g job.l rank c old new text) (record old { last = [] }) new text
+
 -- what was written, from the byte of a number on, and a line feed, if there are so many bytes
 abbrev pub output_or_refusal : MachineState → (from : ℕ) → List ℕ
 output_or_refusal m from = if nat_lt (length m.output) from then verdict_text (Refused BadRange) else (drop from m.output ++ codes "\n")
@@ -76,6 +93,32 @@ kept_line at = option_map_or (λ (m : MachineState). kept_text at.0 m.exchanges 
 abbrev pub kept_lines : List (Option MachineState) → List ℕ
 kept_lines kept = flat_map kept_line (enumerate_from 0 kept)
 
+-- memory of a node from an address on, in a form that shows so many words, characters or codes, or as many as there are up to the
+-- memory's end; if the address lies in it
+abbrev pub memory_or_refusal : (form : Form) → (addr count : ℕ) → (memory : List ℕ) → List ℕ
+memory_or_refusal form addr count memory =
+    if nat_lt addr (length memory) then shown_text form addr count (bytes_at memory addr (shown_len form count (length memory - addr)))
+    else verdict_text (Refused BadRange)
+
+-- what is told of the node of a rank, if there is one
+abbrev pub of_node_or_refusal : (NodeState → List ℕ) → MachineState → (rank : ℕ) → List ℕ
+of_node_or_refusal told m rank = option_map_or told (slice_get m.nodes rank) (verdict_text (Refused BadRank))
+
+abbrev pub shown_or_refusal : MachineState → Form → (rank addr count : ℕ) → List ℕ
+shown_or_refusal m form rank addr count =
+    of_node_or_refusal (λ (n : NodeState). memory_or_refusal form addr count n.hart.memory) m rank
+
+-- whether there is a node of the rank whose memory has the address
+abbrev pub has_address : MachineState → (rank addr : ℕ) → Bool
+has_address m rank addr = option_map_or (λ (n : NodeState). nat_lt addr (length n.hart.memory)) (slice_get m.nodes rank) false
+
+-- the areas that are in effect
+abbrev pub areas_or_refusal : MachineState → (rank : ℕ) → List ℕ
+areas_or_refusal m rank = of_node_or_refusal (λ (n : NodeState). area_lines n.hart.communication.registrations.in_effect) m rank
+
+abbrev pub requests_or_refusal : MachineState → (rank : ℕ) → List ℕ
+requests_or_refusal m rank = of_node_or_refusal (λ (n : NodeState). request_lines n.hart.communication.requests.requests) m rank
+
 -- what a line is answered: a text, and the debugger after it. A command that is refused has made no event
 abbrev pub Answered : Job → Line → (old : DebuggerState) → (text : List ℕ) → (new : DebuggerState) → Type 0
 Answered job (Break p) old text new =
@@ -91,14 +134,24 @@ Answered job (Back number) old text new =
 Answered job (Forget number) old text new =
     DoesOrRefuses (kept_fault old.kept number) ((new ≡ without number old) × (text ≡ verdict_text Done)) old new text
 Answered job Kept old text new = (new ≡ old) × (text ≡ kept_lines old.kept)
+Answered job Points old text new = (new ≡ old) × (text ≡ point_lines old.points)
+Answered job (Shown form rank addr count) old text new = (new ≡ old) × (text ≡ shown_or_refusal old.machine form rank addr count)
+Answered job (Areas rank) old text new = (new ≡ old) × (text ≡ areas_or_refusal old.machine rank)
+Answered job (Requests rank) old text new = (new ≡ old) × (text ≡ requests_or_refusal old.machine rank)
+Answered job StepNext old text new = DoesThere job (next_rank old.machine) (Step (next_rank old.machine) 1) old text new
+Answered job (Over rank) old text new = DoesThere job rank (over old.machine rank) old text new
 Answered job Nodes old text new = (new ≡ old) × (text ≡ setup_text old.machine.settings job.ledger job.g job.l)
 Answered job (Place rank) old text new = (new ≡ old) × (text ≡ place_or_refusal old.machine rank)
 Answered job Places old text new = (new ≡ old) × (text ≡ flat_map (place_line old.machine) old.machine.nodes)
 Answered job (OutputFrom from) old text new = (new ≡ old) × (text ≡ output_or_refusal old.machine from)
 Answered job (CostsFrom from) old text new = (new ≡ old) × (text ≡ costs_or_refusal job old.machine from)
+Answered job Help old text new = (new ≡ old) × (text ≡ help_lines)
+Answered job (HelpOn topic) old text new = (new ≡ old) × (text ≡ help_line topic)
 Answered job Quit old text new = (new ≡ old) × (text ≡ [])
 Answered job Empty old text new = (new ≡ old) × (text ≡ [])
 Answered job Unknown old text new = (new ≡ old) × (text ≡ verdict_text BadCommand)
+Answered job (Misused topic) old text new = (new ≡ old) × (text ≡ verdict_text (MisusedAs topic))
+Answered job NoLine old text new = (new ≡ old) × (text ≡ verdict_text NoLineAs)
 
 -- a line is refused
 abbrev pub is_refused : Line → DebuggerState → Bool
@@ -110,14 +163,24 @@ is_refused Keep d = false
 is_refused (Back number) d = is_some (kept_fault d.kept number)
 is_refused (Forget number) d = is_some (kept_fault d.kept number)
 is_refused Kept d = false
+is_refused Points d = false
+is_refused (Shown form rank addr count) d = not (has_address d.machine rank addr)
+is_refused (Areas rank) d = not (has_rank d.machine rank)
+is_refused (Requests rank) d = not (has_rank d.machine rank)
+is_refused StepNext d = is_some (command_fault d.machine (Step (next_rank d.machine) 1))
+is_refused (Over rank) d = is_some (command_fault d.machine (over d.machine rank))
 is_refused Nodes d = false
 is_refused (Place rank) d = not (has_rank d.machine rank)
 is_refused Places d = false
 is_refused (OutputFrom from) d = nat_lt (length d.machine.output) from
 is_refused (CostsFrom from) d = nat_lt (length d.machine.ledger) from
+is_refused Help d = false
+is_refused (HelpOn topic) d = false
 is_refused Quit d = false
 is_refused Empty d = false
 is_refused Unknown d = true
+is_refused (Misused topic) d = true
+is_refused NoLine d = true
 
 -- what a line is answered in a framed session: its reply behind a header
 abbrev pub AnsweredFramed : Job → Line → (old : DebuggerState) → (text : List ℕ) → (new : DebuggerState) → Type 0

@@ -5,21 +5,27 @@ ghost use Rattle.std.specs.Io.KnownBytes.{Appends};
 ghost use Rattle.std.specs.List.{flat_map};
 ghost use Rattle.node_core.specs.Node.{PreparedNode};
 ghost use Rattle.bsp_debug.specs.Debugger.{add_fault, has_rank, remove_fault, command_fault};
+ghost use Rattle.bsp_debug.specs.declared.command.Command.TheVariants.{Step as step_command};
+ghost use Rattle.bsp_debug.specs.Returns.{next_rank, over};
 ghost use Rattle.bsp_debug.specs.Kept.{kept_fault, keeping, back_at, without};
 ghost use Rattle.debug_lines.specs.declared.verdict.Verdict.TheVariants.{Done as done_verdict, Kept as kept_verdict, Refused as refused_verdict};
 ghost use Rattle.debug_lines.specs.Framed.{setup_text};
+ghost use Rattle.debug_lines.specs.Shown.{point_lines as point_lines_of};
+ghost use Rattle.debug_lines.specs.Topics.{help_line, help_lines as help_lines_of};
 ghost use Rattle.debug_lines.specs.Verdicts.{verdict_text};
 ghost use Rattle.counted_io.specs.Counted.{HasRisen};
 ghost use Rattle.counted_io.specs.Transfers.{AppendsPrefix};
 ghost use Rattle.bsp_console.specs.Dialogue.{AnsweredIn};
-ghost use Rattle.bsp_console.specs.Talk.{Answered, DoesOrRefuses, HasPoint, LacksPoint, Replies, is_quit as is_quit_line, costs_or_refusal, is_refused, kept_line, kept_lines, output_or_refusal, place_line, place_or_refusal};
+ghost use Rattle.bsp_console.specs.Talk.{Answered, DoesOrRefuses, DoesThere, HasPoint, LacksPoint, Replies, is_quit as is_quit_line, costs_or_refusal, is_refused, kept_line, kept_lines, output_or_refusal, place_line, place_or_refusal};
+ghost use Rattle.bsp_console.specs.Talk.{areas_or_refusal, has_address, requests_or_refusal, shown_or_refusal};
 
 use crate::manner::Manner;
 use bsp_debug::{Command, DebugError, Debugger, Point};
 use bsp_session::{Job, SessionError};
 use counted_io::{Counted, write_whole};
 use debug_lines::{
-    Line, Verdict, add_kept, add_place, costs_from, framed_text, reply_text, setup_line,
+    Form, Line, Topic, Verdict, add_help, add_kept, add_place, area_lines, costs_from, framed_text,
+    help_lines, point_lines, reply_text, request_lines, setup_line, shown_len, shown_text,
 };
 use machine_core::Machine;
 use node_core::Node;
@@ -103,12 +109,27 @@ fn answer_line<A: Allocator + Copy>(
         Line::Back(number) => go_back(alloc, debugger, number),
         Line::Forget(number) => forget_state(alloc, debugger, number),
         Line::Kept => kept_states(alloc, debugger.kept()),
+        Line::Points => points_set(alloc, debugger),
+        Line::Shown {
+            form,
+            rank,
+            addr,
+            count,
+        } => memory_shown(alloc, debugger.machine(), form, rank, addr, count),
+        Line::Areas(rank) => areas_of(alloc, debugger.machine(), rank),
+        Line::Requests(rank) => requests_of(alloc, debugger.machine(), rank),
+        Line::StepNext => step_next(alloc, debugger, job),
+        Line::Over(rank) => step_over(alloc, debugger, rank, job),
         Line::Nodes => nodes_line(alloc, debugger.machine(), job),
         Line::Place(rank) => place_of(alloc, debugger.machine(), rank),
         Line::Places => places(alloc, debugger.machine()),
         Line::OutputFrom(from) => output_from(alloc, debugger.machine(), from),
         Line::CostsFrom(from) => rows_from(alloc, debugger.machine(), from, job),
+        Line::Help => all_help(alloc),
+        Line::HelpOn(topic) => help_on(alloc, topic),
         Line::Unknown => refusal(alloc, Verdict::BadCommand),
+        Line::Misused(topic) => refusal(alloc, Verdict::Misused(topic)),
+        Line::NoLine => refusal(alloc, Verdict::NoLine),
         Line::Empty | Line::Quit => Ok(done(Vec::new(alloc))),
     }
 }
@@ -287,6 +308,91 @@ fn nodes_line<A: Allocator>(
     Ok(done(text.into_bytes()))
 }
 
+/// The points that are set.
+fn points_set<A: Allocator + Copy>(
+    alloc: A,
+    debugger: &Debugger<A>,
+) -> Result<Answer<A>, AllocError>
+    ensures { IfOk result (λ a. (a.text.items ≡ point_lines_of debugger.now.points) × (a.refused ≡ false)) }
+{
+    let points = debugger.points()?;
+    let text = point_lines(alloc, points.as_slice())?;
+    Ok(done(text.into_bytes()))
+}
+
+/// The memory of the node of a rank in a form, if there is such a node, and its memory has the address.
+fn memory_shown<A: Allocator + Copy>(
+    alloc: A,
+    machine: &Machine<A>,
+    form: Form,
+    rank: u32,
+    addr: u32,
+    count: u32,
+) -> Result<Answer<A>, AllocError>
+    ensures { IfOk result (λ a. (a.text.items ≡ shown_or_refusal machine.now form rank addr count)
+        × (a.refused ≡ not (has_address machine.now rank addr))) }
+{
+    let Some(node) = machine.node(rank) else {
+        return refusal(alloc, Verdict::Refused(DebugError::BadRank));
+    };
+    let memory = node.memory();
+    if addr >= memory.size() {
+        return refusal(alloc, Verdict::Refused(DebugError::BadRange));
+    }
+    let len = shown_len(form, count, memory.size() - addr);
+    let mut bytes = Vec::new(alloc);
+    memory.append_range(addr, len, &mut bytes)?;
+    let text = shown_text(alloc, form, addr, count, bytes)?;
+    Ok(done(text.into_bytes()))
+}
+
+/// The areas that the node of a rank has registered, if there is one.
+fn areas_of<A: Allocator + Copy>(
+    alloc: A,
+    machine: &Machine<A>,
+    rank: u32,
+) -> Result<Answer<A>, AllocError>
+    ensures { IfOk result (λ a. (a.text.items ≡ areas_or_refusal machine.now rank)
+        × (a.refused ≡ not (has_rank machine.now rank))) }
+{
+    match machine.node(rank) {
+        Some(node) => Ok(done(area_lines(alloc, node.slots())?.into_bytes())),
+        None => refusal(alloc, Verdict::Refused(DebugError::BadRank)),
+    }
+}
+
+/// What the node of a rank has asked for in this superstep, if there is one.
+fn requests_of<A: Allocator + Copy>(
+    alloc: A,
+    machine: &Machine<A>,
+    rank: u32,
+) -> Result<Answer<A>, AllocError>
+    ensures { IfOk result (λ a. (a.text.items ≡ requests_or_refusal machine.now rank)
+        × (a.refused ≡ not (has_rank machine.now rank))) }
+{
+    match machine.node(rank) {
+        Some(node) => Ok(done(request_lines(alloc, node.requests())?.into_bytes())),
+        None => refusal(alloc, Verdict::Refused(DebugError::BadRank)),
+    }
+}
+
+/// What is told of all lines.
+fn all_help<A: Allocator>(alloc: A) -> Result<Answer<A>, AllocError>
+    ensures { IfOk result (λ a. (a.text.items ≡ help_lines_of) × (a.refused ≡ false)) }
+{
+    let text = help_lines(alloc)?;
+    Ok(done(text.into_bytes()))
+}
+
+/// What is told of the lines with one first word.
+fn help_on<A: Allocator>(alloc: A, topic: Topic) -> Result<Answer<A>, AllocError>
+    ensures { IfOk result (λ a. (a.text.items ≡ help_line topic) × (a.refused ≡ false)) }
+{
+    let mut text = String::new(alloc);
+    add_help(&mut text, topic)?;
+    Ok(done(text.into_bytes()))
+}
+
 /// Where the node of a rank is, if there is one.
 fn place_of<A: Allocator>(
     alloc: A,
@@ -416,4 +522,57 @@ fn answer_command<A: Allocator + Copy>(
         }
         Err(error) => verdict_of(alloc, Err(error)),
     }
+}
+
+/// Makes the next step of all, and tells where that rank is then.
+fn step_next<A: Allocator + Copy>(
+    alloc: A,
+    debugger: &mut Debugger<A>,
+    job: &Job,
+) -> Result<Answer<A>, AllocError>
+    ensures told { IfOk result (λ a. DoesThere job.now (next_rank debugger.old.machine)
+        (step_command (next_rank debugger.old.machine) 1) debugger.old a.text.items debugger.new) }
+    ensures refused { IfOk result (λ a. a.refused
+        ≡ is_some (command_fault debugger.old.machine (step_command (next_rank debugger.old.machine) 1))) }
+{
+    let rank = debugger.next_rank();
+    do_there(alloc, debugger, rank, Command::Step { rank, count: 1 }, job)
+}
+
+/// Steps over the instruction at which the node of a rank stands, and tells where that is then.
+fn step_over<A: Allocator + Copy>(
+    alloc: A,
+    debugger: &mut Debugger<A>,
+    rank: u32,
+    job: &Job,
+) -> Result<Answer<A>, AllocError>
+    ensures told { IfOk result (λ a.
+        DoesThere job.now rank (over debugger.old.machine rank) debugger.old a.text.items debugger.new) }
+    ensures refused { IfOk result (λ a. a.refused
+        ≡ is_some (command_fault debugger.old.machine (over debugger.old.machine rank))) }
+{
+    let command = debugger.over(rank);
+    do_there(alloc, debugger, rank, command, job)
+}
+
+/// Does what a command says, and tells where the node of a rank is then.
+fn do_there<A: Allocator + Copy>(
+    alloc: A,
+    debugger: &mut Debugger<A>,
+    rank: u32,
+    command: Command,
+    job: &Job,
+) -> Result<Answer<A>, AllocError>
+    ensures told { IfOk result (λ a.
+        DoesThere job.now rank command debugger.old a.text.items debugger.new) }
+    ensures refused { IfOk result (λ a. a.refused ≡ is_some (command_fault debugger.old.machine command)) }
+{
+    let answer = answer_command(alloc, debugger, command, job)?;
+    if answer.refused {
+        return Ok(answer);
+    }
+    let place = place_of(alloc, debugger.machine(), rank)?;
+    let mut text = answer.text;
+    text.extend_from_slice(place.text.as_slice())?;
+    Ok(done(text))
 }

@@ -22,8 +22,8 @@ use std::io::{Read, Write};
 /// Makes a machine of the program that `image` gives and of the bytes of `input`, and answers the lines of `commands` with a debugger
 /// of it: each is read when it is wanted, done, and answered to `out`, which is flushed, before the next one is read. It ends at a line
 /// `quit`, or at the end of the lines. The image and the input are read to their ends first. Of the job the workers, the slice and the
-/// report are not looked at. It has some lines more than a script: `keep`, `back N`, `forget N`, `kept`, and `where` with a rank or
-/// without.
+/// report are not looked at. It has some lines more than a script: those that keep states and go back to them, and more that show where
+/// the machine is and what its nodes have. Where words are those of no line, the refusal tells what would be.
 ///
 /// # Errors
 /// That of the first stage that failed:

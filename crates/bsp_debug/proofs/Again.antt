@@ -14,10 +14,11 @@ use Rattle.machine_core.proofs.Resume.{phases-after}
 use Rattle.machine_core.proofs.Steps.{after-nil}
 use Rattle.machine_core.proofs.Walks.{walked-add}
 use Rattle.bsp_debug.specs.declared.command.Command.{Command}
-use Rattle.bsp_debug.specs.declared.command.Command.TheVariants.{Step, Phase, Turn, Go, Regs, Bytes, Queue, Costs}
+use Rattle.bsp_debug.specs.declared.command.Command.TheVariants.{Step, Return, Phase, Turn, Go, Regs, Bytes, Queue, Costs}
 use Rattle.bsp_debug.specs.declared.point.Point.{Point}
 use Rattle.bsp_debug.specs.Debugger.{steps_at, IsWithinPhases, MakesPhases, Makes, MakesPart, rest_of}
 use Rattle.bsp_debug.specs.Reply.{Answer, moved}
+use Rattle.bsp_debug.specs.Returns.{has_arrived, HasReturned, IsReturning}
 use Rattle.bsp_debug.specs.Stops.{stop_at, stop_after, Goes, IsOnTheWay}
 use Rattle.bsp_debug.specs.Trace.{after_steps}
 use Rattle.bsp_debug.proofs.Counts.{after_steps-zero, after_steps-suc, steps_at-zero, steps_at-disabled, steps_at-suc}
@@ -44,6 +45,50 @@ steps_at-rest (suc k) (suc n) m rank most = by (λ x most'. steps_at-rest k n x 
         let rest = fewer next (omega (arith, most, one)) in
         let left : suc n - suc k ≡ n - k = omega arith in
         ap₂ (λ (x : MachineState) (j : ℕ). suc k + steps_at x rank j) (after_steps-suc m rank k) left ∙ omega (arith, rest, one)
+
+-- so many steps and then so many more
+after_steps-add : (j k : ℕ) (m : MachineState) (rank : ℕ) → after_steps (after_steps m rank j) rank k ≡ after_steps m rank (j + k)
+after_steps-add j k m rank =
+    sym (after-append m (replicate j (event.Step rank)) (replicate k (event.Step rank))) ∙ ap (after m) (replicate-add j k (event.Step rank))
+
+-- a run that goes on to where a function returns
+return-again : (points : List Point) (m : MachineState) (rank addr sp j k : ℕ) → IsReturning points m rank addr sp j
+    → HasReturned points (after_steps m rank j) rank addr sp k → HasReturned points m rank addr sp (j + k)
+return-again points m rank addr sp j k part rest = record {
+  on = record {
+    runs = λ i below. elim (cases_order i j) [
+      | inl same ↦ ap (enabled_at) same ∙ part.runs
+      | inr other ↦ elim other [
+        | inl before ↦ part.on.runs i before
+        | inr past ↦ later-runs i (i - j) (omega (arith, past)) (omega (arith, below, past))
+      ]
+    ];
+    passes = λ i some below. elim (cases_order i j) [
+      | inl same ↦ ap arrived_at same ∙ part.passes (omega (arith, some, same))
+      | inr other ↦ elim other [
+        | inl before ↦ part.on.passes i some before
+        | inr past ↦ later-passes i (i - j) (omega (arith, past)) (omega (arith, past)) (omega (arith, below, past))
+      ]
+    ];
+  };
+  some = λ enabled. omega (arith, rest.some part.runs);
+  arrived = λ enabled. ap (has_arrived points rank addr sp) (sym (after_steps-add j k m rank))
+      ∙ rest.arrived (ap (λ (x : MachineState). is_enabled x (event.Step rank)) (after_steps-add j k m rank) ∙ enabled);
+} where
+  enabled_at : ℕ → Bool
+  enabled_at i = is_enabled (after_steps m rank i) (event.Step rank)
+
+  arrived_at : ℕ → Bool
+  arrived_at i = has_arrived points rank addr sp (after_steps m rank i)
+
+  there : (i later : ℕ) → i ≡ j + later → after_steps m rank i ≡ after_steps (after_steps m rank j) rank later
+  there i later is = ap (λ n. after_steps m rank n) is ∙ sym (after_steps-add j later m rank)
+
+  later-runs : (i later : ℕ) → i ≡ j + later → later < k → is_enabled (after_steps m rank i) (event.Step rank) ≡ true
+  later-runs i later is below = ap (λ (x : MachineState). is_enabled x (event.Step rank)) (there i later is) ∙ rest.on.runs later below
+
+  later-passes : (i later : ℕ) → i ≡ j + later → 0 < later → later < k → has_arrived points rank addr sp (after_steps m rank i) ≡ false
+  later-passes i later is some below = ap (has_arrived points rank addr sp) (there i later is) ∙ rest.on.passes later some below
 
 -- a stop that is met k events later
 stop-later : (points : List Point) (j k : ℕ) (m : MachineState) → stop_after points k (walked j m) ≡ stop_after points (j + k) m
@@ -96,6 +141,10 @@ again points m (Step rank n) part rest reply sound some made =
     made.0 ∙ ap₂ (λ (x : MachineState) (k : ℕ). replicate (steps_at x rank (n - k)) (event.Step rank)) (ap (after m) some.2) long in
     let sum = steps_at-rest some.0 n m rank some.1 in
     (moved (length (part ++ rest)), (ap₂ (λ xs ys. xs ++ ys) some.2 more ∙ replicate-add some.0 (steps_at (after_steps m rank some.0) rank (n - some.0)) (event.Step rank) ∙ ap (λ k. replicate k (event.Step rank)) sum, refl))
+again points m (Return rank addr sp) part rest reply sound (j, is, part_way) (((k, rest_is, returned), told)) =
+    let there : after m part ≡ after_steps m rank j = ap (after m) is in
+    let whole = return-again points m rank addr sp j k part_way (subst (λ (x : MachineState). HasReturned points x rank addr sp k) there returned) in
+    (moved (length (part ++ rest)), (((j + k, ap₂ (λ xs ys. xs ++ ys) is rest_is ∙ replicate-add j k (event.Step rank), whole), refl)))
 again points m Phase part rest reply sound some made = (moved (length (part ++ rest)), (phases-again points m part rest sound some made.0, refl))
 again points m Turn part rest reply sound some made = (reply, from-nothing points m Turn part rest reply some.0 made)
 again points m Go part rest reply sound some made = (reply, go-again points m part rest reply some made)

@@ -1,4 +1,5 @@
 pub mod Again
+pub mod Arrivals
 pub mod Counts
 pub mod Entries
 pub mod Going

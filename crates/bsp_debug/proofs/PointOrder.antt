@@ -1,15 +1,17 @@
 -- The order of points answers `Equal` just where they are the same, so a set of points has what `is_set` says of its keys.
 use Rattle.std.proofs.Common.{◌≡◌, ℕ, Bool, true, false, cond, List, [], ◌∷◌, arith, refl, sym, ap, ◌∙◌}
-use Rattle.std.specs.Prelude.{◌==◌, ◌&&◌, ◌||◌, not}
+use Rattle.std.specs.Prelude.{◌==◌, ◌&&◌, ◌||◌, not, nat_lt, IsTrue}
 use Rattle.std.specs.List.{list_any}
 use Rattle.std.specs.Ordering.{is_eq, ordering_then, nat_cmp}
 use Rattle.std.specs.declared.cmp.Ordering.{Ordering}
+use Rattle.std.specs.declared.cmp.Ordering.TheVariants.{Less}
+use Rattle.std.specs.List.Sorted.{IsStrictlySortedBy}
 use Rattle.std.proofs.lemmas.Bool.Decides.{nat_tests}
 use Rattle.std.specs.BTreeSet.{BTreeSet, contains, UpdatesBy}
 use Rattle.bsp_debug.specs.contracts.point.PointOrd.TheImpl.{cmp-value}
 use Rattle.bsp_debug.specs.declared.point.Point.{Point}
 use Rattle.bsp_debug.specs.declared.point.Point.TheVariants.{Address, Superstep}
-use Rattle.bsp_debug.specs.Points.{is_same, is_set, HasAlso, HasNoMore}
+use Rattle.bsp_debug.specs.Points.{is_same, is_set, comes_before, AreInOrder, HasAlso, HasNoMore}
 
 abbrev order : Point → Point → Ordering
 order = cmp-value.it
@@ -25,6 +27,25 @@ is_eq-order (Address r a) (Address s b) = is_eq-pair r s a b
 is_eq-order (Address r a) (Superstep k) = refl
 is_eq-order (Superstep k) (Address r a) = refl
 is_eq-order (Superstep j) (Superstep k) = is_eq-nat_cmp j k
+
+less-pair : (r s a b : ℕ) → ordering_then (nat_cmp r s) (nat_cmp a b) ≡ Less → IsTrue (nat_lt r s || (r == s && nat_lt a b))
+less-pair r s a b less = grind (arith, nat_tests)
+
+less-nat_cmp : (x y : ℕ) → nat_cmp x y ≡ Less → IsTrue (nat_lt x y)
+less-nat_cmp x y less = grind (arith, nat_tests)
+
+-- so a point that is less comes before
+less-before : (p q : Point) → order p q ≡ Less → IsTrue (comes_before p q)
+less-before (Address r a) (Address s b) less = less-pair r s a b less
+less-before (Address r a) (Superstep k) less = refl
+less-before (Superstep k) (Address r a) less = cc
+less-before (Superstep j) (Superstep k) less = less-nat_cmp j k less
+
+pub sorted-order : (points : List Point) → IsStrictlySortedBy order points → AreInOrder points
+unfolding IsStrictlySortedBy
+sorted-order [] sorted = tt
+sorted-order (p ∷ []) sorted = tt
+sorted-order (p ∷ q ∷ points) (below, sorted) = (less-before p q below.0, sorted-order (q ∷ points) sorted)
 
 pub is_set-order : (points : List Point) (p : Point) → list_any (λ q. is_eq (order p q)) points ≡ is_set points p
 is_set-order [] p = refl

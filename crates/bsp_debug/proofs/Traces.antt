@@ -126,7 +126,7 @@ module _ (t now : Traced) (same : t ≡ now) (rank : ℕ) (new : MachineState) (
       (steps_at now.machine rank part.0, steps_at-le part.0 most now.machine rank (omega (arith, part.1)), stepped-is part.0 part.2)
 
   -- where all its steps were made
-  whole-is : (k : ℕ) → new ≡ after_steps t.machine rank k → ((j : ℕ) → j < k → is_enabled (after_steps t.machine rank j) (Step rank) ≡ true) → record { start = t.start; machine = new; made = made } ≡ stepped rank k now
+  pub whole-is : (k : ℕ) → new ≡ after_steps t.machine rank k → ((j : ℕ) → j < k → is_enabled (after_steps t.machine rank j) (Step rank) ≡ true) → record { start = t.start; machine = new; made = made } ≡ stepped rank k now
   whole-is k is enabled =
       let all : steps_at now.machine rank k ≡ k = rw (← same) (steps_at-all k t.machine rank enabled) in
       stepped-is k is ∙ ap (λ n. stepped rank n now) all

@@ -12,7 +12,7 @@ use Rattle.machine_core.specs.Turn.{with_phases}
 use Rattle.machine_core.specs.Events.{is_enabled, after, MakeNoTurn}
 use Rattle.machine_core.specs.Walk.{walk}
 use Rattle.bsp_debug.specs.declared.command.Command.{Command}
-use Rattle.bsp_debug.specs.declared.command.Command.TheVariants.{Step, Phase, Turn, Go, Regs, Bytes, Queue, Costs}
+use Rattle.bsp_debug.specs.declared.command.Command.TheVariants.{Step, Return, Phase, Turn, Go, Regs, Bytes, Queue, Costs}
 use Rattle.bsp_debug.specs.declared.error.DebugError.{DebugError}
 use Rattle.bsp_debug.specs.declared.error.DebugError.TheVariants.{BadRank, BadRange, TooMany, NoSuchBreak, Over}
 use Rattle.bsp_debug.specs.declared.made.Made.{Made}
@@ -20,6 +20,7 @@ use Rattle.bsp_debug.specs.declared.point.Point.{Point}
 use Rattle.bsp_debug.specs.declared.point.Point.TheVariants.{Address, Superstep}
 use Rattle.bsp_debug.specs.Points.{is_set, most_points}
 use Rattle.bsp_debug.specs.Reply.{Answer, moved, turned, finished, registers, bytes, queue, costs}
+use Rattle.bsp_debug.specs.Returns.{HasReturned, IsReturning}
 use Rattle.bsp_debug.specs.Stops.{Goes, IsOnTheWay}
 
 pub record DebuggerState : Type 0 where
@@ -63,6 +64,7 @@ range_fault m rank addr len =
 -- outcome
 abbrev pub command_fault : MachineState → Command → Option DebugError
 command_fault m (Step rank n) = option_or (refused_unless (has_rank m rank) BadRank) (refused_unless (is_none m.outcome) Over)
+command_fault m (Return rank addr sp) = option_or (refused_unless (has_rank m rank) BadRank) (refused_unless (is_none m.outcome) Over)
 command_fault m Phase = refused_unless (is_none m.outcome) Over
 command_fault m Turn = refused_unless (is_none m.outcome) Over
 command_fault m Go = refused_unless (is_none m.outcome) Over
@@ -105,6 +107,8 @@ registers_of s = registers s.hart.rank s.hart.pc s.ticks s.state s.hart.register
 -- what a command makes of a machine's events, and what it answers
 abbrev pub Makes : List Point → MachineState → Command → List Event → Answer → Type 0
 Makes points m (Step rank n) events reply = (events ≡ replicate (steps_at m rank n) (event.Step rank)) × (reply ≡ moved (length events))
+Makes points m (Return rank addr sp) events reply =
+    ((count : ℕ) × (events ≡ replicate count (event.Step rank)) × HasReturned points m rank addr sp count) × (reply ≡ moved (length events))
 Makes points m Phase events reply = MakesPhases m events × (reply ≡ moved (length events))
 Makes points m Turn events reply = (events ≡ turn_events m)
     × (reply ≡ (if is_enabled m event.Turn then turn_answer (after m events).outcome else turned false))
@@ -116,10 +120,12 @@ Makes points m (Queue rank) events reply = (events ≡ [])
     × (Some reply ≡ option_map (λ (n : NodeState). queue n.hart.communication.queue) (slice_get m.nodes rank))
 Makes points m Costs events reply = (events ≡ []) × (reply ≡ costs m.ledger)
 
--- what a command made where it was refused memory: some first of its events, and for `Turn` and `Go` not all of them (a turn that is
--- not enabled has no events of which one could be missing). `Regs` asks for no memory
+-- what a command made where it was refused memory: some first of its events, and for `Return`, `Turn` and `Go` not all of them (a turn that
+-- is not enabled has no events of which one could be missing). `Regs` asks for no memory
 abbrev pub MakesPart : List Point → MachineState → Command → List Event → Type 0
 MakesPart points m (Step rank n) events = (k : ℕ) × (k ≤ steps_at m rank n) × (events ≡ replicate k (event.Step rank))
+MakesPart points m (Return rank addr sp) events =
+    (count : ℕ) × (events ≡ replicate count (event.Step rank)) × IsReturning points m rank addr sp count
 MakesPart points m Phase events = IsWithinPhases m events
 MakesPart points m Turn events = (events ≡ []) × (is_enabled m event.Turn ≡ true)
 MakesPart points m Go events = IsOnTheWay points m events
@@ -131,6 +137,7 @@ MakesPart points m Costs events = events ≡ []
 -- the command that is left where it was refused memory after some events: of `Step` as many steps less, of any other the whole
 abbrev pub rest_of : Command → List Event → Command
 rest_of (Step rank n) made = Step rank (n - length made)
+rest_of (Return rank addr sp) made = Return rank addr sp
 rest_of Phase made = Phase
 rest_of Turn made = Turn
 rest_of Go made = Go

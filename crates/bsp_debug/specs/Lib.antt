@@ -7,5 +7,6 @@ pub mod Made
 pub mod Points
 pub mod Reached
 pub mod Reply
+pub mod Returns
 pub mod Stops
 pub mod Trace

@@ -7,14 +7,16 @@ ghost use Rattle.bsp_debug.specs.declared.error.DebugError.{DebugError as DebugE
 ghost use Rattle.bsp_debug.specs.Debugger.{has_rank, add_fault, remove_fault, command_fault, Makes, MakesPart};
 ghost use Rattle.bsp_debug.specs.Kept.{state_at, kept_fault, keeping, back_at, without};
 ghost use Rattle.bsp_debug.specs.Made.{events_of, AreFew};
-ghost use Rattle.bsp_debug.specs.Points.{is_set, HasAlso, HasNoMore};
+ghost use Rattle.bsp_debug.specs.Points.{is_set, AreInOrder, HasAlso, HasNoMore};
 ghost use Rattle.bsp_debug.specs.Reached.{HasReachedStates};
 ghost use Rattle.bsp_debug.specs.Reply.{answer};
+ghost use Rattle.bsp_debug.specs.Returns.{next_rank, over};
 ghost use Rattle.bsp_debug.specs.Trace.{IsTrace};
 
 use crate::command::Command;
 use crate::error::DebugError;
 use crate::made::Made;
+use crate::over::{next_rank, over};
 use crate::point::Point;
 use crate::points::Points;
 use crate::reads::{bytes_of, costs_of, queue_of, registers_of};
@@ -92,6 +94,17 @@ impl<A: Allocator + Copy> Debugger<A> {
         Ok(())
     }
 
+    /// The points that are set, in their order: those of ranks by rank and address, and then those of supersteps.
+    ///
+    /// # Errors
+    /// Where memory is refused.
+    pub fn points(&self) -> Result<Vec<Point, A>, AllocError>
+        ensures value { IfOk result (λ points. points.items ≡ self.now.points) }
+        ensures order { AreInOrder self.now.points }
+    {
+        self.points.to_vec(self.alloc)
+    }
+
     /// Whether a point may be set.
     fn check_point(&self, point: Point) -> Result<(), DebugError>
         ensures ok { OnOk result (add_fault self.now.points self.now.machine point ≡ None) }
@@ -129,9 +142,9 @@ impl<A: Allocator + Copy> Debugger<A> {
     ///
     /// # Errors
     /// The first that applies of [`DebugError::BadRank`], [`DebugError::BadRange`] and [`DebugError::Over`], at which no event
-    /// was made; then [`DebugError::NoMemory`], after some first of the command's events, of [`Command::Turn`] and [`Command::Go`]
-    /// not all of them. The command given again goes on from there: it leaves what it would have left, [`Command::Step`] with as
-    /// many steps less as were made.
+    /// was made; then [`DebugError::NoMemory`], after some first of the command's events, of [`Command::Return`], [`Command::Turn`]
+    /// and [`Command::Go`] not all of them. The command given again goes on from there: it leaves what it would have left,
+    /// [`Command::Step`] with as many steps less as were made.
     pub fn command(&mut self, command: Command) -> Result<Reply<A>, DebugError>
         ensures machine { self.new.machine ≡ after self.old.machine (events_of self.new.last) }
         ensures few { AreFew self.new.last }
@@ -217,6 +230,7 @@ impl<A: Allocator + Copy> Debugger<A> {
     {
         match command {
             Command::Step { rank, .. } => self.check_rank(rank).and(self.check_open()),
+            Command::Return { rank, .. } => self.check_rank(rank).and(self.check_open()),
             Command::Phase | Command::Turn | Command::Go => self.check_open(),
             Command::Regs { rank } | Command::Queue { rank } => self.check_rank(rank),
             Command::Bytes { rank, addr, len } => self.check_range(rank, addr, len),
@@ -266,6 +280,21 @@ impl<A: Allocator> Debugger<A> {
         ensures reached { HasReachedStates self.now }
     {
         self.trace.machine()
+    }
+
+    /// The command that steps over the instruction at which the node of a rank stands: one step, or where that is a call of a function,
+    /// which leaves its return address in ra, what goes on to where it returns.
+    pub fn over(&self, rank: u32) -> Command
+        ensures { result ≡ over self.now.machine rank }
+    {
+        over(self.machine(), rank)
+    }
+
+    /// The rank that makes the next step of all, as [`Command::Go`] takes them: the lowest whose node runs; rank 0 where none does.
+    pub fn next_rank(&self) -> u32
+        ensures { result ≡ next_rank self.now.machine }
+    {
+        next_rank(self.machine())
     }
 
     /// The states that were kept, each at the place of its number, and none where it was forgotten.
@@ -334,6 +363,9 @@ fn reply_to<A: Allocator + Copy>(
 {
     match command {
         Command::Step { rank, count } => Ok(Reply::Moved(trace.steps(rank, count)?)),
+        Command::Return { rank, addr, sp } => {
+            Ok(Reply::Moved(trace.run_to_return(rank, addr, sp, points)?))
+        }
         Command::Phase => Ok(Reply::Moved(trace.phase()?)),
         Command::Turn => trace.turn_with_reply(),
         Command::Go => trace.go(points),

@@ -2,7 +2,7 @@
 
 ghost use Rattle.std.specs.Prelude.{◌≡◌, ◌+◌, ◌==◌, [], length, IfOk, OnOk, OnErr, if◌then◌else◌};
 ghost use Rattle.bsp_debug.specs.declared.point.Point.TheVariants.{Address, Superstep};
-ghost use Rattle.bsp_debug.specs.Points.{is_set, HasAlso, HasNoMore};
+ghost use Rattle.bsp_debug.specs.Points.{is_set, AreInOrder, HasAlso, HasNoMore};
 
 use crate::point::Point;
 use std::alloc::{AllocError, Allocator};
@@ -57,6 +57,21 @@ impl<A: Allocator + Copy> Points<A> {
         ensures { result ≡ is_set self.now (Address rank addr) }
     {
         self.has(Point::Address { rank, addr })
+    }
+
+    /// The points, in their order.
+    ///
+    /// # Errors
+    /// Where memory is refused.
+    pub fn to_vec(&self, alloc: A) -> Result<Vec<Point, A>, AllocError>
+        ensures value { IfOk result (λ points. points.items ≡ self.now) }
+        ensures order { AreInOrder self.now }
+    {
+        let mut points = Vec::with_capacity(alloc, self.set.len())?;
+        for point in self.set.iter() {
+            points.push(*point)?;
+        }
+        Ok(points)
     }
 
     /// Sets a point, if it is not set yet.

@@ -7,11 +7,13 @@ ghost use Rattle.machine_core.specs.declared.event.Event.TheVariants.{Step as st
 ghost use Rattle.machine_core.specs.Events.{after, event as event_of, is_enabled, some_runs as some_runs_of, runs as runs_of};
 ghost use Rattle.bsp_debug.specs.declared.made.Made.TheVariants.{Turn as turn_made};
 ghost use Rattle.bsp_debug.specs.Debugger.{steps_at};
+ghost use Rattle.bsp_debug.specs.Returns.{HasReturned, IsReturning};
 ghost use Rattle.bsp_debug.specs.Trace.{IsTrace, with_steps, stepped, turned, EndsBelow, point_at, RunsToPoint, RunsOnTo};
 
 use crate::made::Made;
 use crate::point::Point;
 use crate::points::Points;
+use crate::returns::run_node_to_return;
 use machine_core::{Event, Machine};
 use std::alloc::{AllocError, Allocator};
 use std::marker::Model;
@@ -116,6 +118,37 @@ impl<A: Allocator + Copy> Trace<A> {
         let count = ticks_of(&self.machine, rank).saturating_sub(before);
         note_steps(&mut self.made, rank, count);
         ran
+    }
+
+    /// Runs the node of a rank until it stops or, after a step at least, stands behind a call or at a point. Answers how many steps it
+    /// made.
+    ///
+    /// # Errors
+    /// Where memory is refused. The steps before that stand, and are taken down.
+    pub fn run_to_return(
+        &mut self,
+        rank: u32,
+        addr: u32,
+        sp: u32,
+        points: &Points<A>,
+    ) -> Result<u64, AllocError>
+        requires { EndsBelow rank self.old.made }
+        ensures trace { IsTrace self.new }
+        ensures ok { IfOk result (λ count. HasReturned points.now self.old.machine rank addr sp count
+            × (self.new ≡ stepped rank count self.old)) }
+        ensures err { OnErr result ((count : ℕ) × IsReturning points.now self.old.machine rank addr sp count
+            × (self.new ≡ stepped rank count self.old)) }
+    {
+        if !runs(&self.machine, rank) {
+            return Ok(0);
+        }
+        self.made.reserve(1)?;
+        let before = ticks_of(&self.machine, rank);
+        let ran = run_node_to_return(&mut self.machine, rank, addr, sp, points);
+        let count = ticks_of(&self.machine, rank).saturating_sub(before);
+        note_steps(&mut self.made, rank, count);
+        ran?;
+        Ok(count)
     }
 
     /// Makes the turn, if no node runs and there is no outcome, and answers whether it did.

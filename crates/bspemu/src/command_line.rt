@@ -57,6 +57,15 @@ const DEBUG_AFTER_HELP: &str =
   output               show what was written in the supersteps so far
   quit                 end
 There are more lines at a terminal, and with --interactive or --framed:
+  help [LINE]          show the lines of a dialogue, or those that begin with the word LINE
+  points               show the points that are set
+  step [RANK]          make one step of this rank, or of the lowest that runs
+  over RANK            make a step of this rank, and at a call of a function all steps up to its return
+  words RANK ADDR N    show N words of the memory of this rank
+  text RANK ADDR N     show N bytes of it as a text, or those before the first that is 0
+  list RANK ADDR N     show N instructions of it
+  areas RANK           show the areas that this rank has registered
+  requests RANK        show what this rank has asked for in this superstep
   where [RANK]         show where this rank, or each rank, is: its address, superstep and state
   keep                 keep the state of the machine, under the next number from 0
   back N               bring the machine back to state N, or forward; points stay as they are

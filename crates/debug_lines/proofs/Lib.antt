@@ -1,3 +1,4 @@
 pub mod FirstWords
 pub mod Groups
+pub mod Rows
 pub mod Values

@@ -3,5 +3,7 @@ pub mod Kept
 pub mod Lines
 pub mod Numbers
 pub mod Replies
+pub mod Shown
+pub mod Topics
 pub mod Verdicts
 pub mod Words

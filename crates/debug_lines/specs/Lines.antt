@@ -5,9 +5,12 @@ use Rattle.bsp_debug.specs.declared.command.Command.{Command as Asked}
 use Rattle.bsp_debug.specs.declared.command.Command.TheVariants.{Step, Phase, Turn, Go, Regs, Bytes, Queue, Costs}
 use Rattle.bsp_debug.specs.declared.point.Point.{Point}
 use Rattle.bsp_debug.specs.declared.point.Point.TheVariants.{Address, Superstep}
+use Rattle.debug_lines.specs.declared.form.Form.{Form}
+use Rattle.debug_lines.specs.declared.form.Form.TheVariants.{Words, Text, Codes}
 use Rattle.debug_lines.specs.declared.line.Line.{Line}
-use Rattle.debug_lines.specs.declared.line.Line.TheVariants.{Break, Clear, Command, Output, Keep, Back, Forget, Kept, Nodes, Place, Places, OutputFrom, CostsFrom, Quit, Empty, Unknown}
+use Rattle.debug_lines.specs.declared.line.Line.TheVariants.{Break, Clear, Command, Output, Keep, Back, Forget, Kept, Points, Shown, Areas, Requests, StepNext, Over, Nodes, Place, Places, OutputFrom, CostsFrom, Help, HelpOn, Quit, Empty, Unknown, Misused, NoLine}
 use Rattle.debug_lines.specs.Numbers.{number_in}
+use Rattle.debug_lines.specs.Topics.{topic_named}
 use Rattle.debug_lines.specs.Words.{words}
 
 -- a command of one word
@@ -81,25 +84,71 @@ abbrev pub dialogue_of_one : List ℕ → Option Line
 dialogue_of_one word =
     if bytes_eq word (codes "keep") then Some Keep else
     (if bytes_eq word (codes "kept") then Some Kept else
-    (if bytes_eq word (codes "where") then Some Places else None))
+    (if bytes_eq word (codes "where") then Some Places else
+    (if bytes_eq word (codes "points") then Some Points else
+    (if bytes_eq word (codes "help") then Some Help else
+    (if bytes_eq word (codes "step") then Some StepNext else None)))))
 
--- a line of two: `back N`, `forget N`, `where RANK`
-abbrev pub dialogue_of_two : (word number : List ℕ) → Option Line
-dialogue_of_two word number =
+-- a line of two: `back N`, `forget N`
+abbrev pub state_line_of : (word number : List ℕ) → Option Line
+state_line_of word number =
     if bytes_eq word (codes "back") then option_map Back (number_in 64 number) else
-    (if bytes_eq word (codes "forget") then option_map Forget (number_in 64 number) else
-    (if bytes_eq word (codes "where") then option_map Place (number_in 32 number) else None))
+    (if bytes_eq word (codes "forget") then option_map Forget (number_in 64 number) else None)
+
+-- `where RANK`, `areas RANK`, `requests RANK`, `over RANK`, and `step RANK`, which is one instruction
+abbrev pub rank_line_of : (word rank : List ℕ) → Option Line
+rank_line_of word rank =
+    if bytes_eq word (codes "where") then option_map Place (number_in 32 rank) else
+    (if bytes_eq word (codes "areas") then option_map Areas (number_in 32 rank) else
+    (if bytes_eq word (codes "requests") then option_map Requests (number_in 32 rank) else
+    (if bytes_eq word (codes "over") then option_map Over (number_in 32 rank) else
+    (if bytes_eq word (codes "step") then option_map (λ r. Command (Step r 1)) (number_in 32 rank) else None))))
+
+-- `help LINE`, by the first word of the line
+abbrev pub help_line_of : (word name : List ℕ) → Option Line
+help_line_of word name = if bytes_eq word (codes "help") then option_map HelpOn (topic_named name) else None
+
+abbrev pub dialogue_of_two : (word a : List ℕ) → Option Line
+dialogue_of_two word a = option_or (state_line_of word a) (option_or (rank_line_of word a) (help_line_of word a))
+
+-- a form in which memory is shown
+abbrev pub form_named : List ℕ → Option Form
+form_named word =
+    if bytes_eq word (codes "words") then Some Words else
+    (if bytes_eq word (codes "text") then Some Text else
+    (if bytes_eq word (codes "list") then Some Codes else None))
+
+-- `RANK ADDR N`
+abbrev pub shown_of : Form → (rank addr count : List ℕ) → Option Line
+shown_of form rank addr count =
+    option_and_then (λ r. option_and_then (λ at. option_map (λ n. Shown form r at n) (number_in 32 count)) (number_in 32 addr))
+    (number_in 32 rank)
+
+-- a line of four: `words RANK ADDR N`, `text RANK ADDR N`, `list RANK ADDR N`
+abbrev pub dialogue_of_four : (word rank addr count : List ℕ) → Option Line
+dialogue_of_four word rank addr count = option_and_then (λ form. shown_of form rank addr count) (form_named word)
 
 -- a line of these words that scripts do not have; none for words of no such line
 abbrev pub dialogue_of_words : List (List ℕ) → Option Line
 dialogue_of_words [] = None
 dialogue_of_words (word ∷ []) = dialogue_of_one word
 dialogue_of_words (word ∷ a ∷ []) = dialogue_of_two word a
-dialogue_of_words (word ∷ a ∷ b ∷ more) = None
+dialogue_of_words (word ∷ a ∷ b ∷ []) = None
+dialogue_of_words (word ∷ a ∷ b ∷ c ∷ []) = dialogue_of_four word a b c
+dialogue_of_words (word ∷ a ∷ b ∷ c ∷ d ∷ more) = None
 
--- what a line of a dialogue asks for: that of a script, or else what scripts do not have
+-- what words of no line are: those of a line that is used wrongly, where the first of them is its; else of none at all
+abbrev pub mistake_of : List (List ℕ) → Line
+mistake_of [] = NoLine
+mistake_of (word ∷ others) = option_map_or Misused (topic_named word) NoLine
+
+-- a line, if its words are those of one, and else the mistake
+abbrev pub or_mistake : Option Line → List (List ℕ) → Line
+or_mistake line ws = option_map_or (λ known. known) line (mistake_of ws)
+
+-- what a line of a dialogue asks for: that of a script, or else what scripts do not have, or else what is wrong with it
 unfoldable pub dialogue_line_of : List ℕ → Line
-dialogue_line_of line = or_unknown (option_or (line_of_words (words line)) (dialogue_of_words (words line)))
+dialogue_line_of line = or_mistake (option_or (line_of_words (words line)) (dialogue_of_words (words line))) (words line)
 
 -- ---- framed sessions
 

@@ -2,11 +2,14 @@
 use Rattle.std.specs.Prelude.{ℕ, List, ◌++◌, codes}
 use Rattle.std.specs.Fmt.{decimal}
 use Rattle.bsp_debug.specs.Errors.{name_of}
+use Rattle.debug_lines.specs.Topics.{usage}
 use Rattle.debug_lines.specs.declared.verdict.Verdict.{Verdict}
-use Rattle.debug_lines.specs.declared.verdict.Verdict.TheVariants.{Done, Kept, Refused, BadCommand}
+use Rattle.debug_lines.specs.declared.verdict.Verdict.TheVariants.{Done, Kept, Refused, BadCommand, Misused, NoLine}
 
 abbrev pub verdict_text : Verdict → List ℕ
 verdict_text Done = codes "ok\n"
 verdict_text (Kept number) = codes "kept " ++ decimal number ++ codes "\n"
 verdict_text (Refused error) = codes "refused: " ++ name_of error ++ codes "\n"
 verdict_text BadCommand = codes "refused: BadCommand\n"
+verdict_text (Misused topic) = codes "refused: BadCommand: the line is " ++ usage topic ++ codes "\n"
+verdict_text NoLine = codes "refused: BadCommand: there is no such line; help tells the lines\n"

@@ -5,14 +5,15 @@
 //! that has none.
 //!
 //! There are three such languages, each with the lines of the one before it and some more: that of scripts, that of dialogues
-//! ([`parse_dialogue_line`]) and that of framed sessions ([`parse_framed_line`]). [`add_place`], [`add_kept`], [`setup_line`] and
-//! [`costs_from`] give what answers the lines that scripts do not have. Each reply stands behind a header in a framed session
-//! ([`framed_text`]).
+//! ([`parse_dialogue_line`]) and that of framed sessions ([`parse_framed_line`]). [`add_place`], [`add_kept`], [`point_lines`],
+//! [`shown_text`], [`area_lines`], [`request_lines`], [`help_lines`], [`setup_line`] and [`costs_from`] give what answers the lines that
+//! scripts do not have. Each reply stands behind a header in a framed session ([`framed_text`]).
 //!
 //! Callers may rely on this:
 //!
 //! - No line takes memory to parse, and each is what the definitions make of its words, [`Line::Unknown`] where they are those of
 //!   no line.
+//! - Of words of no line a dialogue knows whether the first is that of some lines, and a refusal tells how these are spelled.
 //! - The words are parted by spaces alone, of any number, and those at the ends count for nothing. Any other byte is part of a word.
 //! - A number is decimal digits, or `0x` and hexadecimal digits of either case, of any number and without a sign. A line with a
 //!   number that its place has no room for is unknown: ranks, addresses and lengths have 32 bits, counts and numbers of supersteps 64.
@@ -22,17 +23,24 @@
 //! The language is this project's own.
 #![tactic(auto)]
 
+mod character;
+mod form;
 mod framed;
 mod kept;
 mod line;
 mod number;
 mod octets;
 mod reply;
+mod shown;
+mod topic;
 mod verdict;
 mod word;
 
+pub use form::Form;
 pub use framed::{add_place, costs_from, framed_text, setup_line};
 pub use kept::add_kept;
 pub use line::{Line, parse_dialogue_line, parse_framed_line, parse_line};
 pub use reply::reply_text;
+pub use shown::{area_lines, point_lines, request_lines, shown_len, shown_text};
+pub use topic::{Topic, add_help, help_lines};
 pub use verdict::Verdict;

@@ -2,11 +2,14 @@
 
 ghost use Rattle.std.specs.Prelude.{◌≡◌};
 ghost use Rattle.debug_lines.specs.Lines.{line_of, line_of_words, line_of_one, command_of_one, line_of_two, line_of_three, line_of_four, point_of, step_of, bytes_of};
-ghost use Rattle.debug_lines.specs.Lines.{dialogue_line_of, dialogue_of_words, dialogue_of_one, dialogue_of_two};
+ghost use Rattle.debug_lines.specs.Lines.{dialogue_line_of, dialogue_of_words, dialogue_of_one, dialogue_of_two, dialogue_of_four, mistake_of};
+ghost use Rattle.debug_lines.specs.Lines.{form_named, help_line_of, rank_line_of, shown_of, state_line_of};
 ghost use Rattle.debug_lines.specs.Lines.{framed_line_of, framed_of_words, framed_of_one, framed_of_two};
 ghost use Rattle.debug_lines.specs.Words.{words};
 
+use crate::form::Form;
 use crate::number::{u32_of, u64_of};
+use crate::topic::{Topic, topic_named};
 use crate::word::split_word;
 use bsp_debug::{Command, Point};
 
@@ -34,18 +37,44 @@ pub enum Line {
     Place(u32),
     /// Where each node is: `where`. Scripts do not have it.
     Places,
+    /// The points that are set: `points`. Scripts do not have it.
+    Points,
+    /// The memory of a node, from the address `addr` on, as so many words, characters or codes: `words RANK ADDR N`,
+    /// `text RANK ADDR N`, `list RANK ADDR N`. Scripts do not have it.
+    Shown {
+        form: Form,
+        rank: u32,
+        addr: u32,
+        count: u32,
+    },
+    /// The areas that the node of a rank has registered: `areas RANK`. Scripts do not have it.
+    Areas(u32),
+    /// What the node of a rank has asked for in this superstep: `requests RANK`. Scripts do not have it.
+    Requests(u32),
+    /// To make the next instruction of all: `step`. Scripts do not have it.
+    StepNext,
+    /// To step over the instruction of the node of a rank, with all of a function that it calls: `over RANK`. Scripts do not have it.
+    Over(u32),
     /// How many nodes there are, and what else the machine and its costs are set to: `nodes`. Only framed sessions have it.
     Nodes,
     /// What the nodes wrote, from the byte of a number on: `output FROM`. Only framed sessions have it.
     OutputFrom(u64),
     /// What the supersteps that are over cost, from that of a number on: `costs FROM`. Only framed sessions have it.
     CostsFrom(u64),
+    /// All lines of a dialogue, and what they do: `help`. Scripts do not have it.
+    Help,
+    /// Those with one first word: `help LINE`. Scripts do not have it.
+    HelpOn(Topic),
     /// To end: `quit`.
     Quit,
     /// Nothing: spaces at most.
     Empty,
     /// Nothing that there is: its words are those of none of these, or a number is too great for its place.
     Unknown,
+    /// The same in a dialogue, where the first word is that of these lines.
+    Misused(Topic),
+    /// The same in a dialogue, where the first word is that of no line.
+    NoLine,
 }
 
 /// What a line of a script asks for. It is given without the line feed that ends it.
@@ -59,14 +88,28 @@ pub fn parse_line(line: &[u8]) -> Line
     }
 }
 
-/// What a line of a dialogue asks for: that of a script, and some lines more. It is given without the line feed that ends it.
+/// What a line of a dialogue asks for: that of a script, and some lines more; or what is wrong with it. It is given without the line
+/// feed that ends it.
 #[tactic(auto, unfolding(crate::specs::Lines::dialogue_line_of))]
 pub fn parse_dialogue_line(line: &[u8]) -> Line
     ensures { result ≡ dialogue_line_of line.now }
 {
     match known_line(line).or(dialogue_line(line)) {
         Some(known) => known,
-        None => Line::Unknown,
+        None => mistake_of(line),
+    }
+}
+
+/// What is wrong with a line that asks for nothing.
+fn mistake_of(line: &[u8]) -> Line
+    ensures { result ≡ mistake_of (words line.now) }
+{
+    let Some((word, _)) = split_word(line) else {
+        return Line::NoLine;
+    };
+    match topic_named(word) {
+        Some(topic) => Line::Misused(topic),
+        None => Line::NoLine,
     }
 }
 
@@ -91,12 +134,18 @@ fn dialogue_line(line: &[u8]) -> Option<Line>
     let Some((word, rest)) = split_word(line) else {
         return None;
     };
-    let Some((number, rest)) = split_word(rest) else {
+    let Some((first, rest)) = split_word(rest) else {
         return dialogue_of_one(word);
+    };
+    let Some((second, rest)) = split_word(rest) else {
+        return dialogue_of_two(word, first);
+    };
+    let Some((third, rest)) = split_word(rest) else {
+        return None;
     };
     match split_word(rest) {
         Some(_) => None,
-        None => dialogue_of_two(word, number),
+        None => dialogue_of_four(word, first, second, third),
     }
 }
 
@@ -110,24 +159,104 @@ fn dialogue_of_one(word: &[u8]) -> Option<Line>
         Some(Line::Kept)
     } else if word == b"where".as_slice() {
         Some(Line::Places)
+    } else if word == b"points".as_slice() {
+        Some(Line::Points)
+    } else if word == b"help".as_slice() {
+        Some(Line::Help)
+    } else if word == b"step".as_slice() {
+        Some(Line::StepNext)
     } else {
         None
     }
 }
 
 /// A line of two words that scripts do not have.
-fn dialogue_of_two(word: &[u8], number: &[u8]) -> Option<Line>
-    ensures { result ≡ dialogue_of_two word.now number.now }
+fn dialogue_of_two(word: &[u8], operand: &[u8]) -> Option<Line>
+    ensures { result ≡ dialogue_of_two word.now operand.now }
+{
+    state_line_of(word, operand).or(rank_line_of(word, operand).or(help_line_of(word, operand)))
+}
+
+/// A line of the number of a state.
+fn state_line_of(word: &[u8], number: &[u8]) -> Option<Line>
+    ensures { result ≡ state_line_of word.now number.now }
 {
     if word == b"back".as_slice() {
         Some(Line::Back(u64_of(number)?))
     } else if word == b"forget".as_slice() {
         Some(Line::Forget(u64_of(number)?))
-    } else if word == b"where".as_slice() {
-        Some(Line::Place(u32_of(number)?))
     } else {
         None
     }
+}
+
+/// A line of a rank that scripts do not have.
+fn rank_line_of(word: &[u8], rank: &[u8]) -> Option<Line>
+    ensures { result ≡ rank_line_of word.now rank.now }
+{
+    let rank = u32_of(rank)?;
+    if word == b"where".as_slice() {
+        Some(Line::Place(rank))
+    } else if word == b"areas".as_slice() {
+        Some(Line::Areas(rank))
+    } else if word == b"requests".as_slice() {
+        Some(Line::Requests(rank))
+    } else if word == b"over".as_slice() {
+        Some(Line::Over(rank))
+    } else if word == b"step".as_slice() {
+        Some(Line::Command(Command::Step { rank, count: 1 }))
+    } else {
+        None
+    }
+}
+
+/// A line that asks what another line does.
+fn help_line_of(word: &[u8], name: &[u8]) -> Option<Line>
+    ensures { result ≡ help_line_of word.now name.now }
+{
+    if word == b"help".as_slice() {
+        Some(Line::HelpOn(topic_named(name)?))
+    } else {
+        None
+    }
+}
+
+/// A line of four words that scripts do not have.
+fn dialogue_of_four(word: &[u8], rank: &[u8], addr: &[u8], count: &[u8]) -> Option<Line>
+    ensures { result ≡ dialogue_of_four word.now rank.now addr.now count.now }
+{
+    let form = form_named(word)?;
+    shown_of(form, rank, addr, count)
+}
+
+/// The form in which memory is shown that a word names.
+fn form_named(word: &[u8]) -> Option<Form>
+    ensures { result ≡ form_named word.now }
+{
+    if word == b"words".as_slice() {
+        Some(Form::Words)
+    } else if word == b"text".as_slice() {
+        Some(Form::Text)
+    } else if word == b"list".as_slice() {
+        Some(Form::Codes)
+    } else {
+        None
+    }
+}
+
+/// A line that shows memory, by its words behind the first.
+fn shown_of(form: Form, rank: &[u8], addr: &[u8], count: &[u8]) -> Option<Line>
+    ensures { result ≡ shown_of form rank.now addr.now count.now }
+{
+    let rank = u32_of(rank)?;
+    let addr = u32_of(addr)?;
+    let count = u32_of(count)?;
+    Some(Line::Shown {
+        form,
+        rank,
+        addr,
+        count,
+    })
 }
 
 /// What a line asks for that only framed sessions have, if its words are those of one.

@@ -110,7 +110,7 @@ fn byte_lines<B: Allocator>(alloc: B, bytes: &[u8]) -> Result<String<B>, AllocEr
 }
 
 /// What follows the entry of a place, of so many, `width` of them in a line.
-fn entry_end(width: usize, count: usize, at: usize) -> &'static str
+pub(crate) fn entry_end(width: usize, count: usize, at: usize) -> &'static str
     requires wide { 0 < width }
     requires within { at < count }
     ensures { result.now ≡ entry_end width count at }

@@ -1,5 +1,6 @@
 //! What a line is answered that has no reply.
 
+use crate::topic::{Topic, usage_of};
 use bsp_debug::DebugError;
 use std::fmt;
 
@@ -14,6 +15,10 @@ pub enum Verdict {
     Refused(DebugError),
     /// It asks for nothing that there is: `refused: BadCommand`.
     BadCommand,
+    /// It has the first word of these lines, and is none of them: `refused: BadCommand: the line is over RANK`.
+    Misused(Topic),
+    /// It has the first word of no line: `refused: BadCommand: there is no such line; help tells the lines`.
+    NoLine,
 }
 
 impl fmt::Display for Verdict {
@@ -28,6 +33,14 @@ impl fmt::Display for Verdict {
             Verdict::Kept(number) => write!(f, "kept {number}\n"),
             Verdict::Refused(error) => write!(f, "refused: {error}\n"),
             Verdict::BadCommand => write!(f, "refused: BadCommand\n"),
+            Verdict::Misused(topic) => {
+                let usage = usage_of(*topic);
+                write!(f, "refused: BadCommand: the line is {usage}\n")
+            }
+            Verdict::NoLine => write!(
+                f,
+                "refused: BadCommand: there is no such line; help tells the lines\n"
+            ),
         }
     }
 }

@@ -72,8 +72,8 @@ Kept states stay kept, numbers are not given again, and one can go forward as we
   kept 2 superstep 0, ranks 0 to 2 pc 00000028 state ended
   kept 3 superstep 0, ranks 0 to 2 pc 00000028 state ended
   refused: NoSuchKept
-  refused: BadCommand
-  refused: BadCommand
-  refused: BadCommand
-  refused: BadCommand
-  refused: BadCommand
+  refused: BadCommand: the line is back N
+  refused: BadCommand: the line is keep
+  refused: BadCommand: the line is kept
+  refused: BadCommand: the line is forget N
+  refused: BadCommand: the line is back N

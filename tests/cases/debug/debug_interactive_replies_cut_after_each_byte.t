@@ -28,12 +28,12 @@
   superstep 0: w 10 h 0 last
   total 10
   012
-  refused: BadCommand
+  refused: BadCommand: there is no such line; help tells the lines
   $ bspemu debug examples/ranks.raw --format raw --nodes 3 --ledger 1 --interactive < lines > whole
   $ for room in $(seq 0 $(($(wc -c < whole) - 1))); do
   >     with-room "$room" bspemu debug examples/ranks.raw --format raw --nodes 3 --ledger 1 --interactive < lines > cut
   >     echo "status $?"
   >     head -c "$room" whole | cmp - cut
   > done 2>&1 | paste -d - - | sort | uniq -c
-      170 bspemu: write failed
-      170 status 6
+      215 bspemu: write failed
+      215 status 6

@@ -10,13 +10,13 @@
   refused: BadCommand
   refused: BadCommand
   $ bspemu debug examples/ranks.raw --format raw --nodes 3 --interactive < lines
-  refused: BadCommand
+  refused: BadCommand: the line is nodes, with --framed alone
   rank 0 pc 00000000 superstep 0 state running
   rank 1 pc 00000000 superstep 0 state running
   rank 2 pc 00000000 superstep 0 state running
   rank 1 pc 00000000 superstep 0 state running
-  refused: BadCommand
-  refused: BadCommand
+  refused: BadCommand: the line is output, or with --framed output [FROM]
+  refused: BadCommand: the line is costs, or with --framed costs [FROM]
   kept 0
   ok
   ok

@@ -279,7 +279,8 @@ def back_after_long(bench: Bench) -> None:
         try:
             there.go(0)
             place = run.place()
-            for way, left in ((there.step_back, 1), (there.step_back, 2), (there.step, 1), (there.step_back, 2)):
+            ways: List[Tuple[Callable[[int], halts.Halt], int]] = [(there.step_back, 1), (there.step_back, 2), (there.step, 1), (there.step_back, 2)]
+            for way, left in ways:
                 Counting.made = 0
                 way(0)
                 expect(Counting.made < place.ticks[0] // 2, f"{Counting.made} instructions are made again")

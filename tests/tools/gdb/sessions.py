@@ -2,13 +2,15 @@
 
 from __future__ import annotations
 
+import functools
 import pathlib
 import re
 import subprocess
 import threading
 from typing import Dict, List, Sequence
 
-from checks import REPO, SECONDS
+import forked
+from checks import GDB, REPO, SECONDS
 
 REGISTERS = "ra sp gp tp t0 t1 t2 fp s1 a0 a1 a2 a3 a4 a5 a6 a7 s2 s3 s4 s5 s6 s7 s8 s9 s10 s11 t3 t4 t5 t6 pc".split()
 # Has gdb show the registers of all ranks.
@@ -63,10 +65,7 @@ class Bench:
         # Without what the user has gdb do when it starts.
         words = [str(REPO / "bspgdb"), "--bspemu", self.bspemu, *options, program, "--", "-nx"]
         text = "".join(command + "\n" for command in ["set width 0", *commands])
-        done = subprocess.run(
-            words, input=text, cwd=REPO, timeout=SECONDS, check=False, stdout=subprocess.PIPE, stderr=subprocess.STDOUT, text=True
-        )
-        return done.stdout
+        return forked.run(words, text, REPO, merged=True).stdout
 
     def debug(self, program: str, commands: Sequence[str], *options: str) -> List[str]:
         """What the debugger answers to these lines."""
@@ -88,9 +87,12 @@ class Bench:
         words = [self.bspemu, "run", program, "--report", *options]
         return subprocess.run(words, capture_output=True, text=True, timeout=SECONDS, check=False)
 
+    @functools.lru_cache(maxsize=None)
     def address(self, program: str, place: str) -> int:
-        """Where gdb sets a breakpoint."""
-        found = re.search(r"reakpoint 1 at (0x[0-9a-f]+)", self.gdb(program, [f"break {place}"]))
+        """Where gdb sets a breakpoint, which it finds in the executable alone."""
+        words = [GDB.name, "-q", "-nx", "-batch", "-ex", f"break {place}", program]
+        done = subprocess.run(words, stdin=subprocess.DEVNULL, capture_output=True, text=True, cwd=REPO, timeout=SECONDS, check=False)
+        found = re.search(r"reakpoint 1 at (0x[0-9a-f]+)", done.stdout)
         if found is None:
             raise Wrong(f"no breakpoint at {place}")
         return int(found[1], 16)

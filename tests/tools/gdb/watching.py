@@ -71,6 +71,15 @@ def watch_two_ranks(bench: Bench) -> None:
 
 
 @case
+def watch_enabled(bench: Bench) -> None:
+    """What is enabled at another rank is of that rank, and a line says so."""
+    commands = ["thread 2", "watch mine.from", "disable 1", "enable 1", "disable 1", "thread 3", "enable 1", "continue"]
+    text = bench.gdb(bench.build(PROGRAM), commands, "-n", "3")
+    in_order(text, "watchpoint 1 was of rank 1, and is of rank 2 from now on; to have it back type `disable 1`, `thread 2`, `enable 1`", "New value = 2")
+    expect(text.count("from now on") == 1, text)
+
+
+@case
 def watch_loads(bench: Bench) -> None:
     """Where a variable is read, and where it is read or written: over the ends of supersteps, and only in its rank."""
     commands = ["thread 2", "rwatch seen", *["continue"] * 2, "delete", "awatch seen", *["continue"] * 2, "delete", "continue"]

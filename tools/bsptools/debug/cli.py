@@ -48,13 +48,13 @@ def arguments(words: Sequence[str]) -> argparse.Namespace:
         " every user of this host can reach; 0 is any that is free")  # fmt: skip
     parser.add_argument("--stdio", action="store_true", help="as --server, but on standard input and output, for gdb's"
         " `target remote | bspgdb --stdio ..`")  # fmt: skip
-    parser.add_argument("--lines", action="store_true", help="no gdb: the debugger's own lines, with a prompt, history, and names for"
-        " addresses; help there tells them")  # fmt: skip
+    parser.add_argument("--dialogue", "--lines", action="store_true", help="no gdb: the debugger's own lines, with a prompt, history, and names"
+        " for addresses; help there tells them. --lines is its older name")  # fmt: skip
     parser.add_argument("--bspemu", metavar="PATH", help="the emulator, if it is another than bspemu beside this")
     asked = parser.parse_args(words[:end])
     asked.gdb_options = list(words[end + 1 :])
-    if asked.lines and (asked.server or asked.stdio or asked.tcp is not None or asked.gdb_options):
-        raise Refused("--lines is without gdb: leave out --server, --tcp, --stdio and what stands behind --")
+    if asked.dialogue and (asked.server or asked.stdio or asked.tcp is not None or asked.gdb_options):
+        raise Refused("--dialogue is without gdb: leave out --server, --tcp, --stdio and what stands behind --")
     tell([f"bspgdb: {it} behind PROGRAM is an argument of the program" for it in parser.own(list(words[:end]), asked.args)])
     return asked
 
@@ -74,7 +74,7 @@ def main(words: Sequence[str]) -> int:
         check(job)
         if asked.stdio:
             bridge(command(job))
-        elif asked.lines:
+        elif asked.dialogue:
             return talk(job)
         elif asked.tcp is not None:
             server.serve(command(job), server.Loopback(asked.tcp))

@@ -10,7 +10,7 @@ from ..refusals import Refused, printable, put
 from . import showing
 from .arrivals import Asked as Question
 from .arrivals import Interrupted, Place, told
-from .lines import Asked, help_of, parsed
+from .lines import VERBS, Asked, following, help_of, parsed
 from .machine import RESERVE, Machine
 from .names import STACK, Names
 from .process import POLL
@@ -22,13 +22,23 @@ DEFAULTS = {"bytes": 16, "words": 8, "list": 8, "wrote": 4}
 MOST_SHOWN, MOST_TEXT = 1 << 16, 1 << 12
 FURTHER = "ask again {into} instructions into it: by step {rank} {into} from where it begins, to which back goes where it was kept"
 # Lines that go on for as long as the program does, and those that bring a state back.
-LONG = {"go", "phase", "step", "turn"}
+LONG = {"go", "over", "phase", "step", "turn"}
+# The bytes of an environment call, and the states of ranks that have stopped for good by one.
+CALL, OVER = 4, ("ended", "aborted")
 # How a refusal begins.
 REFUSAL = "refused: "
 # Of so many ranks it is told where they are when the run is over.
 MOST_PLACES = 16
 
-_PC = re.compile(r"\bpc ([0-9a-f]{8})\b")
+# Lines that show nothing where there is nothing, and what is told then.
+NOTHING = {
+    "kept": "none is kept",
+    "points": "none is set",
+    "areas": "none is registered",
+    "requests": "nothing is asked for in this superstep so far",
+}
+
+_ADDRESS = re.compile(r"\b(pc|at|into) ([0-9a-f]{8})\b")
 _REGISTER = re.compile(r"\$(\w+)(?:\+([0-9]+|0x[0-9a-fA-F]+))?")
 
 
@@ -46,7 +56,6 @@ class Dialogue:
         self._past: Optional[Machine] = None
         self._own: Dict[str, Callable[[Asked], Iterator[str]]] = {
             "help": lambda asked: iter(help_of("".join(asked.words))),
-            "points": self._shown_points,
             "regs": lambda asked: iter(showing.registers(self.names, self._node(asked.operands["RANK"]))),
             "bytes": self._bytes,
             "words": self._words,
@@ -90,6 +99,16 @@ class Dialogue:
             put("broken off\n")
         return True
 
+    def completing(self, words: List[str]) -> List[str]:
+        """What may stand behind the first words of a line: ranks, names of the program and registers, or words."""
+        operands: Dict[str, Callable[[], List[str]]] = {
+            "RANK": lambda: [str(rank) for rank in range(self._ranks)],
+            "ADDR": lambda: [*self.names.all(), "$pc", *(f"${name}" for name in REGISTERS)],
+            "LINE": lambda: VERBS,
+        }
+        found = [operands[it]() if it in operands else [it] if it.islower() else [] for it in following(words)]
+        return sorted({word for part in found for word in part})
+
     # The debugger's own lines.
 
     def _pass_on(self, asked: Asked) -> None:
@@ -108,8 +127,8 @@ class Dialogue:
             return
         self._note_point(asked, spelled)
         self._is_kept = self._is_kept or asked.verb == "keep"
-        for line in reply.lines or (["none is kept"] if asked.verb == "kept" else []):
-            _tell(self._with_place(line))
+        for line in reply.lines or [NOTHING[asked.verb]] * (asked.verb in NOTHING):
+            _tell(self._with_names(line))
         if asked.verb in ("go", "turn") and reply.lines[0] != "not turned" and reply.lines[0] != "turned":
             self._tell_outcome(reply.lines[0])
         elif asked.verb == "back":
@@ -139,13 +158,6 @@ class Dialogue:
         elif asked.verb == "clear":
             self._points.discard(point)
 
-    def _shown_points(self, _: Asked) -> Iterator[str]:
-        for point in sorted(self._points):
-            rank, addr = point.split()
-            yield point if rank == "superstep" else f"rank {rank} pc {showing.behind(self.names, int(addr))}"
-        if not self._points:
-            yield "none is set"
-
     def _tell_outcome(self, line: str) -> None:
         """Says once where the ranks are at the end of the run, where that is not that all have ended."""
         if told(line) == told("ended") or self._is_told or line.startswith("stopped at "):
@@ -154,9 +166,9 @@ class Dialogue:
         lines = list(self._where(Asked("where", {}, [])))
         _tell(*lines[:MOST_PLACES], *([f"and {len(lines) - MOST_PLACES} ranks more: where"] if len(lines) > MOST_PLACES else []))
 
-    def _with_place(self, line: str) -> str:
-        """A line in which ranks are told to be somewhere, with the name of that."""
-        return _PC.sub(lambda found: f"pc {showing.behind(self.names, int(found[1], 16))}", line)
+    def _with_names(self, line: str) -> str:
+        """A line with the names of the addresses that it tells."""
+        return _ADDRESS.sub(lambda found: f"{found[1]} {showing.behind(self.names, int(found[2], 16))}", line)
 
     def _why(self, refusal: str) -> str:
         """What would be accepted where the debugger refuses a line."""
@@ -193,9 +205,9 @@ class Dialogue:
 
     def _memory(self, rank: int, addr: int, count: int) -> bytes:
         """Bytes of a rank; those that come before the memory's end."""
-        count = min(count, self._size - addr)
-        if count <= 0:
+        if addr >= self._size:
             raise Refused(f"refused: BadRange: there is nothing at {addr:#x}: a rank's memory ends at {self._size:#x}")
+        count = min(count, self._size - addr)
         return bytes.fromhex(" ".join(self._session.ask(f"bytes {rank} {addr} {count}").accepted()))
 
     def _shown(self, asked: Asked, unit: int) -> bytes:
@@ -203,7 +215,7 @@ class Dialogue:
         count = asked.operands.get("N", DEFAULTS[asked.verb])
         if count * unit > MOST_SHOWN:
             raise Refused(f"refused: BadRange: {MOST_SHOWN // unit} are the most that are shown at once")
-        return self._memory(asked.operands["RANK"], asked.operands["ADDR"], count * unit) if count else b""
+        return self._memory(asked.operands["RANK"], asked.operands["ADDR"], count * unit)
 
     def _bytes(self, asked: Asked) -> Iterator[str]:
         yield from showing.hexadecimal(self.names, asked.operands["ADDR"], self._shown(asked, 1))
@@ -213,7 +225,7 @@ class Dialogue:
 
     def _text(self, asked: Asked) -> Iterator[str]:
         count = min(asked.operands.get("N", MOST_TEXT), MOST_TEXT)
-        yield showing.text(self._memory(asked.operands["RANK"], asked.operands["ADDR"], count) if count else b"", "N" not in asked.operands)
+        yield showing.text(self._memory(asked.operands["RANK"], asked.operands["ADDR"], count), "N" not in asked.operands)
 
     def _list(self, asked: Asked) -> Iterator[str]:
         node = self._node(asked.operands["RANK"])
@@ -227,8 +239,11 @@ class Dialogue:
         for line in self._session.ask("where" if rank is None else f"where {rank}").accepted():
             node = self._node(int(line.split()[1]))
             stack = self._memory(node.rank, node.x[2], STACK) if node.x[2] < self._size else b""
-            place = self.names.place(node._replace(stack=stack))
-            yield self._with_place(line) + ("" if place.startswith("pc ") else f": {place}")
+            # Behind the call by which it has stopped there may be another function.
+            call = node.pc - CALL if node.state in ("synced", *OVER) else node.pc
+            place = self.names.place(node._replace(pc=call, stack=stack))
+            told = f"{line} by the call at {showing.behind(self.names, call)}" if node.state in OVER else self._with_names(line)
+            yield told + ("" if place.startswith("pc ") else f": {place}")
 
     # What there was.
 
@@ -263,6 +278,6 @@ def _tell(*lines: str) -> None:
 def _spelled(asked: Asked) -> str:
     """A line as the debugger takes it."""
     operands: List[object] = [*asked.words, *asked.operands.values()]
-    if asked.verb == "step" and "COUNT" not in asked.operands:
+    if asked.verb == "step" and asked.operands and "COUNT" not in asked.operands:
         operands.append(1)
     return " ".join(map(str, [asked.verb, *operands]))

@@ -16,6 +16,8 @@ LINES = {
     "points": "the points that are set",
     "go": "goes on to a point or to the outcome",
     "step RANK [COUNT]": "so many instructions of a rank, or one",
+    "step": "the next instruction of all: that of the lowest rank that runs",
+    "over RANK": "an instruction of a rank, with all of a function that it calls",
     "phase": "every rank goes on until it stops by itself",
     "turn": "ends the superstep, if no rank runs any more",
     "where [RANK]": "where the ranks are, or one",
@@ -24,6 +26,8 @@ LINES = {
     "bytes RANK ADDR [N]": "N bytes, or 16",
     "words RANK ADDR [N]": "N words, or 8",
     "text RANK ADDR [N]": "the text there, up to its end or to N bytes",
+    "areas RANK": "the areas that a rank has registered",
+    "requests RANK": "what a rank has asked for in this superstep",
     "queue RANK": "the messages that a rank has received and not moved yet",
     "wrote RANK ADDR [N]": "who wrote each of N bytes last, or of 4",
     "sent [K]": "the requests of superstep K, or of this one so far: the first 256",
@@ -122,6 +126,26 @@ def _value(name: str, word: str, rank: int, ranks: int, address: Reader) -> int:
     if name == "RANK" and value >= ranks:
         raise NoRank(f"there is no rank {value}: the ranks are 0 to {ranks - 1}")
     return value
+
+
+def following(words: Sequence[str]) -> List[str]:
+    """What may stand behind the first words of a line: words, and operands in capitals."""
+    if not words:
+        return VERBS
+    found: List[str] = []
+    for usage in LINES:
+        verb, *rest = usage.split()
+        names = [it.strip("[]") for it in rest]
+        if verb == words[0] and len(words) <= len(names) and all(map(_may_be, names, words[1:])):
+            found.append(names[len(words) - 1])
+    return found
+
+
+def _may_be(name: str, word: str) -> bool:
+    """Whether a word may stand where a line has this one, or this operand."""
+    if name.islower():
+        return name == word
+    return name in ("ADDR", "LINE") or word[0].isdigit()
 
 
 def help_of(verb: str) -> List[str]:

@@ -8,7 +8,6 @@ from typing import Callable, List, Optional, Sequence
 
 from ..refusals import put, tell
 from .dialogue import Dialogue
-from .lines import VERBS
 
 PROMPT = "(bsp) "
 
@@ -52,7 +51,7 @@ def talk(command: Sequence[str]) -> None:
     dialogue = Dialogue(command, interrupts.ask)
     try:
         if sys.stdin.isatty():
-            complete(lambda: [*VERBS, *dialogue.names.all()])
+            complete(dialogue.completing)
             tell(["the lines of the debugger; help tells which, and Ctrl-D ends it"], "bspgdb: ")
         while True:
             line = interrupts.typed()
@@ -62,16 +61,21 @@ def talk(command: Sequence[str]) -> None:
         dialogue.close()
 
 
-def complete(words: Callable[[], List[str]]) -> None:
-    """Has the beginning of a line's word, or of a name, completed by Tab, and lines edited and brought back by the arrows."""
+def complete(completing: Callable[[List[str]], List[str]]) -> None:
+    """Has a word completed by Tab, as it may stand behind those before it, and lines edited and brought back by the arrows."""
     try:
         import readline
     except ImportError:
         return
 
     def found(text: str, state: int) -> Optional[str]:
-        matching = [it for it in words() if it.startswith(text)]
+        if state == 0:
+            before = readline.get_line_buffer()[: readline.get_begidx()]
+            # Behind a name and `+` there is a number.
+            matching[:] = [it for it in completing(before.split()) if it.startswith(text)] if not before.endswith("+") else []
         return matching[state] if state < len(matching) else None
+
+    matching: List[str] = []
 
     readline.set_completer_delims(" +")
     readline.set_completer(found)

@@ -10,7 +10,7 @@ from typing import Callable, Iterable, List, Optional, Sequence, Set
 from ..debugger import ALL, Node
 from ..refusals import Refused
 from . import words
-from .arrivals import Arrival, AtRank, AtSuperstep, BrokenOff, Interrupted, Over, Point
+from .arrivals import Arrival, AtRank, AtSuperstep, BrokenOff, Interrupted, Over, Place, Point
 from .calls import Awaited, addresses_of
 from .halts import Exit, Halt, Stop, halt_of_outcome
 from .history import BEGIN, Goal, History, Hit
@@ -67,6 +67,7 @@ class Runner:
     def go(self, current: int) -> Halt:
         """All ranks go on, in the debugger's order. A stop that is at no rank is told at the current one."""
         self._deadline = None
+        self.watches.resume()
         count = 1
         while self.watches.all:
             halt = self._go_watching(current)
@@ -82,6 +83,7 @@ class Runner:
     def go_alone(self, rank: int) -> Halt:
         """A rank goes on by itself. Where it has stopped by itself, the others go on to the end of the superstep, and then it again."""
         self._deadline = None
+        self.watches.resume()
         while True:
             nodes = self.machine.nodes()
             if nodes[rank].runs and self.watches.of(rank):
@@ -96,6 +98,7 @@ class Runner:
     def step(self, rank: int) -> Halt:
         """A rank makes an instruction; before that, where it has stopped by itself, the others go on, and the turn is made."""
         self._deadline = None
+        self.watches.resume()
         while not self.machine.node(rank).runs:
             halt = self._go_watching(rank)
             if halt is not None:
@@ -122,24 +125,42 @@ class Runner:
             if self.is_interrupted():
                 return Stop(rank, words.INTERRUPTED)
 
-    def step_back(self, rank: int) -> Halt:
-        """A rank goes an instruction back, and where it has made none in this superstep, all go back over the turn."""
-        before = self.watches.contents()
+    def step_back(self, rank: int, is_over: bool = False) -> Halt:
+        """A rank goes an instruction back, and where it has made none in this superstep, all go back over the turn.
+
+        Where that changes bytes of this rank which are watched, it goes none: gdb wants to know of it before, and takes that back by a step.
+        But `is_over` says that gdb only steps over a breakpoint, from which it then looks further back.
+        """
+        self.watches.resume()
+        before = {} if is_over else self.watches.contents(rank)
         try:
+            place = self.machine.place()
             is_begin = not self._history.step_back(rank)
-            return Stop(rank, words.TRAP, is_begin=is_begin, watch=None if is_begin else self.watches.changed(before))
+            watch = None if is_begin or self.watches.passed is not None else self.watches.changed(before)
+            if watch is not None:
+                self.watches.stay_at(place, watch)
+            return Stop(rank, words.TRAP, is_begin=is_begin, watch=watch)
         except (Interrupted, Refused) as fault:
             return self._stay(rank, fault)
 
-    def go_back(self, rank: Optional[int], current: int) -> Halt:
-        """All ranks go back, or one alone, to the last breakpoint, the last beginning of a superstep that is wanted, or the start."""
+    def go_back(self, rank: Optional[int], current: int, begun: Optional[Place] = None) -> Halt:
+        """All ranks go back, or one alone, to the last breakpoint, the last beginning of a superstep that is wanted, the last write of what
+        is watched, or the start.
+
+        One alone stops for what it has come to itself, and for what is watched of its own bytes. `begun` is from where, if that is not from
+        where they stand.
+        """
+        self.watches.resume()
         self._tell_of_reads()
         try:
-            if self.watches.met is not None and self.watches.met == self.machine.place():
+            if begun is not None:
+                self.machine.restart_at(begun)
+            elif self.watches.passed is not None:
                 self._history.step_back(current)
             addresses = frozenset([*self.breakpoints, *addresses_of(self.calls)])
             hit = self._history.last(Goal(addresses, frozenset(self.supersteps), rank, self._stops_at))
-            written = last_written(self.machine, self.names, self.watches.all, self.is_interrupted)
+            watched = self.watches.all if rank is None else self.watches.of(rank)
+            written = last_written(self.machine, self.names, watched, self.is_interrupted)
             if written is not None and written.is_behind(hit):
                 return self._go_back_to(written, rank)
             self._history.go_to(hit, rank)
@@ -168,8 +189,9 @@ class Runner:
         elif written.watch is not None:
             hit = hit._replace(ticks=hit.ticks + 1)
         self._history.go_to(hit, None if hit.rank == BEGIN else alone)
-        self.watches.met = self.machine.place() if written.watch is not None else None
-        if written.watch is None:
+        if written.watch is not None:
+            self.watches.meet()
+        else:
             self.show(b"bspgdb: what is watched was not written from here on; reverse-continue looks further back\n")
         return Stop(written.hit.rank, words.TRAP if written.watch else words.NONE, watch=written.watch)
 

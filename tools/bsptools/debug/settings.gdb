@@ -16,10 +16,42 @@ define target hookpost-remote
 set scheduler-locking step
 end
 
-# As it goes back, gdb does not say which rank it looks at, unless it has just read something there.
+# As it goes back, gdb does not say which rank it looks at, unless it has just read something there. And so the bridge is told that a command
+# begins: what gdb took away before that, it has not taken away for it.
 define hook-reverse-continue
 if $_thread && *(char *)0
 end
+end
+define hook-reverse-stepi
+if $_thread && *(char *)0
+end
+end
+define hook-reverse-step
+if $_thread && *(char *)0
+end
+end
+define hook-reverse-next
+if $_thread && *(char *)0
+end
+end
+define hook-reverse-nexti
+if $_thread && *(char *)0
+end
+end
+define hook-reverse-finish
+if $_thread && *(char *)0
+end
+end
+
+# gdb would start the program on this host, which cannot run it. What fails here, keeps the command from being made.
+define hook-run
+refuse the program is not run anew: continue goes on, and reverse-continue back to the start; after its end start bspgdb again
+end
+define hook-start
+refuse the program has been started: break main, and continue, stops there; after its end start bspgdb again
+end
+define hook-starti
+refuse the program has been started: reverse-continue goes back to the start; after its end start bspgdb again
 end
 
 define wrote
@@ -81,6 +113,18 @@ class Returning(gdb.unwinder.Unwinder):
 
 gdb.unwinder.register_unwinder(None, Returning(), replace=True)
 
+class Refuse(gdb.Command):
+    """Fails with a line."""
+
+    def __init__(self):
+        super().__init__("refuse", gdb.COMMAND_RUNNING)
+
+    def invoke(self, text, _is_at_terminal):
+        raise gdb.GdbError("bspgdb: " + text)
+
+
+Refuse()
+
 WATCHES = (gdb.BP_HARDWARE_WATCHPOINT, gdb.BP_READ_WATCHPOINT, gdb.BP_ACCESS_WATCHPOINT)
 
 
@@ -96,7 +140,23 @@ def watch_on(_stop):
 
 gdb.events.stop.connect(watch_on)
 
+
+def forget_registers(_stop):
+    """gdb takes it that what was not resumed has the registers that it had. Where one rank goes over the end of a superstep by itself, the
+    others do, too."""
+    for command in ("maint flush register-cache", "flushregs"):
+        try:
+            gdb.execute(command, to_string=True)
+            return
+        except gdb.error:
+            pass
+
+
+gdb.events.stop.connect(forget_registers)
+
 WATCHED = {}
+# The rank of each, and whether it is enabled.
+RANKS = {}
 
 
 def watch_begins(watch):
@@ -113,11 +173,26 @@ def watch_begins(watch):
     except gdb.error:
         return
     there = {it.number for it in gdb.breakpoints()}
+    RANKS[watch.number] = (thread.num - 1 if thread else 0, True)
     WATCHED[watch.number] = (watch.type, address, place.type.target().sizeof)
     if any(WATCHED[it] == WATCHED[watch.number] for it in WATCHED if it in there and it != watch.number):
         print("bspgdb: this is watched already, and stays of the rank for which it was typed first: for a second rank type awatch")
 
 
+def watch_changes(watch):
+    """What is enabled is watched in the rank that is looked at then: a line says where it was of another one."""
+    if watch.number not in RANKS or not gdb.selected_thread():
+        return
+    rank, was_enabled = RANKS[watch.number]
+    here = gdb.selected_thread().num - 1
+    RANKS[watch.number] = (here if watch.enabled and not was_enabled else rank, watch.enabled)
+    if RANKS[watch.number][0] != rank:
+        number = watch.number
+        print("bspgdb: watchpoint %d was of rank %d, and is of rank %d from now on; " % (number, rank, here), end="")
+        print("to have it back type `disable %d`, `thread %d`, `enable %d`" % (number, rank + 1, number))
+
+
 if hasattr(gdb.events, "breakpoint_created"):
     gdb.events.breakpoint_created.connect(watch_begins)
+    gdb.events.breakpoint_modified.connect(watch_changes)
 end

@@ -12,6 +12,7 @@ from .calls import addresses_of
 from .halts import Exit, Halt, Stop
 from .machine import MOST_BREAKPOINTS, Machine
 from .monitor import Monitor
+from .over import Over
 from .packets import INTERRUPT, PACKET_SIZE, Closed, Connection, escape, hexadecimal
 from .runner import Runner
 from .watches import KINDS, Watch
@@ -53,6 +54,7 @@ class Stub:
         # Whether the last stop is that bytes were met which are watched, and those that are taken away for a step past that.
         self._is_met = False
         self._passed: List[Watch] = []
+        self._over = Over()
         self._is_over = False
         self._interrupted_at: Optional[float] = None
         self._exact = self._answers_to_words()
@@ -119,6 +121,8 @@ class Stub:
             self._connection.send(self._answer(packet.decode("latin-1")))
 
     def _answer(self, packet: str) -> bytes:
+        if packet not in ("bs", "bc"):
+            self._over.note(packet)
         try:
             if packet in self._exact:
                 return self._exact[packet]("")
@@ -213,11 +217,14 @@ class Stub:
         if len({addr, *self._runner.breakpoints, *addresses_of(self._runner.calls)}) > MOST_BREAKPOINTS:
             return b"E.too many breakpoints"
         self._runner.breakpoints.add(addr)
+        self._over.put_in(addr)
         self._is_hardware[addr] = is_hardware
         return OK
 
     def _remove_breakpoint(self, text: str) -> bytes:
-        self._runner.breakpoints.discard(numbers.address(text.split(",")[0]))
+        addr = numbers.address(text.split(",")[0])
+        self._runner.breakpoints.discard(addr)
+        self._over.take_away(addr)
         return OK
 
     def _add_watch(self, text: str, kind: str) -> bytes:
@@ -290,13 +297,18 @@ class Stub:
     def _step_back(self, _: str) -> bytes:
         self._forget_passed()
         rank = self._current if self._resumed is None else self._resumed
-        return self._tell(Stop(rank, words.INTERRUPTED) if self._is_interrupted_late() else self._runner.step_back(rank))
+        if self._is_interrupted_late():
+            return self._tell(Stop(rank, words.INTERRUPTED))
+        is_over = self._over.is_begun_at(self._machine.node(rank).pc, self._machine.place())
+        return self._tell(self._runner.step_back(rank, is_over))
 
     def _go_back(self, _: str) -> bytes:
         """All ranks go back, or that which an old `c` would resume."""
         self._forget_passed()
-        is_late = self._is_interrupted_late()
-        return self._tell(Stop(self._current, words.INTERRUPTED) if is_late else self._runner.go_back(self._resumed, self._current))
+        begun = self._over.end()
+        if self._is_interrupted_late():
+            return self._tell(Stop(self._current, words.INTERRUPTED))
+        return self._tell(self._runner.go_back(self._resumed, self._current, begun))
 
     def _is_interrupted_late(self) -> bool:
         """Whether an interrupt has come just after a stop was told, behind which gdb goes on by itself."""

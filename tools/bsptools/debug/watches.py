@@ -2,9 +2,10 @@
 
 from __future__ import annotations
 
+import contextlib
 from typing import Callable, Dict, List, NamedTuple, Optional, Sequence, Tuple, Union
 
-from ..debugger import BATCH, Node, Shown
+from ..debugger import ALL, BATCH, Node, Shown
 from .arrivals import Asked, Place, never
 from .history import Hit
 from .machine import Machine
@@ -41,16 +42,28 @@ class Watches:
     def __init__(self, machine: Machine) -> None:
         self._machine = machine
         self.all: List[Watch] = []
-        # Where a rank stood when it was told that its next instruction, or its last on the way back, meets some.
-        self.met: Optional[Place] = None
+        # Where a rank stood when it was told last that its next instruction, or its last on the way back, meets some; and where it goes on
+        # past that, as it is there that it was told.
+        self._met: Optional[Place] = None
+        self.passed: Optional[Place] = None
+
+    def resume(self) -> None:
+        """To be called before anything goes on: what was told last, here, is not told again."""
+        self.passed = self._met if self._met is not None and self._met == self._machine.place() else None
+        self._met = None
+
+    def meet(self) -> None:
+        """It is told that some are met where the machine stands."""
+        self._met = self._machine.place()
 
     def of(self, rank: int) -> List[Watch]:
         """Those of a rank."""
         return [it for it in self.all if it.rank == rank]
 
-    def contents(self) -> Dict[Watch, bytes]:
-        """What the bytes are that stop where they change."""
-        return {it: self._machine.memory(it.rank, it.addr, it.length) for it in self.all if it.kind != "rwatch"}
+    def contents(self, rank: Optional[int] = None) -> Dict[Watch, bytes]:
+        """What the bytes are that stop where they change, of all ranks or of one."""
+        watches = self.all if rank is None else self.of(rank)
+        return {it: self._machine.memory(it.rank, it.addr, it.length) for it in watches if it.kind != "rwatch"}
 
     def changed(self, before: Dict[Watch, bytes]) -> Optional[Watch]:
         """The first of which the bytes are not those any more."""
@@ -61,7 +74,7 @@ class Watches:
         """A rank makes an instruction; or none, if it would have access to watched bytes, which are answered."""
         reader, node, place = Reader(self._machine, rank, self.of(rank)), self._machine.node(rank), self._machine.place()
         watch = reader.met(node, self._machine.trail(rank, 1)[0])
-        return None if watch is None or self.met == place else self._stay_at(place, watch)
+        return None if watch is None or self.passed == place else self.stay_at(place, watch)
 
     def follow(self, rank: int, is_stop: Callable[[Shown], bool], must_break_off: Asked) -> Optional[Watch]:
         """A rank goes on by itself: to before an access to bytes that are watched, which are answered; to a stop; to where it stops by
@@ -76,8 +89,8 @@ class Watches:
             trail = self._machine.trail(rank, BATCH // 2)
             for number, after in enumerate(trail, 1):
                 watch = reader.met(before, after)
-                if watch is not None and (number > 1 or place != self.met):
-                    return self._stay_at(_later(place, rank, number - 1), watch)
+                if watch is not None and (number > 1 or place != self.passed):
+                    return self.stay_at(_later(place, rank, number - 1), watch)
                 if after.runs and is_stop(after):
                     if number < len(trail):
                         self._machine.restart_at(_later(place, rank, number))
@@ -85,10 +98,10 @@ class Watches:
                 before = after
         return None
 
-    def _stay_at(self, place: Place, watch: Watch) -> Watch:
+    def stay_at(self, place: Place, watch: Watch) -> Watch:
         """The machine stands at a place, from where these bytes are met."""
         self._machine.restart_at(place)
-        self.met = place
+        self._met = place
         return watch
 
 
@@ -122,14 +135,30 @@ def last_written(machine: Machine, names: Names, watches: Sequence[Watch], must_
 
 
 def _last_of(machine: Machine, names: Names, watch: Watch, must_break_off: Asked) -> Optional[Written]:
-    found = Search(machine, names, machine.place(), watch.rank, must_break_off).find(watch.addr, watch.length, is_any_enough=True)
-    places = [
-        Written(Hit(it.superstep, watch.rank, it.node.ticks if isinstance(it, Own) else 0), isinstance(it, Made), watch)
-        for it in found.writers.values()
-    ]
-    if places:
-        return max(places, key=Written.key)
-    return None if found.is_whole else Written(Hit(found.superstep, watch.rank, found.ticks), False, None)
+    """The last time for one of them. An exchange that has written what stood there is none: gdb would see no change, and would have gone back
+    over the exchange with this rank before those that come first."""
+    place = machine.place()
+    while True:
+        found = Search(machine, names, place, watch.rank, must_break_off).find(watch.addr, watch.length, is_any_enough=True)
+        places = [
+            Written(Hit(it.superstep, watch.rank, it.node.ticks if isinstance(it, Own) else 0), isinstance(it, Made), watch)
+            for it in found.writers.values()
+        ]
+        if not places:
+            return None if found.is_whole else Written(Hit(found.superstep, watch.rank, found.ticks), False, None)
+        latest = max(places, key=Written.key)
+        superstep = latest.hit.superstep
+        if not latest.is_landing or _is_changed_at_end(machine, watch, superstep, must_break_off):
+            return latest
+        place = Place(superstep, machine.begin_of(superstep + 1, must_break_off), False)
+
+
+def _is_changed_at_end(machine: Machine, watch: Watch, superstep: int, must_break_off: Asked) -> bool:
+    """Whether the exchange at the end of a superstep changes the bytes."""
+    with contextlib.closing(machine.at(Place(superstep, (ALL,) * machine.ranks, False), must_break_off)) as there:
+        before = there.memory(watch.rank, watch.addr, watch.length)
+        there.turn()
+        return there.memory(watch.rank, watch.addr, watch.length) != before
 
 
 class Reader:

@@ -8,7 +8,6 @@ import pathlib
 import signal
 import subprocess
 import sys
-import traceback
 
 from . import children, packages, streams
 from .refusals import BUG, BY_SIGNAL, REFUSED, Refused, put, tell
@@ -57,8 +56,10 @@ def main(name: str, words: list[str]) -> int:
         streams.drop_output()
         return REFUSED
     except Exception as error:  # pylint: disable=broad-except
+        import traceback
+
         last = traceback.extract_tb(error.__traceback__)[-1]
-        where = f"{os.path.relpath(last.filename, FOLDER)}:{last.lineno}"
+        where = f"{os.path.relpath(FOLDER / last.filename, FOLDER)}:{last.lineno}"
         what = " ".join(f"{type(error).__name__}: {error}".split())
         tell([f"{name}: this is a mistake of {name} itself, at {where}: {what}; CONTRIBUTING.md says how to report it"])
         return BUG

@@ -5,12 +5,10 @@ from __future__ import annotations
 import argparse
 import os
 import pathlib
-import shlex
 import shutil
 import sys
 from collections.abc import Callable
-from dataclasses import dataclass
-from typing import TYPE_CHECKING
+from typing import TYPE_CHECKING, NamedTuple
 
 from .. import elf, emulator
 from ..files import content_of
@@ -19,7 +17,6 @@ from ..options import Parser
 from ..refusals import Refused, about, tell
 from . import records, sizes
 from .block import MAGIC, block
-from .choices import MAGIC as CHOICES
 from .clock import timed
 from .compiling import compiled, take_sources
 from .given import TOO_LONG, given_files
@@ -36,8 +33,7 @@ READ_INPUT = {"scanf", "vscanf", "getchar", "_ZSt3cin"}
 OPEN = "open"
 
 
-@dataclass
-class Job:
+class Job(NamedTuple):
     """A program that is ready to run: the words that start the emulator, the settings behind its verb, the file that is run and its kind,
     what is known of its code, the bytes of the image, what stands before all in its output that is none, and whether standard input had
     something for it."""
@@ -97,8 +93,8 @@ def prepared(
         image = folder / "program.elf"
         tell(compiled(options, image))
         content, kind = content_of(image, MOST_PROGRAM), "elf"
-    elif getattr(options, "portable", False) and CHOICES not in content:
-        raise Refused(f"{options.program} takes no choices, as --portable makes: give a program in C, or what bspcc --portable built")
+    elif getattr(options, "portable", False):
+        expect_choices(options.program, content)
     if kind == "asm":
         code = read_text(emulate, str(image), content, folder)
     elif kind == "raw":
@@ -128,6 +124,14 @@ def prepared(
     if mark:
         job.set(0, options.fill)
     return job
+
+
+def expect_choices(name: str, content: bytes) -> None:
+    """Refuses an image that takes no choices."""
+    from .choices import MAGIC as CHOICES
+
+    if CHOICES not in content:
+        raise Refused(f"{name} takes no choices, as --portable makes: give a program in C, or what bspcc --portable built")
 
 
 def is_text(path: pathlib.Path) -> bool:
@@ -187,6 +191,8 @@ def words_of(job: Job, parser: Parser) -> list[str]:
 
 def gdb_line(job: Job, parser: Parser, commands: list[str]) -> str:
     """The command line of bspgdb that comes to a place by these commands of gdb."""
+    import shlex
+
     tool = os.path.join(".", os.path.relpath(emulator.program("bspgdb")))
     tool = tool if not tool.startswith("./..") else shutil.which("bspgdb") and "bspgdb" or emulator.program("bspgdb")
     return shlex.join([tool, *words_of(job, parser), "--", *(it for command in commands for it in ("-ex", command))])

@@ -26,24 +26,24 @@ from .job import Job
 from .notes import LONG, SHORT, Note, Teller, note_of
 from .parting import Marks
 
+# Expressions that a run of an executable does not want are compiled where they are looked for.
 # What has no words of a program in it, and a `long` that is none here, since it has 64 bits or a point.
-LEFT_OUT = re.compile(r'//[^\n]*|/\*.*?\*/|"(?:\\.|[^"\\\n])*"|\'(?:\\.|[^\'\\\n])\'', re.DOTALL)
-OTHERS = re.compile(r"\blong(?:\s+(?:unsigned|signed|int))*\s+(?:long|double)\b")
+LEFT_OUT = r'(?s)//[^\n]*|/\*.*?\*/|"(?:\\.|[^"\\\n])*"|\'(?:\\.|[^\'\\\n])\''
+OTHERS = r"\blong(?:\s+(?:unsigned|signed|int))*\s+(?:long|double)\b"
 # What makes a `long`, or what is one elsewhere: types, numbers, and functions of C and POSIX.
-LONGS = re.compile(
+LONGS = (
     r"\blong\b|\b(?:0[xX][\da-fA-F]+|\d+)(?:[uU]?[lL]|[lL][uU])\b|\bU?LONG_M(?:AX|IN)\b"
     r"|\b(?:s?size|ptrdiff|intptr|off|time|clock|int_fast16|int_fast32)_t\b"
     r"|\b(?:atol|strtoul?|labs|ldiv|ftello?|random|[lmnj]rand48|lrintf?|lroundf?|clock|time)\s*\("
 )
-INCLUDED = re.compile(r'^[ \t]*#[ \t]*include[ \t]*["<]([^">\n]+)[">]', re.MULTILINE)
+INCLUDED = r'(?m)^[ \t]*#[ \t]*include[ \t]*["<]([^">\n]+)[">]'
 MOST_SOURCES = 1000
 # The tables of bspcc --check=long: a text, a type, and a place with the types of the values there, of which a number with a point that becomes
 # a whole one is the first.
-TEXT = re.compile(r'^(\.LC\d+):\n\t\.string\t"(.*)"$', re.MULTILINE)
-TYPE = re.compile(r"^(\.Lubsan_type\d+):\n\t\.half\t(\d+)\n\t\.half\t\d+\n\t\.string\t\"'(.*)'\"$", re.MULTILINE)
-PLACE = re.compile(
-    r"^\.Lubsan_data\d+:\n\t\.dword\t(\.LC\d+)\n\t\.word\t(\d+)\n\t\.word\t(\d+)\n\t\.dword\t(\.Lubsan_type\d+)(?:\n\t\.dword\t(\.Lubsan_type\d+))?",
-    re.MULTILINE,
+TEXT = r'(?m)^(\.LC\d+):\n\t\.string\t"(.*)"$'
+TYPE = r"(?m)^(\.Lubsan_type\d+):\n\t\.half\t(\d+)\n\t\.half\t\d+\n\t\.string\t\"'(.*)'\"$"
+PLACE = (
+    r"(?m)^\.Lubsan_data\d+:\n\t\.dword\t(\.LC\d+)\n\t\.word\t(\d+)\n\t\.word\t(\d+)\n\t\.dword\t(\.Lubsan_type\d+)(?:\n\t\.dword\t(\.Lubsan_type\d+))?"
 )
 WHOLE, LONG_TYPES = "0", ("long int", "long unsigned int")
 # For how long this may go on behind the run, and how many times as long where the host is busy; and in how many threads, since what looks
@@ -58,7 +58,7 @@ CHUNK = 1 << 16
 
 def has_longs(text: str) -> bool:
     """Whether a text in C may compute in a type that has 32 bits here and 64 elsewhere."""
-    return LONGS.search(OTHERS.sub("", LEFT_OUT.sub(" ", text))) is not None
+    return re.search(LONGS, re.sub(OTHERS, "", re.sub(LEFT_OUT, " ", text))) is not None
 
 
 def texts(sources: list[str], folders: list[str]) -> Iterator[str]:
@@ -70,7 +70,7 @@ def texts(sources: list[str], folders: list[str]) -> Iterator[str]:
         with contextlib.suppress(OSError):
             text = pathlib.Path(path).read_text(encoding="utf-8", errors="replace")
             yield text
-            named = [os.path.abspath(os.path.join(it, name)) for name in INCLUDED.findall(text) for it in (os.path.dirname(path), *folders)]
+            named = [os.path.abspath(os.path.join(it, name)) for name in re.findall(INCLUDED, text) for it in (os.path.dirname(path), *folders)]
             more = [it for it in dict.fromkeys(named) if it not in seen and os.path.isfile(it)]
             seen.update(more)
             left += more
@@ -93,10 +93,10 @@ Place = Tuple[str, int, int]
 
 def long_places(tables: str) -> dict[Place, str]:
     """Where a value of one source has 32 bits here and 64 elsewhere: path, line and column, and the type."""
-    paths = {name: unescaped(text) for name, text in TEXT.findall(tables)}
-    types = {name: spelled for name, kind, spelled in TYPE.findall(tables) if kind == WHOLE}
+    paths = {name: unescaped(text) for name, text in re.findall(TEXT, tables)}
+    types = {name: spelled for name, kind, spelled in re.findall(TYPE, tables) if kind == WHOLE}
     found = {}
-    for text, line, column, *names in PLACE.findall(tables):
+    for text, line, column, *names in re.findall(PLACE, tables):
         spelled = next((types[it] for it in names if it in types), "")
         if spelled in LONG_TYPES and text in paths:
             found[paths[text], int(line), int(column)] = spelled
@@ -244,7 +244,7 @@ class Beside:
         for kind, piece in self._marks.take(content) if self._marks is not None else ():
             record = records.record_of(kind, piece) if kind == records.NOTE else None
             note = note_of(record) if record is not None else None
-            found = SHORT.fullmatch(note.text) if note is not None and note.what == LONG else None
+            found = re.fullmatch(SHORT, note.text) if note is not None and note.what == LONG else None
             if note is not None and found and (spelled := self._places.get((found[1], note.one, note.other))):
                 self.notes.append(note._replace(text=f"{note.text[:found.start(4)]}{spelled}{note.text[found.end(4):]}"))
 

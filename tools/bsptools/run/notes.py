@@ -17,7 +17,7 @@ from .records import Record
 REFUSED, ABSENT, UNWRITTEN, LOST, PENDING, EMPTY, CLOCK, STATUS, READ, LONG = "m", "r", "w", "l", "p", "i", "c", "s", "d", "o"
 MOST_TOLD = 10
 # What does not fit into a `long`: path, line, and what it is of which type.
-SHORT = re.compile(r"(.*):(\d+): (.*'(.*)', which has 32 bits here)", re.DOTALL)
+SHORT = r"(?s)(.*):(\d+): (.*'(.*)', which has 32 bits here)"
 _HEAD = struct.Struct("<5I")
 
 
@@ -35,7 +35,7 @@ class Note(NamedTuple):
     @property
     def kind(self) -> tuple[str, int, str]:
         """What notes have in common that are told once."""
-        found = SHORT.fullmatch(self.text) if self.what == LONG else None
+        found = re.fullmatch(SHORT, self.text) if self.what == LONG else None
         text = "" if self.what == READ else f"{found[1]}:{found[2]}" if found else self.text
         return self.what, self.place if self.what in (REFUSED, PENDING) else 0, text
 
@@ -132,6 +132,6 @@ class Teller:
 
 def too_short(note: Note) -> str:
     """What does not fit into a `long`, and what to write."""
-    found = SHORT.fullmatch(note.text)
+    found = re.fullmatch(SHORT, note.text)
     where = f"{pathlib.PurePath(found[1]).name}:{found[2]}: {found[3]}" if found else note.text
     return f"{where}: write " + ("uint64_t or unsigned long long" if found and "unsigned" in found[4] else "int64_t or long long")

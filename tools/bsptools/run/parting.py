@@ -2,7 +2,6 @@
 
 from __future__ import annotations
 
-import hashlib
 import struct
 from collections.abc import Iterator
 
@@ -28,6 +27,9 @@ def marked(image: bytes, given: bytes) -> tuple[bytes, bytes]:
     if image.count(empty) != 1:
         return image, b""
     at = image.index(empty) + len(PLACE)
+    # Loaded here, since most of a short run is its start.
+    import hashlib
+
     mark = hashlib.sha256(image + given).digest()[: MARK_BYTES - 1]
     return image[:at] + FRONT.pack(MARK_BYTES + COUNT.size, mark + bytes([ERROR])) + image[at + FRONT.size :], mark
 

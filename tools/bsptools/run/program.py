@@ -8,7 +8,6 @@ import re
 import struct
 import subprocess
 from collections.abc import Iterable, Iterator
-from dataclasses import dataclass, field
 from typing import Any, NamedTuple
 
 from .. import elf, emulator
@@ -66,25 +65,22 @@ class Statement(NamedTuple):
         return (self.base + int(self.operands[1], 16)) & 0xFFFFFFFF
 
 
-@dataclass
 class Code:
     """The addresses of a program: its segments, where execution begins, the functions and variables that it names, and the lines of a
     text."""
 
-    segments: list[tuple[int, memoryview]] = field(default_factory=list)
-    need: int = 0
-    entry: int = 0
-    functions: list[tuple[int, int, str]] = field(default_factory=list)
-    variables: list[tuple[int, int, str]] = field(default_factory=list)
-    names: dict[str, int] = field(default_factory=dict)
-    lines: list[tuple[int, int]] = field(default_factory=list)
-    text: str = ""
-    content: bytes = b""
-    debug: elf.Debug | None = None
-    # What was found out of functions and addresses already.
-    bodies: dict[int, dict[int, Statement]] = field(default_factory=dict)
-    prologues: dict[int, Any] = field(default_factory=dict)
-    places: dict[int, list[tuple[str, str]]] = field(default_factory=dict)
+    def __init__(self, segments: Iterable[tuple[int, memoryview]] = (), need: int = 0, entry: int = 0, content: bytes = b"") -> None:
+        self.segments, self.need, self.entry = list(segments), need, entry
+        self.functions: list[tuple[int, int, str]] = []
+        self.variables: list[tuple[int, int, str]] = []
+        self.names: dict[str, int] = {}
+        self.lines: list[tuple[int, int]] = []
+        self.text, self.content = "", content
+        self.debug: elf.Debug | None = None
+        # What was found out of functions and addresses already.
+        self.bodies: dict[int, dict[int, Statement]] = {}
+        self.prologues: dict[int, Any] = {}
+        self.places: dict[int, list[tuple[str, str]]] = {}
 
     def know_names(self) -> Code:
         """Reads what an ELF file has for debuggers. That takes a while, and is wanted only where something is told of a run."""

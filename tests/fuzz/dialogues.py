@@ -12,16 +12,27 @@ from fuzz.answers import FAULTS_OF_STEPS, one_of
 from fuzz.reports import Machine
 
 POINTS = 1024
-# A line that asks for nothing. It stands behind each `output`, whose reply has any bytes, so that the end of these shows.
+# A line that asks for nothing. It stands behind each `output`, whose reply has any bytes, so that the end of these shows: in a script,
+# and in a dialogue, which tells more.
 MARK = b"what-was-written-ends-here"
-MARKED = b"\nrefused: BadCommand\n"
+MARKED = b"\nrefused: BadCommand"
+NO_LINE = b": there is no such line; help tells the lines"
 STATES = ("running", "synced", "ended", "aborted", "exhausted")
 FIRST = re.compile(
     f"rank [0-9]+ pc [0-9a-f]{{8}} ticks [0-9]+ state (?:{'|'.join(STATES)}|fault {one_of(FAULTS_OF_STEPS)})".encode()
 )
 MESSAGE = re.compile(rb"from (\d+) tag (-|(?:[0-9a-f]{2})+) payload (-|(?:[0-9a-f]{2})+)")
-# The words of each kind of line, with the bits of its numbers.
-FORMS: Dict[bytes, List[Tuple[Union[bytes, int], ...]]] = {
+PLACE = f"rank ([0-9]+) pc [0-9a-f]{{8}} superstep [0-9]+ state (?:{'|'.join(STATES)}|fault {one_of(FAULTS_OF_STEPS)})".encode()
+AREA = rb"area %d at [0-9a-f]{8} size \d+"
+REQUEST = (
+    rb"request %d (?:put to rank \d+ area \d+ offset \d+ bytes \d+|get from rank \d+ area \d+ offset \d+ bytes \d+ into [0-9a-f]{8}"
+    rb"|send to rank \d+ bytes \d+ tag bytes \d+)"
+)
+TEXT = rb'"(?:[ !#-\[\]-~]|\\[tnr"\\]|\\x[0-9a-f]{2})*"'
+CODE = rb"([0-9a-f]{8}): [0-9a-f]{2,8} +[.a-z].*"
+# The words of each kind of line, with the bits of its numbers; or a name where it has one of a line.
+Form = Tuple[Union[bytes, int, str], ...]
+FORMS: Dict[bytes, List[Form]] = {
     b"break": [(32, 32), (b"superstep", 64)],
     b"clear": [(32, 32), (b"superstep", 64)],
     b"step": [(32, 64)],
@@ -30,6 +41,21 @@ FORMS: Dict[bytes, List[Tuple[Union[bytes, int], ...]]] = {
     b"queue": [(32,)],
     **{word: [()] for word in (b"phase", b"turn", b"go", b"costs", b"output", b"quit")},
 }
+
+
+# The same of dialogues.
+SPOKEN: Dict[bytes, List[Form]] = {
+    **FORMS,
+    b"step": [(32, 64), (32,), ()],
+    b"where": [(32,), ()],
+    b"help": [("name",), ()],
+    **{word: [(32,)] for word in (b"over", b"areas", b"requests")},
+    **{word: [(32, 32, 32)] for word in (b"words", b"text", b"list")},
+    **{word: [(64,)] for word in (b"back", b"forget")},
+    **{word: [()] for word in (b"points", b"keep", b"kept")},
+}
+# The first words of which a dialogue tells something.
+NAMES = {*SPOKEN, b"nodes"}
 
 
 class Asked(NamedTuple):
@@ -53,16 +79,18 @@ def number_of(word: bytes, bits: int) -> Optional[int]:
     return value if value < 1 << bits else None
 
 
-def asked(line: bytes) -> Optional[Asked]:
+def asked(line: bytes, forms: Dict[bytes, List[Form]] = FORMS) -> Optional[Asked]:
     """What a line asks for; none where it asks for nothing. An empty line has an empty word."""
     words = [word for word in line.split(b" ") if word]
     if not words:
         return Asked(b"", ())
-    for form in FORMS.get(words[0], []):
+    for form in forms.get(words[0], []):
         pairs = list(zip(words[1:], form))
         if len(form) != len(words) - 1 or any(word != wanted for word, wanted in pairs if isinstance(wanted, bytes)):
             continue
-        values = [number_of(word, wanted) for word, wanted in pairs if isinstance(wanted, int)]
+        if any(word not in NAMES for word, wanted in pairs if isinstance(wanted, str)):
+            continue
+        values = [number_of(word, wanted) if isinstance(wanted, int) else 0 for word, wanted in pairs if not isinstance(wanted, bytes)]
         numbers = tuple(it for it in values if it is not None)
         if len(numbers) == len(values):
             return Asked(words[0], numbers)
@@ -79,6 +107,9 @@ class Judge:
     is_over: bool = False
     points: Set[Tuple[int, ...]] = dataclasses.field(default_factory=set)
     fault: str = ""
+    is_dialogue: bool = False
+    # Of each state that is kept, whether the run was over in it; none where it was forgotten.
+    kept: List[Optional[bool]] = dataclasses.field(default_factory=list)
 
     def expect(self, is_right: bool, line: bytes) -> None:
         """Notes the first line whose reply is wrong."""
@@ -95,16 +126,20 @@ class Judge:
     def refusal(self, words: Asked) -> str:
         """The refusal that is due, if any is."""
         name, numbers = words
-        is_of_rank = name in (b"step", b"regs", b"bytes", b"queue") or (name == b"break" and len(numbers) == 2)
-        if is_of_rank and numbers[0] >= self.machine.nodes:
+        is_of_rank = name not in (b"break", b"clear", b"back", b"forget") or (name == b"break" and len(numbers) == 2)
+        if is_of_rank and numbers and numbers[0] >= self.machine.nodes:
             return "BadRank"
+        if name in (b"words", b"text", b"list") and numbers[1] >= self.machine.memory:
+            return "BadRange"
+        if name in (b"back", b"forget") and (numbers[0] >= len(self.kept) or self.kept[numbers[0]] is None):
+            return "NoSuchKept"
         if name == b"bytes" and numbers[1] + numbers[2] > self.machine.memory:
             return "BadRange"
         if name == b"break" and numbers not in self.points and len(self.points) == POINTS:
             return "TooMany"
         if name == b"clear" and numbers not in self.points:
             return "NoSuchBreak"
-        return "Over" if self.is_over and name in (b"step", b"phase", b"turn", b"go") else ""
+        return "Over" if self.is_over and name in (b"step", b"over", b"phase", b"turn", b"go") else ""
 
     def outcome(self) -> bool:
         """Whether the outcome comes next, which ends the run."""
@@ -116,11 +151,14 @@ class Judge:
 
     def judge(self, line: bytes) -> None:
         """Takes the reply to a line."""
-        words = asked(line)
+        words = asked(line, SPOKEN if self.is_dialogue else FORMS)
         if words is not None and not words.name:
             return
-        refusal = "BadCommand" if words is None else self.refusal(words)
-        if words is None or refusal:
+        if words is None:
+            self.expect(self.take(b"refused: BadCommand" + (usage(line) if self.is_dialogue else b"")) is not None, line)
+            return
+        refusal = self.refusal(words)
+        if refusal:
             self.expect(self.take(b"refused: " + refusal.encode()) is not None, line)
             return
         answer: Callable[..., bool] = getattr(self, "answers_" + words.name.decode())
@@ -136,10 +174,88 @@ class Judge:
         self.points.discard(point)
         return self.take(b"ok") is not None
 
-    def answers_step(self, _: int, count: int) -> bool:
-        """So many instructions of a rank, or fewer."""
+    def answers_step(self, rank: Optional[int] = None, count: int = 1) -> bool:
+        """So many instructions of a rank, or fewer; or the next one of all, and where that rank is then."""
         found = self.take(rb"moved (\d+)")
-        return found is not None and int(found[1]) <= min(count, self.machine.limit)
+        if found is None or int(found[1]) > min(count, self.machine.limit):
+            return False
+        return rank is not None or self.take(PLACE) is not None
+
+    def answers_over(self, rank: int) -> bool:
+        """An instruction, or all of a function, and where the rank is then."""
+        found, place = self.take(rb"moved (\d+)"), self.take(PLACE)
+        return found is not None and int(found[1]) <= self.machine.limit and place is not None and int(place[1]) == rank
+
+    def answers_where(self, *ranks: int) -> bool:
+        """Where a rank is, or each."""
+        places = [self.take(PLACE) for _ in ranks or range(self.machine.nodes)]
+        return [place and int(place[1]) for place in places] == list(ranks or range(self.machine.nodes))
+
+    def answers_points(self) -> bool:
+        """The points of ranks, by rank and address, and then those of supersteps."""
+        told = [b"rank %d pc %08x" % (point[0], point[1]) for point in sorted(self.points) if len(point) == 2]
+        told += [b"superstep %d" % point[0] for point in sorted(self.points) if len(point) == 1]
+        return all(self.take(re.escape(text)) is not None for text in told)
+
+    def answers_help(self, *names: int) -> bool:
+        """A line for each first word, or for one."""
+        return all(self.take(rb"[a-z]+\b[^:\n]*: .*") is not None for _ in (names or NAMES))
+
+    def answers_words(self, _: int, addr: int, count: int) -> bool:
+        """Four words in a row, up to the end of the memory."""
+        count = min(count, (self.machine.memory - addr) // 4)
+        rows = [b"%08x: " % (addr + 4 * at) + b" ".join([b"[0-9a-f]{8}"] * min(4, count - at)) for at in range(0, count, 4)]
+        return all(self.take(row) is not None for row in rows)
+
+    def answers_text(self, _: int, __: int, ___: int) -> bool:
+        """Characters in quotes."""
+        return self.take(TEXT) is not None
+
+    def answers_list(self, _: int, addr: int, count: int) -> bool:
+        """Lines of a listing, up to the end of the memory."""
+        for _ in range(min(count, self.machine.memory)):
+            if addr >= self.machine.memory:
+                return True
+            found = self.take(CODE)
+            if found is None or int(found[1], 16) != addr:
+                return False
+            addr += len(found[0].split()[1]) // 2
+        return True
+
+    def numbered(self, pattern: bytes) -> bool:
+        """Lines of this pattern, numbered from 0 on, as many as there are: the reply behind may begin with 0 again."""
+        number = 0
+        while self.take(pattern % number) is not None:
+            number += 1
+        return True
+
+    def answers_areas(self, _: int) -> bool:
+        """The areas by their numbers."""
+        return self.numbered(AREA)
+
+    def answers_requests(self, _: int) -> bool:
+        """The requests by their numbers."""
+        return self.numbered(REQUEST)
+
+    def answers_keep(self) -> bool:
+        """A state by its number."""
+        self.kept.append(self.is_over)
+        return self.take(b"kept %d" % (len(self.kept) - 1)) is not None
+
+    def answers_back(self, number: int) -> bool:
+        """A state once more."""
+        self.is_over = self.kept[number] is True
+        return self.take(b"ok") is not None
+
+    def answers_forget(self, number: int) -> bool:
+        """A state is none any more."""
+        self.kept[number] = None
+        return self.take(b"ok") is not None
+
+    def answers_kept(self) -> bool:
+        """The states by their numbers."""
+        numbers = [number for number, state in enumerate(self.kept) if state is not None]
+        return all(self.take(rb"kept %d superstep \d+, ranks? .*" % number) is not None for number in numbers)
 
     def answers_phase(self) -> bool:
         """All that is left of the local parts."""
@@ -191,20 +307,47 @@ class Judge:
 
     def answers_output(self) -> bool:
         """A first part of what the run writes; all of it once the run is over."""
-        end = self.rest.find(MARKED)
+        end = self.rest.find(MARKED + (NO_LINE if self.is_dialogue else b"") + b"\n")
         end = len(self.rest) - 1 if end < 0 else end
         text, self.rest = self.rest[:end], self.rest[end + 1:]
         return self.output.startswith(text) and (not self.is_over or text == self.output)
 
 
-def fault_of(machine: Machine, output: bytes, script: bytes, replies: bytes) -> str:
-    """What is wrong with the replies to a script; empty if nothing is. `output` is what the whole run writes."""
-    judge = Judge(machine, output, replies)
-    for line in script.split(b"\n"):
+def usage(line: bytes) -> bytes:
+    """What a dialogue tells of a line that asks for nothing, as a pattern: how it is spelled, or that there is none."""
+    word = [it for it in line.split(b" ") if it][0]
+    return b": the line is " + re.escape(word) + rb"\b.*" if word in NAMES else re.escape(NO_LINE)
+
+
+def replies_of(judge: Judge, lines: List[bytes]) -> List[bytes]:
+    """The replies to lines, one after another, up to the first that is wrong or to `quit`."""
+    replies = []
+    for line in lines:
         if judge.fault or asked(line) == Asked(b"quit", ()):
             break
+        before = judge.rest
         judge.judge(line)
+        replies.append(before[: len(before) - len(judge.rest)])
+    return replies
+
+
+def fault_of(machine: Machine, output: bytes, script: bytes, replies: bytes, is_dialogue: bool = False) -> str:
+    """What is wrong with the replies to lines; empty if nothing is. `output` is what the whole run writes."""
+    judge = Judge(machine, output, replies, is_dialogue=is_dialogue)
+    replies_of(judge, script.split(b"\n"))
     return judge.fault or (f"replies go on with {judge.rest[:80]!r}" if judge.rest else "")
+
+
+def parting(machine: Machine, output: bytes, script: bytes, plain: bytes, spoken: bytes) -> str:
+    """The first line of a script that a dialogue answers in another way, up to the first that a dialogue alone does; empty if none is."""
+    lines = script.split(b"\n")
+    pairs = zip(lines, replies_of(Judge(machine, output, plain), lines), replies_of(Judge(machine, output, spoken, is_dialogue=True), lines))
+    for line, reply, other in pairs:
+        if asked(line) is None and asked(line, SPOKEN) is not None:
+            return ""
+        if reply != other and not (asked(line) is None and other.startswith(reply[:-1])):
+            return f"the line {line[:80]!r} is answered with {reply[:80]!r} in a script and with {other[:80]!r} in a dialogue"
+    return ""
 
 
 def edge(chance: random.Random, machine: Machine) -> bytes:
@@ -218,15 +361,18 @@ def edge(chance: random.Random, machine: Machine) -> bytes:
     return chance.choice([b"%d", b"%d", b"%d", b"0x%x", b"00%d", b"0x%X"]) % value
 
 
-def line(chance: random.Random, machine: Machine) -> bytes:
+def line(chance: random.Random, machine: Machine, forms: Dict[bytes, List[Form]] = FORMS) -> bytes:
     """A line, with a mistake in it now and then."""
     if chance.randrange(25) == 0:
         return bytes(chance.choice(b"abcgostepbreak 0123x\t\r#\0\xff") for _ in range(chance.choice([0, 1, 5, 80, 2000])))
-    name = chance.choice(sorted(FORMS)[:-1] * 4 + [b"go", b"step", b"phase", b"turn"] * 3 + [b"quit"])
+    name = chance.choice([name for name in sorted(forms) if name != b"turn"] * 4 + [b"go", b"step", b"phase", b"turn"] * 3 + [b"quit"])
     if name == b"quit" and chance.randrange(4):
         name = b"go"
-    form = chance.choice(FORMS.get(name, [()]))
-    words = [name] + [word if isinstance(word, bytes) else edge(chance, machine) for word in form]
+    form = chance.choice(forms.get(name, [()]))
+    words = [name] + [word_of(chance, machine, word) for word in form]
+    if name in (b"words", b"list") and machine.memory > 1 << 13:
+        # A line for each code of a whole memory would take minutes to judge.
+        words[-1] = b"%d" % chance.randrange(1 << 10)
     if len(form) and form[0] == 32 and chance.randrange(8):
         words[1] = b"%d" % chance.randrange(machine.nodes)
     if chance.randrange(30) == 0:
@@ -236,12 +382,19 @@ def line(chance: random.Random, machine: Machine) -> bytes:
     return chance.choice([b" ", b" ", b" ", b"  "]).join(words)
 
 
-def script(chance: random.Random, machine: Machine) -> bytes:
+def word_of(chance: random.Random, machine: Machine, wanted: Union[bytes, int, str]) -> bytes:
+    """A word as a form has it: itself, a name, or a number."""
+    if isinstance(wanted, bytes):
+        return wanted
+    return chance.choice(sorted(NAMES)) if isinstance(wanted, str) else edge(chance, machine)
+
+
+def script(chance: random.Random, machine: Machine, forms: Dict[bytes, List[Form]] = FORMS) -> bytes:
     """A script of such lines, with points up to the limit in some, and often without a last line feed."""
     lines: List[bytes] = []
     if chance.randrange(25) == 0:
         lines += [b"break 0 %d" % (4 * at) for at in range(chance.choice([1023, 1024, 1025]))]
     for _ in range(chance.choice([0, 1, 5, 20, 60])):
-        made = line(chance, machine)
+        made = line(chance, machine, forms)
         lines += [made, MARK] if asked(made) == Asked(b"output", ()) else [made]
     return b"\n".join(lines) + chance.choice([b"", b"\n"])

@@ -53,9 +53,9 @@ def program(trial: Trial) -> None:
 
 
 def debugger(trial: Trial) -> None:
-    """A script is answered line by line, and the same in a dialogue."""
+    """A script is answered line by line, and the same in a dialogue, which has more lines."""
     text, machine = made(trial)
-    script = dialogues.script(trial.random, machine)
+    script = dialogues.script(trial.random, machine, dialogues.SPOKEN if trial.one_in(2) else dialogues.FORMS)
     if trial.one_in(100):
         script = script[: MOST_LINES] + b" " * (MOST_LINES - len(script) + trial.random.choice([0, 1]))
     lines = trial.file("lines", script)
@@ -66,8 +66,10 @@ def debugger(trial: Trial) -> None:
         trial.expect_that(answer.told == "bspemu: too long", "a script that is too long is answered")
         return
     trial.expect_that(answer.status == 0, f"a script ends with status {answer.status}")
-    trial.expect_that(said.same_as(answer), "a dialogue has other replies")
+    trial.expect_that(said.status == 0, f"a dialogue ends with status {said.status}")
     trial.expect(dialogues.fault_of(machine, plain.stdout, script, answer.stdout))
+    trial.expect(dialogues.fault_of(machine, plain.stdout, script, said.stdout, is_dialogue=True))
+    trial.expect(dialogues.parting(machine, plain.stdout, script, answer.stdout, said.stdout))
 
 
 def little_space(trial: Trial) -> int:

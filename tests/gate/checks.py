@@ -3,12 +3,16 @@
 from __future__ import annotations
 
 import os
+import pathlib
 import re
 import subprocess
 import sys
-import time
+import tempfile
+import threading
 from dataclasses import dataclass, field
 from typing import Dict, List, Mapping, Optional, Sequence, Tuple
+
+from lanes import Lanes
 
 LAST_LINE = re.compile(r"(\d+) passed, (\d+) failed(?:, (\d+) skipped)?")
 # Of the tests of a crate, which the last line of the prover's run leaves out.
@@ -43,11 +47,10 @@ class Check:
 
 @dataclass
 class Done:
-    """A check that was run, with the seconds that it took by the clock and of processors."""
+    """A check that was run, with the seconds that it took of processors."""
 
     check: Check
     tally: Tally
-    seconds: float
     processor_seconds: float
 
 
@@ -61,17 +64,27 @@ class Bench:
     def run(self, check: Check, environment: Optional[Mapping[str, str]] = None) -> Tally:
         """Runs a check, shows what it says, and counts it."""
         print(f"== {check.name}", flush=True)
-        began, spent = time.monotonic(), processor_seconds()
+        spent = processor_seconds()
         status, last, tests = shown(check.command, self.top, environment)
         tally = counted(check, status, last)
         tally.passed += tests
-        self.done.append(Done(check, tally, time.monotonic() - began, processor_seconds() - spent))
+        self.done.append(Done(check, tally, processor_seconds() - spent))
         return tally
 
     def run_all(self, checks: Sequence[Check]) -> None:
-        """Runs them one after another, those behind one that failed too."""
-        for check in checks:
-            self.run(check)
+        """Runs them side by side, each begun in its turn as a lane is free, those behind one that failed too. What one says is shown when it
+        is over."""
+        with tempfile.TemporaryDirectory() as folder:
+            beside = Beside(self.top, Lanes(pathlib.Path(folder)))
+            try:
+                for check in checks:
+                    beside.start(check)
+                beside.join()
+            except BaseException:
+                beside.stop()  # or they would go on behind a gate that has ended
+                raise
+            finally:
+                self.done += sorted(beside.done, key=lambda it: checks.index(it.check))
 
     def total(self) -> Tally:
         """What all checks came to."""
@@ -81,20 +94,80 @@ class Bench:
         return sum_of_all
 
 
+class Beside:
+    """Checks that run side by side, each in a lane."""
+
+    def __init__(self, top: str, lanes: Lanes) -> None:
+        self.top, self.lanes = top, lanes
+        self.done: List[Done] = []
+        self._running: List[subprocess.Popen[str]] = []
+        self._threads: List[threading.Thread] = []
+        self._lock = threading.Lock()
+
+    def start(self, check: Check) -> None:
+        """Starts a check as soon as there is a lane for it."""
+        self.lanes.take()
+        process = started(check.command, self.top, self.lanes.environment())
+        self._running.append(process)
+        thread = threading.Thread(target=self._await, args=(check, process))
+        self._threads.append(thread)
+        thread.start()
+
+    def join(self) -> None:
+        """Waits until all are over."""
+        for thread in self._threads:
+            thread.join()
+
+    def stop(self) -> None:
+        """Ends all."""
+        for process in self._running:
+            if process.returncode is None:
+                process.terminate()
+        self.join()
+
+    def _await(self, check: Check, process: subprocess.Popen[str]) -> None:
+        """Waits for the end of a check, shows what it has said, and counts it."""
+        assert process.stdout is not None
+        said = process.stdout.read()
+        spent = ended(process)
+        self.lanes.give()
+        with self._lock:
+            print(f"== {check.name}, {spent:.0f} seconds of processors\n{said}", end="", flush=True)
+            tally = counted(check, process.returncode, last_of(said))
+            self.done.append(Done(check, tally, spent))
+
+
 def processor_seconds() -> float:
     """The seconds of processors that all processes took which this one has waited for."""
     spent = os.times()
     return spent.children_user + spent.children_system
 
 
+def started(command: Sequence[str], top: str, environment: Optional[Mapping[str, str]]) -> subprocess.Popen[str]:
+    """Starts a command whose output is read, with these variables besides."""
+    given: Dict[str, str] = {**os.environ, "PYTHONUNBUFFERED": "1", **(environment or {})}
+    return subprocess.Popen(
+        command, cwd=top, env=given, stdin=subprocess.DEVNULL, stdout=subprocess.PIPE, stderr=subprocess.STDOUT, text=True, errors="replace"
+    )
+
+
+def ended(process: subprocess.Popen[str]) -> float:
+    """Waits for the end of a process. Answers the seconds of processors that it took, with all that it waited for."""
+    _, status, used = os.wait4(process.pid, 0)
+    process.returncode = -os.WTERMSIG(status) if os.WIFSIGNALED(status) else os.WEXITSTATUS(status)
+    return float(used.ru_utime + used.ru_stime)
+
+
+def last_of(said: str) -> str:
+    """The last line that is not empty."""
+    return next((line.strip() for line in reversed(said.splitlines()) if line.strip()), "")
+
+
 def shown(command: Sequence[str], top: str, environment: Optional[Mapping[str, str]]) -> Tuple[int, str, int]:
     """Runs a command, shows each of its lines at once, and gives its status, its last line that is not empty, and how many tests of
     crates passed in it."""
     last, tests = "", 0
-    given: Dict[str, str] = {**os.environ, "PYTHONUNBUFFERED": "1", **(environment or {})}
-    with subprocess.Popen(
-        command, cwd=top, env=given, stdin=subprocess.DEVNULL, stdout=subprocess.PIPE, stderr=subprocess.STDOUT, text=True, errors="replace"
-    ) as running:
+    with started(command, top, environment) as running:
         assert running.stdout is not None
         try:
             for line in running.stdout:

@@ -13,7 +13,7 @@ from pages.page import Command
 SECONDS = 120
 # Two lines that the debugger refuses, which changes nothing; so its answers to the lines between them can be told apart.
 MARK = "-\nclear superstep 0xffffffffffffffff\n"
-MARKED = "refused: BadCommand\nrefused: NoSuchBreak\n"
+MARKED = "refused: BadCommand: there is no such line; help tells the lines\nrefused: NoSuchBreak\n"
 # Those that write their prompt also where no person is.
 GDB, LINES = "(gdb) ", "(bsp) "
 
@@ -68,4 +68,6 @@ def environment(top: pathlib.Path) -> Dict[str, str]:
     home, scratch = top.parent / "home", top.parent / "tmp"
     for folder in (home, scratch):
         folder.mkdir(exist_ok=True)
-    return {"PATH": os.environ["PATH"], "LANG": "C.UTF-8", "HOME": str(home), "TMPDIR": str(scratch), "TERM": "dumb"}
+    # What bspcc builds of its library is that of all pages.
+    cache = str(top.parent.parent / "cache")
+    return {"PATH": os.environ["PATH"], "LANG": "C.UTF-8", "HOME": str(home), "XDG_CACHE_HOME": cache, "TMPDIR": str(scratch), "TERM": "dumb"}

@@ -15,12 +15,13 @@ import sys
 import tempfile
 import threading
 import time
-from concurrent.futures import ThreadPoolExecutor
 from dataclasses import dataclass
 from typing import Callable, Iterable, List, Optional, Sequence, Tuple
 
 REPO = pathlib.Path(__file__).resolve().parents[2]
 sys.path.append(str(REPO / "tools"))
+
+import lanes  # noqa: E402
 
 from bsptools import packages  # noqa: E402
 
@@ -152,10 +153,8 @@ class Tally:
         return True
 
     def make(self, parts: Iterable[Part]) -> None:
-        """Makes all parts, as many at a time as there are processors. What a part raises is its fault."""
-        with ThreadPoolExecutor(len(os.sched_getaffinity(0))) as threads:
-            for _ in threads.map(self._make, parts):
-                pass
+        """Makes all parts, as many at a time as there are lanes. What a part raises is its fault."""
+        lanes.each(self._make, parts)
 
     def _make(self, part: Part) -> None:
         """Makes a part, or skips it."""

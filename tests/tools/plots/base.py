@@ -12,6 +12,7 @@ from dataclasses import replace
 from typing import Callable, Dict, Mapping, Optional, Tuple
 
 import checks
+import forked
 from checks import Part, Tally, Tool
 
 from bsptools.sweep import engines
@@ -37,9 +38,12 @@ class Check:
         variables: Dict[str, Optional[str]] = {**os.environ}
         variables.update(environment or {})
         left = {name: it for name, it in variables.items() if it is not None}
-        return subprocess.run(
-            command, input="", capture_output=True, text=True, check=False, cwd=self.folder, env=left, timeout=SECONDS
-        )
+        return forked.run(command, cwd=self.folder, env=left)
+
+    def started(self, name: str, *words: str) -> subprocess.CompletedProcess[str]:
+        """A run of a script by a process of its own, whose sets have another order than those of any other."""
+        command = [str(REPO / name), *words]
+        return subprocess.run(command, input="", capture_output=True, text=True, check=False, cwd=self.folder, timeout=SECONDS)
 
 
 class Parts:

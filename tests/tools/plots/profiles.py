@@ -7,6 +7,7 @@ import os
 import subprocess
 from typing import Callable, Dict, List, Tuple
 
+import forked
 from base import HERE, REPO, STORED, Check, Parts, has_profiles
 from checks import Part
 
@@ -147,7 +148,7 @@ def by_report(check: Check, name: str) -> str:
     """What differs between a profile's costs and outcome and those of the report."""
     path = check.folder / "report.json"
     words = [str(REPO / "bsprun"), "--report", str(path), *RUNS[name]]
-    subprocess.run(words, stdin=subprocess.DEVNULL, capture_output=True, check=False, cwd=REPO)
+    forked.run(words, cwd=REPO)
     found = forms.of_json(json.loads(path.read_text()))
     here = stored(name)
     if costs.of_report(found) != costs.of_profile(here, profile.Reading.OTHERS):
@@ -177,7 +178,7 @@ def by_emulator(check: Check, name: str) -> str:
     """What differs between a profile and the one that the emulator writes."""
     path = check.folder / f"{name}.csv"
     words = [str(REPO / "bsprun"), "--profile", str(path), *RUNS[name]]
-    done = subprocess.run(words, stdin=subprocess.DEVNULL, capture_output=True, text=True, check=False, cwd=REPO, env=os.environ)
+    done = forked.run(words, cwd=REPO)
     if not path.exists():
         return done.stderr
     return "" if path.read_text() == (STORED / f"{name}.csv").read_text() else path.read_text()

@@ -11,6 +11,7 @@ import shlex
 import shutil
 import signal
 import subprocess
+import threading
 import time
 from typing import Any, Callable, Dict, List, Mapping, Optional, Set
 
@@ -88,9 +89,16 @@ def kept(check: Check) -> None:
     differing(check)
 
 
+TABLES: List[str] = []
+LOCK = threading.Lock()
+
+
 def table(check: Check) -> str:
-    """The table of the plain engine."""
-    return check.tool("bspsweep", "--engine", "plain", "--folder", "plain", *TWELVE).stdout
+    """The table of the plain engine, which is made once."""
+    with LOCK:
+        if not TABLES:
+            TABLES.append(check.tool("bspsweep", "--engine", "plain", "--folder", "plain", *TWELVE).stdout)
+        return TABLES[0]
 
 
 def parallel(check: Check) -> None:
@@ -101,8 +109,9 @@ def parallel(check: Check) -> None:
     stub = check.folder.parent / "ssh"
     stub.write_text(STUB)
     stub.chmod(0o755)
-    for name, shell in (("two hosts of parallel", "/bin/false"), ("two hosts of parallel where no SHELL is set", None)):
-        by_engine(check, text, name, ["--hosts", "one,two", "--check"], {"PARALLEL_SSH": str(stub), "SHELL": shell})
+    two = ["--hosts", "one,two"]
+    by_engine(check, text, "two hosts of parallel", [*two, "--check"], {"PARALLEL_SSH": str(stub), "SHELL": "/bin/false"})
+    by_engine(check, text, "two hosts of parallel where no SHELL is set", two, {"PARALLEL_SSH": str(stub), "SHELL": None})
     told = set((stub.parent / "told").read_text().split())
     check.expect("both hosts were asked", told == {"one", "two"}, told)
 

@@ -6,6 +6,7 @@ import pathlib
 import subprocess
 from typing import Callable, Dict, List, NamedTuple, Tuple
 
+import forked
 from checks import REPO, SECONDS, Tally
 
 HERE = pathlib.Path(__file__).resolve().parent
@@ -76,9 +77,7 @@ class Telling:
     def run(self, *words: str, given: str = "") -> "subprocess.CompletedProcess[str]":
         """A run by bsprun."""
         command = [str(REPO / "bsprun"), *words]
-        return subprocess.run(
-            command, input=given, capture_output=True, text=True, errors="replace", cwd=self.folder, check=False, timeout=SECONDS
-        )
+        return forked.run(command, given, self.folder)
 
     def expect(self, name: str, done: "subprocess.CompletedProcess[str]", status: int, *said: str) -> None:
         """A run has this status, and says all of this."""

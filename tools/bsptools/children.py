@@ -50,6 +50,18 @@ def end_by_signals_again() -> None:
         signal.signal(number, _end)
 
 
+@contextlib.contextmanager
+def looking_for_signals() -> Iterator[None]:
+    """A block in which this process wakes up each second, and looks for signals: one that comes just before it waits for something does
+    Python put off until that is over."""
+    signal.signal(signal.SIGALRM, lambda _number, _frame: None)
+    signal.setitimer(signal.ITIMER_REAL, 1, 1)
+    try:
+        yield
+    finally:
+        signal.setitimer(signal.ITIMER_REAL, 0)
+
+
 def end_with_parent(number: int, parent: int) -> None:
     """Has this process get a signal when its parent has ended, which had this number."""
     _LIBC.prctl(PR_SET_PDEATHSIG, number)

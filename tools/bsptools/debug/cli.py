@@ -72,16 +72,17 @@ def main(words: Sequence[str]) -> int:
     with children.folder("bspgdb") as folder:
         job = prepared(asked, folder, "bspgdb")
         check(job)
-        if asked.stdio:
-            bridge(command(job))
-        elif asked.dialogue:
-            return talk(job)
-        elif asked.tcp is not None:
-            server.serve(command(job), server.Loopback(asked.tcp))
-        elif asked.server:
-            server.serve(command(job), server.LocalSocket(folder / "socket"))
-        else:
+        if not (asked.stdio or asked.dialogue or asked.server or asked.tcp is not None):
             return start_gdb(job)
+        with children.looking_for_signals():
+            if asked.stdio:
+                bridge(command(job))
+            elif asked.dialogue:
+                return talk(job)
+            elif asked.tcp is not None:
+                server.serve(command(job), server.Loopback(asked.tcp))
+            else:
+                server.serve(command(job), server.LocalSocket(folder / "socket"))
     return 0
 
 

@@ -8,7 +8,7 @@ use Rattle.rv_tables.specs.declared.instr.Instr.{Instr}
 use Rattle.rv_tables.specs.declared.instr.Instr.TheVariants.{R, I, Shift, Load, Store, Branch, Upper, Jal, Jalr, Plain}
 use Rattle.rv_tables.specs.Codes.{decoded, length_of}
 use Rattle.node_core.specs.Hart.{Hart, next_pc, reg}
-use Rattle.node_core.specs.Effects.{fetched}
+use Rattle.node_core.specs.Executed.{fetched}
 use Rattle.node_core.specs.Node.{NodeState, is_running}
 use Rattle.machine_core.specs.declared.event.Event.TheVariants as event
 use Rattle.machine_core.specs.Machine.{MachineState}

@@ -18,9 +18,11 @@ same nodes n = record {
   registers = refl;
   pc = refl;
   cursor = refl;
+  unit = refl;
   memory_size = length-map-range_with_len (landed_byte (landings_at nodes n.hart.rank) n.hart.memory) 0 (length n.hart.memory);
   ticks = refl;
   limit = refl;
+  clock = refl;
 }
 
 pub all_same : (nodes : List NodeState) → AllZip IsSameNode nodes (exchanged nodes)

@@ -3,12 +3,10 @@ use Rattle.std.proofs.Common.{◌≡◌, ◌⊎◌, inl, inr, ℕ, List, [], len
 use Rattle.std.specs.Option.{option_or}
 use Rattle.std.proofs.lemmas.List.FromFn.{length-map-range_with_len}
 use Rattle.node_memory.specs.Image.{Image, is_segment_outside}
-use Rattle.node_core.specs.Node.{start_node, with_clock}
-use Rattle.machine_core.specs.Clock.{closed_by}
 use Rattle.machine_core.specs.declared.error.MachineError.{MachineError}
 use Rattle.machine_core.specs.declared.error.MachineError.TheVariants.{SegmentOutside}
 use Rattle.machine_core.specs.declared.settings.Settings.{Settings}
-use Rattle.machine_core.specs.Machine.{fresh, machine_fault, settings_fault}
+use Rattle.machine_core.specs.Machine.{fresh, node_at_start, machine_fault, settings_fault}
 use Rattle.phase_pool.specs.declared.error.PoolError.{PoolError}
 use Rattle.phase_pool.specs.declared.error.PoolError.TheVariants.{BadWorkers, BadSlice, NoWorker, NoMemory}
 use Rattle.phase_pool.specs.Numbers.{numbers_fault}
@@ -51,7 +49,7 @@ numbers_are_in_range job none =
 
 -- a machine at its start has as many nodes as its settings say
 pub length-fresh : (image : Image) (input : List ℕ) (s : Settings) → length (fresh image input s).nodes ≡ s.nodes
-length-fresh image input s = length-map-range_with_len (λ rank. with_clock (closed_by s.clock []) (start_node image rank s.nodes s.memory s.limit)) 0 s.nodes
+length-fresh image input s = length-map-range_with_len (node_at_start image s) 0 s.nodes
 
 -- a run is refused for want of a thread or of memory alone
 pub IsErrorOfRun-of_pool : (job : Job) (file : List ℕ) (cause : PoolError) → (cause ≡ NoWorker) ⊎ (cause ≡ NoMemory)

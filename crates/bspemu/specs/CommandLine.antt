@@ -66,11 +66,12 @@ abbrev pub slice_rule : Rule
 slice_rule = checked_rule (codes "slice") (Unsigned 0 18446744073709551615) (codes "65536")
 
 -- `NAME IMAGE` with what a machine is made of, the prices of its costs, the version in which they are told, and whether there are clocks
+-- and units of floating point
 abbrev pub machine_app : Text → NameList → App
 machine_app name formats =
-    with_rule (with_rule (with_rule (with_rule (with_rule (with_rule (with_rule (with_rule (with_rule (with_rule (new_app name)
+    with_rule (with_rule (with_rule (with_rule (with_rule (with_rule (with_rule (with_rule (with_rule (with_rule (with_rule (new_app name)
     (file_rule (codes "image"))) (format_rule formats)) nodes_rule) memory_rule) limit_rule) (option_rule (codes "input")))
-    g_rule) l_rule) ledger_rule) (flag_rule (codes "clock"))
+    g_rule) l_rule) ledger_rule) (flag_rule (codes "clock"))) (flag_rule (codes "float"))
 
 -- `run IMAGE` with its options
 abbrev pub run_app : NameList → App

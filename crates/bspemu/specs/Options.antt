@@ -71,6 +71,7 @@ pub record GivesSettings (rows : List Row) (s : Settings) : Type 0 where
   pub memory : GivesNumber 32 (one_of (codes "memory") rows) s.memory
   pub limit : GivesNumber 64 (one_of (codes "limit") rows) s.limit
   pub clock : GivesClock rows s.clock
+  pub float : GivesFlag (one_of (codes "float") rows) s.float
 
 -- the text of a path that may be there
 abbrev pub text_of : Option (Bor Text) → Option Text

@@ -155,7 +155,8 @@ fn machine_command<'a>(
         .arg(byte_price(alloc))?
         .arg(superstep_price(alloc))?
         .arg(ledger(alloc))?
-        .arg(clock(alloc))
+        .arg(clock(alloc))?
+        .arg(float(alloc))
 }
 
 fn list_command<'a>(alloc: Global, formats: &'a [&'a str]) -> Result<Command<'a>, AllocError>
@@ -404,6 +405,15 @@ fn clock<'a>(alloc: Global) -> Arg<'a>
         .help(
             "Give each node a clock, which call 19 reads: the cost of the supersteps that are over, and its own ticks in this one",
         )
+}
+
+fn float<'a>(alloc: Global) -> Arg<'a>
+    ensures { HasRule result (flag_rule (codes "float")) }
+{
+    Arg::new(alloc, "float")
+        .long("float")
+        .action(ArgAction::SetTrue)
+        .help("Give each node a unit of floating point, for the instructions of F and D")
 }
 
 fn workers<'a>(alloc: Global) -> Arg<'a>

@@ -324,6 +324,7 @@ fn settings_of_machine(found: &ArgMatches<'_>) -> Option<Settings>
         memory: found.get_one("memory")?,
         limit: found.get_one("limit")?,
         clock: clock_of(found)?,
+        float: found.get_one("float")?,
     })
 }
 

@@ -13,7 +13,7 @@ use std::marker::Model;
 
 /// What instructions of floating point act on, beside the integer registers and memory: f0 to f31, of 64 bits, the dynamic rounding mode
 /// and the accrued exceptions.
-#[derive(Drop)]
+#[derive(Clone, Copy)]
 pub struct FloatUnit {
     registers: [u64; 32],
     frm: u8,
@@ -26,6 +26,8 @@ impl Model for FloatUnit {
     ghost Value = { FloatState };
 
     ghost view = { λ u. record { registers = u.registers; frm = u.frm; flags = u.flags } };
+
+    ghost inverse = { λ u. record { registers = u.registers; frm = u.frm; flags = u.flags } };
 
     ghost invariant = { λ u. IsState (record { registers = u.registers; frm = u.frm; flags = u.flags }) };
 }

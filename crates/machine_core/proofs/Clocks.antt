@@ -1,5 +1,5 @@
 -- What the clocks of nodes change, and what they keep.
-use Rattle.std.proofs.Common.{◌≡◌, ◌==◌, ℕ, suc, ◌<◌, true, false, List, [], ◌∷◌, length, map, All, get_or, Option, Some, None, refl, sym, ap, ap₂, ◌∙◌, arith}
+use Rattle.std.proofs.Common.{◌≡◌, ◌==◌, ℕ, ◌<◌, true, false, List, [], ◌∷◌, length, map, All, get_or, Option, Some, None, refl, sym, ap, ap₂, ◌∙◌, arith}
 use Rattle.std.proofs.lemmas.Bool.{eqb-true, false≢true}
 use Rattle.std.proofs.lemmas.List.{length-map}
 use Rattle.std.specs.Prelude.{IfSome}
@@ -7,7 +7,7 @@ use Rattle.std.specs.List.{AllZip}
 use Rattle.std.specs.Option.{option_map_or}
 use Rattle.std.proofs.lemmas.List.Elements.{All-map}
 use Rattle.node_core.specs.declared.clock.Clock.{Clock}
-use Rattle.node_core.specs.Node.{NodeState, PreparedNode, IsNode, IsSoundNode, local_step, with_clock}
+use Rattle.node_core.specs.Node.{NodeState, PreparedNode, IsNode, local_step, with_clock}
 use Rattle.node_core.proofs.Sound.{IsLater-local_step}
 use Rattle.bsp_exchange.specs.Exchange.{exchanged_node, states}
 use Rattle.cost_ledger.specs.declared.CostRow.{CostRow}
@@ -45,6 +45,7 @@ IsNodeOf-clock s closed n of = record {
   nodes = of.nodes;
   memory = of.memory;
   limit = of.limit;
+  unit = of.unit;
   sound = record { node = IsNode-clock closed n of.sound.node; hart = of.sound.hart };
 }
 

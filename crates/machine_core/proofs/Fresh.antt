@@ -1,21 +1,27 @@
 -- A machine at its start is sound.
-use Rattle.std.proofs.Common.{◌≡◌, ℕ, zero, suc, ◌+◌, ◌<◌, List, [], ◌∷◌, length, map, replicate, get_or, refl, ap, arith}
+use Rattle.std.proofs.Common.{◌≡◌, ℕ, zero, suc, ◌+◌, ◌<◌, Bool, true, false, List, [], ◌∷◌, length, map, replicate, get_or, Some, None, refl, ap, arith}
+use Rattle.std.specs.Prelude.{is_some, if◌then◌else◌}
 use Rattle.std.specs.List.{AllZip, range_with_len}
 use Rattle.std.proofs.lemmas.Bool.{false≢true}
 use Rattle.std.proofs.lemmas.List.Elements.{All-map}
 use Rattle.std.proofs.lemmas.List.FromFn.{length-range_with_len, get_or-range_with_len}
 use Rattle.node_memory.specs.Image.{Image}
 use Rattle.node_memory.proofs.ImageBytes.{length-image_bytes}
-use Rattle.node_core.specs.Node.{NodeState, IsSoundNode, start_node, with_clock}
+use Rattle.float_unit.specs.State.{start as unit_at_start}
+use Rattle.node_core.specs.Node.{NodeState, IsSoundNode}
 use Rattle.node_core.proofs.Communications.{IsCommunication-none}
 use Rattle.machine_core.specs.declared.settings.Settings.{Settings}
-use Rattle.machine_core.specs.Clock.{HasClock, closed_by}
-use Rattle.machine_core.specs.Machine.{fresh}
+use Rattle.machine_core.specs.Clock.{HasClock}
+use Rattle.machine_core.specs.Machine.{fresh, node_at_start}
 use Rattle.machine_core.specs.Sound.{AreInRange, IsNodeOf, IsUnderWay, IsSoundMachine}
+
+has_unit : (float : Bool) → is_some (if float then Some unit_at_start else None) ≡ float
+has_unit true = refl
+has_unit false = refl
 
 module _ (image : Image) (s : Settings) where
   abbrev at_start : ℕ → NodeState
-  at_start rank = with_clock (closed_by s.clock []) (start_node image rank s.nodes s.memory s.limit)
+  at_start rank = node_at_start image s rank
 
   IsSoundNode-start : (rank : ℕ) → AreInRange s → rank < s.nodes → IsSoundNode (at_start rank)
   IsSoundNode-start rank range within = record {
@@ -56,7 +62,7 @@ module _ (image : Image) (s : Settings) where
         let long = length-range_with_len 0 s.nodes in
         let below : k < s.nodes = omega arith in
         let here = get_or-range_with_len 0 s.nodes k d below in
-        record { nodes = refl; memory = length-image_bytes image s.memory; limit = refl; sound = IsSoundNode-start (get_or (range_with_len 0 s.nodes) k d) range (omega arith) });
+        record { nodes = refl; memory = length-image_bytes image s.memory; limit = refl; unit = has_unit s.float; sound = IsSoundNode-start (get_or (range_with_len 0 s.nodes) k d) range (omega arith) });
     ticks = IsUnderWay-start 0 s.nodes;
     clocks = λ _. HasClock-start 0 s.nodes;
     areas = (0, All-map (λ (n : NodeState). length n.hart.communication.registrations.in_effect ≡ 0) at_start (range_with_len 0 s.nodes) (λ k d within. refl));

@@ -91,6 +91,7 @@ IsNodeOf-local_step s input n of = record {
   nodes = (IsLater-local_step input n).nprocs ∙ of.nodes;
   memory = (IsLater-local_step input n).memory_size ∙ of.memory;
   limit = (IsLater-local_step input n).limit ∙ of.limit;
+  unit = (IsLater-local_step input n).unit ∙ of.unit;
   sound = IsSoundNode-local_step input n of.sound;
 }
 
@@ -184,6 +185,7 @@ module _ (m : MachineState) where
         nodes = of.nodes;
         memory = length-memory_after (landings_at m.nodes (get_or m.nodes k d).hart.rank) (get_or m.nodes k d).hart.memory ∙ of.memory;
         limit = of.limit;
+        unit = of.unit;
         sound = IsSoundNode-exchanged m.nodes (omega arith) each (get_or m.nodes k d) of.sound (can.waiting k d within);
       }) in
       let areas = areas-exchanged m.nodes can.fault each sound.areas in

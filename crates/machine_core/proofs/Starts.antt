@@ -6,12 +6,11 @@ use Rattle.std.proofs.lemmas.List.FromFn.{length-map-range_with_len, get_or-map-
 use Rattle.std.proofs.lemmas.Option.{get_or_from_slice_get}
 use Rattle.node_memory.specs.Image.{Image, is_segment_outside}
 use Rattle.node_core.specs.Hart.{max_nodes}
-use Rattle.node_core.specs.Node.{NodeState, PreparedNode, start_node, with_clock}
+use Rattle.node_core.specs.Node.{NodeState, PreparedNode}
 use Rattle.bsp_exchange.specs.Exchange.{states}
 use Rattle.cost_ledger.specs.declared.CostRow.{CostRow}
 use Rattle.machine_core.specs.declared.settings.Settings.{Settings}
-use Rattle.machine_core.specs.Clock.{closed_by}
-use Rattle.machine_core.specs.Machine.{MachineState, fresh, settings_fault, machine_fault, start_nodes}
+use Rattle.machine_core.specs.Machine.{MachineState, fresh, node_at_start, settings_fault, machine_fault, start_nodes}
 use Rattle.machine_core.specs.Sound.{AreInRange}
 use Rattle.machine_core.proofs.States.{state_at_place}
 
@@ -30,32 +29,28 @@ AreInRange-from s good = record {
   limit = grind arith;
 }
 
--- the node of a rank
-abbrev pub new_node : Image → Settings → ℕ → NodeState
-new_node image s rank = with_clock (closed_by s.clock []) (start_node image rank s.nodes s.memory s.limit)
-
 -- the nodes of the first ranks
 abbrev pub AreFirst : Image → Settings → List PreparedNode → ℕ → Type 0
-AreFirst image s ps k = states ps ≡ map (new_node image s) (range_with_len 0 k)
+AreFirst image s ps k = states ps ≡ map (node_at_start image s) (range_with_len 0 k)
 
 pub length-first : (image : Image) (s : Settings) (ps : List PreparedNode) (k : ℕ) → AreFirst image s ps k → length ps ≡ k
 length-first image s ps k are =
-    sym (length-map ps (λ (p : PreparedNode). p.node)) ∙ ap length are ∙ length-map-range_with_len (new_node image s) 0 k
+    sym (length-map ps (λ (p : PreparedNode). p.node)) ∙ ap length are ∙ length-map-range_with_len (node_at_start image s) 0 k
 
 -- of these, the node of rank 0
-pub first_of : (image : Image) (s : Settings) (ps : List PreparedNode) (k : ℕ) (p : PreparedNode) → 0 < k → AreFirst image s ps k → 0 < length ps → p ≡ get_or ps 0 p → p.node ≡ new_node image s 0
+pub first_of : (image : Image) (s : Settings) (ps : List PreparedNode) (k : ℕ) (p : PreparedNode) → 0 < k → AreFirst image s ps k → 0 < length ps → p ≡ get_or ps 0 p → p.node ≡ node_at_start image s 0
 first_of image s ps k p some are within is =
     sym (get_or_from_slice_get (states ps) 0 p.node p.node (state_at_place ps 0 p within is))
     ∙ ap (λ (ns : List NodeState). get_or ns 0 p.node) are
-    ∙ get_or-map-range_with_len (new_node image s) 0 k 0 0 p.node some refl
+    ∙ get_or-map-range_with_len (node_at_start image s) 0 k 0 0 p.node some refl
 
 -- one more
-pub first_more : (image : Image) (s : Settings) (ps qs : List PreparedNode) (k : ℕ) (p : PreparedNode) → AreFirst image s ps k → qs ≡ ps ++ p ∷ [] → p.node ≡ new_node image s k → AreFirst image s qs (k + 1)
+pub first_more : (image : Image) (s : Settings) (ps qs : List PreparedNode) (k : ℕ) (p : PreparedNode) → AreFirst image s ps k → qs ≡ ps ++ p ∷ [] → p.node ≡ node_at_start image s k → AreFirst image s qs (k + 1)
 first_more image s ps qs k p are more is =
     ap states more
     ∙ map-append (λ (q : PreparedNode). q.node) ps (p ∷ [])
     ∙ ap₂ (λ (ns : List NodeState) (n : NodeState). ns ++ n ∷ []) are is
-    ∙ sym (map-range_with_len_more (new_node image s) 0 k k (omega arith))
+    ∙ sym (map-range_with_len_more (node_at_start image s) 0 k k (omega arith))
 
 pub machine_fault-none : (image : Image) (s : Settings) → settings_fault s ≡ None → is_segment_outside image s.memory ≡ false → machine_fault image s ≡ None
 machine_fault-none image s good fits = rw (good, fits) refl

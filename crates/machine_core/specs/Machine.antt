@@ -6,7 +6,7 @@ use Rattle.std.specs.Option.{option_or}
 use Rattle.node_memory.specs.Bytes.{is_memory_size}
 use Rattle.node_memory.specs.Image.{Image, is_segment_outside}
 use Rattle.node_core.specs.Hart.{max_nodes}
-use Rattle.node_core.specs.Node.{NodeState, start_node, with_clock}
+use Rattle.node_core.specs.Node.{NodeState, start_node, with_clock, with_unit}
 use Rattle.cost_ledger.specs.declared.CostRow.{CostRow}
 use Rattle.machine_core.specs.declared.error.MachineError.{MachineError}
 use Rattle.machine_core.specs.declared.error.MachineError.TheVariants.{BadNodes, BadMemory, BadLimit, SegmentOutside}
@@ -31,9 +31,13 @@ pub record MachineState : Type 0 where
   -- how it ended, if it has
   pub outcome : Option Outcome
 
--- nodes at their start, with the image in each memory, and with clocks where there are prices for them
+-- the node of a rank at its start, with the image in its memory, a unit of floating point where the settings ask for one, and a clock where
+-- there are prices for it
+abbrev pub node_at_start : Image → Settings → ℕ → NodeState
+node_at_start image s rank = with_clock (closed_by s.clock []) (with_unit s.float (start_node image rank s.nodes s.memory s.limit))
+
 abbrev pub start_nodes : Image → Settings → List NodeState
-start_nodes image s = map (λ rank. with_clock (closed_by s.clock []) (start_node image rank s.nodes s.memory s.limit)) (range_with_len 0 s.nodes)
+start_nodes image s = map (node_at_start image s) (range_with_len 0 s.nodes)
 
 -- a machine at the start of its first superstep
 abbrev pub fresh : Image → List ℕ → Settings → MachineState

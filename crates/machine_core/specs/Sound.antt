@@ -18,11 +18,12 @@ pub record AreInRange (s : Settings) : Type 0 where
   pub ticks : 0 < s.limit
   pub limit : s.limit ≤ 2 ^ 40
 
--- a sound node with the machine's number of nodes, size of memory and limit
+-- a sound node with the machine's number of nodes, size of memory and limit, and with a unit of floating point where the machine has them
 pub record IsNodeOf (s : Settings) (n : NodeState) : Type 0 where
   pub nodes : n.hart.nprocs ≡ s.nodes
   pub memory : length n.hart.memory ≡ s.memory
   pub limit : n.limit ≡ s.limit
+  pub unit : is_some n.hart.unit ≡ s.float
   pub sound : IsSoundNode n
 
 -- a node whose ticks were `started` when the superstep began, after so many exchanges: each cost it a tick, and to wait for the

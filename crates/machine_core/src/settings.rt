@@ -29,6 +29,8 @@ pub struct Settings {
     pub limit: u64,
     /// At which prices the nodes' clocks count. With none the nodes have no clocks, and the call that reads one is unknown.
     pub clock: Option<Prices>,
+    /// Whether each node has a unit of floating point. Without one, the instructions of F, D and Zicsr are illegal.
+    pub float: bool,
 }
 
 impl Settings {

@@ -3,10 +3,9 @@
 ghost use Rattle.std.specs.Prelude.{◌≡◌, ◌≢◌, ◌↔◌, ◌<◌, ◌⊎◌, [], map, false, true, Some, None, IfOk, IfErr, OnOk, IsErrOf};
 ghost use Rattle.std.specs.List.{range_with_len};
 ghost use Rattle.node_memory.specs.Image.{is_segment_outside};
-ghost use Rattle.node_core.specs.Node.{start_node, with_clock};
 ghost use Rattle.bsp_exchange.specs.Exchange.{states};
 ghost use Rattle.machine_core.specs.Clock.{closed_by};
-ghost use Rattle.machine_core.specs.Machine.{settings_fault, start_nodes as start_nodes_of};
+ghost use Rattle.machine_core.specs.Machine.{node_at_start, settings_fault, start_nodes as start_nodes_of};
 
 use crate::error::MachineError;
 use crate::settings::Settings;
@@ -46,7 +45,7 @@ fn first_node<A: Allocator + Copy>(
 ) -> Result<Node<A>, MachineError>
     requires { settings_fault settings.now ≡ None }
     ensures ok { let s = settings.now in
-        IfOk result (λ node. node.node ≡ with_clock (closed_by s.clock []) (start_node image.now 0 s.nodes s.memory s.limit)) }
+        IfOk result (λ node. node.node ≡ node_at_start image.now s 0) }
     ensures fits { OnOk result (is_segment_outside image.now settings.now.memory ≡ false) }
     ensures outside { IsErrOf result MachineError.SegmentOutside
         ↔ (is_segment_outside image.now settings.now.memory ≡ true) }
@@ -63,6 +62,7 @@ fn first_node<A: Allocator + Copy>(
     );
     match made {
         Ok(mut node) => {
+            node.set_unit(settings.float);
             node.set_clock(closed_at_start(settings));
             Ok(node)
         }

@@ -89,6 +89,7 @@ fn come_to_their_end(
         memory: 0x1000,
         limit: 10,
         clock: None,
+        float: false,
     };
     let mut machine = Machine::new(alloc, &image(alloc, ENDS)?, b"", settings)?;
     let gate = OrderGate {

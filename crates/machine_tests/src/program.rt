@@ -65,6 +65,7 @@ pub const SETTINGS: Settings = Settings {
     memory: MEMORY,
     limit: LIMIT,
     clock: None,
+    float: false,
 };
 
 /// The input of each node.

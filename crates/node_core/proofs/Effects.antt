@@ -1,6 +1,7 @@
 -- What an instruction keeps of a hart.
-use Rattle.std.proofs.Common.{ℕ, ◌%◌, List, length, Option, Some, None, pos, ◌+ℤ◌}
-use Rattle.std.specs.Prelude.{◌==◌}
+use Rattle.std.proofs.Common.{◌≡◌, ℕ, ◌%◌, true, List, length, Option, Some, None, Ok, Err, refl, pos, ◌+ℤ◌}
+use Rattle.std.specs.Prelude.{◌==◌, is_some}
+use Rattle.std.specs.declared.result.Result.{Result}
 use Rattle.node_memory.specs.Bytes.{fits, with_bytes}
 use Rattle.node_memory.proofs.Writes.{length-with_bytes}
 use Rattle.rv_tables.specs.declared.code.Code.{Code}
@@ -9,12 +10,21 @@ use Rattle.rv_tables.specs.declared.instr.Instr.TheVariants.{R, I, Shift, Load, 
 use Rattle.rv_tables.specs.declared.instr.PlainOp.{PlainOp}
 use Rattle.rv_tables.specs.declared.instr.PlainOp.TheVariants.{Fence, FenceI, Ecall, Ebreak}
 use Rattle.rv_tables.specs.Codes.{decoded, length_of}
-use Rattle.node_core.specs.Hart.{Hart, reg, with_reg, with_memory, past, goes_on, next_pc}
+use Rattle.node_core.specs.Hart.{Hart, After, reg, with_reg, with_memory, past, goes_on, next_pc}
 use Rattle.rv_values.specs.Arithmetic.{modulo, is_taken}
 use Rattle.node_core.specs.Calls.{named_call}
-use Rattle.node_core.specs.Effects.{effect_of, effect_if_any, code_effect, executed, fetched, plain_effect, jumps, store_effect}
+use Rattle.rv_float_tables.specs.declared.instr.FloatInstr.{FloatInstr}
+use Rattle.rv_float_tables.specs.declared.instr.FloatInstr.TheVariants as float
+use Rattle.rv_float_tables.specs.declared.instr.Format.{Format}
+use Rattle.rv_float_tables.specs.Codes.{float_decoded}
+use Rattle.float_unit.specs.declared.fault.FloatFault.{FloatFault}
+use Rattle.float_unit.specs.State.{FloatState}
+use Rattle.float_unit.specs.Effects.{Outcome, float_effect}
+use Rattle.node_core.specs.Effects.{address, effect_of, plain_effect, jumps, store_effect}
+use Rattle.node_core.specs.Floats.{size_of, pattern_at, integer_source, integer_target, with_integer, outcome_effect, float_load_effect, float_effect_of, on_unit}
+use Rattle.node_core.specs.Executed.{effect_if_any, code_effect, executed, fetched, float_effect_if_any}
 use Rattle.node_memory.proofs.Bytes.{fits-le}
-use Rattle.node_core.proofs.Harts.{Keeps, Keeps-same, Keeps-then, Keeps-pc, Keeps-reg, Keeps-memory}
+use Rattle.node_core.proofs.Harts.{Keeps, Keeps-same, Keeps-then, Keeps-pc, Keeps-reg, Keeps-unit, Keeps-memory}
 use Rattle.node_core.proofs.Calls.{Keeps-if, Keeps-ecall}
 
 module _ (h : Hart) where
@@ -52,14 +62,40 @@ module _ (h : Hart) (n : ℕ) where
   Keeps-effect (Jalr rd rs1 imm) input = Keeps-jump h _ (with_reg rd (next_pc n h) h) (Keeps-reg h rd (next_pc n h))
   Keeps-effect (Plain op) input = Keeps-plain op input
 
-  if_any : (i : Option Instr) (input : List ℕ) → Keeps h (effect_if_any i n input h).hart
-  if_any None input = Keeps-same h
-  if_any (Some i) input = Keeps-effect i input
+  Keeps-integer : (rd : ℕ) (value : Option ℕ) (next : Hart) → Keeps h next → Keeps h (with_integer rd value next)
+  Keeps-integer rd None next keeps = keeps
+  Keeps-integer rd (Some value) next keeps = Keeps-then h next _ keeps (Keeps-reg next rd value)
+
+  Keeps-outcome : (rd : ℕ) (answer : Result Outcome FloatFault) → is_some h.unit ≡ true → Keeps h (outcome_effect rd answer n h).hart
+  Keeps-outcome rd (Ok outcome) has = Keeps-past _ (Keeps-integer rd outcome.integer _ (Keeps-unit h outcome.state has))
+  Keeps-outcome rd (Err fault) has = Keeps-same h
+
+  Keeps-float_load : (i : FloatInstr) (format : Format) (addr : ℕ) (u : FloatState) → is_some h.unit ≡ true → Keeps h (float_load_effect i format addr u n h).hart
+  Keeps-float_load i format addr u has =
+      Keeps-if h (fits (length h.memory) addr (size_of format)) (outcome_effect 0 (float_effect i 0 (pattern_at format h.memory addr) u) n h) _
+      (λ fit. Keeps-outcome 0 (float_effect i 0 (pattern_at format h.memory addr) u) has) (Keeps-same h)
+
+  Keeps-float : (i : FloatInstr) (u : FloatState) → is_some h.unit ≡ true → Keeps h (float_effect_of i u n h).hart
+  Keeps-float (float.Load format rd rs1 imm) u has = Keeps-float_load (float.Load format rd rs1 imm) format (address h rs1 imm) u has
+  Keeps-float (float.Store format rs1 rs2 imm) u has = Keeps-store _ _
+  Keeps-float i u has = Keeps-outcome (integer_target i) (float_effect i (reg h (integer_source i)) 0 u) has
+
+  on-unit : (unit : Option FloatState) (effect : FloatState → After) → h.unit ≡ unit → ((u : FloatState) → is_some h.unit ≡ true → Keeps h (effect u).hart) → Keeps h (on_unit unit effect h).hart
+  on-unit None effect is keeps = Keeps-same h
+  on-unit (Some u) effect is keeps = keeps u (rw is refl)
+
+  float-any : (i : Option FloatInstr) → Keeps h (float_effect_if_any i n h).hart
+  float-any None = Keeps-same h
+  float-any (Some i) = on-unit h.unit (λ u. float_effect_of i u n h) refl (Keeps-float i)
 
 module _ (h : Hart) where
+  if_any : (i : Option Instr) (code : Code) (input : List ℕ) → Keeps h (effect_if_any i code input h).hart
+  if_any None code input = float-any h (length_of code) (float_decoded code)
+  if_any (Some i) code input = Keeps-effect h (length_of code) i input
+
   Keeps-code : (code : Option Code) (input : List ℕ) → Keeps h (code_effect code input h).hart
   Keeps-code None input = Keeps-same h
-  Keeps-code (Some code) input = if_any h (length_of code) (decoded code) input
+  Keeps-code (Some code) input = if_any (decoded code) code input
 
   pub Keeps-executed : (input : List ℕ) → Keeps h (executed input h).hart
   Keeps-executed input =

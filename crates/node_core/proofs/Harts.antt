@@ -1,6 +1,6 @@
 -- What the parts of an instruction keep of a hart.
-use Rattle.std.proofs.Common.{◌≡◌, ℕ, ◌≤◌, Bool, false, List, [], ◌∷◌, ◌++◌, length, drop, Option, Some, None, refl, sym, ap, ◌∙◌, arith, append_assoc}
-use Rattle.std.specs.Prelude.{IsSomeAnd, slice_index}
+use Rattle.std.proofs.Common.{◌≡◌, ℕ, ◌≤◌, Bool, true, false, List, [], ◌∷◌, ◌++◌, length, drop, Option, Some, None, refl, sym, ap, ◌∙◌, arith, append_assoc}
+use Rattle.std.specs.Prelude.{IsSomeAnd, is_some, slice_index}
 use Rattle.std.proofs.lemmas.Grind.{common_steps}
 use Rattle.std.proofs.lemmas.List.{append-nil}
 use Rattle.bsp_slots.specs.declared.area.Area.{Area}
@@ -9,7 +9,8 @@ use Rattle.bsp_slots.specs.Registrations.{PreparedRegistrations, next_list, is_f
 use Rattle.bsp_requests.specs.Request.{Asked, size_of}
 use Rattle.bsp_requests.specs.Requests.{with_request, with_output, are_too_many, is_full_for}
 use Rattle.node_core.specs.Communication.{Communication, IsCommunication, LiesIn, IsWellAddressed, max_tag_size}
-use Rattle.node_core.specs.Hart.{Hart, IsHart, room_after, with_reg, with_memory, with_registrations, with_requests}
+use Rattle.float_unit.specs.State.{FloatState}
+use Rattle.node_core.specs.Hart.{Hart, IsHart, room_after, with_reg, unit_becomes, with_memory, with_registrations, with_requests}
 use Rattle.node_core.specs.Node.{Extends}
 use Rattle.node_core.proofs.Communications.{IsCommunication-pushed, IsCommunication-popped, IsCommunication-requested, IsCommunication-written, IsCommunication-taken, IsCommunication-sized}
 
@@ -48,6 +49,7 @@ pub record Keeps (old new : Hart) : Type 0 where
   pub nprocs : new.nprocs ≡ old.nprocs
   pub memory_size : length new.memory ≡ length old.memory
   pub communication : KeepsCommunication old.communication new.communication
+  pub unit : is_some new.unit ≡ is_some old.unit
   pub sound : IsHart old → IsHart new
 
 pub Keeps-then : (a b c : Hart) → Keeps a b → Keeps b c → Keeps a c
@@ -56,6 +58,7 @@ Keeps-then a b c first second = record {
   nprocs = second.nprocs ∙ first.nprocs;
   memory_size = second.memory_size ∙ first.memory_size;
   communication = KeepsCommunication-then a.communication b.communication c.communication first.communication second.communication;
+  unit = second.unit ∙ first.unit;
   sound = λ sound. second.sound (first.sound sound);
 }
 
@@ -66,6 +69,7 @@ with_rest h pc cursor registers len x0 = record {
   nprocs = refl;
   memory_size = refl;
   communication = KeepsCommunication-same h.communication;
+  unit = refl;
   sound = λ sound. record { ranked = sound.ranked; few = sound.few; thirty_two = len sound.thirty_two; x0 = x0 sound.thirty_two sound.x0; memory = sound.memory; communication = sound.communication };
 }
 
@@ -81,12 +85,23 @@ Keeps-cursor h cursor = with_rest h h.pc cursor h.registers (λ len. len) (λ le
 pub Keeps-reg : (h : Hart) (rd value : ℕ) → Keeps h (with_reg rd value h)
 Keeps-reg h rd value = with_rest h h.pc h.cursor (with_reg rd value h).registers (λ len. grind (arith, common_steps)) (λ len x0. grind (arith, common_steps))
 
+pub Keeps-unit : (h : Hart) (u : FloatState) → is_some h.unit ≡ true → Keeps h (unit_becomes u h)
+Keeps-unit h u has = record {
+  rank = refl;
+  nprocs = refl;
+  memory_size = refl;
+  communication = KeepsCommunication-same h.communication;
+  unit = sym has;
+  sound = λ sound. record { ranked = sound.ranked; few = sound.few; thirty_two = sound.thirty_two; x0 = sound.x0; memory = sound.memory; communication = sound.communication };
+}
+
 pub Keeps-memory : (h : Hart) (bytes : List ℕ) → length bytes ≡ length h.memory → Keeps h (with_memory bytes h)
 Keeps-memory h bytes len = record {
   rank = refl;
   nprocs = refl;
   memory_size = len;
   communication = KeepsCommunication-same h.communication;
+  unit = refl;
   sound = λ sound. record { ranked = sound.ranked; few = sound.few; thirty_two = sound.thirty_two; x0 = sound.x0; memory = rw len sound.memory; communication = rw len sound.communication };
 }
 
@@ -97,6 +112,7 @@ with_communication h c keeps sound = record {
   nprocs = refl;
   memory_size = refl;
   communication = keeps;
+  unit = refl;
   sound = λ hart. record { ranked = hart.ranked; few = hart.few; thirty_two = hart.thirty_two; x0 = hart.x0; memory = hart.memory; communication = sound hart.communication };
 }
 

@@ -6,6 +6,7 @@ pub mod Communications
 pub mod Decoded
 pub mod Effects
 pub mod Fetch
+pub mod Floats
 pub mod Harts
 pub mod Messages
 pub mod Moves

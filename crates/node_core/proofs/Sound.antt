@@ -5,7 +5,7 @@ use Rattle.node_core.specs.declared.state.State.{State}
 use Rattle.node_core.specs.declared.state.State.TheVariants.{Running, Synced}
 use Rattle.node_core.specs.Hart.{After, IsHart}
 use Rattle.node_core.specs.Clock.{clocked, time_at}
-use Rattle.node_core.specs.Effects.{executed}
+use Rattle.node_core.specs.Executed.{executed}
 use Rattle.node_core.specs.Node.{NodeState, IsNode, IsSoundNode, IsLater, is_running, state_at, ticked, local_step, local_steps, phase}
 use Rattle.node_core.specs.Turn.{next_superstep}
 use Rattle.node_core.proofs.Clocks.{Keeps-clocked}
@@ -63,6 +63,7 @@ IsLater-from s t keeps limit clock ticks = record {
   changes = keeps.communication.changes;
   requests = keeps.communication.requests;
   output = keeps.communication.output;
+  unit = keeps.unit;
   ticks = ticks;
 }
 
@@ -78,6 +79,7 @@ IsLater-then a b c first second = record {
   changes = Extends-then a.hart.communication.registrations.changes b.hart.communication.registrations.changes c.hart.communication.registrations.changes first.changes second.changes;
   requests = Extends-then a.hart.communication.requests.requests b.hart.communication.requests.requests c.hart.communication.requests.requests first.requests second.requests;
   output = Extends-then a.hart.communication.requests.output b.hart.communication.requests.output c.hart.communication.requests.output first.output second.output;
+  unit = second.unit ∙ first.unit;
   ticks = omega (arith, first.ticks, second.ticks);
 }
 

@@ -4,6 +4,8 @@ pub mod Clock
 pub mod Communication
 pub mod DecodedSteps
 pub mod Effects
+pub mod Executed
+pub mod Floats
 pub mod Hart
 pub mod Inside
 pub mod Names

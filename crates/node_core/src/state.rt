@@ -5,7 +5,8 @@ use std::fmt;
 /// Why a node was stopped by its own program (own rules).
 #[derive(Clone, Copy, Debug, PartialEq, Eq)]
 pub enum Fault {
-    /// The code at pc is that of no instruction.
+    /// The code at pc is that of no instruction, or of one of floating point and the node has no unit for it; or an instruction asks for the
+    /// rounding mode in frm, and that is none.
     IllegalInstruction,
     /// The two bytes at pc, or the four where their low bits are 11, are not all in memory.
     FetchOutside,
@@ -29,6 +30,9 @@ pub enum Fault {
     TooMuch,
     /// A tag size above the greatest.
     BadSize,
+    /// The result of an instruction is a number of floating point that may have to be rounded, and the mode is another than to the nearest,
+    /// ties to even.
+    UnsupportedRounding,
 }
 
 impl Fault {
@@ -52,6 +56,7 @@ impl Fault {
             Fault::NotRegistered => "NotRegistered",
             Fault::TooMuch => "TooMuch",
             Fault::BadSize => "BadSize",
+            Fault::UnsupportedRounding => "UnsupportedRounding",
         }
     }
 }

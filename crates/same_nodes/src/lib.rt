@@ -5,8 +5,10 @@
 
 use bsp_requests::{Inbox, Request, Requests};
 use bsp_slots::Slots;
+use float_unit::FloatUnit;
 use node_core::Node;
 use node_memory::{Memory, ReadError};
+use rv_float_tables::FloatCsr;
 use std::alloc::Allocator;
 
 /// Whether nothing tells one node from another.
@@ -38,18 +40,33 @@ pub fn are_same_rows<A: Allocator + Copy>(
     Ok(nodes.len() == others.len())
 }
 
-/// Whether two nodes have the same rank, registers, pc, ticks, state, clock, place in the input and tag sizes.
+/// Whether two nodes have the same rank, registers, unit of floating point, pc, ticks, state, clock, place in the input and tag sizes.
 fn have_same_harts<A: Allocator>(node: &Node<A>, other: &Node<A>) -> bool {
     for n in 0..32u8 {
         if node.reg(n) != other.reg(n) {
             return false;
         }
     }
+    if !have_same_units(node.unit(), other.unit()) {
+        return false;
+    }
     (node.rank(), node.nprocs(), node.pc(), node.ticks())
         == (other.rank(), other.nprocs(), other.pc(), other.ticks())
         && (node.state(), node.clock()) == (other.state(), other.clock())
         && (node.cursor(), node.tag_size(), node.next_tag_size())
             == (other.cursor(), other.tag_size(), other.next_tag_size())
+}
+
+fn have_same_units(unit: Option<&FloatUnit>, other: Option<&FloatUnit>) -> bool {
+    let (Some(unit), Some(other)) = (unit, other) else {
+        return unit.is_none() && other.is_none();
+    };
+    for r in 0..32u8 {
+        if unit.register(r) != other.register(r) {
+            return false;
+        }
+    }
+    unit.csr(FloatCsr::Fcsr) == other.csr(FloatCsr::Fcsr)
 }
 
 fn have_same_slots<A: Allocator + Copy>(slots: &Slots<A>, others: &Slots<A>) -> bool {

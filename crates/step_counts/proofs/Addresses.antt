@@ -9,7 +9,7 @@ use Rattle.node_core.specs.declared.state.Fault.{Fault}
 use Rattle.node_core.specs.declared.state.Fault.TheVariants.{Misaligned, FetchOutside}
 use Rattle.node_core.specs.Addresses.{next_addresses}
 use Rattle.node_core.specs.Clock.{clocked, is_of_call, time_at}
-use Rattle.node_core.specs.Effects.{executed, code_effect, fetched}
+use Rattle.node_core.specs.Executed.{executed, code_effect, fetched}
 use Rattle.node_core.specs.Hart.{Hart, After, faults}
 use Rattle.node_core.specs.Node.{NodeState, IsNode, is_running, ticked, local_step, local_steps, phase}
 use Rattle.node_core.proofs.Addresses.{next-few, next-running, next-stopped, next-zero}

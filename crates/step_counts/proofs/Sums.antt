@@ -6,10 +6,10 @@ use Rattle.std.proofs.lemmas.Bool.{cases_eq, cases_lt, eq-eqb, ne_eqb, false≢t
 use Rattle.std.proofs.lemmas.List.Elements.{All-head, All-tail}
 use Rattle.std.proofs.lemmas.List.Sums.{sum_by-cons, sum_by_push}
 use Rattle.node_memory.specs.Image.{Image}
-use Rattle.node_core.specs.Node.{NodeState, IsNode, phase, start_node, with_clock}
+use Rattle.node_core.specs.Node.{NodeState, IsNode, phase}
 use Rattle.machine_core.specs.declared.outcome.Outcome.{Outcome}
 use Rattle.machine_core.specs.declared.settings.Settings.{Settings}
-use Rattle.machine_core.specs.Machine.{MachineState, fresh}
+use Rattle.machine_core.specs.Machine.{MachineState, fresh, node_at_start}
 use Rattle.machine_core.specs.Sound.{IsSoundMachine}
 use Rattle.machine_core.specs.Turn.{cost_row, decided, most_ticks, outcome_of, recorded, superstep, turned, with_exchange, with_phases}
 use Rattle.machine_core.specs.Clock.{closed_by}
@@ -83,7 +83,7 @@ greatest-work m sound begun =
     ap (fold max 0) (each-ticks m.input m.nodes (IsNode-each m sound))
     ∙ ap (λ (started : List ℕ). most_ticks (map (phase m.input) m.nodes) started) (sym begun)
 
-zero_ticks : (image : Image) (s : Settings) (from k : ℕ) → replicate k 0 ≡ map (λ (n : NodeState). n.ticks) (map (λ rank. with_clock (closed_by s.clock []) (start_node image rank s.nodes s.memory s.limit)) (range_with_len from k))
+zero_ticks : (image : Image) (s : Settings) (from k : ℕ) → replicate k 0 ≡ map (λ (n : NodeState). n.ticks) (map (node_at_start image s) (range_with_len from k))
 zero_ticks image s from zero = refl
 zero_ticks image s from (suc k) = ap (λ (ks : List ℕ). 0 ∷ ks) (zero_ticks image s (from + 1) k)
 

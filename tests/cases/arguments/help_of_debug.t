@@ -16,6 +16,7 @@
         --l <TICKS>         Ticks that the end of a superstep costs in the total [default: 0]
         --ledger <VERSION>  Version of the ledger: 2, in which h leaves out what a rank moves to itself and m counts messages, or 1, in which h counts it [default: 2]
         --clock             Give each node a clock, which call 19 reads: the cost of the supersteps that are over, and its own ticks in this one
+        --float             Give each node a unit of floating point, for the instructions of F and D
         --interactive       Answer each line before the next one is read, as at a terminal
         --framed            For programs: write a line before each reply, which says how many lines the reply has and whether it is a refusal
     -h, --help              Print help

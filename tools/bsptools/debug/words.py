@@ -18,6 +18,7 @@ SIGNALS = {
     "fault StoreOutside": SEGMENT,
     "fault RangeOutside": SEGMENT,
     "fault IllegalInstruction": ILLEGAL,
+    "fault UnsupportedRounding": ILLEGAL,
     "fault Break": TRAP,
 }
 

@@ -17,4 +17,5 @@ returns c =
     let g = with_arg _ _ _ _ _ c.in_ok-arg-7.ensures input c.byte_price.ensures in
     let l = with_arg _ _ _ _ _ c.in_ok-arg-8.ensures g c.superstep_price.ensures in
     let ledger = with_arg _ _ _ _ _ c.in_ok-arg-9.ensures l c.ledger.ensures in
-    IfOk-weaker c.arg-10.result _ _ (λ r adds. with_arg _ _ _ _ _ adds ledger c.clock.ensures) c.arg-10.ensures
+    let clock = with_arg _ _ _ _ _ c.in_ok-arg-10.ensures ledger c.clock.ensures in
+    IfOk-weaker c.arg-11.result _ _ (λ r adds. with_arg _ _ _ _ _ adds clock c.float.ensures) c.arg-11.ensures

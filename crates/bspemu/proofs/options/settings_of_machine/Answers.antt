@@ -1,6 +1,6 @@
 use Rattle.std.proofs.Common.{codes}
 use Rattle.clap.specs.Words.{found_of}
-use Rattle.bspemu.proofs.Getters.{no_number_of_getter, number_of_getter}
+use Rattle.bspemu.proofs.Getters.{flag_of_getter, no_flag_of_getter, no_number_of_getter, number_of_getter}
 use Rattle.bspemu.proofs.options.settings_of_machine.Goals as goal
 
 pub returns-clause-some : goal.returns-clause-some
@@ -11,6 +11,7 @@ returns-clause-some c =
       memory = number_of_getter 32 _ found (codes "memory") c.in_ok-get_one-2.ensures.none c.in_ok-get_one-2.ensures.value;
       limit = number_of_getter 64 _ found (codes "limit") c.in_ok-get_one-3.ensures.none c.in_ok-get_one-3.ensures.value;
       clock = c.in_ok-clock_of.ensures.some;
+      float = flag_of_getter _ found (codes "float") c.in_ok-get_one-4.ensures.none c.in_ok-get_one-4.ensures.value;
     }
 
 pub returns-in_err-get_one-clause-none : goal.returns-in_err-get_one-clause-none
@@ -31,3 +32,8 @@ returns-in_err-get_one-3-clause-none c =
 pub returns-in_err-clock_of-clause-none : goal.returns-in_err-clock_of-clause-none
 returns-in_err-clock_of-clause-none c =
     rw c.from_residual-in_err-clock_of.ensures (λ s gives. c.in_err-clock_of.ensures.none s.clock gives.clock)
+
+pub returns-in_err-get_one-4-clause-none : goal.returns-in_err-get_one-4-clause-none
+returns-in_err-get_one-4-clause-none c =
+    rw c.from_residual-in_err-get_one-4.ensures
+    (λ s gives. no_flag_of_getter s.float (found_of c.args.found.now) (codes "float") c.in_err-get_one-4.ensures.value gives.float)

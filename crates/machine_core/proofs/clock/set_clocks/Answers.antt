@@ -1,4 +1,4 @@
-use Rattle.std.proofs.Common.{◌≡◌, ◌≤◌, ◌++◌, List, length, map, drop, set, arith, refl, ap, ◌∙◌, append-nil}
+use Rattle.std.proofs.Common.{◌≤◌, ◌++◌, List, length, map, drop, set, arith, refl, ap, ◌∙◌, append-nil}
 use Rattle.std.proofs.lemmas.List.{drop_all, take_all}
 use Rattle.std.proofs.lemmas.Option.{get_or_from_slice_get}
 use Rattle.std.specs.Prelude.{slice_get}

@@ -1,7 +1,8 @@
 use Rattle.std.proofs.Common.{◌≡◌, [], ◌∷◌, ◌++◌, map, ap, ◌∙◌, arith}
 use Rattle.std.specs.List.{range_with_len}
 use Rattle.node_core.specs.Node.{NodeState, PreparedNode, with_rank}
-use Rattle.machine_core.proofs.Starts.{new_node, settings_fault-nodes, length-first, first_of, first_more}
+use Rattle.machine_core.specs.Machine.{node_at_start}
+use Rattle.machine_core.proofs.Starts.{settings_fault-nodes, length-first, first_of, first_more}
 use Rattle.machine_core.proofs.start.start_nodes.Goals as goal
 
 pub index-requires : goal.index-requires
@@ -31,4 +32,4 @@ pub returns-clause-ok : goal.returns-clause-ok
 returns-clause-ok g c =
     let some = settings_fault-nodes c.args.settings.now c.requires in
     let all : c.loop-rank.rank ≡ c.args.settings.now.nodes = omega (arith, c.loop-rank-test.false, c.loop-rank.auto.rank-end some) in
-    c.loop-rank.invariant.made ∙ ap (λ k. map (new_node c.args.image.now c.args.settings.now) (range_with_len 0 k)) all
+    c.loop-rank.invariant.made ∙ ap (λ k. map (node_at_start c.args.image.now c.args.settings.now) (range_with_len 0 k)) all

@@ -13,6 +13,8 @@ from . import bounds, limits
 from .packages import ELFTOOLS, borrow
 
 LOAD = 1
+# The bits of a file's flags that say in which registers of floating point functions take values; zero where in none.
+FLOAT_ABI = 0x6
 # A section of symbols, the bytes of one of them, and of a name at the most.
 SYMBOLS, SYMBOL_BYTES, MOST_NAME = 2, 16, 1 << 12
 FUNCTION, OBJECT = "STT_FUNC", "STT_OBJECT"
@@ -43,6 +45,11 @@ def segments(content: bytes) -> Iterator[tuple[int, memoryview, int]]:
 def entry(content: bytes) -> int:
     """Where execution begins; 0 where the file is too short to say."""
     return int.from_bytes(content[24:28], "little")
+
+
+def wants_floats(content: bytes) -> bool:
+    """Whether an ELF file's functions take values in registers of floating point."""
+    return int.from_bytes(content[36:40], "little") & FLOAT_ABI != 0
 
 
 def names(content: bytes) -> set[str]:

@@ -1,5 +1,5 @@
 use Rattle.std.proofs.Common.{inl, inr, refl, ap, ap₂, ◌∙◌}
-use Rattle.node_core.specs.Node.{PreparedNode, with_clock}
+use Rattle.node_core.specs.Node.{PreparedNode, with_clock, with_unit}
 use Rattle.node_memory.specs.declared.memory.MemoryError.TheVariants as memory_error
 use Rattle.machine_core.proofs.Refusals.{err_at, made-sized, fits-made, fits-no_memory, outside-ok, outside-no_memory}
 use Rattle.machine_core.proofs.Starts.{AreInRange-from, settings_fault-nodes}
@@ -17,7 +17,7 @@ unreachable-requires g c =
 pub returns-in-Ok : goal.returns-in-Ok
 returns-in-Ok g c =
     let fits = fits-made c.new-made.result c.args.image.now c.args.settings.now c.requires c.new-made.ensures.segment_outside c.in-Ok.node c.in-Ok.is in
-    record { ok = ap (λ (p : PreparedNode). p.node) c.set_clock.ensures ∙ ap₂ with_clock c.closed_at_start.ensures (ap (λ (p : PreparedNode). p.node) c.in-Ok.ensures.ok); fits = fits; outside = outside-ok _ fits; kinds = tt }
+    record { ok = ap (λ (p : PreparedNode). p.node) c.set_clock.ensures ∙ ap₂ with_clock c.closed_at_start.ensures (ap (λ (p : PreparedNode). p.node) c.set_unit.ensures ∙ ap (with_unit c.args.settings.now.float) (ap (λ (p : PreparedNode). p.node) c.in-Ok.ensures.ok)); fits = fits; outside = outside-ok _ fits; kinds = tt }
 
 pub returns-in-Err-SegmentOutside : goal.returns-in-Err-SegmentOutside
 returns-in-Err-SegmentOutside g c =

@@ -6,17 +6,19 @@ from typing import Dict, List, NamedTuple, Optional, Tuple
 
 from ..debugger import Node
 
-# Opcodes that change no memory: LOAD, MISC-MEM, OP-IMM, AUIPC, OP, LUI, BRANCH, JALR, JAL.
-QUIET = {0x03, 0x0F, 0x13, 0x17, 0x33, 0x37, 0x63, 0x67, 0x6F}
-LOAD, STORE = 0x03, 0x23
+# Opcodes that change no memory: LOAD, LOAD-FP, MISC-MEM, OP-IMM, AUIPC, OP, LUI, MADD, MSUB, NMSUB, NMADD, OP-FP, BRANCH, JALR, JAL.
+QUIET = {0x03, 0x07, 0x0F, 0x13, 0x17, 0x33, 0x37, 0x43, 0x47, 0x4B, 0x4F, 0x53, 0x63, 0x67, 0x6F}
+LOADS, STORE, STORE_FP, SYSTEM = {0x03, 0x07}, 0x23, 0x27, 0x73
 # Calls that change no memory before the turn, by their number, and the one that stores a word at its operand. The others that store do so at
 # more places, or take from a queue.
 ECALL = 0x00000073
 QUIET_CALLS = {*range(1, 11), 12, 16, 17, 19}
 SET_TAGSIZE = 11
-# Compressed instructions that change no memory, by their lowest two bits, and then by funct3: C.ADDI4SPN, C.LW; all; C.SLLI, C.LWSP, and
-# C.JR with its like.
-QUIET_COMPRESSED = {0: {0, 2}, 1: set(range(8)), 2: {0, 2, 4}}
+# Compressed instructions that change no memory, by their lowest two bits, and then by funct3: C.ADDI4SPN, C.FLD, C.LW, C.FLW; all; C.SLLI,
+# C.FLDSP, C.LWSP, C.FLWSP, and C.JR with its like.
+QUIET_COMPRESSED = {0: {0, 1, 2, 3}, 1: set(range(8)), 2: {0, 1, 2, 3, 4}}
+# Those that are of doubles, and of floating point at all.
+OF_DOUBLES, OF_FLOATS = {1, 5}, {1, 3, 5, 7}
 SP, A0, A7 = 2, 10, 17
 
 
@@ -43,7 +45,7 @@ def stored(code: bytes, x: Tuple[int, ...]) -> Optional[Stored]:
     word = int.from_bytes(code, "little")
     if word & 3 != 3:
         return _stored_compressed(word & 0xFFFF, x)
-    if word & 0x7F == STORE:
+    if word & 0x7F in (STORE, STORE_FP):
         offset = word >> 25 << 5 | word >> 7 & 31
         offset -= offset >> 11 << 12
         return Stored((x[word >> 15 & 31] + offset) % (1 << 32), 1 << (word >> 12 & 3))
@@ -51,21 +53,36 @@ def stored(code: bytes, x: Tuple[int, ...]) -> Optional[Stored]:
         return Stored(x[A0], 4)
     if word == ECALL:
         return NOTHING if x[A7] in QUIET_CALLS else None
-    return NOTHING if word & 0x7F in QUIET else None
+    is_of_register = word & 0x7F == SYSTEM and word >> 12 & 7 != 0
+    return NOTHING if word & 0x7F in QUIET or is_of_register else None
+
+
+def stores_floats(code: bytes) -> bool:
+    """Whether an instruction is a store of a register of floating point."""
+    word = int.from_bytes(code, "little")
+    return word & 0x7F == STORE_FP if word & 3 == 3 else word & 1 == 0 and word >> 13 & 7 in OF_FLOATS
 
 
 def _stored_compressed(half: int, x: Tuple[int, ...]) -> Optional[Stored]:
     kind, funct3 = half & 3, half >> 13
     if funct3 in QUIET_COMPRESSED[kind]:
         return NOTHING
-    if (kind, funct3) == (0, 6):
-        # C.SW
-        offset = (half >> 10 & 7) << 3 | (half >> 6 & 1) << 2 | (half >> 5 & 1) << 6
-        return Stored((x[8 + (half >> 7 & 7)] + offset) % (1 << 32), 4)
-    if (kind, funct3) == (2, 6):
-        # C.SWSP
-        return Stored((x[SP] + ((half >> 9 & 15) << 2 | (half >> 7 & 3) << 6)) % (1 << 32), 4)
-    return None
+    if kind == 0:
+        # C.SW, C.FSW, C.FSD
+        return _by_pointer(half, x)
+    if funct3 in OF_DOUBLES:
+        # C.FSDSP
+        return Stored((x[SP] + ((half >> 10 & 7) << 3 | (half >> 7 & 7) << 6)) % (1 << 32), 8)
+    # C.SWSP, C.FSWSP
+    return Stored((x[SP] + ((half >> 9 & 15) << 2 | (half >> 7 & 3) << 6)) % (1 << 32), 4)
+
+
+def _by_pointer(half: int, x: Tuple[int, ...]) -> Stored:
+    """What a compressed load or store through one of x8 to x15 is of."""
+    pointer = x[8 + (half >> 7 & 7)]
+    if half >> 13 in OF_DOUBLES:
+        return Stored((pointer + ((half >> 10 & 7) << 3 | (half >> 5 & 3) << 6)) % (1 << 32), 8)
+    return Stored((pointer + ((half >> 10 & 7) << 3 | (half >> 6 & 1) << 2 | (half >> 5 & 1) << 6)) % (1 << 32), 4)
 
 
 def value_of(code: bytes, x: Tuple[int, ...]) -> int:
@@ -79,15 +96,18 @@ def value_of(code: bytes, x: Tuple[int, ...]) -> int:
 def loaded(code: bytes, x: Tuple[int, ...]) -> Stored:
     """Where an instruction loads from, with these registers. What a call reads is not told."""
     word = int.from_bytes(code, "little")
-    if len(code) == 4 and word & 0x7F == LOAD:
+    if len(code) == 4 and word & 0x7F in LOADS:
         offset = word >> 20
         return Stored((x[word >> 15 & 31] + offset - (offset >> 11 << 12)) % (1 << 32), 1 << (word >> 12 & 3))
     half = word & 0xFFFF
-    if (half & 3, half >> 13) == (0, 2):
-        # C.LW
-        return Stored((x[8 + (half >> 7 & 7)] + ((half >> 10 & 7) << 3 | (half >> 6 & 1) << 2 | (half >> 5 & 1) << 6)) % (1 << 32), 4)
-    if (half & 3, half >> 13) == (2, 2):
-        # C.LWSP
+    if half & 3 == 0 and half >> 13 in (1, 2, 3):
+        # C.FLD, C.LW, C.FLW
+        return _by_pointer(half, x)
+    if (half & 3, half >> 13) == (2, 1):
+        # C.FLDSP
+        return Stored((x[SP] + ((half >> 12 & 1) << 5 | (half >> 5 & 3) << 3 | (half >> 2 & 7) << 6)) % (1 << 32), 8)
+    if half & 3 == 2 and half >> 13 in (2, 3):
+        # C.LWSP, C.FLWSP
         return Stored((x[SP] + ((half >> 12 & 1) << 5 | (half >> 4 & 7) << 2 | (half >> 2 & 3) << 6)) % (1 << 32), 4)
     return NOTHING
 

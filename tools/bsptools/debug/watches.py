@@ -11,7 +11,7 @@ from .history import Hit
 from .machine import Machine
 from .names import Names
 from .requests import Made
-from .trace import ECALL, Stored, loaded, value_of
+from .trace import ECALL, Stored, loaded, stores_floats, value_of
 from .walk import Step, Walk
 from .writers import Own, Search
 
@@ -184,10 +184,10 @@ class Reader:
         return next((it for it in self._watches if load and it.kind != "watch" and it.meets(load)), None)
 
     def _is_change(self, watch: Watch, step: Step) -> bool:
-        """Whether a store changes bytes that stop where they change. What a call stores is taken for a change."""
+        """Whether a store changes bytes that stop where they change. What a call stores, or a register of floating point, is taken for a change."""
         content = self._contents.get(watch)
         code = self._walk.code(step.node.pc)
-        if content is None or int.from_bytes(code, "little") == ECALL:
+        if content is None or int.from_bytes(code, "little") == ECALL or stores_floats(code):
             return True
         kept = bytes(content)
         for place, byte in enumerate(value_of(code, step.node.x).to_bytes(4, "little")[: step.stores[0].length], step.stores[0].addr):

@@ -2,6 +2,7 @@
 
 from __future__ import annotations
 
+import contextlib
 import os
 import pathlib
 import signal
@@ -11,11 +12,26 @@ from typing import Dict, List, Tuple
 from pages.page import Command
 
 SECONDS = 120
+# The folder of what the copies share: the library that bspcc has built, and modules of Python.
+CACHE = "cache"
+BY_CONTENT = ("bspcc", "bspemu/tools")
 # Two lines that the debugger refuses, which changes nothing; so its answers to the lines between them can be told apart.
 MARK = "-\nclear superstep 0xffffffffffffffff\n"
 MARKED = "refused: BadCommand: there is no such line; help tells the lines\nrefused: NoSuchBreak\n"
 # Those that write their prompt also where no person is.
 GDB, LINES = "(gdb) ", "(bsp) "
+
+
+def keep_caches(scratch: pathlib.Path) -> None:
+    """Has the copies in a scratch folder share what is made of their files. What goes by the content of all that it is made of is the user's
+    too, where that can be written."""
+    kept = pathlib.Path(os.environ.get("XDG_CACHE_HOME") or pathlib.Path.home() / ".cache")
+    for name in BY_CONTENT:
+        (scratch / CACHE / name).parent.mkdir(parents=True, exist_ok=True)
+        with contextlib.suppress(OSError):
+            (kept / name).mkdir(0o700, parents=True, exist_ok=True)
+            if os.access(kept / name, os.W_OK):
+                (scratch / CACHE / name).symlink_to(kept / name)
 
 
 class Shell:
@@ -68,6 +84,5 @@ def environment(top: pathlib.Path) -> Dict[str, str]:
     home, scratch = top.parent / "home", top.parent / "tmp"
     for folder in (home, scratch):
         folder.mkdir(exist_ok=True)
-    # What bspcc builds of its library is that of all pages.
-    cache = str(top.parent.parent / "cache")
+    cache = str(top.parent.parent / CACHE)
     return {"PATH": os.environ["PATH"], "LANG": "C.UTF-8", "HOME": str(home), "XDG_CACHE_HOME": cache, "TMPDIR": str(scratch), "TERM": "dumb"}

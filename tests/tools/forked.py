@@ -121,8 +121,12 @@ def write(pipe: int, given: bytes) -> None:
 
 def load(tools: Sequence[str]) -> None:
     """Loads all parts of these tools, as each begins."""
-    from bsptools import start  # pylint: disable=import-outside-toplevel
+    from bsptools import modules  # pylint: disable=import-outside-toplevel
 
+    modules.keep()
+    from bsptools import packages, start  # pylint: disable=import-outside-toplevel
+
+    packages.borrow(packages.ELFTOOLS)
     # matplotlib takes its settings from the folder that it is imported in, as bspplot has it.
     os.chdir(REPO / "tools/bsptools/plot")
     for tool in tools:

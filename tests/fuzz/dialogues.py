@@ -3,6 +3,7 @@
 from __future__ import annotations
 
 import dataclasses
+import functools
 import random
 import re
 from typing import Callable, Dict, List, NamedTuple, Optional, Set, Tuple, Union
@@ -12,6 +13,8 @@ from fuzz.answers import FAULTS_OF_STEPS, one_of
 from fuzz.reports import Machine
 
 POINTS = 1024
+# Lines and patterns of which is kept what was made of them: as many as come back soon.
+KEPT = 1 << 11
 # A line that asks for nothing. It stands behind each `output`, whose reply has any bytes, so that the end of these shows: in a script,
 # and in a dialogue, which tells more.
 MARK = b"what-was-written-ends-here"
@@ -30,6 +33,7 @@ REQUEST = (
 )
 TEXT = rb'"(?:[ !#-\[\]-~]|\\[tnr"\\]|\\x[0-9a-f]{2})*"'
 CODE = rb"([0-9a-f]{8}): [0-9a-f]{2,8} +[.a-z].*"
+HEXADECIMAL = re.compile(rb"0x[0-9a-fA-F]+")
 # The words of each kind of line, with the bits of its numbers; or a name where it has one of a line.
 Form = Tuple[Union[bytes, int, str], ...]
 FORMS: Dict[bytes, List[Form]] = {
@@ -67,9 +71,9 @@ class Asked(NamedTuple):
 
 def number_of(word: bytes, bits: int) -> Optional[int]:
     """The number that a word spells, if it spells one of so many bits."""
-    if re.fullmatch(rb"[0-9]+", word):
+    if word.isdigit():
         digits, base = word.lstrip(b"0"), 10
-    elif re.fullmatch(rb"0x[0-9a-fA-F]+", word):
+    elif HEXADECIMAL.fullmatch(word):
         digits, base = word[2:].lstrip(b"0"), 16
     else:
         return None
@@ -79,8 +83,10 @@ def number_of(word: bytes, bits: int) -> Optional[int]:
     return value if value < 1 << bits else None
 
 
-def asked(line: bytes, forms: Dict[bytes, List[Form]] = FORMS) -> Optional[Asked]:
+@functools.lru_cache(maxsize=KEPT)
+def asked(line: bytes, is_dialogue: bool = False) -> Optional[Asked]:
     """What a line asks for; none where it asks for nothing. An empty line has an empty word."""
+    forms = SPOKEN if is_dialogue else FORMS
     words = [word for word in line.split(b" ") if word]
     if not words:
         return Asked(b"", ())
@@ -95,6 +101,12 @@ def asked(line: bytes, forms: Dict[bytes, List[Form]] = FORMS) -> Optional[Asked
         if len(numbers) == len(values):
             return Asked(words[0], numbers)
     return None
+
+
+@functools.lru_cache(maxsize=KEPT)
+def compiled(pattern: bytes) -> re.Pattern[bytes]:
+    """What finds a line of this pattern."""
+    return re.compile(pattern + b"\n")
 
 
 @dataclasses.dataclass
@@ -118,7 +130,7 @@ class Judge:
 
     def take(self, pattern: bytes) -> Optional[re.Match[bytes]]:
         """The next lines, if they are of this pattern."""
-        found = re.compile(pattern + b"\n").match(self.rest)
+        found = compiled(pattern).match(self.rest)
         if found:
             self.rest = self.rest[found.end():]
         return found
@@ -151,7 +163,7 @@ class Judge:
 
     def judge(self, line: bytes) -> None:
         """Takes the reply to a line."""
-        words = asked(line, SPOKEN if self.is_dialogue else FORMS)
+        words = asked(line, self.is_dialogue)
         if words is not None and not words.name:
             return
         if words is None:
@@ -343,7 +355,7 @@ def parting(machine: Machine, output: bytes, script: bytes, plain: bytes, spoken
     lines = script.split(b"\n")
     pairs = zip(lines, replies_of(Judge(machine, output, plain), lines), replies_of(Judge(machine, output, spoken, is_dialogue=True), lines))
     for line, reply, other in pairs:
-        if asked(line) is None and asked(line, SPOKEN) is not None:
+        if asked(line) is None and asked(line, True) is not None:
             return ""
         if reply != other and not (asked(line) is None and other.startswith(reply[:-1])):
             return f"the line {line[:80]!r} is answered with {reply[:80]!r} in a script and with {other[:80]!r} in a dialogue"

@@ -1,7 +1,9 @@
-use Rattle.std.proofs.Common.{◌≡◌, List, length, sym, ap, ◌∙◌, arith}
+use Rattle.std.proofs.Common.{◌≡◌, ℕ, List, length, sym, ap, subst, ◌∙◌, arith}
 use Rattle.std.proofs.lemmas.List.{length-map}
 use Rattle.node_core.specs.Node.{NodeState, PreparedNode}
 use Rattle.bsp_exchange.specs.Exchange.{states}
+use Rattle.machine_core.specs.Events.{HaveStepped}
+use Rattle.machine_core.specs.Machine.{MachineState}
 use Rattle.phase_pool.proofs.Phases.{worked_phases, worked_events, worked_come}
 use Rattle.phase_pool.proofs.pool.work_on_machine.Goals as goal
 
@@ -24,3 +26,11 @@ returns g c =
           let several = c.work_on-worked.ensures.no_worker refused in
           (omega (arith, several, c.min-workers.ensures), omega (arith, several, c.min-workers.ensures, c.len.ensures, old.ok.0, nodes));
     }
+
+pub take_back-requires : goal.take_back-requires
+take_back-requires g c =
+    let lender = c.lend-lender.result.0 in
+    let row = states c.work_on-worked.result.nodes.items in
+    let nodes = c.lend-lender.ensures.row ∙ sym (ap (λ (m : MachineState). m.nodes) c.lend-lender.ensures.rest) in
+    let stepped = subst (λ (ns : List NodeState). HaveStepped c.input.result.now ns row) nodes c.work_on-worked.ensures.work.stepped in
+    subst (λ (input : List ℕ). HaveStepped input lender.nodes row) c.input.ensures stepped

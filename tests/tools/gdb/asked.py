@@ -92,6 +92,21 @@ def who_wrote_bytes(bench: Bench) -> None:
 
 
 @case
+def of_this_rank(bench: Bench) -> None:
+    """What takes the rank that gdb looks at takes that one, whichever gdb has read something of since."""
+    looks = ["info threads", 'interpreter-exec mi "-thread-info"', 'interpreter-exec mi "-stack-list-frames --thread 3"', "thread apply 2 print both"]
+    looks += ["thread 2", "thread 1"]
+    commands = ["break copy", "continue", *[it for look in looks for it in (look, "monitor wrote both+2 1", "wrote tag")]]
+    # So in whatever language the program is.
+    commands += ["set language rust", "info threads", "monitor wrote both+2 1", "monitor superstep 3", "info threads", "continue"]
+    text = bench.gdb(bench.build(SOURCE, "-DREST=50"), commands, "-n", "3")
+    first, second = ["bsp_put by rank 2", "bsp_get_tag by rank 0"], ["a store by rank 1", "a store by rank 1"]
+    told = re.findall(r"<(?:both\+2|tag)>.*: (.* by rank \d)[ ,]", text)
+    expect(told == [*first * 4, *second, *first, first[0]], (told, text))
+    in_order(text, "superstep 3 begins", 'Thread 1 "rank 0, superstep 3" stopped.')
+
+
+@case
 def who_wrote_in_assembly(bench: Bench) -> None:
     """What was read, in a text, whose labels and lines are told; and a rank that has failed."""
     source, given = bench.folder / "reads.s", bench.folder / "given"

@@ -16,31 +16,41 @@ define target hookpost-remote
 set scheduler-locking step
 end
 
-# As it goes back, gdb does not say which rank it looks at, unless it has just read something there. And so the bridge is told that a command
-# begins: what gdb took away before that, it has not taken away for it.
-define hook-reverse-continue
-if $_thread && *(char *)0
+# gdb says which rank it looks at only where it reads something of it: after `info threads` that is the last one. So a byte is read before
+# what is asked of this rank, and before what may stop at none and is told at this one. `dump` reads it in every language of programs.
+define tell-rank
+if $_thread
+dump binary memory /dev/null 0 1
 end
+end
+document tell-rank
+Has gdb tell the machine which rank it looks at.
+end
+define hook-monitor
+tell-rank
+end
+define hook-continue
+tell-rank
+end
+
+# So also as it goes back. And so the bridge is told that a command begins: what gdb took away before that, it has not taken away for it.
+define hook-reverse-continue
+tell-rank
 end
 define hook-reverse-stepi
-if $_thread && *(char *)0
-end
+tell-rank
 end
 define hook-reverse-step
-if $_thread && *(char *)0
-end
+tell-rank
 end
 define hook-reverse-next
-if $_thread && *(char *)0
-end
+tell-rank
 end
 define hook-reverse-nexti
-if $_thread && *(char *)0
-end
+tell-rank
 end
 define hook-reverse-finish
-if $_thread && *(char *)0
-end
+tell-rank
 end
 
 # gdb would start the program on this host, which cannot run it. What fails here, keeps the command from being made.

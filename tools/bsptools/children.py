@@ -9,7 +9,7 @@ import pathlib
 import signal
 import subprocess
 import tempfile
-from collections.abc import Iterator, Sequence
+from collections.abc import Callable, Iterator, Sequence
 from typing import Any, NoReturn
 
 PR_SET_PDEATHSIG = 1
@@ -103,9 +103,9 @@ def running(words: Sequence[str], by: int = signal.SIGKILL, **given: Any) -> Ite
         end(child, by)
 
 
-def at_terminal(words: Sequence[str]) -> int:
-    """Runs a process that has this one's terminal, and gets Ctrl-C by itself. What ends this one ends it, also where the terminal has stopped
-    it, as one in the background: this one is not stopped so. Answers what it ended with, as Popen has it."""
+def at_terminal(words: Sequence[str], note: Callable[[], None]) -> int:
+    """Runs a process that has this one's terminal, and gets Ctrl-C by itself, which is noted here. What ends this one ends it, also where
+    the terminal has stopped it, as one in the background: this one is not stopped so. Answers what it ended with, as Popen has it."""
     parent, waited = os.getpid(), {signal.SIGCHLD, *_taken}
     mask = signal.pthread_sigmask(signal.SIG_BLOCK, {signal.SIGTTIN, signal.SIGTTOU, *waited})
 
@@ -121,6 +121,7 @@ def at_terminal(words: Sequence[str]) -> int:
                     # That of a terminal comes to both.
                     if got.si_code != SI_KERNEL:
                         child.send_signal(got.si_signo)
+                    note()
                 elif got.si_signo != signal.SIGCHLD:
                     _end_stopped(child)
                     raise Ended(got.si_signo)

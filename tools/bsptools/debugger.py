@@ -3,6 +3,7 @@
 from __future__ import annotations
 
 import contextlib
+import fcntl
 import re
 import select
 import subprocess
@@ -14,8 +15,11 @@ from .refusals import Refused
 
 # As many steps as a node can make.
 ALL = (1 << 64) - 1
-# Of how many lines there may be replies in the pipes at once, so that neither side waits for the other one.
-BATCH = 64
+# Of how many lines there may be replies in the pipes at once, so that neither side waits for the other one; and of how many where the pipe of
+# lines has so many bytes for each. With more of them both sides wait for one another less often, which on a busy host is most of the time.
+BATCH, MOST_BATCH, LINE = 64, 1024, 64
+# The size of the pipe of replies, where the system gives it, and what asks for that. Python has names for these from 3.10 on.
+REPLIES, SET_SIZE, GET_SIZE = 1 << 18, 1031, 1032
 # For how many seconds its end is waited for, where its replies have ended.
 ENDING = 1.0
 
@@ -115,6 +119,10 @@ class Session:
         self._process = children.start([*command, "--framed"], stdin=subprocess.PIPE, stdout=subprocess.PIPE, stderr=told)
         assert self._process.stdin is not None and self._process.stdout is not None
         self._lines, self._replies = self._process.stdin, self._process.stdout
+        self._batch = BATCH
+        with contextlib.suppress(OSError):
+            fcntl.fcntl(self._replies, SET_SIZE, REPLIES)
+            self._batch = max(BATCH, min(MOST_BATCH, fcntl.fcntl(self._lines, GET_SIZE) // LINE))
         self.room = limits.MOST_LINES
         self.is_open = True
 
@@ -152,8 +160,8 @@ class Session:
     def ask_all(self, lines: Sequence[str]) -> list[Reply]:
         """The replies to lines, which are as many where the debugger does not end before."""
         replies = []
-        for start in range(0, len(lines), BATCH):
-            part = lines[start : start + BATCH]
+        for start in range(0, len(lines), self._batch):
+            part = lines[start : start + self._batch]
             self.send(*part)
             replies += [self.reply() for _ in part]
         return replies

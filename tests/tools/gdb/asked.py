@@ -6,9 +6,10 @@ import math
 import re
 from typing import Callable, Dict, List, Tuple
 
-from bsptools.debug import arrivals, machine, names, writers
+from bsptools.debug import arrivals, dialogue, machine, names, telling, writers
 from checks import REPO
 from sessions import Bench, expect, in_order
+from terminals import Terminal
 
 SOURCE = "tests/tools/gdb/writers.c"
 # Bytes of its variables.
@@ -186,6 +187,42 @@ def who_wrote_is_bounded(bench: Bench) -> None:
     text = bench.gdb(program, commands, "-n", "3")
     in_order(text, "not written in the last ", " instructions of rank 0, back into superstep 2; ", "watch it, and reverse-continue looks on from there")
     in_order(text, "superstep 2 begins", marked("a store by rank 0 in superstep 0: main, writers.c:<first>"))
+
+
+@case
+def who_wrote_goes_on(bench: Bench) -> None:
+    """The lines that lead to where a search was given up, as the dialogue has them: behind many supersteps, and in the midst of one."""
+    program = bench.build(SOURCE, "-DREST=50")
+    command = [bench.bspemu, "debug", program, "--format", "elf", "--nodes", "3"]
+    known = names.Names(command)
+    addr = known.address("first") or 0
+    with bench.machines:
+        kept, run = (writers.MOST_SUPERSTEPS, writers.MOST, writers.PIECE), machine.Machine(command)
+        asked = ((3, (50, 100, 40), r"break superstep 2, go, step 0 \d\d+,"), (30, (20, *kept[1:]), "break superstep 10, go,"))
+        try:
+            for superstep, (writers.MOST_SUPERSTEPS, writers.MOST, writers.PIECE), lines in asked:
+                run.go([superstep])
+                told = telling.Teller(run, known, run.place(), arrivals.never, dialogue.further, "sent", "").wrote(0, addr, 1)
+                expect(len(told) == 1 and re.search(f"; what was before is not looked at: ask again there: {lines} in a new", told[0]) is not None, told)
+        finally:
+            writers.MOST_SUPERSTEPS, writers.MOST, writers.PIECE = kept
+            run.close()
+
+
+@case
+def who_wrote_is_broken_off(bench: Bench) -> None:
+    """A line says that it takes long, and Ctrl-C ends it, which gdb tells nobody of. What is asked next has its own answer."""
+    program = bench.build(SOURCE, "-DREST=100000")
+    words = [str(REPO / "bspgdb"), "--bspemu", bench.bspemu, "-n", "2", program, "--", "-nx", "-ex", "set confirm off"]
+    terminal = Terminal([*words, "-ex", "monitor end", "-ex", "continue"])
+    said = terminal.wait(r"stopped\.\n(?:.*\n)*.*\(gdb\) ")
+    terminal.type("monitor wrote 0 first\r")
+    said += terminal.wait(r"bspgdb: what was before is made once more, .*; Ctrl-C breaks it off\n")
+    terminal.type("\x03")
+    said += terminal.wait(r"bspgdb: interrupted\n(?:.*\n)*.*\(gdb\) ")
+    terminal.type("print again\rmonitor superstep\rmonitor wrote 0 rest 1\rquit\r")
+    said += terminal.wait(r"\$1 = 5\n(?:.*\n)*superstep 42\n(?:.*\n)*.*by rank 0 in superstep 2: main, writers.c:")
+    expect(re.search(r"(?m)^(?:no '|the end, )", said) is None and terminal.status() == 0, said)
 
 
 @case

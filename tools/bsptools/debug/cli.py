@@ -11,7 +11,7 @@ import shutil
 import signal
 import subprocess
 import sys
-from typing import List, Sequence
+from typing import List, Optional, Sequence
 
 from .. import children, emulator
 from ..debugger import DebuggerEnded
@@ -24,7 +24,8 @@ from .packets import Closed, Connection
 
 GDB = "gdb-multiarch"
 SETTINGS = pathlib.Path(__file__).resolve().with_name("settings.gdb")
-# How the bridge is started that gdb has at the other end of a pipe: behind this stands the debugger's command.
+# How the bridge is started that gdb has at the other end of a pipe: behind this stand the file that has a byte for each Ctrl-C, and the
+# debugger's command.
 PIPE = "--pipe"
 
 
@@ -67,13 +68,13 @@ def command(job: Job) -> List[str]:
 def main(words: Sequence[str]) -> int:
     """Does what the command line says. Answers the exit status."""
     if words[:1] == [PIPE]:
-        return bridge(words[1:])
+        return bridge(words[2:], pathlib.Path(words[1]))
     asked = arguments(words)
     with children.folder("bspgdb") as folder:
         job = prepared(asked, folder, "bspgdb")
         check(job)
         if not (asked.stdio or asked.dialogue or asked.server or asked.tcp is not None):
-            return start_gdb(job)
+            return start_gdb(job, folder / "typed")
         with children.looking_for_signals():
             if asked.stdio:
                 bridge(command(job))
@@ -97,11 +98,16 @@ def talk(job: Job) -> int:
     return 0
 
 
-def bridge(command: Sequence[str]) -> int:
-    """Makes a session at the other end of gdb's pipe. At a terminal Ctrl-C is for gdb, which closes the pipe where it is ended."""
+def bridge(command: Sequence[str], typed: Optional[pathlib.Path] = None) -> int:
+    """Makes a session at the other end of gdb's pipe. At a terminal Ctrl-C is for gdb, which closes the pipe where it is ended. But while it
+    waits for an answer, it tells nothing of that: a file does, whose size is how often it was typed."""
     signal.signal(signal.SIGINT, signal.SIG_IGN)
+
+    def count() -> int:
+        return typed.stat().st_size if typed is not None and typed.exists() else 0
+
     with contextlib.suppress(Closed):
-        server.make_session(command, Connection(0, 1))
+        server.make_session(command, Connection(0, 1), count if typed is not None else None)
     return 0
 
 
@@ -112,12 +118,18 @@ def check(job: Job) -> None:
         sys.exit(status)
 
 
-def start_gdb(job: Job) -> int:
-    """Runs gdb on the program, with a bridge at the other end of a pipe. Answers its exit status."""
+def start_gdb(job: Job, typed: pathlib.Path) -> int:
+    """Runs gdb on the program, with a bridge at the other end of a pipe, and takes down in a file how often Ctrl-C is typed. Answers gdb's exit
+    status."""
     if shutil.which(GDB) is None:
         raise Refused(f"{GDB} is missing: install the package {GDB}")
-    pipe = shlex.join([emulator.program("bspgdb"), PIPE, *command(job)])
+    pipe = shlex.join([emulator.program("bspgdb"), PIPE, str(typed), *command(job)])
     words = [GDB, "-q", "-x", str(SETTINGS), "-ex", f"target remote | {pipe}", *job.options.gdb_options]
     words += [str(job.image)] if job.is_for_gdb else []
-    status = children.at_terminal(words)
+
+    def note() -> None:
+        with contextlib.suppress(OSError), typed.open("ab") as file:
+            file.write(b"C")
+
+    status = children.at_terminal(words, note)
     return status if status >= 0 else BY_SIGNAL - status

@@ -14,13 +14,12 @@ from .lines import VERBS, Asked, following, help_of, parsed
 from .machine import RESERVE, Machine
 from .names import STACK, Names
 from .process import POLL
-from .telling import Teller
+from .telling import BY_CTRL_C, Teller
 from .words import REGISTERS
 
 # How many bytes, words and instructions are shown, if it is not said, of how many at the most, and of how many bytes a text.
 DEFAULTS = {"bytes": 16, "words": 8, "list": 8, "wrote": 4}
 MOST_SHOWN, MOST_TEXT = 1 << 16, 1 << 12
-FURTHER = "ask again {into} instructions into it: by step {rank} {into} from where it begins, to which back goes where it was kept"
 # Lines that go on for as long as the program does, and those that bring a state back.
 LONG = {"go", "over", "phase", "step", "turn"}
 # The bytes of an environment call, and the states of ranks that have stopped for good by one.
@@ -259,7 +258,7 @@ class Dialogue:
         return self._past
 
     def _teller(self) -> Teller:
-        return Teller(self._machine(), self.names, self._place(), self._is_interrupted, FURTHER, "sent")
+        return Teller(self._machine(), self.names, self._place(), self._is_interrupted, further, "sent", BY_CTRL_C)
 
     def _wrote(self, asked: Asked) -> Iterator[str]:
         operands = asked.operands
@@ -268,6 +267,12 @@ class Dialogue:
     def _sent(self, asked: Asked) -> Iterator[str]:
         teller = self._teller()
         yield from teller.sent(asked.operands.get("K", teller.superstep), asked.operands.get("RANK"))
+
+
+def further(rank: int, superstep: int, into: int) -> str:
+    """How the bytes are asked for again where a search was given up. The lines lead there from the start, or from a state before it."""
+    lines = [*([f"break superstep {superstep}", "go"] if superstep else []), *([f"step {rank} {into}"] if into else [])]
+    return f"ask again there: {', '.join(lines)}, in a new session or from a state that was kept before {'it' if superstep else 'that'}"
 
 
 def _tell(*lines: str) -> None:

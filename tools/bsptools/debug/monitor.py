@@ -3,7 +3,7 @@
 from __future__ import annotations
 
 import re
-from typing import List, Optional, Sequence, Tuple
+from typing import Callable, List, Optional, Sequence, Tuple
 
 from ..debugger import Node
 from ..refusals import Refused, printable
@@ -13,7 +13,7 @@ from .calls import Awaited, addresses_of, awaited
 from .machine import MOST_BREAKPOINTS
 from .names import STACK, Names
 from .runner import Runner
-from .telling import Teller
+from .telling import BY_CTRL_C, Teller
 
 HELP = """\
 monitor superstep K     stop where superstep K begins: a point, to which continue goes, and reverse-continue
@@ -32,6 +32,8 @@ monitor output          what was written in the supersteps that are over
 monitor help            these lines
 """
 FURTHER = "watch it, and reverse-continue looks on from there"
+# How often Ctrl-C was typed at gdb's terminal, where that is known.
+Typed = Optional[Callable[[], int]]
 # How many bytes `wrote` tells of, if it is not said.
 BYTES = 4
 _NUMBER = re.compile(r"[0-9]{1,18}")
@@ -40,13 +42,15 @@ _NUMBER = re.compile(r"[0-9]{1,18}")
 class Monitor:
     """Answers commands."""
 
-    def __init__(self, runner: Runner) -> None:
-        self._runner, self._names = runner, runner.names
+    def __init__(self, runner: Runner, typed: Typed) -> None:
+        self._runner, self._names, self._typed = runner, runner.names, typed
+        self._typed_before = 0
         runner.spell = self._spelled
 
     def answer(self, command: str, current: int) -> bytes:
         """The text that answers a command, where gdb looks at this rank."""
         words = command.split()
+        self._typed_before = self._typed() if self._typed else 0
         name, operands = (words[0] if words else "help"), words[1:]
         machine = self._runner.machine
         try:
@@ -103,7 +107,12 @@ class Monitor:
 
     def _teller(self) -> Teller:
         runner = self._runner
-        return Teller(runner.machine, self._names, runner.machine.place(), runner.is_interrupted, FURTHER, "monitor sent")
+        way_off = BY_CTRL_C if self._typed else ""
+        return Teller(runner.machine, self._names, runner.machine.place(), self._is_interrupted, lambda *_: FURTHER, "monitor sent", way_off)
+
+    def _is_interrupted(self) -> bool:
+        """Whether to break off. gdb waits for an answer here, and sends nothing of a Ctrl-C."""
+        return self._typed is not None and self._typed() > self._typed_before or self._runner.is_interrupted()
 
     def _spelled(self, node: Node) -> str:
         """The call that a node is about to make, and where."""

@@ -9,6 +9,7 @@ from typing import Iterator, Sequence, Tuple, Union
 
 from ..refusals import about, tell
 from .machine import Machine
+from .monitor import Typed
 from .packets import Broken, Connection
 from .stub import Stub
 
@@ -96,10 +97,10 @@ def first(listener: socket.socket) -> Tuple[socket.socket, Connection]:
             tell([str(fault)], "bspgdb: ")
 
 
-def make_session(command: Sequence[str], connection: Connection) -> None:
+def make_session(command: Sequence[str], connection: Connection, typed: Typed = None) -> None:
     """Serves a session, with a machine of its own, until gdb ends it."""
     machine = Machine(command)
     try:
-        Stub(connection, machine).serve()
+        Stub(connection, machine, typed).serve()
     finally:
         machine.close()

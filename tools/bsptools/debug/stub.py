@@ -11,7 +11,7 @@ from . import numbers, words
 from .calls import addresses_of
 from .halts import Exit, Halt, Stop
 from .machine import MOST_BREAKPOINTS, Machine
-from .monitor import Monitor
+from .monitor import Monitor, Typed
 from .over import Over
 from .packets import INTERRUPT, PACKET_SIZE, Closed, Connection, escape, hexadecimal
 from .runner import Runner
@@ -40,13 +40,13 @@ Answer = Callable[[str], bytes]
 
 
 class Stub:
-    """Answers gdb's packets over a connection, until one ends the session."""
+    """Answers gdb's packets over a connection, until one ends the session. `typed` asks how often Ctrl-C was typed at gdb's terminal."""
 
-    def __init__(self, connection: Connection, machine: Machine) -> None:
+    def __init__(self, connection: Connection, machine: Machine, typed: Typed) -> None:
         self._connection = connection
         self._machine = machine
         self._runner = Runner(machine, self._show, connection.is_interrupted)
-        self._monitored = Monitor(self._runner)
+        self._monitored = Monitor(self._runner, typed)
         self._current = 0
         self._resumed: Optional[int] = None
         self._halt: Halt = Stop(0, words.TRAP)

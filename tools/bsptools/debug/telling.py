@@ -3,10 +3,11 @@
 from __future__ import annotations
 
 import contextlib
-from typing import Dict, List, Optional, Sequence, Set, Tuple
+import time
+from typing import Callable, Dict, List, Optional, Sequence, Set, Tuple
 
 from ..debugger import Node
-from ..refusals import Refused, counted
+from ..refusals import Refused, counted, tell
 from ..run.calls import GETS, NAMES, spelled
 from .arrivals import Asked, Interrupted, Place
 from .machine import Machine
@@ -17,15 +18,29 @@ from .writers import Found, Own, Search, Writer
 
 # Of how many bytes the writers are told at once, how many of them by their lines, and how many requests of a superstep.
 MOST_BYTES, MOST_WRITERS, MOST_SENT = 4096, 32, 256
+# After how many seconds it is said that this takes long.
+LONG = 2.0
+BY_CTRL_C = "; Ctrl-C breaks it off"
+# How to go on where a search was given up: where a rank, in a superstep, had made so many of its instructions.
+Advice = Callable[[int, int, int], str]
 
 
 class Teller:
-    """Tells of a machine that stands at a place. `advice` says how to go on where a search was given up, by `rank`, which stood there so many
-    instructions, `into`, behind where its superstep began. `verb` is what asks for requests."""
+    """Tells of a machine that stands at a place. `advice` says how to go on where a search was given up, `verb` is what asks for requests, and
+    `way_off` is what is said of how to break off."""
 
-    def __init__(self, machine: Machine, names: Names, place: Place, must_break_off: Asked, advice: str, verb: str) -> None:
-        self._machine, self._names, self._place, self._must_break_off = machine, names, place, must_break_off
-        self._advice, self._verb = advice, verb
+    def __init__(self, machine: Machine, names: Names, place: Place, must_break_off: Asked, advice: Advice, verb: str, way_off: str) -> None:
+        self._machine, self._names, self._place = machine, names, place
+        self._advice, self._verb, self._way_off = advice, verb, way_off
+        self._is_to_be_broken_off, self._until, self._is_told = must_break_off, time.monotonic() + LONG, False
+
+    def _must_break_off(self) -> bool:
+        """Whether to break off. It is asked all the time, and so says once on standard error that it takes long: gdb shows that, too, if it
+        has started the server, and no packet comes in the way of an answer."""
+        if not self._is_told and time.monotonic() > self._until:
+            self._is_told = True
+            tell([f"what was before is made once more, which takes a while{self._way_off}"], "bspgdb: ")
+        return self._is_to_be_broken_off()
 
     # Who has written this?
 
@@ -63,7 +78,7 @@ class Teller:
             return "never written: as the image has it" if self._is_in_image(addr) else "never written: 0 from the start"
         return (
             f"not written in the last {counted(found.instructions, 'instruction')} of rank {rank}, back into superstep {found.superstep};"
-            f" what was before is not looked at: {self._advice.format(rank=rank, into=found.into)}"
+            f" what was before is not looked at: {self._advice(rank, found.superstep, found.into)}"
         )
 
     def _is_in_image(self, addr: int) -> bool:

@@ -4,7 +4,7 @@ from __future__ import annotations
 
 from typing import Dict, Iterator, List, NamedTuple, Optional, Sequence, Set, Tuple, Union
 
-from ..debugger import BATCH, Node, Shown
+from ..debugger import MOST_BATCH, Node, Shown
 from ..run.calls import GETTAG, MOVE, TAGSIZE
 from .arrivals import Asked, Interrupted
 from .machine import Machine
@@ -59,7 +59,7 @@ class Walk:
         while count > 0 and before.runs:
             if self._must_break_off():
                 raise Interrupted
-            for after in self._machine.trail(self._rank, min(count, BATCH // 2)):
+            for after in self._machine.trail(self._rank, min(count, MOST_BATCH // 2)):
                 step = self.step(before, after)
                 if step is not None:
                     yield step

@@ -26,6 +26,8 @@ FAR = 1_000_000
 SINGLY = 0.5
 # Up to how many seconds some supersteps take together before output and interrupts are looked at again.
 PIECE = 0.01
+# What is said where gdb's program ends with a run: then gdb has nothing any more that could go back.
+ENDS = b"bspgdb: to stop here, from where one can go back, start bspgdb again and type monitor end before continue\n"
 
 
 @dataclass
@@ -263,7 +265,7 @@ class Runner:
         if isinstance(arrival, Over) or self.machine.superstep > before:
             self._show_output()
         if isinstance(arrival, Over):
-            self.show(f"{arrival.outcome}\n".encode())
+            self.show(f"{arrival.outcome}\n".encode() + (ENDS if isinstance(halt, Exit) else b""))
         elif arrival == AtSuperstep(self.machine.superstep) and halt is not None:
             self.show(f"superstep {self.machine.superstep} begins\n".encode())
         return halt

@@ -18,8 +18,9 @@ from .writers import Found, Own, Search, Writer
 
 # Of how many bytes the writers are told at once, how many of them by their lines, and how many requests of a superstep.
 MOST_BYTES, MOST_WRITERS, MOST_SENT = 4096, 32, 256
-# After how many seconds it is said that this takes long.
-LONG = 2.0
+# After how many seconds it is said that this takes long: of this processor's time, so that a busy host makes no line in a short search, and of
+# any time.
+LONG, VERY_LONG = 1.0, 30.0
 BY_CTRL_C = "; Ctrl-C breaks it off"
 # How to go on where a search was given up: where a rank, in a superstep, had made so many of its instructions.
 Advice = Callable[[int, int, int], str]
@@ -32,12 +33,13 @@ class Teller:
     def __init__(self, machine: Machine, names: Names, place: Place, must_break_off: Asked, advice: Advice, verb: str, way_off: str) -> None:
         self._machine, self._names, self._place = machine, names, place
         self._advice, self._verb, self._way_off = advice, verb, way_off
-        self._is_to_be_broken_off, self._until, self._is_told = must_break_off, time.monotonic() + LONG, False
+        self._is_to_be_broken_off, self._is_told = must_break_off, False
+        self._until = time.process_time() + LONG, time.monotonic() + VERY_LONG
 
     def _must_break_off(self) -> bool:
         """Whether to break off. It is asked all the time, and so says once on standard error that it takes long: gdb shows that, too, if it
         has started the server, and no packet comes in the way of an answer."""
-        if not self._is_told and time.monotonic() > self._until:
+        if not self._is_told and (time.process_time() > self._until[0] or time.monotonic() > self._until[1]):
             self._is_told = True
             tell([f"what was before is made once more, which takes a while{self._way_off}"], "bspgdb: ")
         return self._is_to_be_broken_off()

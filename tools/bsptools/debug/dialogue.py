@@ -10,7 +10,7 @@ from ..refusals import Refused, printable, put
 from . import showing
 from .arrivals import Asked as Question
 from .arrivals import Interrupted, Place, told
-from .lines import VERBS, Asked, following, help_of, parsed
+from .lines import VERBS, Asked, following, help_of, parsed, ranks_of
 from .machine import RESERVE, Machine
 from .names import STACK, Names
 from .process import POLL
@@ -33,8 +33,8 @@ MOST_PLACES = 16
 NOTHING = {
     "kept": "none is kept",
     "points": "none is set",
-    "areas": "none is registered",
-    "requests": "nothing is asked for in this superstep so far",
+    "areas": "none is in effect yet: what is registered in a superstep is in effect from the next one on",
+    "requests": "no put, get or message is asked for in this superstep so far",
 }
 
 _ADDRESS = re.compile(r"\b(pc|at|into) ([0-9a-f]{8})\b")
@@ -172,29 +172,44 @@ class Dialogue:
     def _why(self, refusal: str) -> str:
         """What would be accepted where the debugger refuses a line."""
         texts = {
-            "BadRank": f"the ranks are 0 to {self._ranks - 1}",
+            "BadRank": ranks_of(self._ranks),
             "BadRange": "there is not so much yet; without a number all is shown",
             "TooMany": "1,024 points are set; clear takes one away",
             "NoSuchBreak": "points tells which are set",
             "NoSuchKept": "kept tells which are",
-            "Over": "the run is over; all can be looked at, and a new session begins at the start",
+            "Over": f"the run is over; all can be looked at, and {self._way_back()}",
             "BadCommand": "this emulator has no such line",
         }
         text = texts.get(refusal.rpartition(" ")[2])
         return f": {text}" if text else ""
 
+    def _way_back(self) -> str:
+        """What leads away from the end of a run."""
+        kept = self._session.ask("kept").accepted() if self._is_kept else []
+        numbers = ", ".join(line.split()[1] for line in kept)
+        return f"back goes to what is kept: {numbers}" if kept else "a new session begins at the start"
+
     # What there is.
 
-    def _address(self, text: str, rank: int) -> Optional[int]:
+    def _address(self, text: str, rank: int) -> int:
         """The address that a text tells, for a rank: a number, a name, or a register."""
         found = _REGISTER.fullmatch(text)
         if found is None:
-            return self.names.address(text)
+            return self._named(text)
         node = self._node(rank)
         known = {**dict(zip(REGISTERS, node.x)), "fp": node.x[8], "pc": node.pc, **{f"x{at}": value for at, value in enumerate(node.x)}}
         if found[1] not in known:
-            return None
+            raise Refused(f"${printable(found[1])} is no register: they are $pc, $zero, $ra, $sp and so on, as regs shows them, or $x0 to $x31")
         return (known[found[1]] + int(found[2] or "0", 0)) % (1 << 32)
+
+    def _named(self, text: str) -> int:
+        address = self.names.address(text)
+        if address is None and text.isascii() and text.isdigit():
+            raise Refused(f"{text} is too great: addresses are below {1 << 32:#x}")
+        if address is None:
+            nameless = "" if self.names.all() else ", which has none"
+            raise Refused(f"{printable(text)} is neither an address nor a name of the program{nameless}")
+        return address
 
     def _node(self, rank: int) -> Node:
         node = self._session.node(rank)
@@ -216,11 +231,18 @@ class Dialogue:
             raise Refused(f"refused: BadRange: {MOST_SHOWN // unit} are the most that are shown at once")
         return self._memory(asked.operands["RANK"], asked.operands["ADDR"], count * unit)
 
+    def _end(self, asked: Asked, unit: int) -> Iterator[str]:
+        """What says that the memory ends before all that was asked for."""
+        if asked.operands["ADDR"] + asked.operands.get("N", DEFAULTS[asked.verb]) * unit > self._size:
+            yield f"no more: a rank's memory ends at {self._size:#x}"
+
     def _bytes(self, asked: Asked) -> Iterator[str]:
         yield from showing.hexadecimal(self.names, asked.operands["ADDR"], self._shown(asked, 1))
+        yield from self._end(asked, 1)
 
     def _words(self, asked: Asked) -> Iterator[str]:
         yield from showing.words(self.names, asked.operands["ADDR"], self._shown(asked, 4))
+        yield from self._end(asked, 4)
 
     def _text(self, asked: Asked) -> Iterator[str]:
         count = min(asked.operands.get("N", MOST_TEXT), MOST_TEXT)
@@ -228,7 +250,10 @@ class Dialogue:
 
     def _list(self, asked: Asked) -> Iterator[str]:
         node = self._node(asked.operands["RANK"])
-        asked.operands.setdefault("ADDR", node.pc)
+        addr = asked.operands.setdefault("ADDR", node.pc)
+        if addr % 2:
+            what = f"instructions stand at even addresses, and {addr:#x} is none"
+            raise Refused(f"refused: BadCommand: {what}; N of them from where the rank stands are list {node.rank} $pc N")
         count = asked.operands.get("N", DEFAULTS["list"])
         yield from showing.instructions(self.names, asked.operands["ADDR"], self._shown(asked, 4), count, node.pc)
 

@@ -40,16 +40,18 @@ LINES = {
     "output [FROM]": "what was written in the supersteps that are over",
     "nodes": "how many ranks there are, and the other settings",
     "help [LINE]": "the lines, or one",
-    "quit": "ends the session; so does Ctrl-D",
+    "quit": "ends the session; so do exit, q and Ctrl-D",
 }
 OPERANDS = (
     "RANK, K, N, COUNT and FROM are numbers. ADDR is a number, a name of the program, or a register, as $sp or $a0, and behind each"
     " may be +N, as table+4."
 )
 VERBS = sorted({usage.split()[0] for usage in LINES})
+# Words that other debuggers have for some of them.
+ALSO = {"exit": "quit", "q": "quit", "?": "help"}
 MOST = (1 << 64) - 1
 
-_NUMBER = re.compile(r"[0-9]{1,20}|0[xX][0-9a-fA-F]{1,16}")
+_NUMBER = re.compile(r"[0-9]{1,99}|0[xX][0-9a-fA-F]{1,99}")
 
 
 class Asked(NamedTuple):
@@ -64,68 +66,90 @@ class NoRank(Refused):
     """There is no rank of a number."""
 
 
-# An address that a text tells, for a rank.
-Reader = Callable[[str, int], Optional[int]]
+class Mismatch(Refused):
+    """Words are not those of a line, and why, if there is more to say than how it is spelled. So many of its words they were."""
+
+    def __init__(self, why: str, count: int) -> None:
+        super().__init__(why)
+        self.count = count
+
+
+# An address that a text tells, for a rank. What tells none is refused.
+Reader = Callable[[str, int], int]
 
 
 def parsed(text: str, ranks: int, address: Reader) -> Asked:
     """What a line asks for. What is no line is refused, with what would be one."""
     verb, *words = text.split()
+    verb = ALSO.get(verb, verb)
     usages = [usage for usage in LINES if usage.split()[0] == verb]
     if not usages:
         raise Refused(f"refused: BadCommand: there is no line {printable(verb)}; help tells the lines")
     # Where the word behind the verb is that of a line, it is that line.
     usages = [usage for usage in usages if usage.split()[1:2] == words[:1]] or usages
-    refusals: List[Refused] = []
+    refusals: List[Mismatch] = []
     for usage in usages:
         try:
             return Asked(verb, *_matched(usage.split()[1:], words, ranks, address))
         except NoRank as refused:
             raise Refused(f"refused: BadRank: {refused}") from refused
-        except Refused as refused:
+        except Mismatch as refused:
             refusals.append(refused)
-    told = [str(it) for it in refusals if str(it)]
+    # The line that was meant is that of which most of the words are there.
+    nearest = max(it.count for it in refusals)
+    told = [str(it) for it in refusals if it.count == nearest and str(it)]
     accepted = ", or ".join(usages)
     raise Refused(f"refused: BadCommand: {told[0] + '; ' if told else ''}the line is {accepted}")
 
 
 def _matched(usage: Sequence[str], words: Sequence[str], ranks: int, address: Reader) -> tuple[Dict[str, int], List[str]]:
-    """The operands that words give a line. What they cannot be is refused; with no text where it is no word of this line at all."""
+    """The operands that words give a line. What they cannot be is refused; with no text where a word of the line is another one."""
     operands: Dict[str, int] = {}
     small: List[str] = []
     rest = list(words)
-    for name in usage:
+    for count, name in enumerate(usage):
         is_optional, name = name.startswith("["), name.strip("[]")
         if not rest:
             if is_optional:
                 continue
-            raise Refused("")
+            raise Mismatch(f"{name} is missing" if count and name.isupper() else "", count)
         word = rest.pop(0)
         if name == "LINE":
             small.append(word)
         elif name.islower():
             if word != name:
-                raise Refused("")
+                raise Mismatch("", count)
             small.append(word)
+        elif word in usage:
+            raise Mismatch(f"{name} is missing before {word}", count + 1)
         else:
-            operands[name] = _value(name, word, operands.get("RANK", 0), ranks, address)
+            try:
+                operands[name] = _value(name, word, operands.get("RANK", 0), ranks, address)
+            except NoRank:
+                raise
+            except Refused as refused:
+                raise Mismatch(str(refused), count) from refused
     if rest:
-        raise Refused(f"{printable(rest[0])} is a word too many")
+        raise Mismatch(f"{printable(rest[0])} is a word too many", len(usage))
     return operands, small
 
 
 def _value(name: str, word: str, rank: int, ranks: int, address: Reader) -> int:
     if name == "ADDR":
-        found = address(word, rank)
-        if found is None:
-            raise Refused(f"{printable(word)} is neither an address nor a name of the program")
-        return found
-    value = int(word, 16 if word[1:2] in ("x", "X") else 10) if _NUMBER.fullmatch(word) else MOST + 1
-    if value > MOST:
-        raise Refused(f"{printable(word)} is no number" if name != "RANK" else f"{printable(word)} is no rank: the ranks are 0 to {ranks - 1}")
+        return address(word, rank)
+    if not _NUMBER.fullmatch(word):
+        raise Refused(f"{printable(word)} is no rank: {ranks_of(ranks)}" if name == "RANK" else f"{printable(word)} is no number")
+    value = int(word, 16 if word[1:2] in ("x", "X") else 10)
     if name == "RANK" and value >= ranks:
-        raise NoRank(f"there is no rank {value}: the ranks are 0 to {ranks - 1}")
+        raise NoRank(f"there is no rank {value}: {ranks_of(ranks)}")
+    if value > MOST:
+        raise Refused(f"{word} is too great: {MOST} is the most")
     return value
+
+
+def ranks_of(count: int) -> str:
+    """What says which ranks there are."""
+    return f"the ranks are 0 to {count - 1}" if count > 1 else "the only rank is 0"
 
 
 def following(words: Sequence[str]) -> List[str]:

@@ -10,6 +10,8 @@ set stack-cache off
 set code-cache off
 # The emulator may be busy for longer than gdb waits by itself.
 set remotetimeout 3600
+# An editor's gdb reads -exec-interrupt while the program runs.
+set mi-async on
 
 # What `next` passes in a call, it passes with its rank alone. gdb takes this where there is a target.
 define target hookpost-remote

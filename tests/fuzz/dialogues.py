@@ -34,6 +34,13 @@ REQUEST = (
 TEXT = rb'"(?:[ !#-\[\]-~]|\\[tnr"\\]|\\x[0-9a-f]{2})*"'
 CODE = rb"([0-9a-f]{8}): [0-9a-f]{2,8} +[.a-z].*"
 HEXADECIMAL = re.compile(rb"0x[0-9a-fA-F]+")
+# The registers by the names that programs have for them, which a dialogue tells, and what it tells them by.
+REGISTERS = (
+    "zero ra sp gp tp t0 t1 t2 s0 s1 a0 a1 a2 a3 a4 a5 a6 a7 s2 s3 s4 s5 s6 s7 s8 s9 s10 s11 t3 t4 t5 t6".split()
+)
+NAMED = re.compile(rb"\b(x[0-9]+)/[a-z0-9]+=")
+# Of so many nodes a dialogue tells where they are where a run is over, and that there are more.
+PLACES = 16
 # The words of each kind of line, with the bits of its numbers; or a name where it has one of a line.
 Form = Tuple[Union[bytes, int, str], ...]
 FORMS: Dict[bytes, List[Form]] = {
@@ -159,7 +166,14 @@ class Judge:
         if reports.outcome_of(line) is None:
             return False
         self.rest, self.is_over = rest, True
-        return True
+        return not self.is_dialogue or line == b"ended" or self.places()
+
+    def places(self) -> bool:
+        """Where the nodes of the lowest ranks are, and how many more there are."""
+        nodes = self.machine.nodes
+        places = [self.take(PLACE) for _ in range(min(nodes, PLACES))]
+        more = nodes <= PLACES or self.take(b"and %d more: where tells all" % (nodes - PLACES)) is not None
+        return more and [place and int(place[1]) for place in places] == list(range(len(places)))
 
     def judge(self, line: bytes) -> None:
         """Takes the reply to a line."""
@@ -289,9 +303,11 @@ class Judge:
     def answers_regs(self, rank: int) -> bool:
         """A node and its registers, of which x0 is 0."""
         found = self.take(FIRST.pattern)
-        rows = [" ".join(f"x{at}=[0-9a-f]{{8}}" for at in range(first, first + 4)) for first in range(0, 32, 4)]
+        names = [f"{f'x{at}/{name}':>7}" if self.is_dialogue else f"x{at}" for at, name in enumerate(REGISTERS)]
+        rows = [" ".join(f"{name}=[0-9a-f]{{8}}" for name in names[first : first + 4]) for first in range(0, 32, 4)]
         values = self.take("\n".join(rows).encode())
-        return found is not None and values is not None and found[0].startswith(b"rank %d " % rank) and b"x0=00000000" in values[0]
+        zero = re.match(rb"[^=]*=00000000 ", values[0]) if values else None
+        return found is not None and found[0].startswith(b"rank %d " % rank) and zero is not None
 
     def answers_bytes(self, _: int, __: int, count: int) -> bool:
         """A line for each 16 bytes and for the rest."""
@@ -327,8 +343,9 @@ class Judge:
 
 def usage(line: bytes) -> bytes:
     """What a dialogue tells of a line that asks for nothing, as a pattern: how it is spelled, or that there is none."""
-    word = [it for it in line.split(b" ") if it][0]
-    return b": the line is " + re.escape(word) + rb"\b.*" if word in NAMES else re.escape(NO_LINE)
+    word, *others = [it for it in line.split(b" ") if it]
+    is_line = word in NAMES and (word != b"help" or len(others) != 1)
+    return b": the line is " + re.escape(word) + rb"\b.*" if is_line else re.escape(NO_LINE)
 
 
 def replies_of(judge: Judge, lines: List[bytes]) -> List[bytes]:
@@ -350,6 +367,17 @@ def fault_of(machine: Machine, output: bytes, script: bytes, replies: bytes, is_
     return judge.fault or (f"replies go on with {judge.rest[:80]!r}" if judge.rest else "")
 
 
+def is_same(words: Optional[Asked], reply: bytes, other: bytes) -> bool:
+    """Whether a dialogue gives a reply of a script, where it tells more of some: of what asks for nothing, of registers, of an outcome."""
+    if words is None:
+        return other.startswith(reply[:-1])
+    if words.name in (b"go", b"turn"):
+        return other.startswith(reply)
+    if words.name == b"regs":
+        return reply.split() == NAMED.sub(rb"\1=", other).split()
+    return reply == other
+
+
 def parting(machine: Machine, output: bytes, script: bytes, plain: bytes, spoken: bytes) -> str:
     """The first line of a script that a dialogue answers in another way, up to the first that a dialogue alone does; empty if none is."""
     lines = script.split(b"\n")
@@ -357,7 +385,7 @@ def parting(machine: Machine, output: bytes, script: bytes, plain: bytes, spoken
     for line, reply, other in pairs:
         if asked(line) is None and asked(line, True) is not None:
             return ""
-        if reply != other and not (asked(line) is None and other.startswith(reply[:-1])):
+        if not is_same(asked(line), reply, other):
             return f"the line {line[:80]!r} is answered with {reply[:80]!r} in a script and with {other[:80]!r} in a dialogue"
     return ""
 

@@ -7,7 +7,7 @@ use Rattle.debug_lines.specs.declared.form.Form.{Form}
 use Rattle.debug_lines.specs.declared.topic.Topic.{Topic}
 use Rattle.debug_lines.specs.declared.line.Line.{Line}
 use Rattle.debug_lines.specs.declared.line.Line.TheVariants.{Command, Keep, Back, Forget, Kept, Points, Shown, Areas, Requests, StepNext, Over, Nodes, Place, Places, OutputFrom, CostsFrom, Help, HelpOn, Quit, Misused, NoLine}
-use Rattle.debug_lines.specs.Lines.{line_of, line_of_words, dialogue_line_of, dialogue_of_words, form_named, framed_line_of, framed_of_words, help_line_of, mistake_of, or_mistake, or_unknown, rank_line_of, state_line_of}
+use Rattle.debug_lines.specs.Lines.{asks_help, line_of, line_of_words, dialogue_line_of, dialogue_of_words, form_named, framed_line_of, framed_of_words, help_line_of, mistake_of, or_mistake, or_unknown, rank_line_of, state_line_of}
 use Rattle.debug_lines.specs.Numbers.{number_in}
 use Rattle.debug_lines.specs.Topics.{topic_named}
 use Rattle.debug_lines.specs.Words.{words}
@@ -86,9 +86,13 @@ topic-no_quit : (topic : Option Topic) → option_map_or Misused topic NoLine �
 topic-no_quit (Some t) e = cc
 topic-no_quit None e = cc
 
+first_word-no_quit : (helps : Bool) (topic : Option Topic) → cond helps NoLine (option_map_or Misused topic NoLine) ≡ Quit → ⊥
+first_word-no_quit true topic e = cc
+first_word-no_quit false topic e = topic-no_quit topic e
+
 mistake-no_quit : (ws : List (List ℕ)) → mistake_of ws ≡ Quit → ⊥
 mistake-no_quit [] e = cc
-mistake-no_quit (word ∷ others) e = topic-no_quit (topic_named word) e
+mistake-no_quit (word ∷ others) e = first_word-no_quit (asks_help word others) (topic_named word) e
 
 told-plain : (known : Option Line) (ws : List (List ℕ)) → or_mistake known ws ≡ Quit → or_unknown known ≡ Quit
 told-plain (Some l) ws quits = quits

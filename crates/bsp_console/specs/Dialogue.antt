@@ -11,7 +11,7 @@ use Rattle.debug_lines.specs.Lines.{line_of, dialogue_line_of, framed_line_of}
 use Rattle.bsp_session.specs.declared.job.Job.{Job}
 use Rattle.bsp_console.specs.declared.manner.Manner.{Manner}
 use Rattle.bsp_console.specs.declared.manner.Manner.TheVariants.{Script, Dialogue, Framed}
-use Rattle.bsp_console.specs.Talk.{Answered, AnsweredFramed, HasQuit, LacksQuit, Says, answered_one_by_one, ended_lines, framed, given_lines, spoken, until_quit}
+use Rattle.bsp_console.specs.Talk.{Answered, AnsweredFramed, HasQuit, LacksQuit, Says, Telling, answered_one_by_one, ended_lines, framed, given_lines, in_person, plainly, spoken, until_quit}
 use Rattle.bsp_console.specs.Console.{Console, BeginsTo, CutsReply, StopsAtFiles, HasNoDebugger, StopsBefore, WritesReplies, most_script}
 
 -- ---- an answer
@@ -128,10 +128,16 @@ line_in Script line = line_of line
 line_in Dialogue line = dialogue_line_of line
 line_in Framed line = framed_line_of line
 
+-- how replies are told
+abbrev pub tells_in : Manner → Job → Telling
+tells_in Script job = plainly job
+tells_in Dialogue job = in_person job
+tells_in Framed job = plainly job
+
 -- what it is answered
 abbrev pub AnsweredIn : Manner → Job → Line → (old : DebuggerState) → (text : List ℕ) → (new : DebuggerState) → Type 0
-AnsweredIn Script job line old text new = Answered job line old text new
-AnsweredIn Dialogue job line old text new = Answered job line old text new
+AnsweredIn Script job line old text new = Answered (plainly job) job line old text new
+AnsweredIn Dialogue job line old text new = Answered (in_person job) job line old text new
 AnsweredIn Framed job line old text new = AnsweredFramed job line old text new
 
 abbrev pub says_in : Manner → Job → Says

@@ -1,10 +1,12 @@
 -- What the lines of a session are answered, and what they make of a debugger (own rules).
 use Rattle.std.specs.Prelude.{◌≡◌, ℕ, ◌+◌, ◌-◌, ◌==◌, Bool, true, false, not, List, [], ◌∷◌, ◌++◌, length, take, drop, slice_get, nat_lt, codes, if◌then◌else◌, Option, Some, None, is_some}
+use Rattle.std.specs.Fmt.{decimal}
 use Rattle.std.specs.List.{slice_split, take_while, filter, flat_map, enumerate_from, Any}
 use Rattle.std.specs.Option.{option_map_or}
-use Rattle.cost_ledger.specs.declared.LedgerText.{LedgerText}
 use Rattle.node_memory.specs.Bytes.{bytes_at}
 use Rattle.node_core.specs.Node.{NodeState}
+use Rattle.machine_core.specs.declared.outcome.Outcome.{Outcome}
+use Rattle.machine_core.specs.declared.outcome.Outcome.TheVariants.{Ended, NodeStopped, Desync, Refused as refused_exchange}
 use Rattle.machine_core.specs.Events.{after}
 use Rattle.machine_core.specs.Machine.{MachineState}
 use Rattle.bsp_debug.specs.declared.command.Command.{Command as Asked}
@@ -16,7 +18,7 @@ use Rattle.bsp_debug.specs.Debugger.{DebuggerState, has_rank, add_fault, remove_
 use Rattle.bsp_debug.specs.Kept.{kept_fault, keeping, back_at, without}
 use Rattle.bsp_debug.specs.Made.{events_of}
 use Rattle.bsp_debug.specs.Points.{is_set, HasAlso, HasNoMore}
-use Rattle.bsp_debug.specs.Reply.{Answer}
+use Rattle.bsp_debug.specs.Reply.{Answer, finished, registers}
 use Rattle.bsp_debug.specs.Returns.{next_rank, over}
 use Rattle.debug_lines.specs.declared.line.Line.{Line}
 use Rattle.debug_lines.specs.declared.line.Line.TheVariants.{Break, Clear, Command, Output, Keep, Back, Forget, Kept, Points, Shown, Areas, Requests, StepNext, Over, Nodes, Place, Places, OutputFrom, CostsFrom, Help, HelpOn, Quit, Empty, Unknown, Misused, NoLine}
@@ -25,6 +27,7 @@ use Rattle.debug_lines.specs.declared.form.Form.{Form}
 use Rattle.debug_lines.specs.Framed.{cost_lines_from, framed_text, place_text, setup_text}
 use Rattle.debug_lines.specs.Kept.{kept_text}
 use Rattle.debug_lines.specs.Lines.{line_of, dialogue_line_of, framed_line_of}
+use Rattle.debug_lines.specs.Named.{named_registers}
 use Rattle.debug_lines.specs.Replies.{reply_text}
 use Rattle.debug_lines.specs.Shown.{area_lines, point_lines, request_lines, shown_len, shown_text}
 use Rattle.debug_lines.specs.Topics.{help_line, help_lines}
@@ -44,37 +47,70 @@ pub record LacksPoint (p : Point) (old new : DebuggerState) : Type 0 where
   pub count : length new.points + 1 ≡ length old.points
   pub others : new ≡ record old { points = new.points }
 
--- a debugger that did what a command says, and the text of its reply, costs in a version of the ledger at g a byte and l a superstep
-pub record Replies (version : LedgerText) (g l : ℕ) (c : Asked) (old new : DebuggerState) (text : List ℕ) : Type 0 where
+-- where a node of a machine is
+abbrev pub place_line : MachineState → NodeState → List ℕ
+place_line m n = place_text n.hart.rank n.hart.pc m.exchanges n.state
+
+-- of how many nodes it is told where they are where a run is over (own limit)
+abbrev pub most_places : ℕ
+most_places = 16
+
+-- that there are more nodes, if there are
+abbrev pub more_text : ℕ → List ℕ
+more_text count = if count == 0 then [] else codes "and " ++ decimal count ++ codes " more: where tells all\n"
+
+-- where the nodes of the lowest ranks are, and how many more there are
+abbrev pub first_places : MachineState → List ℕ
+first_places m = flat_map (place_line m) (take most_places m.nodes) ++ more_text (length m.nodes - most_places)
+
+-- where the nodes are where a run is over, if not all of them have ended
+abbrev pub places_at : Outcome → MachineState → List ℕ
+places_at Ended m = []
+places_at (NodeStopped rank state) m = first_places m
+places_at (Desync ended synced) m = first_places m
+places_at (refused_exchange fault) m = first_places m
+
+-- how the reply of a command is told, which left a machine so
+abbrev pub Telling : Type 0
+Telling = MachineState → Answer → List ℕ
+
+-- to a script or a program
+abbrev pub plainly : Job → Telling
+plainly job m reply = reply_text job.ledger job.g job.l reply
+
+-- to a person: the same, but that registers have their names too, and behind the outcome stands where the nodes are
+abbrev pub in_person : Job → Telling
+in_person job m (registers rank pc ticks state x) = named_registers rank pc ticks state x
+in_person job m (finished outcome) = reply_text job.ledger job.g job.l (finished outcome) ++ places_at outcome m
+in_person job m reply = reply_text job.ledger job.g job.l reply
+
+-- a debugger that did what a command says, and the text of its reply
+pub record Replies (tells : Telling) (c : Asked) (old new : DebuggerState) (text : List ℕ) : Type 0 where
   pub reply : Answer
   pub makes : Makes old.points old.machine c (events_of new.last) reply
   pub machine : new.machine ≡ after old.machine (events_of new.last)
   pub others : new ≡ record old { machine = new.machine; last = new.last }
-  pub told : text ≡ reply_text version g l reply
+  pub told : text ≡ tells new.machine reply
 
 -- a debugger that may refuse: where it does not, something is done, and else the refusal is told, and the debugger is as it is then
 abbrev pub DoesOrRefuses : Option DebugError → (done : Type 0) → (refused new : DebuggerState) → (text : List ℕ) → Type 0
 DoesOrRefuses None done refused new text = done
 DoesOrRefuses (Some e) done refused new text = (new ≡ refused) × (text ≡ verdict_text (Refused e))
 
--- where a node of a machine is
-abbrev pub place_line : MachineState → NodeState → List ℕ
-place_line m n = place_text n.hart.rank n.hart.pc m.exchanges n.state
-
 -- where the node of a rank is, if there is one
 abbrev pub place_or_refusal : MachineState → (rank : ℕ) → List ℕ
 place_or_refusal m rank = option_map_or (place_line m) (slice_get m.nodes rank) (verdict_text (Refused BadRank))
 
 -- a debugger that did what a command says, and the text of its reply, behind which stands where the node of a rank is then
-pub record RepliesThere (version : LedgerText) (g l rank : ℕ) (c : Asked) (old new : DebuggerState) (text : List ℕ) : Type 0 where
+pub record RepliesThere (tells : Telling) (rank : ℕ) (c : Asked) (old new : DebuggerState) (text : List ℕ) : Type 0 where
   pub reply : List ℕ
-  pub does : Replies version g l c old new reply
+  pub does : Replies tells c old new reply
   pub told : text ≡ reply ++ place_or_refusal new.machine rank
 
 -- and where the command may be refused
-abbrev pub DoesThere : Job → (rank : ℕ) → Asked → (old : DebuggerState) → (text : List ℕ) → (new : DebuggerState) → Type 0
-DoesThere job rank c old text new =
-    DoesOrRefuses (command_fault old.machine c) (RepliesThere job.ledger job.g job.l rank c old new text) (record old { last = [] }) new text
+abbrev pub DoesThere : Telling → (rank : ℕ) → Asked → (old : DebuggerState) → (text : List ℕ) → (new : DebuggerState) → Type 0
+DoesThere tells rank c old text new =
+    DoesOrRefuses (command_fault old.machine c) (RepliesThere tells rank c old new text) (record old { last = [] }) new text
 
 -- what was written, from the byte of a number on, and a line feed, if there are so many bytes
 abbrev pub output_or_refusal : MachineState → (from : ℕ) → List ℕ
@@ -119,39 +155,39 @@ areas_or_refusal m rank = of_node_or_refusal (λ (n : NodeState). area_lines n.h
 abbrev pub requests_or_refusal : MachineState → (rank : ℕ) → List ℕ
 requests_or_refusal m rank = of_node_or_refusal (λ (n : NodeState). request_lines n.hart.communication.requests.requests) m rank
 
--- what a line is answered: a text, and the debugger after it. A command that is refused has made no event
-abbrev pub Answered : Job → Line → (old : DebuggerState) → (text : List ℕ) → (new : DebuggerState) → Type 0
-Answered job (Break p) old text new =
+-- what a line is answered where replies are told so: a text, and the debugger after it. A command that is refused has made no event
+abbrev pub Answered : Telling → Job → Line → (old : DebuggerState) → (text : List ℕ) → (new : DebuggerState) → Type 0
+Answered tells job (Break p) old text new =
     DoesOrRefuses (add_fault old.points old.machine p) (HasPoint p old new × (text ≡ verdict_text Done)) old new text
-Answered job (Clear p) old text new =
+Answered tells job (Clear p) old text new =
     DoesOrRefuses (remove_fault old.points p) (LacksPoint p old new × (text ≡ verdict_text Done)) old new text
-Answered job (Command c) old text new =
-    DoesOrRefuses (command_fault old.machine c) (Replies job.ledger job.g job.l c old new text) (record old { last = [] }) new text
-Answered job Output old text new = (new ≡ old) × (text ≡ old.machine.output ++ codes "\n")
-Answered job Keep old text new = (new ≡ keeping old) × (text ≡ verdict_text (KeptAs (length old.kept)))
-Answered job (Back number) old text new =
+Answered tells job (Command c) old text new =
+    DoesOrRefuses (command_fault old.machine c) (Replies tells c old new text) (record old { last = [] }) new text
+Answered tells job Output old text new = (new ≡ old) × (text ≡ old.machine.output ++ codes "\n")
+Answered tells job Keep old text new = (new ≡ keeping old) × (text ≡ verdict_text (KeptAs (length old.kept)))
+Answered tells job (Back number) old text new =
     DoesOrRefuses (kept_fault old.kept number) ((new ≡ back_at number old) × (text ≡ verdict_text Done)) old new text
-Answered job (Forget number) old text new =
+Answered tells job (Forget number) old text new =
     DoesOrRefuses (kept_fault old.kept number) ((new ≡ without number old) × (text ≡ verdict_text Done)) old new text
-Answered job Kept old text new = (new ≡ old) × (text ≡ kept_lines old.kept)
-Answered job Points old text new = (new ≡ old) × (text ≡ point_lines old.points)
-Answered job (Shown form rank addr count) old text new = (new ≡ old) × (text ≡ shown_or_refusal old.machine form rank addr count)
-Answered job (Areas rank) old text new = (new ≡ old) × (text ≡ areas_or_refusal old.machine rank)
-Answered job (Requests rank) old text new = (new ≡ old) × (text ≡ requests_or_refusal old.machine rank)
-Answered job StepNext old text new = DoesThere job (next_rank old.machine) (Step (next_rank old.machine) 1) old text new
-Answered job (Over rank) old text new = DoesThere job rank (over old.machine rank) old text new
-Answered job Nodes old text new = (new ≡ old) × (text ≡ setup_text old.machine.settings job.ledger job.g job.l)
-Answered job (Place rank) old text new = (new ≡ old) × (text ≡ place_or_refusal old.machine rank)
-Answered job Places old text new = (new ≡ old) × (text ≡ flat_map (place_line old.machine) old.machine.nodes)
-Answered job (OutputFrom from) old text new = (new ≡ old) × (text ≡ output_or_refusal old.machine from)
-Answered job (CostsFrom from) old text new = (new ≡ old) × (text ≡ costs_or_refusal job old.machine from)
-Answered job Help old text new = (new ≡ old) × (text ≡ help_lines)
-Answered job (HelpOn topic) old text new = (new ≡ old) × (text ≡ help_line topic)
-Answered job Quit old text new = (new ≡ old) × (text ≡ [])
-Answered job Empty old text new = (new ≡ old) × (text ≡ [])
-Answered job Unknown old text new = (new ≡ old) × (text ≡ verdict_text BadCommand)
-Answered job (Misused topic) old text new = (new ≡ old) × (text ≡ verdict_text (MisusedAs topic))
-Answered job NoLine old text new = (new ≡ old) × (text ≡ verdict_text NoLineAs)
+Answered tells job Kept old text new = (new ≡ old) × (text ≡ kept_lines old.kept)
+Answered tells job Points old text new = (new ≡ old) × (text ≡ point_lines old.points)
+Answered tells job (Shown form rank addr count) old text new = (new ≡ old) × (text ≡ shown_or_refusal old.machine form rank addr count)
+Answered tells job (Areas rank) old text new = (new ≡ old) × (text ≡ areas_or_refusal old.machine rank)
+Answered tells job (Requests rank) old text new = (new ≡ old) × (text ≡ requests_or_refusal old.machine rank)
+Answered tells job StepNext old text new = DoesThere tells (next_rank old.machine) (Step (next_rank old.machine) 1) old text new
+Answered tells job (Over rank) old text new = DoesThere tells rank (over old.machine rank) old text new
+Answered tells job Nodes old text new = (new ≡ old) × (text ≡ setup_text old.machine.settings job.ledger job.g job.l)
+Answered tells job (Place rank) old text new = (new ≡ old) × (text ≡ place_or_refusal old.machine rank)
+Answered tells job Places old text new = (new ≡ old) × (text ≡ flat_map (place_line old.machine) old.machine.nodes)
+Answered tells job (OutputFrom from) old text new = (new ≡ old) × (text ≡ output_or_refusal old.machine from)
+Answered tells job (CostsFrom from) old text new = (new ≡ old) × (text ≡ costs_or_refusal job old.machine from)
+Answered tells job Help old text new = (new ≡ old) × (text ≡ help_lines)
+Answered tells job (HelpOn topic) old text new = (new ≡ old) × (text ≡ help_line topic)
+Answered tells job Quit old text new = (new ≡ old) × (text ≡ [])
+Answered tells job Empty old text new = (new ≡ old) × (text ≡ [])
+Answered tells job Unknown old text new = (new ≡ old) × (text ≡ verdict_text BadCommand)
+Answered tells job (Misused topic) old text new = (new ≡ old) × (text ≡ verdict_text (MisusedAs topic))
+Answered tells job NoLine old text new = (new ≡ old) × (text ≡ verdict_text NoLineAs)
 
 -- a line is refused
 abbrev pub is_refused : Line → DebuggerState → Bool
@@ -185,7 +221,7 @@ is_refused NoLine d = true
 -- what a line is answered in a framed session: its reply behind a header
 abbrev pub AnsweredFramed : Job → Line → (old : DebuggerState) → (text : List ℕ) → (new : DebuggerState) → Type 0
 AnsweredFramed job line old text new =
-    (reply : List ℕ) × Answered job line old reply new × (text ≡ framed_text (is_refused line old) reply)
+    (reply : List ℕ) × Answered (plainly job) job line old reply new × (text ≡ framed_text (is_refused line old) reply)
 
 -- what the bytes of a line may be answered in a session, by the debugger before it and the one after it
 abbrev pub Says : Type 1
@@ -193,11 +229,11 @@ Says = (line : List ℕ) → (old : DebuggerState) → (text : List ℕ) → (ne
 
 -- in a script
 abbrev pub plain : Job → Says
-plain job line old text new = Answered job (line_of line) old text new
+plain job line old text new = Answered (plainly job) job (line_of line) old text new
 
 -- in a dialogue
 abbrev pub spoken : Job → Says
-spoken job line old text new = Answered job (dialogue_line_of line) old text new
+spoken job line old text new = Answered (in_person job) job (dialogue_line_of line) old text new
 
 -- in a framed session
 abbrev pub framed : Job → Says

@@ -1,9 +1,8 @@
 //! What one line is answered.
 
-ghost use Rattle.std.specs.Prelude.{◌≡◌, ◌≢◌, ◌≤◌, ◌⊎◌, ◌++◌, ℕ, List, [], codes, true, false, not, is_some, length, map, nat_lt, IfErr, IfOk, MatchResult, OnOk, string_bytes};
+ghost use Rattle.std.specs.Prelude.{◌≡◌, ◌≢◌, ◌≤◌, ◌⊎◌, ◌++◌, ℕ, List, [], codes, true, false, not, is_some, length, nat_lt, IfErr, IfOk, MatchResult, OnOk, string_bytes};
 ghost use Rattle.std.specs.Io.KnownBytes.{Appends};
 ghost use Rattle.std.specs.List.{flat_map};
-ghost use Rattle.node_core.specs.Node.{PreparedNode};
 ghost use Rattle.bsp_debug.specs.Debugger.{add_fault, has_rank, remove_fault, command_fault};
 ghost use Rattle.bsp_debug.specs.declared.command.Command.TheVariants.{Step as step_command};
 ghost use Rattle.bsp_debug.specs.Returns.{next_rank, over};
@@ -15,20 +14,21 @@ ghost use Rattle.debug_lines.specs.Topics.{help_line, help_lines as help_lines_o
 ghost use Rattle.debug_lines.specs.Verdicts.{verdict_text};
 ghost use Rattle.counted_io.specs.Counted.{HasRisen};
 ghost use Rattle.counted_io.specs.Transfers.{AppendsPrefix};
-ghost use Rattle.bsp_console.specs.Dialogue.{AnsweredIn};
+ghost use Rattle.bsp_console.specs.Dialogue.{AnsweredIn, tells_in};
 ghost use Rattle.bsp_console.specs.Talk.{Answered, DoesOrRefuses, DoesThere, HasPoint, LacksPoint, Replies, is_quit as is_quit_line, costs_or_refusal, is_refused, kept_line, kept_lines, output_or_refusal, place_line, place_or_refusal};
 ghost use Rattle.bsp_console.specs.Talk.{areas_or_refusal, has_address, requests_or_refusal, shown_or_refusal};
 
 use crate::manner::Manner;
+use crate::place::{add_place_of, add_places};
+use crate::telling::told;
 use bsp_debug::{Command, DebugError, Debugger, Point};
 use bsp_session::{Job, SessionError};
 use counted_io::{Counted, write_whole};
 use debug_lines::{
-    Form, Line, Topic, Verdict, add_help, add_kept, add_place, area_lines, costs_from, framed_text,
-    help_lines, point_lines, reply_text, request_lines, setup_line, shown_len, shown_text,
+    Form, Line, Topic, Verdict, add_help, add_kept, area_lines, costs_from, framed_text,
+    help_lines, point_lines, request_lines, setup_line, shown_len, shown_text,
 };
 use machine_core::Machine;
-use node_core::Node;
 use std::alloc::{AllocError, Allocator};
 use std::io::Write;
 
@@ -82,7 +82,7 @@ fn text_for<A: Allocator + Copy>(
 ) -> Result<Vec<u8, A>, AllocError>
     ensures { IfOk result (λ text. AnsweredIn manner job.now line debugger.old text.items debugger.new) }
 {
-    let answer = answer_line(alloc, debugger, line, job)?;
+    let answer = answer_line(alloc, debugger, line, job, manner)?;
     match manner {
         Manner::Script => Ok(answer.text),
         Manner::Dialogue => Ok(answer.text),
@@ -96,14 +96,15 @@ fn answer_line<A: Allocator + Copy>(
     debugger: &mut Debugger<A>,
     line: Line,
     job: &Job,
+    manner: Manner,
 ) -> Result<Answer<A>, AllocError>
-    ensures told { IfOk result (λ a. Answered job.now line debugger.old a.text.items debugger.new) }
+    ensures told { IfOk result (λ a. Answered (tells_in manner job.now) job.now line debugger.old a.text.items debugger.new) }
     ensures refused { IfOk result (λ a. a.refused ≡ is_refused line debugger.old) }
 {
     match line {
         Line::Break(point) => set_point(alloc, debugger, point),
         Line::Clear(point) => clear_point(alloc, debugger, point),
-        Line::Command(command) => answer_command(alloc, debugger, command, job),
+        Line::Command(command) => answer_command(alloc, debugger, command, job, manner),
         Line::Output => output_line(alloc, debugger.machine().output()),
         Line::Keep => keep_state(alloc, debugger),
         Line::Back(number) => go_back(alloc, debugger, number),
@@ -118,8 +119,8 @@ fn answer_line<A: Allocator + Copy>(
         } => memory_shown(alloc, debugger.machine(), form, rank, addr, count),
         Line::Areas(rank) => areas_of(alloc, debugger.machine(), rank),
         Line::Requests(rank) => requests_of(alloc, debugger.machine(), rank),
-        Line::StepNext => step_next(alloc, debugger, job),
-        Line::Over(rank) => step_over(alloc, debugger, rank, job),
+        Line::StepNext => step_next(alloc, debugger, job, manner),
+        Line::Over(rank) => step_over(alloc, debugger, rank, job, manner),
         Line::Nodes => nodes_line(alloc, debugger.machine(), job),
         Line::Place(rank) => place_of(alloc, debugger.machine(), rank),
         Line::Places => places(alloc, debugger.machine()),
@@ -422,51 +423,6 @@ fn places<A: Allocator>(alloc: A, machine: &Machine<A>) -> Result<Answer<A>, All
     Ok(done(text.into_bytes()))
 }
 
-/// Adds to a text where each of some nodes of a machine is.
-fn add_places<A: Allocator>(
-    text: &mut String<A>,
-    machine: &Machine<A>,
-    nodes: &[Node<A>],
-) -> Result<(), AllocError>
-    ensures { IfOk result (λ _. string_bytes text.new
-        ≡ string_bytes text.old ++ flat_map (place_line machine.now) (map (λ (p : PreparedNode). p.node) nodes.now)) }
-{
-    add_each_place(text, machine, nodes)
-}
-
-/// Adds to a text where each of some nodes of a machine is, one after another.
-fn add_each_place<A: Allocator>(
-    text: &mut String<A>,
-    machine: &Machine<A>,
-    nodes: &[Node<A>],
-) -> Result<(), AllocError>
-    ensures { IfOk result (λ _. string_bytes text.new
-        ≡ string_bytes text.old ++ flat_map (λ (p : PreparedNode). place_line machine.now p.node) nodes.now) }
-{
-    for node in nodes {
-        add_place_of(text, machine, node)?;
-    }
-    Ok(())
-}
-
-/// Adds to a text where a node of a machine is.
-fn add_place_of<A: Allocator>(
-    text: &mut String<A>,
-    machine: &Machine<A>,
-    node: &Node<A>,
-) -> Result<(), AllocError>
-    ensures { IfOk result (λ _. string_bytes text.new
-        ≡ string_bytes text.old ++ place_line machine.now node.now.node) }
-{
-    add_place(
-        text,
-        node.rank(),
-        node.pc(),
-        machine.superstep(),
-        node.state(),
-    )
-}
-
 /// What was written from the byte of a number on, if there are so many.
 fn output_from<A: Allocator>(
     alloc: A,
@@ -508,16 +464,16 @@ fn answer_command<A: Allocator + Copy>(
     debugger: &mut Debugger<A>,
     command: Command,
     job: &Job,
+    manner: Manner,
 ) -> Result<Answer<A>, AllocError>
     ensures told { IfOk result (λ a. DoesOrRefuses (command_fault debugger.old.machine command)
-        (Replies job.now.ledger job.now.g job.now.l command debugger.old debugger.new a.text.items)
+        (Replies (tells_in manner job.now) command debugger.old debugger.new a.text.items)
         (record debugger.old { last = [] }) debugger.new a.text.items) }
     ensures refused { IfOk result (λ a. a.refused ≡ is_some (command_fault debugger.old.machine command)) }
 {
     match debugger.command(command) {
         Ok(reply) => {
-            let ledger = debugger.machine().ledger();
-            let text = reply_text(alloc, &reply, ledger, job.ledger, job.g, job.l)?;
+            let text = told(alloc, &reply, debugger.machine(), job, manner)?;
             Ok(done(text.into_bytes()))
         }
         Err(error) => verdict_of(alloc, Err(error)),
@@ -529,14 +485,16 @@ fn step_next<A: Allocator + Copy>(
     alloc: A,
     debugger: &mut Debugger<A>,
     job: &Job,
+    manner: Manner,
 ) -> Result<Answer<A>, AllocError>
-    ensures told { IfOk result (λ a. DoesThere job.now (next_rank debugger.old.machine)
+    ensures told { IfOk result (λ a. DoesThere (tells_in manner job.now) (next_rank debugger.old.machine)
         (step_command (next_rank debugger.old.machine) 1) debugger.old a.text.items debugger.new) }
     ensures refused { IfOk result (λ a. a.refused
         ≡ is_some (command_fault debugger.old.machine (step_command (next_rank debugger.old.machine) 1))) }
 {
     let rank = debugger.next_rank();
-    do_there(alloc, debugger, rank, Command::Step { rank, count: 1 }, job)
+    let command = Command::Step { rank, count: 1 };
+    do_there(alloc, debugger, rank, command, job, manner)
 }
 
 /// Steps over the instruction at which the node of a rank stands, and tells where that is then.
@@ -545,14 +503,15 @@ fn step_over<A: Allocator + Copy>(
     debugger: &mut Debugger<A>,
     rank: u32,
     job: &Job,
+    manner: Manner,
 ) -> Result<Answer<A>, AllocError>
     ensures told { IfOk result (λ a.
-        DoesThere job.now rank (over debugger.old.machine rank) debugger.old a.text.items debugger.new) }
+        DoesThere (tells_in manner job.now) rank (over debugger.old.machine rank) debugger.old a.text.items debugger.new) }
     ensures refused { IfOk result (λ a. a.refused
         ≡ is_some (command_fault debugger.old.machine (over debugger.old.machine rank))) }
 {
     let command = debugger.over(rank);
-    do_there(alloc, debugger, rank, command, job)
+    do_there(alloc, debugger, rank, command, job, manner)
 }
 
 /// Does what a command says, and tells where the node of a rank is then.
@@ -562,12 +521,13 @@ fn do_there<A: Allocator + Copy>(
     rank: u32,
     command: Command,
     job: &Job,
+    manner: Manner,
 ) -> Result<Answer<A>, AllocError>
     ensures told { IfOk result (λ a.
-        DoesThere job.now rank command debugger.old a.text.items debugger.new) }
+        DoesThere (tells_in manner job.now) rank command debugger.old a.text.items debugger.new) }
     ensures refused { IfOk result (λ a. a.refused ≡ is_some (command_fault debugger.old.machine command)) }
 {
-    let answer = answer_command(alloc, debugger, command, job)?;
+    let answer = answer_command(alloc, debugger, command, job, manner)?;
     if answer.refused {
         return Ok(answer);
     }

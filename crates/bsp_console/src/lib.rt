@@ -28,8 +28,10 @@
 mod answer;
 mod dialogue;
 mod manner;
+mod place;
 mod script;
 mod start;
+mod telling;
 
 pub use dialogue::{debug_dialogue, debug_framed};
 pub use script::debug_session;

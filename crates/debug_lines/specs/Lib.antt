@@ -1,6 +1,7 @@
 pub mod Framed
 pub mod Kept
 pub mod Lines
+pub mod Named
 pub mod Numbers
 pub mod Replies
 pub mod Shown

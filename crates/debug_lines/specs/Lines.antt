@@ -1,5 +1,5 @@
 -- What the lines of a debugger ask for (own language).
-use Rattle.std.specs.Prelude.{ℕ, if◌then◌else◌, List, [], ◌∷◌, bytes_eq, codes, Option, Some, None, option_map}
+use Rattle.std.specs.Prelude.{ℕ, ◌&&◌, Bool, true, false, if◌then◌else◌, List, [], ◌∷◌, bytes_eq, codes, Option, Some, None, option_map}
 use Rattle.std.specs.Option.{option_and_then, option_map_or, option_or}
 use Rattle.bsp_debug.specs.declared.command.Command.{Command as Asked}
 use Rattle.bsp_debug.specs.declared.command.Command.TheVariants.{Step, Phase, Turn, Go, Regs, Bytes, Queue, Costs}
@@ -137,10 +137,20 @@ dialogue_of_words (word ∷ a ∷ b ∷ []) = None
 dialogue_of_words (word ∷ a ∷ b ∷ c ∷ []) = dialogue_of_four word a b c
 dialogue_of_words (word ∷ a ∷ b ∷ c ∷ d ∷ more) = None
 
--- what words of no line are: those of a line that is used wrongly, where the first of them is its; else of none at all
+abbrev pub is_one : List (List ℕ) → Bool
+is_one [] = false
+is_one (word ∷ []) = true
+is_one (word ∷ other ∷ more) = false
+
+-- `help` of one word
+abbrev pub asks_help : (word : List ℕ) → (others : List (List ℕ)) → Bool
+asks_help word others = bytes_eq word (codes "help") && is_one others
+
+-- what words of no line are: those of a line that is used wrongly, where the first of them is its; else of none at all. `help` of one
+-- word is used rightly, and there are no lines with that word
 abbrev pub mistake_of : List (List ℕ) → Line
 mistake_of [] = NoLine
-mistake_of (word ∷ others) = option_map_or Misused (topic_named word) NoLine
+mistake_of (word ∷ others) = if asks_help word others then NoLine else option_map_or Misused (topic_named word) NoLine
 
 -- a line, if its words are those of one, and else the mistake
 abbrev pub or_mistake : Option Line → List (List ℕ) → Line

@@ -7,7 +7,8 @@
 //! There are three such languages, each with the lines of the one before it and some more: that of scripts, that of dialogues
 //! ([`parse_dialogue_line`]) and that of framed sessions ([`parse_framed_line`]). [`add_place`], [`add_kept`], [`point_lines`],
 //! [`shown_text`], [`area_lines`], [`request_lines`], [`help_lines`], [`setup_line`] and [`costs_from`] give what answers the lines that
-//! scripts do not have. Each reply stands behind a header in a framed session ([`framed_text`]).
+//! scripts do not have, and [`named_registers`] what tells of a node in a dialogue. Each reply stands behind a header in a framed session
+//! ([`framed_text`]).
 //!
 //! Callers may rely on this:
 //!
@@ -28,6 +29,7 @@ mod form;
 mod framed;
 mod kept;
 mod line;
+mod named;
 mod number;
 mod octets;
 mod reply;
@@ -40,6 +42,7 @@ pub use form::Form;
 pub use framed::{add_place, costs_from, framed_text, setup_line};
 pub use kept::add_kept;
 pub use line::{Line, parse_dialogue_line, parse_framed_line, parse_line};
+pub use named::named_registers;
 pub use reply::reply_text;
 pub use shown::{area_lines, point_lines, request_lines, shown_len, shown_text};
 pub use topic::{Topic, add_help, help_lines};

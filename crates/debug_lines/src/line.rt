@@ -2,7 +2,7 @@
 
 ghost use Rattle.std.specs.Prelude.{◌≡◌};
 ghost use Rattle.debug_lines.specs.Lines.{line_of, line_of_words, line_of_one, command_of_one, line_of_two, line_of_three, line_of_four, point_of, step_of, bytes_of};
-ghost use Rattle.debug_lines.specs.Lines.{dialogue_line_of, dialogue_of_words, dialogue_of_one, dialogue_of_two, dialogue_of_four, mistake_of};
+ghost use Rattle.debug_lines.specs.Lines.{asks_help, dialogue_line_of, dialogue_of_words, dialogue_of_one, dialogue_of_two, dialogue_of_four, is_one, mistake_of};
 ghost use Rattle.debug_lines.specs.Lines.{form_named, help_line_of, rank_line_of, shown_of, state_line_of};
 ghost use Rattle.debug_lines.specs.Lines.{framed_line_of, framed_of_words, framed_of_one, framed_of_two};
 ghost use Rattle.debug_lines.specs.Words.{words};
@@ -73,7 +73,7 @@ pub enum Line {
     Unknown,
     /// The same in a dialogue, where the first word is that of these lines.
     Misused(Topic),
-    /// The same in a dialogue, where the first word is that of no line.
+    /// The same in a dialogue, where the first word is that of no line, or help is asked on a word that is that of none.
     NoLine,
 }
 
@@ -104,12 +104,32 @@ pub fn parse_dialogue_line(line: &[u8]) -> Line
 fn mistake_of(line: &[u8]) -> Line
     ensures { result ≡ mistake_of (words line.now) }
 {
-    let Some((word, _)) = split_word(line) else {
+    let Some((word, others)) = split_word(line) else {
         return Line::NoLine;
     };
+    if asks_help(word, others) {
+        return Line::NoLine;
+    }
     match topic_named(word) {
         Some(topic) => Line::Misused(topic),
         None => Line::NoLine,
+    }
+}
+
+/// Whether a line asks for help on one word, by its first word and what stands behind that.
+fn asks_help(word: &[u8], others: &[u8]) -> bool
+    ensures { result ≡ asks_help word.now (words others.now) }
+{
+    word == b"help".as_slice() && is_one_word(others)
+}
+
+/// Whether a line has one word.
+fn is_one_word(line: &[u8]) -> bool
+    ensures { result ≡ is_one (words line.now) }
+{
+    match split_word(line) {
+        Some((_, rest)) => split_word(rest).is_none(),
+        None => false,
     }
 }
 

@@ -73,7 +73,7 @@ impl fmt::Display for PointText {
 }
 
 /// The first line of a node.
-fn node_line<B: Allocator>(
+pub(crate) fn node_line<B: Allocator>(
     alloc: B,
     rank: u32,
     pc: u32,

@@ -6,6 +6,8 @@ Help tells how the lines are spelled and what they do: all of them, or those wit
   > help nodes
   > help stop
   > help step over
+  > help stop here
+  > help Step
   > END
   break RANK ADDR, or break superstep K: sets a point, at which go stops
   clear RANK ADDR, or clear superstep K: takes a point away
@@ -35,5 +37,7 @@ Help tells how the lines are spelled and what they do: all of them, or those wit
   quit: ends the session
   step, or step RANK [COUNT]: the next instruction of all; COUNT of a rank, or one
   nodes, with --framed alone: how many ranks there are, and the other settings
+  refused: BadCommand: there is no such line; help tells the lines
   refused: BadCommand: the line is help [LINE]
   refused: BadCommand: the line is help [LINE]
+  refused: BadCommand: there is no such line; help tells the lines

@@ -13,23 +13,23 @@ use Rattle.bsp_debug.specs.Made.{events_of}
 use Rattle.bsp_console.proofs.Costs.{costs_are}
 use Rattle.bsp_console.proofs.answer.answer_command.Goals as goal
 
-pub reply_text-requires : goal.reply_text-requires
+pub told-requires : goal.told-requires
 unfolding after
-reply_text-requires g c = λ rows is.
+told-requires g c = λ rows is.
     let d = c.args.debugger.now in
     let makes = subst (Makes d.points d.machine c.args.command (events_of c.command.new.self.last)) is c.in-Ok.ensures.ok in
     let are = costs_are _ _ c.args.command _ rows makes in
     let same : c.command.new.self.machine ≡ d.machine = rw are.0 at c.command.ensures.machine in
-    are.1 ∙ sym (c.ledger-ledger.ensures ∙ ap (λ m. m.ledger) c.machine.ensures.value ∙ ap (λ m. m.ledger) same)
+    are.1 ∙ sym (ap (λ m. m.ledger) c.machine.ensures.value ∙ ap (λ m. m.ledger) same)
 
 -- a refusal is told of a debugger that is as it was, but for what the last command made
-told : (fault : Option DebugError) (done : Type 0) (old new : DebuggerState) (text : List ℕ) (e : DebugError)
+told-refusal : (fault : Option DebugError) (done : Type 0) (old new : DebuggerState) (text : List ℕ) (e : DebugError)
     → ((e ≡ NoMemory) ⊎ (fault ≡ Some e)) → (e ≡ NoMemory → ⊥) → text ≡ verdict_text (Refused e)
     → new.machine ≡ after old.machine (events_of new.last) → new ≡ record old { machine = new.machine; last = new.last } → (IsSome fault → new.last ≡ [])
     → DoesOrRefuses fault done (record old { last = [] }) new text
 unfolding after
-told fault done old new text e (inl memory) other is machine others unmade = absurd (other memory)
-told fault done old new text e (inr refused) other is machine others unmade =
+told-refusal fault done old new text e (inl memory) other is machine others unmade = absurd (other memory)
+told-refusal fault done old new text e (inr refused) other is machine others unmade =
     let none : new.last ≡ [] = unmade (rw refused refl) in
     let same : new.machine ≡ old.machine = rw none at machine in
     let as_it_was : new ≡ record old { last = [] } = others ∙ (λ i. record old { machine = same i; last = none i }) in
@@ -37,7 +37,7 @@ told fault done old new text e (inr refused) other is machine others unmade =
 
 pub returns-in-Err-clause-told : goal.returns-in-Err-clause-told
 returns-in-Err-clause-told g c =
-    IfOk-weaker c.verdict_of.result _ _ (λ a verdict. told _ _ c.args.debugger.now c.command.new.self a.text.items c.in-Err.error c.in-Err.ensures.refused verdict.0 verdict.1
+    IfOk-weaker c.verdict_of.result _ _ (λ a verdict. told-refusal _ _ c.args.debugger.now c.command.new.self a.text.items c.in-Err.error c.in-Err.ensures.refused verdict.0 verdict.1
     c.command.ensures.machine c.command.ensures.others c.command.ensures.unmade) c.verdict_of.ensures
 
 -- and it is one

@@ -5,13 +5,14 @@ use Rattle.debug_lines.specs.Framed.{framed_text}
 use Rattle.bsp_console.proofs.answer.text_for.Goals as goal
 
 pub returns-in-Script : goal.returns-in-Script
-returns-in-Script g c = rw c.in-Script.is c.in_ok-answer.ensures.told
+returns-in-Script g c = let told = rw c.in-Script.is at c.in_ok-answer.ensures.told in rw c.in-Script.is told
 
 pub returns-in-Dialogue : goal.returns-in-Dialogue
-returns-in-Dialogue g c = rw c.in-Dialogue.is c.in_ok-answer.ensures.told
+returns-in-Dialogue g c = let told = rw c.in-Dialogue.is at c.in_ok-answer.ensures.told in rw c.in-Dialogue.is told
 
 pub returns-in-Framed : goal.returns-in-Framed
 returns-in-Framed g c =
     let answer = c.in_ok-answer.answer in
+    let told = rw c.in-Framed.is at c.in_ok-answer.ensures.told in
     rw c.in-Framed.is (IfOk-weaker c.framed_text.result _ _
-    (λ text is. (answer.text.items, c.in_ok-answer.ensures.told, is ∙ ap₂ framed_text c.in_ok-answer.ensures.refused c.as_slice.ensures.value)) c.framed_text.ensures)
+    (λ text is. (answer.text.items, told, is ∙ ap₂ framed_text c.in_ok-answer.ensures.refused c.as_slice.ensures.value)) c.framed_text.ensures)

@@ -3,7 +3,7 @@ use Rattle.std.proofs.Common.{◌≡◌, ◌++◌, drop, string_bytes}
 use Rattle.std.specs.List.{flat_map}
 use Rattle.node_core.specs.Node.{PreparedNode}
 use Rattle.bsp_console.specs.Talk.{place_line}
-use Rattle.bsp_console.proofs.answer.add_each_place.Given as goal
+use Rattle.bsp_console.proofs.place.add_each_place.Given as goal
 
 abbrev pub invariant-loop-node : goal.invariant-loop-node
 invariant-loop-node g l =

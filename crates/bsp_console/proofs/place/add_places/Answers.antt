@@ -6,7 +6,7 @@ use Rattle.std.proofs.lemmas.Result.{IfOk-weaker}
 use Rattle.node_core.specs.Node.{PreparedNode}
 use Rattle.machine_core.specs.Machine.{MachineState}
 use Rattle.bsp_console.specs.Talk.{place_line}
-use Rattle.bsp_console.proofs.answer.add_places.Goals as goal
+use Rattle.bsp_console.proofs.place.add_places.Goals as goal
 
 lines_of_states : (m : MachineState) (ns : List PreparedNode)
     → flat_map (λ (p : PreparedNode). place_line m p.node) ns ≡ flat_map (place_line m) (map (λ (p : PreparedNode). p.node) ns)

@@ -5,7 +5,7 @@ use Rattle.std.proofs.lemmas.List.{drop_all, drop_more}
 use Rattle.node_core.specs.Node.{PreparedNode}
 use Rattle.machine_core.specs.Machine.{MachineState}
 use Rattle.bsp_console.specs.Talk.{place_line}
-use Rattle.bsp_console.proofs.answer.add_each_place.Goals as goal
+use Rattle.bsp_console.proofs.place.add_each_place.Goals as goal
 
 abbrev lines : MachineState → List PreparedNode → List ℕ
 lines m nodes = flat_map (λ (p : PreparedNode). place_line m p.node) nodes

@@ -329,7 +329,7 @@ static ROWS: [Row; 10] = [
         name: "debug_dialogue",
         kind: Talks,
         format: Format::Raw,
-        requests: 112,
+        requests: 113,
     },
     Row {
         name: "debug_framed",

@@ -311,7 +311,7 @@ class Walk:
         while not isinstance(self.runner.go(0), halts.Exit):
             pass
         wanted = "".join(f"rank {rank} has made round {round}\n" for round in range(4) for rank in range(3)).encode()
-        expect(bytes(self.shown).replace(b"ended\n", b"") == wanted, self.shown)
+        expect(bytes(self.shown).replace(runner.ENDS, b"").replace(b"ended\n", b"") == wanted, self.shown)
         self.machine.close()
 
     def _forth(self, rank: int) -> None:

@@ -40,13 +40,15 @@ Answer = Callable[[str], bytes]
 
 
 class Stub:
-    """Answers gdb's packets over a connection, until one ends the session. `typed` asks how often Ctrl-C was typed at gdb's terminal."""
+    """Answers gdb's packets over a connection, until one ends the session. `typed` asks how often Ctrl-C was typed at gdb's terminal, and
+    `has_floats` says whether the nodes have registers of floating point, which the debugger does not tell."""
 
-    def __init__(self, connection: Connection, machine: Machine, typed: Typed) -> None:
+    def __init__(self, connection: Connection, machine: Machine, typed: Typed, has_floats: bool) -> None:
         self._connection = connection
         self._machine = machine
         self._runner = Runner(machine, self._show, connection.is_interrupted)
         self._monitored = Monitor(self._runner, typed)
+        self._has_floats = has_floats
         self._current = 0
         self._resumed: Optional[int] = None
         self._halt: Halt = Stop(0, words.TRAP)
@@ -72,7 +74,7 @@ class Stub:
             "bs": self._step_back,
             "bc": self._go_back,
             "?": lambda _: self._told(self._halt),
-            "g": lambda _: b"".join(map(_register, self._registers())),
+            "g": lambda _: b"".join([*map(_register, self._registers()), *[words.NOT_TOLD] * (words.FLOATS * self._has_floats)]),
         }
 
     def _answers_to_beginnings(self) -> Dict[str, Answer]:
@@ -160,7 +162,7 @@ class Stub:
         kind, operation, annex, place = text.split(":")
         offset, length = numbers.pair(place)
         if (kind, operation, annex) == ("features", "read", "target.xml"):
-            whole = words.target_description()
+            whole = words.target_description(self._has_floats)
         elif (kind, operation, annex) == ("threads", "read", ""):
             whole = words.thread_list(self._machine.superstep, (node.state for node in self._machine.nodes()))
         else:
@@ -200,7 +202,10 @@ class Stub:
         return [*node.x, node.pc]
 
     def _read_register(self, text: str) -> bytes:
-        return _register(self._registers()[numbers.number(text)])
+        number = numbers.number(text)
+        if self._has_floats and words.FIRST_FLOAT <= number < words.FIRST_FLOAT + words.FLOATS:
+            return words.NOT_TOLD
+        return _register(self._registers()[number])
 
     def _read_memory(self, text: str) -> bytes:
         addr, length = numbers.pair(text)

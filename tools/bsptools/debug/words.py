@@ -25,6 +25,8 @@ SIGNALS = {
 # The exit status of a run with this outcome: that of `bspemu run`.
 ENDED, STOPPED, EXHAUSTED, REFUSED = 0, 2, 3, 4
 
+# How many registers of floating point there are behind those and pc, by gdb's numbers, and what says that it is not told what one holds.
+FLOATS, FIRST_FLOAT, NOT_TOLD = 32, 33, b"x" * 16
 REGISTERS = """zero ra sp gp tp t0 t1 t2 s0 s1 a0 a1 a2 a3 a4 a5 a6 a7 s2 s3 s4 s5 s6 s7 s8 s9 s10 s11 t3 t4 t5 t6""".split()
 PC = 32
 # The registers that a stop tells by itself, since gdb asks for them at each one: ra, sp, fp and pc.
@@ -56,15 +58,20 @@ def rank_of(outcome: str, otherwise: int) -> int:
     return ranks[-1] if ranks else otherwise
 
 
-def target_description() -> str:
-    """What gdb is told of the registers. Without an operating system, gdb has the target make its single steps."""
+def target_description(has_floats: bool) -> str:
+    """What gdb is told of the registers. Without an operating system, gdb has the target make its single steps. It takes no program for
+    doubles in registers of floating point where the target has none."""
     rows = "".join(
         f'<reg name="{name}" bitsize="32" type="{_TYPES.get(name, "int")}" regnum="{number}"/>'
         for number, name in enumerate(REGISTERS + ["pc"])
     )
+    features = f'<feature name="org.gnu.gdb.riscv.cpu">{rows}</feature>'
+    if has_floats:
+        rows = "".join(f'<reg name="f{it}" bitsize="64" type="ieee_double" regnum="{FIRST_FLOAT + it}"/>' for it in range(FLOATS))
+        features += f'<feature name="org.gnu.gdb.riscv.fpu">{rows}</feature>'
     return (
         '<?xml version="1.0"?><!DOCTYPE target SYSTEM "gdb-target.dtd"><target version="1.0">'
-        f'<architecture>riscv:rv32</architecture><osabi>none</osabi><feature name="org.gnu.gdb.riscv.cpu">{rows}</feature></target>'
+        f"<architecture>riscv:rv32</architecture><osabi>none</osabi>{features}</target>"
     )
 
 

@@ -108,6 +108,16 @@ def of_this_rank(bench: Bench) -> None:
 
 
 @case
+def floats(bench: Bench) -> None:
+    """A program for registers of floating point: gdb takes it, forwards and back, and is not told what these hold."""
+    program = bench.build("tests/tools/gdb/floats.c", "-march=rv32imfdc")
+    commands = ["watch total", "continue", "continue", "print total", "info registers fa0", "monitor wrote total", "reverse-continue"]
+    text = bench.gdb(program, [*commands, "delete", "continue"])
+    wrote = "a store by rank 0 in superstep 0: main, floats.c:10, pc 0x"
+    in_order(text, "New value = 0.5", "New value = 1.5", "= 1.5\n", "<unavailable>", wrote, "New value = 0.5", "total 3\nended\n")
+
+
+@case
 def who_wrote_in_assembly(bench: Bench) -> None:
     """What was read, in a text, whose labels and lines are told; and a rank that has failed."""
     source, given = bench.folder / "reads.s", bench.folder / "given"

@@ -1,0 +1,13 @@
+/* A double that is kept in memory, and is added to in registers of floating point. */
+#include <bsp.h>
+#include <stdio.h>
+
+volatile double total;
+
+int main(void) {
+    bsp_begin(bsp_nprocs());
+    for (int i = 1; i <= 3; i++)
+        total += 0.5 * i;
+    printf("total %d\n", (int)total);
+    bsp_end();
+}

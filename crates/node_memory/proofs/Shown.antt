@@ -6,10 +6,10 @@ use Rattle.std.specs.List.{flat_map}
 use Rattle.std.proofs.lemmas.List.{length-map, map-set, map_push, take_more, append-nil, get_or-map, set-get_or, length_push, replicate_more, replicate-append-replicate}
 use Rattle.std.proofs.lemmas.List.Concat.{flat_map-append}
 use Rattle.std.proofs.lemmas.List.Elements.{All-push, All-nil, All-get_or}
-use Rattle.std.proofs.lemmas.Option.{slice_get_read}
+use Rattle.std.proofs.lemmas.Option.{same_Some, slice_get_read}
 use Rattle.std.proofs.lemmas.Grind.{common_steps}
 use Rattle.std.proofs.lemmas.Bool.Decides.{nat_tests}
-use Rattle.node_memory.specs.Bytes.{is_memory_size, fits, bytes_at, with_bytes, byte_at, half_at, word_at}
+use Rattle.node_memory.specs.Bytes.{is_memory_size, fits, bytes_at, with_bytes, byte_at, half_at, word_at, double_word_at}
 use Rattle.node_memory.specs.Pages.{PagedMemory, none_own}
 use Rattle.node_memory.proofs.Flat.{AllWhole, length-flat, get_or-flat_at, bytes_at-flat, flat-set, flat-set_same}
 use Rattle.node_memory.proofs.WordBytes.{half_read, word_read}
@@ -92,6 +92,24 @@ word-shown {X} {f} {g} {xs} {m} h addr value x in' within is read =
     let b2 : get_or (f x) (addr % 4096 + 2) 0 ≡ get_or m.bytes (addr + 2) 0 = next-shown h addr 2 x in' (omega arith) is in
     let b3 : get_or (f x) (addr % 4096 + 3) 0 ≡ get_or m.bytes (addr + 3) 0 = next-shown h addr 3 x in' (omega arith) is in
     word_read m.bytes m.bytes addr value refl (omega arith) (read ∙ cc)
+
+-- two words within a page
+pub double_word-shown : {X : Type 0} {f : X → List ℕ} {g : X → Bool} {xs : List X} {m : PagedMemory} → Shows f g xs m → (addr low high : ℕ) (x : X) → addr / 4096 < length xs → addr % 4096 + 8 ≤ 4096 → x ≡ get_or xs (addr / 4096) x
+    → low ≡ get_or (f x) (addr % 4096) 0 + get_or (f x) (addr % 4096 + 1) 0 * 256 + get_or (f x) (addr % 4096 + 2) 0 * 65536 + get_or (f x) (addr % 4096 + 3) 0 * 16777216
+    → high ≡ get_or (f x) (addr % 4096 + 4) 0 + get_or (f x) (addr % 4096 + 4 + 1) 0 * 256 + get_or (f x) (addr % 4096 + 4 + 2) 0 * 65536 + get_or (f x) (addr % 4096 + 4 + 3) 0 * 16777216
+    → (IsTrue (fits (length m.bytes) addr 8)) × (low + high * 4294967296 ≡ double_word_at m.bytes addr)
+double_word-shown {X} {f} {g} {xs} {m} h addr low high x in' within is low_read high_read =
+    let size = size-shown h in
+    let page : (addr + 4) / 4096 ≡ addr / 4096 = omega arith in
+    let offset : (addr + 4) % 4096 ≡ addr % 4096 + 4 = omega arith in
+    let all : fits (length m.bytes) addr 8 ≡ true = grind (arith, nat_tests) in
+    let first : fits (length m.bytes) addr 4 ≡ true = grind (arith, nat_tests) in
+    let second : fits (length m.bytes) (addr + 4) 4 ≡ true = grind (arith, nat_tests) in
+    let at_low = rw first at (word-shown h addr low x in' (omega arith) is low_read) in
+    let at_high = rw second at (word-shown h (addr + 4) high x (omega arith) (omega arith) (is ∙ ap (λ k. get_or xs k x) (sym page)) (rw offset high_read)) in
+    let a : low ≡ word_at m.bytes addr = same_Some _ _ at_low in
+    let b : high ≡ word_at m.bytes (addr + 4) = same_Some _ _ at_high in
+    (rw all refl, rw (a, b) refl)
 
 -- the lower half of a word in a page is the half-word there
 pub low-shown : {X : Type 0} {f : X → List ℕ} {g : X → Bool} {xs : List X} {m : PagedMemory} → Shows f g xs m → (addr value : ℕ) (x : X) → addr / 4096 < length xs → addr % 4096 + 4 ≤ 4096 → x ≡ get_or xs (addr / 4096) x

@@ -7,7 +7,7 @@ use Rattle.node_memory.specs.declared.memory.ReadError.{ReadError}
 use Rattle.node_memory.specs.declared.memory.ReadError.TheVariants as read
 use Rattle.node_memory.specs.declared.memory.WriteError.{WriteError}
 use Rattle.node_memory.specs.declared.memory.WriteError.TheVariants as write
-use Rattle.node_memory.specs.Bytes.{is_memory_size, fits, bytes_at, with_bytes, byte_at, half_at, word_at}
+use Rattle.node_memory.specs.Bytes.{is_memory_size, fits, bytes_at, with_bytes, byte_at, half_at, word_at, double_word_at}
 use Rattle.node_memory.specs.Image.{Image, image_bytes, is_segment_outside}
 use Rattle.node_memory.specs.Pages.{PagedMemory, none_own, IsOwn, Owns, OwnsMore}
 
@@ -39,6 +39,12 @@ pub record IsLoadedInPage (answer : Option ℕ) (m : List ℕ) (addr : ℕ) : Ty
   pub value : IfSome answer (λ word. Some word ≡ loaded_word m addr)
   pub low : IfSome answer (λ word. word % 2 ^ 16 ≡ half_at m addr)
   pub none : IsNone answer → IsTrue (fits (length m) addr 4) → 4096 < addr % 4096 + 4
+
+-- two words were to be loaded as one number: it is given; or they do not lie in one page of the memory
+pub record IsDoubleWordLoadedInPage (answer : Option ℕ) (m : List ℕ) (addr : ℕ) : Type 0 where
+  pub within : IfSome answer (λ _. IsTrue (fits (length m) addr 8))
+  pub value : IfSome answer (λ pair. pair ≡ double_word_at m addr)
+  pub none : IsNone answer → IsTrue (fits (length m) addr 8) → 4096 < addr % 4096 + 8
 
 -- a range was to be read: its bytes are given, or it does not lie in the memory, or memory for them is refused
 pub record IsRead (answer : Result (List ℕ) ReadError) (m : List ℕ) (addr len : ℕ) : Type 0 where

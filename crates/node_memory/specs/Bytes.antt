@@ -1,6 +1,6 @@
 -- A memory as the list of its bytes, and little-endian numbers in it (RISC-V Unprivileged ISA 20191213, section 1.4
 -- "Memory"; section 2.6 "Load and Store Instructions").
-use Rattle.std.specs.Prelude.{ℕ, ◌+◌, ◌%◌, ◌^◌, ◌==◌, Bool, ◌&&◌, nat_le, List, length, slice_index}
+use Rattle.std.specs.Prelude.{ℕ, ◌+◌, ◌*◌, ◌%◌, ◌^◌, ◌==◌, Bool, ◌&&◌, nat_le, List, length, slice_index}
 use Rattle.std.specs.List.{slice_range, replace_range}
 use Rattle.std.specs.Int.{w16, w32, from_le_bytes}
 
@@ -29,3 +29,7 @@ half_at m addr = from_le_bytes w16 (bytes_at m addr 2)
 
 abbrev pub word_at : List ℕ → ℕ → ℕ
 word_at m addr = from_le_bytes w32 (bytes_at m addr 4)
+
+-- the two words whose bytes begin at `addr`, as one number, the lower one first
+abbrev pub double_word_at : List ℕ → ℕ → ℕ
+double_word_at m addr = word_at m addr + word_at m (addr + 4) * 2 ^ 32

@@ -1,14 +1,16 @@
 //! The operations on doubles that instructions name.
 
 ghost use Rattle.std.specs.Prelude.{◌≡◌};
+ghost use Rattle.rv_float_flags.specs.Flags.{accrued};
 ghost use Rattle.rv_float_flags.specs.Operations.{quiet_flags};
 ghost use Rattle.float_unit.specs.Values as Values;
 ghost use lib.Ieee.{binary64};
 
 use rv_float_flags::{
-    Flags, add_flags_d, d_to_word_flags, d_to_word_unsigned_flags, div_flags_d, mul_flags_d,
-    multiply_add_flags_d, multiply_subtract_flags_d, negated_multiply_add_flags_d,
-    negated_multiply_subtract_flags_d, ordered_flags_d, quiet_flags_d, sub_flags_d,
+    Flags, accrued_add_flags_d, accrued_mul_flags_d, accrued_sub_flags_d, add_flags_d,
+    d_to_word_flags, d_to_word_unsigned_flags, div_flags_d, mul_flags_d, multiply_add_flags_d,
+    multiply_subtract_flags_d, negated_multiply_add_flags_d, negated_multiply_subtract_flags_d,
+    ordered_flags_d, quiet_flags_d, sub_flags_d,
 };
 use rv_float_tables::{ArithmeticOp, CompareOp, FusedOp, MinMaxOp, SignOp, WordKind};
 use rv_floats::{
@@ -17,6 +19,7 @@ use rv_floats::{
     sign_injected_d, sign_negated_d, sign_xored_d, sub_d,
 };
 
+#[inline(always)]
 pub fn arithmetic(op: ArithmeticOp, a: u64, b: u64) -> u64
     ensures { result ≡ Values.arithmetic op binary64 a b }
 {
@@ -36,6 +39,19 @@ pub fn arithmetic_flags(op: ArithmeticOp, a: u64, b: u64) -> Flags
         ArithmeticOp::Sub => sub_flags_d(a, b),
         ArithmeticOp::Mul => mul_flags_d(a, b),
         ArithmeticOp::Div => div_flags_d(a, b),
+    }
+}
+
+/// The flags that are there with those that `arithmetic` raises.
+#[inline(always)]
+pub fn accrued_flags(op: ArithmeticOp, flags: Flags, a: u64, b: u64) -> Flags
+    ensures { result ≡ accrued flags (Values.arithmetic_flags op binary64 a b) }
+{
+    match op {
+        ArithmeticOp::Add => accrued_add_flags_d(flags, a, b),
+        ArithmeticOp::Sub => accrued_sub_flags_d(flags, a, b),
+        ArithmeticOp::Mul => accrued_mul_flags_d(flags, a, b),
+        ArithmeticOp::Div => flags | div_flags_d(a, b),
     }
 }
 

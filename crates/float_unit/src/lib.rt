@@ -21,6 +21,7 @@
 mod double;
 mod effect;
 mod fault;
+mod frequent;
 mod single;
 mod unit;
 

@@ -110,6 +110,32 @@ impl FloatUnit {
         self.flags = self.flags | flags;
     }
 
+    /// Writes a double and all of the flags.
+    #[inline(always)]
+    pub(crate) fn set_double(&mut self, rd: u8, a: u64, flags: Flags)
+        requires { rd < 32 }
+        ensures { self.new ≡ record self.old { registers = Prelude.slice_set self.old.registers rd a; flags = flags } }
+    {
+        self.registers[rd as usize] = a;
+        self.flags = flags;
+    }
+
+    /// The accrued exceptions.
+    #[inline(always)]
+    pub(crate) fn flags(&self) -> Flags
+        ensures { result ≡ self.now.flags }
+    {
+        self.flags
+    }
+
+    /// Whether the dynamic rounding mode is to the nearest, ties to even.
+    #[inline(always)]
+    pub(crate) fn rounds_to_nearest(&self) -> bool
+        ensures { result ≡ (Prelude.◌==◌ self.now.frm 0) }
+    {
+        self.frm == 0
+    }
+
     /// Writes a single and what it raised.
     pub(crate) fn put_single(&mut self, rd: u8, a: u32, flags: Flags)
         requires { rd < 32 }

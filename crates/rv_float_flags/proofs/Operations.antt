@@ -1,12 +1,12 @@
 -- The flags of operations on finite values, from the flags of a rounding.
-use Rattle.std.proofs.Common.{◌≡◌, ℕ, ◌+◌, ◌*◌, ◌^◌, ◌<◌, Bool, true, false, cond, if◌then◌else◌, not, ◌&&◌, nat_eq, sym, ap, ◌∙◌, subst, refl, arith}
+use Rattle.std.proofs.Common.{◌≡◌, ℕ, ◌+◌, ◌*◌, ◌^◌, ◌<◌, Bool, true, false, cond, if◌then◌else◌, not, ◌&&◌, ◌||◌, ◌/◌, ◌%◌, nat_eq, nat_lt, sym, ap, ◌∙◌, subst, refl, arith}
 use Rattle.std.proofs.Math.Nat.{eq_of_mul-eq-mul_right, mul-pos}
 use Rattle.std.proofs.lemmas.Nat.{pow_pos}
 use Rattle.std.specs.Float.{float_is_finite, float_mul_add, float_zero, is_sign_negative, round_to_format}
 use Rattle.std.specs.declared.option.Option.{Option}
 use Rattle.rv_float_flags.specs.Exact.{Ratio, combined, exact_fused, exact_product, exact_quotient, exact_sum, exact_value, rounded}
 use Rattle.rv_float_flags.specs.Flags.{divided_by_zero, inexact_if, invalid, invalid_if, no_flags, rounding_flags}
-use Rattle.rv_float_flags.specs.Operations.{fused_flags, is_invalid_fused, is_invalid_product, is_invalid_sum, is_root, is_division_by_zero, is_invalid_quotient, is_zero, product_flags, quotient_flags, root_flags, sum_flags}
+use Rattle.rv_float_flags.specs.Operations.{any_signaling, fused_flags, is_invalid_fused, is_invalid_product, is_invalid_sum, is_root, is_division_by_zero, is_invalid_quotient, is_zero, product_flags, quotient_flags, root_flags, sum_flags}
 use Rattle.rv_float_flags.specs.Scaled.{amount, IsFraction, IsMagnitude, IsMagnitudeOf}
 use Rattle.rv_float_flags.specs.declared.flags.Flags.{Flags}
 use Rattle.rv_float_flags.specs.declared.scaled.Scaled.{Scaled}
@@ -18,7 +18,8 @@ use Rattle.rv_floats.specs.Classes.{is_signaling}
 use Rattle.rv_float_flags.specs.Conversions.{exact_word, narrowing_flags}
 use lib.IntN.{ℤ, pos, negsuc}
 use Rattle.std.specs.Prelude.{nat_abs}
-use lib.Ieee.{Float, Format, add, binary32, binary64, div, eq, fits, lt, mul, of_bits, of_int, round, sqrt, to_bits, unlike}
+use Rattle.std.proofs.lemmas.Bool.{true≢false}
+use lib.Ieee.{Float, Format, nan, inf, fin, add, binary32, binary64, div, eq, fits, hid, is_nan, lt, mul, of_bits, of_int, round, sqrt, to_bits, unlike}
 use lib.Ieee.Fits.{round-fits, sqrt-fits}
 use lib.Ieee.Bits.{of_bits-to_bits}
 use lib.Ieee.Positive.{den, den_pos, num}
@@ -26,6 +27,10 @@ use lib.Ieee.Positive.{den, den_pos, num}
 -- what a rounding's flags are, of a result's pattern
 abbrev pub Rounds : Format → ℕ → Option Scaled → Flags → Type 0
 Rounds f n m g = (r : Ratio) → IsFraction r n 1 → IsMagnitudeOf f (rounded f r) m → g ≡ rounding_flags f r
+
+-- the same of what `so` makes of the flags
+abbrev pub RoundsSo : (Flags → Flags) → Format → ℕ → Option Scaled → Flags → Type 0
+RoundsSo so f n m g = (r : Ratio) → IsFraction r n 1 → IsMagnitudeOf f (rounded f r) m → g ≡ so (rounding_flags f r)
 
 abbrev pub Raised : Scaled → Scaled → Type 0
 Raised p r = r ≡ record { digits = p.digits; place = p.place + 1074 }
@@ -45,10 +50,11 @@ two b d g h e k = sym (ap (λ (x : Bool). cond (x && d) g h) e ∙ ap (λ (x : B
 three : (b d i : Bool) (g h : Flags) → b ≡ true → d ≡ true → i ≡ true → g ≡ (if b && d && i then g else h)
 three b d i g h e k l = sym (ap (λ (x : Bool). cond (x && d && i) g h) e ∙ ap (λ (x : Bool). cond (x && i) g h) k ∙ ap (λ (x : Bool). cond x g h) l)
 
-pub of_sum : (f : Format) (x y : Float) (p q a b : Scaled) (o : Bool) (u : ℕ) (m : Option Scaled) (g : Flags) → IsMagnitude f x p → IsMagnitude f y q
+-- whatever is made of the flags: `so` makes it
+pub of_sum_so : (so : Flags → Flags) (f : Format) (x y : Float) (p q a b : Scaled) (o : Bool) (u : ℕ) (m : Option Scaled) (g : Flags) → IsMagnitude f x p → IsMagnitude f y q
     → Raised p a → Raised q b → o ≡ unlike (is_sign_negative x) (is_sign_negative y) → u ≡ to_bits f (add f x y) → IsMagnitudeOf f (of_bits f u) m
-    → Rounds f (combined o (amount a) (amount b)) m g → g ≡ sum_flags f x y
-of_sum f x y p q a b o u m g hx hy ha hb ho hu hm k =
+    → RoundsSo so f (combined o (amount a) (amount b)) m g → g ≡ so (sum_flags f x y)
+of_sum_so so f x y p q a b o u m g hx hy ha hb ho hu hm k =
     let r = exact_sum x y in
     let s = unlike (is_sign_negative x) (is_sign_negative y) in
     let e : combined s (amount p * 2 ^ 1074) (amount q * 2 ^ 1074) ≡ combined o (amount a) (amount b) =
@@ -58,16 +64,39 @@ of_sum f x y p q a b o u m g hx hy ha hb ho hu hm k =
     in
     let w = add_rounds f x y hx.finite hy.finite in
     k r (subst (λ (n : ℕ). IsFraction r n 1) e (sum_fraction f s x y p q hx hy)) (result f (add f x y) u m w.0 r hu hm w.1)
-    ∙ two _ _ (rounding_flags f r) (invalid_if (is_invalid_sum x y)) hx.finite hy.finite
+    ∙ ap so (two _ _ (rounding_flags f r) (invalid_if (is_invalid_sum x y)) hx.finite hy.finite)
 
-pub of_product : (f : Format) (x y : Float) (p q a : Scaled) (u : ℕ) (m : Option Scaled) (g : Flags) → IsMagnitude f x p → IsMagnitude f y q
-    → Times p q a → u ≡ to_bits f (mul f x y) → IsMagnitudeOf f (of_bits f u) m → Rounds f (amount a + 0 * 2 ^ 2148) m g → g ≡ product_flags f x y
-of_product f x y p q a u m g hx hy ha hu hm k =
+pub of_sum : (f : Format) (x y : Float) (p q a b : Scaled) (o : Bool) (u : ℕ) (m : Option Scaled) (g : Flags) → IsMagnitude f x p → IsMagnitude f y q
+    → Raised p a → Raised q b → o ≡ unlike (is_sign_negative x) (is_sign_negative y) → u ≡ to_bits f (add f x y) → IsMagnitudeOf f (of_bits f u) m
+    → Rounds f (combined o (amount a) (amount b)) m g → g ≡ sum_flags f x y
+of_sum = of_sum_so (λ g. g)
+
+pub of_product_so : (so : Flags → Flags) (f : Format) (x y : Float) (p q a : Scaled) (u : ℕ) (m : Option Scaled) (g : Flags) → IsMagnitude f x p → IsMagnitude f y q
+    → Times p q a → u ≡ to_bits f (mul f x y) → IsMagnitudeOf f (of_bits f u) m → RoundsSo so f (amount a + 0 * 2 ^ 2148) m g → g ≡ so (product_flags f x y)
+of_product_so so f x y p q a u m g hx hy ha hu hm k =
     let r = exact_product x y in
     let e : amount a + 0 * 2 ^ 2148 ≡ amount p * amount q = (let i : amount a + 0 * 2 ^ 2148 ≡ amount a = omega arith in i) ∙ product_amount p q a ha in
     let w = mul_rounds f x y hx.finite hy.finite in
     k r (product_fraction f x y p q (amount a + 0 * 2 ^ 2148) hx hy e) (result f (mul f x y) u m w.0 r hu hm w.1)
-    ∙ two _ _ (rounding_flags f r) (invalid_if (is_invalid_product x y)) hx.finite hy.finite
+    ∙ ap so (two _ _ (rounding_flags f r) (invalid_if (is_invalid_product x y)) hx.finite hy.finite)
+
+pub of_product : (f : Format) (x y : Float) (p q a : Scaled) (u : ℕ) (m : Option Scaled) (g : Flags) → IsMagnitude f x p → IsMagnitude f y q
+    → Times p q a → u ≡ to_bits f (mul f x y) → IsMagnitudeOf f (of_bits f u) m → Rounds f (amount a + 0 * 2 ^ 2148) m g → g ≡ product_flags f x y
+of_product = of_product_so (λ g. g)
+
+-- finite operands do not signal
+no_nan : (x : Float) → float_is_finite x ≡ true → is_nan x ≡ false
+unfolding is_nan float_is_finite
+no_nan nan h = absurd (true≢false (sym h))
+no_nan (inf s) h = refl
+no_nan (fin s m e) h = refl
+
+no_signal : (f : Format) (a : ℕ) → float_is_finite (of_bits f a) ≡ true → is_signaling f a ≡ false
+no_signal f a finite = ap (λ (b : Bool). b && nat_lt (a % hid f) (hid f / 2)) (no_nan (of_bits f a) finite)
+
+pub none_signals : (f : Format) (a b : ℕ) (g h : Flags) → float_is_finite (of_bits f a) ≡ true → float_is_finite (of_bits f b) ≡ true → g ≡ (if any_signaling f a b then h else g)
+none_signals f a b g h first second =
+    sym (ap (λ (x : Bool). if x || is_signaling f b then h else g) (no_signal f a first) ∙ ap (λ (x : Bool). if x then h else g) (no_signal f b second))
 
 pub of_fused : (f : Format) (x y z : Float) (p q i a b : Scaled) (o : Bool) (u : ℕ) (m : Option Scaled) (g : Flags) → IsMagnitude f x p → IsMagnitude f y q
     → IsMagnitude f z i → Times p q a → Raised i b → o ≡ unlike (unlike (is_sign_negative x) (is_sign_negative y)) (is_sign_negative z)

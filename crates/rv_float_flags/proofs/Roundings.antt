@@ -1,5 +1,5 @@
 -- What of a rounding follows from the exact result as a multiple of 2 ^ -2148.
-use Rattle.std.proofs.Common.{◌≡◌, ℕ, zero, suc, ◌+◌, ◌-◌, ◌*◌, ◌^◌, ◌<◌, ◌≤◌, Bool, true, false, cond, not, ◌&&◌, nat_eq, nat_lt, sym, ap, ◌∙◌, subst, refl, arith, inl, inr}
+use Rattle.std.proofs.Common.{◌≡◌, ℕ, zero, suc, ◌+◌, ◌-◌, ◌*◌, ◌^◌, ◌<◌, ◌≤◌, Bool, true, false, cond, not, ◌&&◌, ◌||◌, nat_eq, nat_lt, sym, ap, ◌∙◌, subst, refl, arith, inl, inr}
 use Rattle.std.proofs.Math.Nat.{eq_of_mul-eq-mul_right, eq-zero-or-pos, lt_of_mul-lt-mul_right, mul-pos, pow-succ', zero-mul}
 use Rattle.std.proofs.Math.Pow.{pow_mono}
 use Rattle.std.proofs.lemmas.Bool.{cases_Bool, eq-eqb, lt-ltb, ltb-true}
@@ -8,7 +8,8 @@ use Rattle.std.specs.Float.{float_is_finite, float_is_infinite}
 use Rattle.rv_float_flags.specs.Exact.{Ratio, combined, is_exactly, is_inexact, is_tiny, overflows, rounded}
 use Rattle.rv_float_flags.specs.Scaled.{amount, IsFraction, IsLimit, IsMagnitude, IsMagnitudeOf}
 use Rattle.rv_float_flags.specs.declared.scaled.Scaled.{Scaled}
-use Rattle.rv_float_flags.specs.Flags.{rounding_flags}
+use Rattle.rv_float_flags.specs.Flags.{accrued, overflow_if, rounding_flags}
+use Rattle.rv_float_flags.specs.declared.flags.Flags.{Flags}
 use Rattle.std.specs.Prelude.{is_some, None, Some}
 use Rattle.std.specs.declared.option.Option.{Option}
 use Rattle.rv_float_flags.proofs.Numbers.{combined_times, lt_times, power_split, same_eq}
@@ -167,6 +168,10 @@ overflow f r p b e h = twice b ∙ ap not (sym e ∙ sym (finite_some f (rounded
 pub flags : (f : Format) (r : Ratio) (o u x : Bool) → o ≡ overflows f r → u ≡ is_tiny f r && is_inexact f r → x ≡ is_inexact f r
     → record { nv = false; dz = false; of = o; uf = u; nx = x } ≡ rounding_flags f r
 flags f r o u x a b c = cc
+
+-- what a rounding that does not underflow raises beside flags that have NX
+pub raised_beside : (g : Flags) (b o u x : Bool) → g.nx ≡ true → b ≡ o → u ≡ false → accrued g (overflow_if b) ≡ accrued g (record { nv = false; dz = false; of = o; uf = u; nx = x })
+raised_beside g b o u x there overflows none = rw (there, overflows, none) refl
 
 -- ---- as the code has these numbers
 

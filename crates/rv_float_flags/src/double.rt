@@ -177,7 +177,8 @@ fn fused_flags_d(a: u64, b: u64, c: u64) -> Flags
     }
 }
 
-fn is_negative_d(x: f64) -> bool
+#[inline]
+pub(crate) fn is_negative_d(x: f64) -> bool
     ensures { result ≡ is_sign_negative x }
 {
     !x.is_nan() && x.is_sign_negative()

@@ -114,3 +114,16 @@ pub(crate) fn inexact_if(inexact: bool) -> Flags
         nx: inexact,
     }
 }
+
+#[inline(always)]
+pub(crate) fn overflow_if(overflow: bool) -> Flags
+    ensures { result ≡ Defined.overflow_if overflow }
+{
+    Flags {
+        nv: false,
+        dz: false,
+        of: overflow,
+        uf: false,
+        nx: false,
+    }
+}

@@ -19,6 +19,7 @@
 //! Source: The RISC-V Instruction Set Manual, Volume I: Unprivileged ISA, 20191213, chapters 11 and 12; IEEE 754-2008, clause 7.
 #![tactic(auto)]
 
+mod accrued;
 mod compare;
 mod convert;
 mod double;
@@ -29,6 +30,7 @@ mod rounding;
 mod scaled;
 mod single;
 
+pub use accrued::{accrued_add_flags_d, accrued_mul_flags_d, accrued_sub_flags_d};
 pub use compare::{ordered_flags_d, ordered_flags_s, quiet_flags_d, quiet_flags_s};
 pub use convert::{
     d_to_s_flags, d_to_word_flags, d_to_word_unsigned_flags, s_to_d_flags, s_to_word_flags,

@@ -6,6 +6,7 @@ ghost use lib.Ieee.{binary32, binary64, of_bits};
 use crate::scaled::Scaled;
 
 /// The magnitude of a double, if it is finite.
+#[inline(always)]
 pub(crate) fn magnitude_d(a: u64) -> Option<Scaled>
     ensures { IsMagnitudeOf binary64 (of_bits binary64 a) result }
 {

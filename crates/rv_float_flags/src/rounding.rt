@@ -2,11 +2,11 @@
 
 ghost use Rattle.std.specs.Prelude.{◌≡◌, ℕ, ◌+◌, ◌*◌, ◌^◌, ◌<◌, ◌≤◌, ◌&&◌, nat_lt};
 ghost use Rattle.rv_float_flags.specs.Exact.{combined, is_inexact, is_tiny, rounded, Ratio};
-ghost use Rattle.rv_float_flags.specs.Flags.{rounding_flags};
+ghost use Rattle.rv_float_flags.specs.Flags.{accrued, rounding_flags};
 ghost use Rattle.rv_float_flags.specs.Scaled.{amount, IsFraction, IsLimit, IsMagnitudeOf, IsNarrow};
 ghost use lib.Ieee.{Format};
 
-use crate::flags::Flags;
+use crate::flags::{Flags, overflow_if};
 use crate::scaled::{Scaled, is_below, is_same, is_sum, sum_is_below};
 
 /// What is below this is tiny: the smallest normal double less a quarter of the smallest positive one, as a multiple of 2^-2148.
@@ -50,6 +50,34 @@ pub(crate) fn sum_rounding(
     }
 }
 
+/// The same with the flags that are there.
+// For speed: where NX is there, and the sum is not so small that it could be tiny, it is not found out whether it is exact.
+#[inline(always)]
+pub(crate) fn accrued_sum_rounding(
+    flags: Flags,
+    a: Scaled,
+    b: Scaled,
+    opposite: bool,
+    nearest: Option<Scaled>,
+    limit: Scaled,
+) -> Flags
+    requires a_narrow { a.digits < 2 ^ 106 }
+    requires b_narrow { b.digits < 2 ^ 106 }
+    requires a_low { a.place < 2 ^ 15 }
+    requires b_low { b.place < 2 ^ 15 }
+    requires b_coarse { limit.place + 2 ≤ b.place }
+    requires limit_narrow { limit.digits < 2 ^ 54 }
+    requires narrow { IsNarrow nearest }
+    ensures { (f : Format) (r : Ratio) → IsLimit f limit → IsFraction r (combined opposite (amount a) (amount b)) 1
+        → IsMagnitudeOf f (rounded f r) nearest → result ≡ accrued flags (rounding_flags f r) }
+{
+    if flags.nx && !is_sum_tiny(a, b, opposite, limit) {
+        flags | overflow_if(nearest.is_none())
+    } else {
+        flags | sum_rounding(a, b, opposite, nearest, limit)
+    }
+}
+
 fn is_sum_inexact(a: Scaled, b: Scaled, opposite: bool, nearest: Option<Scaled>) -> bool
     requires a_narrow { a.digits < 2 ^ 106 }
     requires b_narrow { b.digits < 2 ^ 106 }
@@ -74,6 +102,7 @@ fn is_sum_inexact(a: Scaled, b: Scaled, opposite: bool, nearest: Option<Scaled>)
 }
 
 /// Whether a sum that is inexact is tiny. Where both terms are multiples of the format's smallest value, one that is tiny is exact.
+#[inline(always)]
 fn is_sum_tiny(a: Scaled, b: Scaled, opposite: bool, limit: Scaled) -> bool
     requires a_narrow { a.digits < 2 ^ 106 }
     requires a_low { a.place < 2 ^ 15 }

@@ -1,14 +1,16 @@
 -- The listing of an image, as disassemblers write one: a line for each instruction, with its address and its statement (own
 -- layout).
-use Rattle.std.specs.Prelude.{ℕ, zero, suc, ◌+◌, ◌-◌, List, [], ◌∷◌, ◌++◌, codes, length, map}
+use Rattle.std.specs.Prelude.{ℕ, zero, suc, ◌+◌, ◌-◌, Bool, if◌then◌else◌, List, [], ◌∷◌, ◌++◌, codes, length, map}
 use Rattle.std.specs.List.{flat_map, range_with_len}
 use Rattle.std.specs.Option.{option_map_or}
 use Rattle.node_memory.specs.Bytes.{byte_at}
 use Rattle.node_memory.specs.Image.{Image, Segment}
+use Rattle.rv_tables.specs.declared.code.Code.{Code as AnyCode}
 use Rattle.rv_tables.specs.declared.code.Code.TheVariants.{Half, Word}
 use Rattle.rv_tables.specs.Codes.{length_of, code_at}
 use Rattle.rv_listing.specs.declared.lines.Line.{Line}
 use Rattle.rv_listing.specs.declared.lines.Line.TheVariants.{Code, Byte}
+use Rattle.rv_listing.specs.Floats.{float_statement_of}
 use Rattle.rv_listing.specs.Numerals.{two_digits, four_digits, eight_digits}
 use Rattle.rv_listing.specs.Statement.{statement_of}
 
@@ -16,11 +18,18 @@ use Rattle.rv_listing.specs.Statement.{statement_of}
 abbrev pub byte_data : ℕ → List ℕ
 byte_data byte = codes ".byte 0x" ++ two_digits byte
 
--- a line: its address, the code or the byte there, and in one column for all of them the statement, or the byte as data
+-- a line: its address, the code or the byte there, and in one column for all of them the code's statement, or the byte as data
+abbrev pub text_with : (AnyCode → ℕ → List ℕ) → Line → List ℕ
+text_with statement (Code addr (Half half)) = eight_digits addr ++ codes ": " ++ four_digits half ++ codes "      " ++ statement (Half half) addr
+text_with statement (Code addr (Word word)) = eight_digits addr ++ codes ": " ++ eight_digits word ++ codes "  " ++ statement (Word word) addr
+text_with statement (Byte addr byte) = eight_digits addr ++ codes ": " ++ two_digits byte ++ codes "        " ++ byte_data byte
+
 abbrev pub text_of : Line → List ℕ
-text_of (Code addr (Half half)) = eight_digits addr ++ codes ": " ++ four_digits half ++ codes "      " ++ statement_of (Half half) addr
-text_of (Code addr (Word word)) = eight_digits addr ++ codes ": " ++ eight_digits word ++ codes "  " ++ statement_of (Word word) addr
-text_of (Byte addr byte) = eight_digits addr ++ codes ": " ++ two_digits byte ++ codes "        " ++ byte_data byte
+text_of = text_with statement_of
+
+-- a line in which instructions of floating point have their names, or are data as any code without an instruction
+abbrev pub shown_text : (float : Bool) → Line → List ℕ
+shown_text float line = if float then text_with float_statement_of line else text_of line
 
 -- of bytes from an address on: the line of the byte at an offset
 abbrev pub byte_line : ℕ → List ℕ → ℕ → Line
@@ -45,10 +54,13 @@ listing_lines addr bytes = lines_from (length bytes) addr bytes 0
 abbrev pub ended_text : Line → List ℕ
 ended_text line = text_of line ++ codes "\n"
 
+abbrev pub ended_line : (float : Bool) → Line → List ℕ
+ended_line float line = shown_text float line ++ codes "\n"
+
 -- the listing of a segment: the lines of its bytes, and none for the zeros after them
-abbrev pub listing_of_segment : Segment → List ℕ
-listing_of_segment s = flat_map ended_text (listing_lines s.addr s.bytes)
+abbrev pub listing_of_segment : (float : Bool) → Segment → List ℕ
+listing_of_segment float s = flat_map (ended_line float) (listing_lines s.addr s.bytes)
 
 -- the listing of an image: those of its segments, in their order
-abbrev pub listing_of : Image → List ℕ
-listing_of i = flat_map listing_of_segment i.segments
+abbrev pub listing_of : (float : Bool) → Image → List ℕ
+listing_of float i = flat_map (listing_of_segment float) i.segments

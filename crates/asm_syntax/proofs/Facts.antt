@@ -1,90 +1,26 @@
 -- What holds of every line: its statement is in range, and memory is no fault of it.
-use Rattle.std.proofs.Common.{◌≡◌, ◌≢◌, ℕ, ◌<◌, ◌≤◌, Bool, true, false, List, [], ◌∷◌, length, ℤ, pos, negsuc, nat_abs, Option, Some, None, Result, Ok, Err, refl, sym, ap, subst, arith, inl, inr, ◌⊎◌}
+use Rattle.std.proofs.Common.{◌≡◌, ◌≢◌, ℕ, ◌<◌, Bool, true, List, [], ◌∷◌, length, ℤ, pos, Option, Some, None, Result, Ok, Err, subst, arith}
 use Rattle.std.specs.Prelude.{IfSome}
-use Rattle.std.specs.Option.{option_map, option_and_then}
-use Rattle.std.proofs.lemmas.Bool.{cases_Bool}
+use Rattle.std.specs.Option.{option_map}
 use Rattle.std.proofs.lemmas.Int.{ints}
-use Rattle.std.proofs.lemmas.Option.{same_Some}
 use Rattle.std.specs.List.{list_all, All}
 use Rattle.rv_tables.specs.Operands.{IsRegister, IsImmediate}
-use Rattle.rv_tables.specs.Registers.{register_number}
-use Rattle.rv_tables.proofs.RegisterNames.{IsRegister-register_number}
 use Rattle.asm_syntax.specs.declared.error.LineError.{LineError}
-use Rattle.asm_syntax.specs.declared.error.LineError.TheVariants.{OutOfRange, NoMemory}
+use Rattle.asm_syntax.specs.declared.error.LineError.TheVariants.{NoMemory}
 use Rattle.asm_syntax.specs.declared.form.Form.{Form}
-use Rattle.asm_syntax.specs.declared.form.Form.TheVariants.{Arithmetic, WithImmediate, ShiftByAmount, LoadFrom, StoreTo, BranchTo, UpperImmediate, JumpAndLink, JumpAndLinkRegister, NoOperands, WordData, HalfData, ByteData, TextData, ZeroData, AlignData, EntryPoint, Nop, Move, LoadImmediate, LoadAddress, Jump, JumpRegister, Return, Call, BranchIfZero, BranchIfNotZero}
-use Rattle.asm_syntax.specs.Faults.{if_ok, judged}
+use Rattle.asm_syntax.specs.declared.form.Form.TheVariants.{Arithmetic, WithImmediate, ShiftByAmount, LoadFrom, StoreTo, BranchTo, UpperImmediate, JumpAndLink, JumpAndLinkRegister, NoOperands, WordData, HalfData, ByteData, TextData, ZeroData, AlignData, EntryPoint, Nop, Move, LoadImmediate, LoadAddress, Jump, JumpRegister, Return, Call, BranchIfZero, BranchIfNotZero, Float}
+use Rattle.asm_syntax.specs.Faults.{if_ok}
+use Rattle.asm_syntax.specs.FloatOperands.{float_operation}
 use Rattle.asm_syntax.specs.Forms.{form_named, reading}
-use Rattle.asm_syntax.specs.Operands.{Based, Address, Target, IsTarget, register_in, number_in, based_in, address_in, target_in, text_in, operands_in, fits_target}
+use Rattle.asm_syntax.specs.Operands.{Address, Target, IsTarget, register_in, number_in, address_in, target_in, text_in, operands_in, fits_target}
 use Rattle.asm_syntax.specs.Parse.{line_of, line_with, labels_in, behind_labels, statement_in, statement_of_form}
 use Rattle.asm_syntax.specs.Ranges.{Range, up_to, signed, unsigned, is_within, IsWithin}
-use Rattle.asm_syntax.specs.Shapes.{none, one, two, three, one_or_more, with_both, no_operands, a_register, two_registers, three_registers, a_number, register_and_number, registers_and_number, register_and_address, a_target, register_and_target, registers_and_target, targets, numbers, a_text}
+use Rattle.asm_syntax.specs.Shapes.{none, one, two, three, one_or_more, no_operands, a_register, two_registers, three_registers, a_number, register_and_number, registers_and_number, register_and_address, a_target, register_and_target, registers_and_target, targets, numbers, a_text}
 use Rattle.asm_syntax.specs.Statements.{Statement, Line, IsInRange, half_range, byte_range, word_range, most_space, most_align}
 use Rattle.asm_syntax.specs.Tokens.{Token, name, tokens_of}
+use Rattle.asm_syntax.proofs.FloatFacts.{float_operation-fault, float_operation-ok}
 use Rattle.asm_syntax.proofs.InRange.{is_within-true, fits_target-true, judged-ok, judged-each}
-
-no_ok : {X : Type 0} {e : LineError} {x : X} → ◌≡◌ {A = Result X LineError} (Err e) (Ok x) → ⊥
-no_ok h = cc
-
-if_ok-ok : {X Y : Type 0} (f : X → Y) (r : Result X LineError) (y : Y) → if_ok f r ≡ Ok y → (x : X) × (r ≡ Ok x) × (f x ≡ y)
-if_ok-ok {X} {Y} f (Err e) y h = absurd (no_ok h)
-if_ok-ok {X} {Y} f (Ok x) y h = (x, refl, same h) where
-  same : ◌≡◌ {A = Result Y LineError} (Ok (f x)) (Ok y) → f x ≡ y
-  same h = cc
-
-no_some : {X : Type 0} {x : X} → ◌≡◌ {A = Option X} None (Some x) → ⊥
-no_some h = cc
-
-one-some : {X : Type 0} (read : List Token → Option X) (os : List (List Token)) (x : X) → one read os ≡ Some x → (a : List Token) × (read a ≡ Some x)
-one-some read (a ∷ []) x h = (a, h)
-one-some read _ x h = absurd (no_some h)
-
-pair_some : {X Y : Type 0} (o : Option X) (q : Option Y) (p : X × Y) → with_both o q (λ x y. (x, y)) ≡ Some p → (o ≡ Some p.0) × (q ≡ Some p.1)
-pair_some None q p h = absurd (no_some h)
-pair_some (Some x) None p h = absurd (no_some h)
-pair_some {X} {Y} (Some x) (Some y) p h =
-    let is = same_Some _ _ h in
-    (ap (λ (r : X × Y). Some r.0) is, ap (λ (r : X × Y). Some r.1) is)
-
-triple_some : {X Y Z : Type 0} (o : Option X) (q : Option Y) (r : Option Z) (p : X × Y × Z) → option_and_then (λ x. with_both q r (λ y z. (x, y, z))) o ≡ Some p → (o ≡ Some p.0) × (q ≡ Some p.1) × (r ≡ Some p.2)
-triple_some None q r p h = absurd (no_some h)
-triple_some (Some x) None r p h = absurd (no_some h)
-triple_some (Some x) (Some y) None p h = absurd (no_some h)
-triple_some {X} {Y} {Z} (Some x) (Some y) (Some z) p h =
-    let is = same_Some _ _ h in
-    (ap (λ (r : X × Y × Z). Some r.0) is, ap (λ (r : X × Y × Z). Some r.1) is, ap (λ (r : X × Y × Z). Some r.2) is)
-
-two-some : {X Y : Type 0} (first : List Token → Option X) (second : List Token → Option Y) (os : List (List Token)) (p : X × Y) → two first second os ≡ Some p → (a b : List Token) × (first a ≡ Some p.0) × (second b ≡ Some p.1)
-two-some first second (a ∷ b ∷ []) p h = let parts = pair_some (first a) (second b) p h in (a, b, parts.0, parts.1)
-two-some first second _ p h = absurd (no_some h)
-
-three-some : {X Y Z : Type 0} (first : List Token → Option X) (second : List Token → Option Y) (third : List Token → Option Z) (os : List (List Token)) (p : X × Y × Z) → three first second third os ≡ Some p → (a b c : List Token) × (first a ≡ Some p.0) × (second b ≡ Some p.1) × (third c ≡ Some p.2)
-three-some first second third (a ∷ b ∷ c ∷ []) p h = let parts = triple_some (first a) (second b) (third c) p h in (a, b, c, parts.0, parts.1, parts.2)
-three-some first second third _ p h = absurd (no_some h)
-
-register_number-some : (r : List ℕ) (n : ℕ) → register_number r ≡ Some n → IsRegister n
-register_number-some r n h = IsRegister-register_number r (Some n) (sym h)
-
-register_in-some : (ts : List Token) (n : ℕ) → register_in ts ≡ Some n → IsRegister n
-register_in-some (name r ∷ []) n h = register_number-some r n h
-register_in-some _ n h = absurd (no_some h)
-
-address_in-some : (ts : List Token) (a : Address) → address_in ts ≡ Some a → IsRegister a.base
-address_in-some ts a h = by_based (based_in ts) h where
-  by_number : (offset : ℤ) (o : Option ℕ) (r : List ℕ) → register_number r ≡ o → option_map (λ base. record { offset = offset; base = base }) o ≡ Some a → IsRegister a.base
-  by_number offset None r e h = absurd (no_some h)
-  by_number offset (Some n) r e h = rw (← (ap (λ (x : Address). x.base) (same_Some _ _ h))) (register_number-some r n e)
-
-  by_based : (o : Option Based) → option_and_then (λ b. option_map (λ base. record { offset = b.number; base = base }) (register_number b.base)) o ≡ Some a → IsRegister a.base
-  by_based None h = absurd (no_some h)
-  by_based (Some b) h = by_number b.number (register_number b.base) b.base refl h
-
-immediate : (n : ℤ) → IsWithin (signed 12) n → IsImmediate n
-immediate n h = (omega (arith, ints, h.0), omega (arith, ints, h.1))
-
-magnitude : (m : ℕ) (n : ℤ) → IsWithin (up_to m) n → nat_abs n ≤ m
-magnitude m (pos k) h = omega (arith, ints, h.1)
-magnitude m (negsuc k) h = absurd (omega (arith, ints, h.0))
+use Rattle.asm_syntax.proofs.OperandFacts.{no_ok, if_ok-ok, one-some, two-some, three-some, register_in-some, address_in-some, immediate, magnitude, if_ok-fault, judged-fault}
 
 -- operands of each shape are in their ranges
 a_register-ok : (os : List (List Token)) (rs : ℕ) → a_register os ≡ Ok rs → IsRegister rs
@@ -186,55 +122,37 @@ reading-in_range Return os s h =
 reading-in_range Call os s h = said _ (a_target os) _ s (a_target-ok os) (λ x p. (omega arith, p)) h
 reading-in_range BranchIfZero os s h = said _ (register_and_target os) _ s (register_and_target-ok os) (λ x p. (p.0, omega arith, p.1)) h
 reading-in_range BranchIfNotZero os s h = said _ (register_and_target os) _ s (register_and_target-ok os) (λ x p. (p.0, omega arith, p.1)) h
+reading-in_range (Float form) os s h = said _ (float_operation form os) _ s (float_operation-ok form os) (λ x p. p) h
 
-pub statement_in-in_range : (ts : List Token) (s : Option Statement) → statement_in ts ≡ Ok s → IfSome s IsInRange
-statement_in-in_range [] s h = subst (λ (o : Option Statement). IfSome o IsInRange) (same h) tt where
+pub statement_in-in_range : (float : Bool) (ts : List Token) (s : Option Statement) → statement_in float ts ≡ Ok s → IfSome s IsInRange
+statement_in-in_range float [] s h = subst (λ (o : Option Statement). IfSome o IsInRange) (same h) tt where
   same : ◌≡◌ {A = Result (Option Statement) LineError} (Ok None) (Ok s) → None ≡ s
   same h = cc
-statement_in-in_range (name m ∷ ts) s h = by_form (form_named m) h where
+statement_in-in_range float (name m ∷ ts) s h = by_form (form_named float m) h where
   by_form : (o : Option Form) → if_ok Some (statement_of_form o (operands_in ts)) ≡ Ok s → IfSome s IsInRange
   by_form None h = absurd (no_ok h)
   by_form (Some form) h =
       let parts = if_ok-ok {Y = Option Statement} Some (reading form (operands_in ts)) s h in
       subst (λ (o : Option Statement). IfSome o IsInRange) parts.2 (reading-in_range form (operands_in ts) parts.0 parts.1)
-statement_in-in_range _ s h = absurd (no_ok h)
+statement_in-in_range float _ s h = absurd (no_ok h)
 
 -- the same of a value of the code that stands for a statement
 pub IfSome-mapped : {S : Type 0} (value : S → Statement) (o : Option S) → IfSome (option_map value o) IsInRange → IfSome o (λ s. IsInRange (value s))
 IfSome-mapped value None h = tt
 IfSome-mapped value (Some s) h = h
 
-line_with-in_range : (o : Option (List Token)) (line : Line) → line_with o ≡ Ok line → IfSome line.statement IsInRange
-line_with-in_range None line h = absurd (no_ok h)
-line_with-in_range (Some ts) line h =
-    let parts = if_ok-ok (λ s. record { labels = labels_in ts; statement = s }) (statement_in (behind_labels ts)) line h in
-    subst (λ (l : Line). IfSome l.statement IsInRange) parts.2 (statement_in-in_range (behind_labels ts) parts.0 parts.1)
+line_with-in_range : (float : Bool) (o : Option (List Token)) (line : Line) → line_with float o ≡ Ok line → IfSome line.statement IsInRange
+line_with-in_range float None line h = absurd (no_ok h)
+line_with-in_range float (Some ts) line h =
+    let parts = if_ok-ok (λ s. record { labels = labels_in ts; statement = s }) (statement_in float (behind_labels ts)) line h in
+    subst (λ (l : Line). IfSome l.statement IsInRange) parts.2 (statement_in-in_range float (behind_labels ts) parts.0 parts.1)
 
 -- the statement of a line is in range
-pub in_range : (line : List ℕ) (said : Line) → line_of line ≡ Ok said → IfSome said.statement IsInRange
+pub in_range : (float : Bool) (line : List ℕ) (said : Line) → line_of float line ≡ Ok said → IfSome said.statement IsInRange
 unfolding line_of
-in_range line said h = line_with-in_range (tokens_of line) said h
+in_range float line said h = line_with-in_range float (tokens_of line) said h
 
 -- no fault is want of memory
-if_ok-fault : {X Y : Type 0} (f : X → Y) (r : Result X LineError) → r ≢ Err NoMemory → if_ok f r ≢ Err NoMemory
-if_ok-fault f (Ok x) other h = cc
-if_ok-fault {X} f (Err e) other h = other (ap Err (same h)) where
-  same : {Y : Type 0} → ◌≡◌ {A = Result Y LineError} (Err e) (Err NoMemory) → e ≡ NoMemory
-  same h = cc
-
-judged-fault : {X : Type 0} (fits : X → Bool) (o : Option X) → judged fits o ≢ Err NoMemory
-judged-fault fits None h = cc
-judged-fault {X} fits (Some x) h = by_test (cases_Bool (fits x)) where
-  ok : ◌≡◌ {A = Result X LineError} (Ok x) (Err NoMemory) → ⊥
-  ok h = cc
-
-  out : ◌≡◌ {A = Result X LineError} (Err OutOfRange) (Err NoMemory) → ⊥
-  out h = cc
-
-  by_test : (fits x ≡ true) ⊎ (fits x ≡ false) → ⊥
-  by_test (inl passes) = ok (rw passes at h)
-  by_test (inr fails) = out (rw fails at h)
-
 no_operands-fault : (os : List (List Token)) → no_operands os ≢ Err NoMemory
 no_operands-fault os = judged-fault {X = Unit {0}} (λ _. true) (none os)
 
@@ -305,20 +223,21 @@ reading-fault Return os = if_ok-fault _ (no_operands os) (no_operands-fault os)
 reading-fault Call os = if_ok-fault _ (a_target os) (a_target-fault os)
 reading-fault BranchIfZero os = if_ok-fault _ (register_and_target os) (register_and_target-fault os)
 reading-fault BranchIfNotZero os = if_ok-fault _ (register_and_target os) (register_and_target-fault os)
+reading-fault (Float form) os = if_ok-fault _ (float_operation form os) (float_operation-fault form os)
 
 form-fault : (o : Option Form) (os : List (List Token)) → statement_of_form o os ≢ Err NoMemory
 form-fault None os h = cc
 form-fault (Some form) os h = reading-fault form os h
 
-statement_in-fault : (ts : List Token) → statement_in ts ≢ Err NoMemory
-statement_in-fault [] h = cc
-statement_in-fault (name m ∷ ts) h = if_ok-fault {Y = Option Statement} Some (statement_of_form (form_named m) (operands_in ts)) (form-fault (form_named m) (operands_in ts)) h
-statement_in-fault _ h = cc
+statement_in-fault : (float : Bool) (ts : List Token) → statement_in float ts ≢ Err NoMemory
+statement_in-fault float [] h = cc
+statement_in-fault float (name m ∷ ts) h = if_ok-fault {Y = Option Statement} Some (statement_of_form (form_named float m) (operands_in ts)) (form-fault (form_named float m) (operands_in ts)) h
+statement_in-fault float _ h = cc
 
-line_with-fault : (o : Option (List Token)) → line_with o ≢ Err NoMemory
-line_with-fault None h = cc
-line_with-fault (Some ts) h = if_ok-fault (λ s. record { labels = labels_in ts; statement = s }) (statement_in (behind_labels ts)) (statement_in-fault (behind_labels ts)) h
+line_with-fault : (float : Bool) (o : Option (List Token)) → line_with float o ≢ Err NoMemory
+line_with-fault float None h = cc
+line_with-fault float (Some ts) h = if_ok-fault (λ s. record { labels = labels_in ts; statement = s }) (statement_in float (behind_labels ts)) (statement_in-fault float (behind_labels ts)) h
 
-pub never_memory : (line : List ℕ) → line_of line ≢ Err NoMemory
+pub never_memory : (float : Bool) (line : List ℕ) → line_of float line ≢ Err NoMemory
 unfolding line_of
-never_memory line h = line_with-fault (tokens_of line) h
+never_memory float line h = line_with-fault float (tokens_of line) h

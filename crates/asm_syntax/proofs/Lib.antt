@@ -2,9 +2,11 @@ pub mod Clamps
 pub mod CommaParts
 pub mod DigitValues
 pub mod Facts
+pub mod FloatFacts
 pub mod Gathered
 pub mod InRange
 pub mod Judged
 pub mod LineSplits
+pub mod OperandFacts
 pub mod TextBytes
 pub mod TokenSteps

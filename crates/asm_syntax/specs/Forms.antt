@@ -1,7 +1,8 @@
 -- The statements of the language (own language): each has one rule, of its mnemonic, its operands with their ranges, and
 -- what it says. Names and pseudo-instructions are those of the RISC-V Assembly Programmer's Handbook (RISC-V Unprivileged
 -- ISA 20191213, chapter 25), but `li`, `la` and `call` have meanings of this language's own.
-use Rattle.std.specs.Prelude.{ℕ, pos, nat_abs, List, [], ◌∷◌, ◌++◌, map, codes, find, Option, Result}
+use Rattle.std.specs.Prelude.{ℕ, Bool, if◌then◌else◌, pos, nat_abs, List, [], ◌∷◌, ◌++◌, map, codes, find, Option, None, Result}
+use Rattle.std.specs.Option.{option_map, option_or}
 use Rattle.std.specs.Str.{bytes_eq}
 use Rattle.rv_tables.specs.declared.instr.Instr.TheVariants.{R, I, Shift, Load, Store, Upper, Jal, Jalr, Plain}
 use Rattle.rv_tables.specs.declared.instr.ROp.TheVariants.{Add, Sub, Sll, Slt, Sltu, Xor, Srl, Sra, Or, And, Mul, Mulh, Mulhsu, Mulhu, Div, Divu, Rem, Remu}
@@ -14,13 +15,15 @@ use Rattle.rv_tables.specs.declared.instr.UpperOp.TheVariants.{Lui, Auipc}
 use Rattle.rv_tables.specs.declared.instr.PlainOp.TheVariants.{Fence, FenceI, Ecall, Ebreak}
 use Rattle.rv_tables.specs.Mnemonics.{r_mnemonic, i_mnemonic, shift_mnemonic, load_mnemonic, store_mnemonic, branch_mnemonic, upper_mnemonic, plain_mnemonic, mnemonic_of}
 use Rattle.asm_syntax.specs.declared.form.Form.{Form}
-use Rattle.asm_syntax.specs.declared.form.Form.TheVariants.{Arithmetic, WithImmediate, ShiftByAmount, LoadFrom, StoreTo, BranchTo, UpperImmediate, JumpAndLink, JumpAndLinkRegister, NoOperands, WordData, HalfData, ByteData, TextData, ZeroData, AlignData, EntryPoint, Nop, Move, LoadImmediate, LoadAddress, Jump, JumpRegister, Return, Call, BranchIfZero, BranchIfNotZero}
+use Rattle.asm_syntax.specs.declared.form.Form.TheVariants.{Arithmetic, WithImmediate, ShiftByAmount, LoadFrom, StoreTo, BranchTo, UpperImmediate, JumpAndLink, JumpAndLinkRegister, NoOperands, WordData, HalfData, ByteData, TextData, ZeroData, AlignData, EntryPoint, Nop, Move, LoadImmediate, LoadAddress, Jump, JumpRegister, Return, Call, BranchIfZero, BranchIfNotZero, Float}
 use Rattle.asm_syntax.specs.declared.error.LineError.{LineError}
 use Rattle.asm_syntax.specs.Faults.{if_ok}
+use Rattle.asm_syntax.specs.FloatForms.{float_form_named, float_mnemonic}
+use Rattle.asm_syntax.specs.FloatOperands.{float_operation}
 use Rattle.asm_syntax.specs.Ranges.{up_to, signed, unsigned}
 use Rattle.asm_syntax.specs.Shapes.{no_operands, a_register, two_registers, three_registers, a_number, register_and_number, registers_and_number, register_and_address, a_target, register_and_target, registers_and_target, targets, numbers, a_text}
 use Rattle.asm_syntax.specs.Tokens.{Token}
-use Rattle.asm_syntax.specs.Statements.{Statement, instruction, branch, jump_and_link, load_immediate, load_address, words, halves, bytes, ascii, space, align, entry, word_range, half_range, byte_range, most_space, most_align}
+use Rattle.asm_syntax.specs.Statements.{Statement, instruction, float_instruction, branch, jump_and_link, load_immediate, load_address, words, halves, bytes, ascii, space, align, entry, word_range, half_range, byte_range, most_space, most_align}
 
 -- a rule of the language: a mnemonic, and what the operands behind it say, or their fault
 pub record Rule : Type 0 where
@@ -30,7 +33,7 @@ pub record Rule : Type 0 where
 abbrev pub rule : {X : Type 0} → List ℕ → (List (List Token) → Result X LineError) → (X → Statement) → Rule
 rule mnemonic operands says = record { mnemonic = mnemonic; reading = λ os. if_ok says (operands os) }
 
--- the rule of each statement: those of the rows, those of data, and those of the pseudo-instructions
+-- the rule of each statement: those of the rows, those of data, those of the pseudo-instructions, and those of floating point
 abbrev pub rule_of : Form → Rule
 rule_of (Arithmetic op) =
     rule (r_mnemonic op) three_registers (λ (rd, rs1, rs2). instruction (R op rd rs1 rs2))
@@ -69,12 +72,13 @@ rule_of Return = rule (codes "ret") no_operands (λ _. instruction (Jalr 0 1 (po
 rule_of Call = rule (codes "call") a_target (jump_and_link 1)
 rule_of BranchIfZero = rule (codes "beqz") register_and_target (λ (rs, t). branch Beq rs 0 t)
 rule_of BranchIfNotZero = rule (codes "bnez") register_and_target (λ (rs, t). branch Bne rs 0 t)
+rule_of (Float form) = rule (float_mnemonic form) (float_operation form) float_instruction
 
 -- what operands of a statement say, or their fault
 abbrev pub reading : Form → List (List Token) → Result Statement LineError
 reading form = (rule_of form).reading
 
--- the statements of the language
+-- the statements of the language, without those of floating point
 unfoldable pub forms : List Form
 forms =
     map Arithmetic (Add ∷ Sub ∷ Sll ∷ Slt ∷ Sltu ∷ Xor ∷ Srl ∷ Sra ∷ Or ∷ And
@@ -91,6 +95,12 @@ forms =
     ∷ Nop ∷ Move ∷ LoadImmediate ∷ LoadAddress ∷ Jump ∷ JumpRegister ∷ Return ∷ Call ∷ BranchIfZero ∷ BranchIfNotZero
     ∷ []
 
--- the statement with a mnemonic
-unfoldable pub form_named : List ℕ → Option Form
-form_named mnemonic = find (λ form. bytes_eq (rule_of form).mnemonic mnemonic) forms
+-- the one of these with a mnemonic
+unfoldable pub integer_form_named : List ℕ → Option Form
+integer_form_named mnemonic = find (λ form. bytes_eq (rule_of form).mnemonic mnemonic) forms
+
+-- the statement with a mnemonic, in the language with statements of floating point or in that without them. None of these has the mnemonic
+-- of another one
+abbrev pub form_named : (float : Bool) → List ℕ → Option Form
+form_named float mnemonic =
+    option_or (integer_form_named mnemonic) (if float then option_map Float (float_form_named mnemonic) else None)

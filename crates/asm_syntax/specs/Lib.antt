@@ -1,5 +1,7 @@
 pub mod Bytes
 pub mod Faults
+pub mod FloatForms
+pub mod FloatOperands
 pub mod Forms
 pub mod Lines
 pub mod Operands

@@ -4,6 +4,8 @@ use Rattle.std.specs.List.{All}
 use Rattle.rv_tables.specs.declared.instr.Instr.{Instr}
 use Rattle.rv_tables.specs.declared.instr.BranchOp.{BranchOp}
 use Rattle.rv_tables.specs.Operands.{IsRegister, IsEncodable}
+use Rattle.rv_float_tables.specs.declared.instr.FloatInstr.{FloatInstr}
+use Rattle.rv_float_tables.specs.Operands.{IsEncodable as IsFloatEncodable}
 use Rattle.asm_syntax.specs.Operands.{Target, IsTarget}
 use Rattle.asm_syntax.specs.Ranges.{Range, signed_or_unsigned, IsWithin}
 
@@ -11,6 +13,8 @@ use Rattle.asm_syntax.specs.Ranges.{Range, signed_or_unsigned, IsWithin}
 pub data Statement : Type 0 where
   -- an instruction whose word depends on no address
   instruction : Instr → Statement
+  -- one of floating point
+  float_instruction : FloatInstr → Statement
   -- its row, rs1, rs2 and where it goes to
   branch : BranchOp → ℕ → ℕ → Target → Statement
   -- rd and where it goes to
@@ -59,6 +63,7 @@ most_align = 12
 -- each register has a number below 32, an instruction's operands fit, and each other number is in its range
 abbrev pub IsInRange : Statement → Type 0
 IsInRange (instruction i) = IsEncodable i
+IsInRange (float_instruction i) = IsFloatEncodable i
 IsInRange (branch op rs1 rs2 target) = IsRegister rs1 × IsRegister rs2 × IsTarget target
 IsInRange (jump_and_link rd target) = IsRegister rd × IsTarget target
 IsInRange (load_immediate rd n) = IsRegister rd × IsWithin word_range n

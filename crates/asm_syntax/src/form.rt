@@ -1,8 +1,9 @@
 //! The statements of the language by their mnemonics.
 
 ghost use Rattle.std.specs.Prelude.{◌≡◌};
-ghost use Rattle.asm_syntax.specs.Forms.{rule_of, form_named};
+ghost use Rattle.asm_syntax.specs.Forms.{rule_of, form_named, integer_form_named};
 
+use crate::float_form::{self, FloatForm, float_form_named};
 use rv_tables::{BranchOp, IOp, Instr, LoadOp, PlainOp, ROp, ShiftOp, StoreOp, UpperOp, mnemonic};
 
 /// A statement of the language by its mnemonic: what it makes, and so which operands it takes.
@@ -51,9 +52,11 @@ pub(crate) enum Form {
     BranchIfZero,
     /// `bnez`.
     BranchIfNotZero,
+    /// One of floating point.
+    Float(FloatForm),
 }
 
-/// All statements.
+/// All statements but those of floating point.
 static FORMS: [Form; 66] = [
     Form::Arithmetic(ROp::Add),
     Form::Arithmetic(ROp::Sub),
@@ -123,9 +126,19 @@ static FORMS: [Form; 66] = [
     Form::BranchIfNotZero,
 ];
 
-/// The statement with a mnemonic.
-pub(crate) fn form_named(mnemonic: &[u8]) -> Option<Form>
-    ensures { result ≡ form_named mnemonic.now }
+/// The statement with a mnemonic. Those of floating point are among them where `float` says so.
+pub(crate) fn form_named(float: bool, mnemonic: &[u8]) -> Option<Form>
+    ensures { result ≡ form_named float mnemonic.now }
+{
+    match integer_form_named(mnemonic) {
+        None if float => float_form_named(mnemonic).map(Form::Float),
+        form => form,
+    }
+}
+
+/// The statement with a mnemonic, if it is none of floating point.
+fn integer_form_named(mnemonic: &[u8]) -> Option<Form>
+    ensures { result ≡ integer_form_named mnemonic.now }
 {
     FORMS
         .iter()
@@ -199,5 +212,6 @@ fn name_of(form: Form) -> &'static str
         Form::Call => "call",
         Form::BranchIfZero => "beqz",
         Form::BranchIfNotZero => "bnez",
+        Form::Float(form) => float_form::name_of(form),
     }
 }

@@ -10,7 +10,10 @@
 //!   asks for; or the fault of the line, which is the least of those that it has, in the order of [`LineError`].
 //! - [`laws`] has what holds of every line.
 //!
-//! The names of instructions and registers are those of `rv_tables`. The language is this project's own; it is a part of
+//! There are two languages: one with the statements of floating point, and one without them, in which their mnemonics are none. A caller
+//! says of each line in which it is.
+//!
+//! The names of instructions and registers are those of `rv_tables` and `rv_float_tables`. The language is this project's own; it is a part of
 //! what the RISC-V Assembly Programmer's Handbook has (The RISC-V Instruction Set Manual, Volume I: Unprivileged ISA,
 //! 20191213, chapter 25).
 #![tactic(auto)]
@@ -18,6 +21,8 @@
 mod bytes;
 mod data;
 mod error;
+mod float_form;
+mod float_operands;
 mod form;
 pub mod laws;
 mod lines;

@@ -13,25 +13,27 @@ use crate::error::LineError;
 use crate::form::{Form, form_named};
 use crate::statement::{Line, Statement};
 use crate::token::{Token, tokens};
-use crate::{data, pseudo, rows};
+use crate::{data, float_operands, pseudo, rows};
 use list_vec::ListVec;
 use std::alloc::{AllocError, Allocator};
 
-/// What a line says: its labels and its statement. A line is any bytes without its line feed.
+/// What a line says: its labels and its statement. A line is any bytes without its line feed. Statements of floating point are of the
+/// language where `float` says so.
 ///
 /// The error is the first fault of [`LineError`] that the line has, or `NoMemory` where memory is refused.
 #[tactic(auto, unfolding(crate::specs::Parse::line_of))]
 pub fn parse_line<'a, A: Allocator + Copy>(
     alloc: A,
+    float: bool,
     line: &'a [u8],
 ) -> Result<Line<'a, A>, LineError>
-    ensures ok { IfOk result (λ l. line_of line.now ≡ Ok (line_value l)) }
+    ensures ok { IfOk result (λ l. line_of float line.now ≡ Ok (line_value l)) }
     ensures in_range { IfOk result (λ l. IfSome l.statement (λ s. IsInRange (statement_value s))) }
-    ensures err { IfErr result (λ e. e ≢ LineError.NoMemory → line_of line.now ≡ Err e) }
+    ensures err { IfErr result (λ e. e ≢ LineError.NoMemory → line_of float line.now ≡ Err e) }
 {
     let tokens = tokens(alloc, line)?;
     let (labels, rest) = labels(alloc, &tokens)?;
-    let statement = statement(alloc, rest)?;
+    let statement = statement(alloc, float, rest)?;
     Ok(Line {
         labels: ListVec::from_vec(labels),
         statement,
@@ -60,15 +62,16 @@ fn labels<'t, 'a, A: Allocator + Copy>(
 /// The statement that tokens without labels spell, if there is one.
 fn statement<'a, A: Allocator + Copy>(
     alloc: A,
+    float: bool,
     tokens: &[Token<'a>],
 ) -> Result<Option<Statement<'a, A>>, LineError>
-    ensures ok { IfOk result (λ s. statement_in (map token_value tokens.now) ≡ Ok (option_map statement_value s)) }
-    ensures err { IfErr result (λ e. e ≢ LineError.NoMemory → statement_in (map token_value tokens.now) ≡ Err e) }
+    ensures ok { IfOk result (λ s. statement_in float (map token_value tokens.now) ≡ Ok (option_map statement_value s)) }
+    ensures err { IfErr result (λ e. e ≢ LineError.NoMemory → statement_in float (map token_value tokens.now) ≡ Err e) }
 {
     match tokens {
         [] => Ok(None),
         [Token::Name(mnemonic), rest @ ..] => {
-            let form = form_named(mnemonic).ok_or(LineError::UnknownMnemonic)?;
+            let form = form_named(float, mnemonic).ok_or(LineError::UnknownMnemonic)?;
             let operands = operands(alloc, rest)?;
             let statement = read(alloc, form, &operands)?;
             Ok(Some(statement))
@@ -131,5 +134,9 @@ fn read<'a, A: Allocator + Copy>(
         Form::Call => pseudo::call(operands),
         Form::BranchIfZero => pseudo::branch_if_zero(operands),
         Form::BranchIfNotZero => pseudo::branch_if_not_zero(operands),
+        Form::Float(form) => {
+            let instr = float_operands::operation(form, operands)?;
+            Ok(Statement::FloatInstruction(instr))
+        }
     }
 }

@@ -1,6 +1,7 @@
 //! What a line says.
 
 use list_vec::ListVec;
+use rv_float_tables::FloatInstr;
 use rv_tables::{BranchOp, Instr};
 use std::alloc::Allocator;
 
@@ -19,6 +20,8 @@ pub struct Target<'a> {
 pub enum Statement<'a, A: Allocator> {
     /// An instruction whose word depends on no address. Its operands fit.
     Instruction(Instr),
+    /// An instruction of floating point. Its operands fit.
+    FloatInstruction(FloatInstr),
     /// A branch to a target.
     Branch {
         op: BranchOp,

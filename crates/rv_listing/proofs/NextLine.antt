@@ -1,5 +1,5 @@
 -- The first of the lines that are left.
-use Rattle.std.proofs.Common.{◌≡◌, ℕ, zero, suc, ◌+◌, ◌-◌, ◌<◌, ◌≤◌, Bool, true, false, List, [], ◌∷◌, Option, Some, None, length, map, refl, ap, ap₂, sym, ◌∙◌, arith}
+use Rattle.std.proofs.Common.{◌≡◌, ℕ, zero, suc, ◌+◌, ◌-◌, ◌<◌, ◌≤◌, Bool, true, false, List, [], ◌∷◌, Option, Some, None, length, map, refl, ap, ◌∙◌, arith}
 use Rattle.std.proofs.lemmas.Bool.Decides.{nat_tests}
 use Rattle.std.specs.List.{range_with_len}
 use Rattle.std.specs.Option.{option_map_or}
@@ -8,8 +8,8 @@ use Rattle.rv_tables.specs.declared.code.Code.TheVariants.{Half, Word}
 use Rattle.rv_tables.specs.Codes.{code_at, length_of}
 use Rattle.rv_listing.specs.declared.lines.Line.{Line}
 use Rattle.rv_listing.specs.declared.lines.Line.TheVariants.{Code as CodeLine}
-use Rattle.rv_listing.specs.Lines.{IsPlace, next_code as code_left, lines_left}
-use Rattle.rv_listing.specs.Listing.{listing_lines, lines_from, byte_line, byte_lines}
+use Rattle.rv_listing.specs.Lines.{next_code as code_left, lines_left}
+use Rattle.rv_listing.specs.Listing.{lines_from, byte_line, byte_lines}
 
 code-some : (code : Code) → 2 ≤ length_of code
 code-some (Half half) = omega arith

@@ -6,15 +6,15 @@ use Rattle.std.specs.Str.{bytes_eq}
 use Rattle.std.proofs.lemmas.Iterator.{YieldsList-from_slice}
 use Rattle.std.proofs.lemmas.Iterator.Search.{find_from_yields_List}
 use Rattle.asm_syntax.specs.declared.form.Form.{Form}
-use Rattle.asm_syntax.specs.Forms.{rule_of, form_named, forms}
-use Rattle.asm_syntax.proofs.form.form_named.Goals as goal
+use Rattle.asm_syntax.specs.Forms.{rule_of, integer_form_named, forms}
+use Rattle.asm_syntax.proofs.form.integer_form_named.Goals as goal
 
 copied_now : (o : Option (Bor Form)) → option_copied o ≡ option_map (λ x. x.now) o
 copied_now None = refl
 copied_now (Some f) = refl
 
-named : (name : List ℕ) (r : Option Form) (table : List Form) → table ≡ forms → r ≡ find (λ f. bytes_eq ((rule_of f).mnemonic) name) table → r ≡ form_named name
-unfolding form_named
+named : (name : List ℕ) (r : Option Form) (table : List Form) → table ≡ forms → r ≡ find (λ f. bytes_eq ((rule_of f).mnemonic) name) table → r ≡ integer_form_named name
+unfolding integer_form_named
 named name r table is found = found ∙ ap (find (λ f. bytes_eq ((rule_of f).mnemonic) name)) is
 
 table : (c : goal.After-copied) → c.iter.result.rest.now ≡ forms

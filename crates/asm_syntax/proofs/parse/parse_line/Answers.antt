@@ -4,4 +4,4 @@ use Rattle.asm_syntax.proofs.parse.parse_line.Goals as goal
 
 pub returns-clause-in_range : goal.returns-clause-in_range
 returns-clause-in_range g c =
-    IfSome-mapped statement_value c.in_ok-statement.statement (statement_in-in_range _ _ c.in_ok-statement.ensures.ok)
+    IfSome-mapped statement_value c.in_ok-statement.statement (statement_in-in_range _ _ _ c.in_ok-statement.ensures.ok)

@@ -76,7 +76,7 @@ pub fn image<A: Allocator + Copy>(alloc: A, text: &str) -> Result<Image<A>, Fail
     if text.len() > 0x1000 {
         return Err(Fail::new("the text is too long"));
     }
-    Ok(assemble(alloc, text.as_bytes())?)
+    Ok(assemble(alloc, false, text.as_bytes())?)
 }
 
 /// A machine of these nodes, with an image of the program.

@@ -123,7 +123,7 @@ const LONGEST: usize = 0x40_0000;
 
 fn make<'h>(heap: &'h Heap, source: &Source) -> Result<Vec<u8, &'h Heap>, ElfError> {
     let image = match *source {
-        Source::Text(text) if text.len() <= LONGEST => match assemble(heap, text) {
+        Source::Text(text) if text.len() <= LONGEST => match assemble(heap, false, text) {
             Ok(image) => image,
             Err(error) if error.kind == AsmKind::NoMemory => return Err(ElfError::NoMemory),
             Err(_) => return Err(ElfError::NotElf),

@@ -1,3 +1,4 @@
+pub mod EachFloatWord
 pub mod EachWord
 pub mod FormatWords
 pub mod Judging

@@ -50,27 +50,27 @@ first_or_later : (n line : ℕ) (fault : Option AsmKind) (others : Option (ℕ �
 first_or_later n line None others h = inr h
 first_or_later n line (Some kind) others h = inl (ap Some (same_kind (n, kind) (line, NoMemory) h))
 
-module _ (never : (text : List ℕ) → line_of text ≢ Err own.NoMemory) where
-  alone_never : (n a : ℕ) (known : List ℕ → Bool) (texts : List (List ℕ)) (line : ℕ) → first_faulty_line fault_alone (placed n a known texts) ≢ Some (line, NoMemory)
+module _ (float : Bool) (never : (text : List ℕ) → line_of float text ≢ Err own.NoMemory) where
+  alone_never : (n a : ℕ) (known : List ℕ → Bool) (texts : List (List ℕ)) (line : ℕ) → first_faulty_line fault_alone (placed float n a known texts) ≢ Some (line, NoMemory)
   alone_never n a known [] line h = cc
   alone_never n a known (text ∷ rest) line h =
-      let known' : List ℕ → Bool = (λ q. list_any (λ label. bytes_eq label q) (line_labels (line_of text)) || known q) in
-      ⊎_elim (line_never a known (line_of text) (never text)) (alone_never (n + 1) (end_from a (line_of text)) known' rest line)
-      (first_or_later n line (fault_of_line a known (line_of text)) (first_faulty_line fault_alone (placed (n + 1) (end_from a (line_of text)) known' rest)) h)
+      let known' : List ℕ → Bool = (λ q. list_any (λ label. bytes_eq label q) (line_labels (line_of float text)) || known q) in
+      ⊎_elim (line_never a known (line_of float text) (never text)) (alone_never (n + 1) (end_from a (line_of float text)) known' rest line)
+      (first_or_later n line (fault_of_line a known (line_of float text)) (first_faulty_line fault_alone (placed float (n + 1) (end_from a (line_of float text)) known' rest)) h)
 
-  from_never : (s : Symbols) (n a : ℕ) (texts : List (List ℕ)) (line : ℕ) → uses_from s n a texts ≢ Some (line, NoMemory)
+  from_never : (s : Symbols) (n a : ℕ) (texts : List (List ℕ)) (line : ℕ) → uses_from float s n a texts ≢ Some (line, NoMemory)
   from_never s n a [] line h = cc
   from_never s n a (text ∷ rest) line h =
-      ⊎_elim (use_never s a (line_statement (line_of text))) (from_never s (n + 1) (end_from a (line_of text)) rest line)
-      (first_or_later n line (option_and_then (fault_of_use s a) (line_statement (line_of text))) (uses_from s (n + 1) (end_from a (line_of text)) rest) h)
+      ⊎_elim (use_never s a (line_statement (line_of float text))) (from_never s (n + 1) (end_from a (line_of float text)) rest line)
+      (first_or_later n line (option_and_then (fault_of_use s a) (line_statement (line_of float text))) (uses_from float s (n + 1) (end_from a (line_of float text)) rest) h)
 
-  pub never_memory : (text : List ℕ) (line : ℕ) → text_fault text ≢ Some (line, NoMemory)
+  pub never_memory : (text : List ℕ) (line : ℕ) → text_fault float text ≢ Some (line, NoMemory)
   unfolding text_fault
-  never_memory text line h = by (first_faulty_line fault_alone (places_of text)) refl h
+  never_memory text line h = by (first_faulty_line fault_alone (places_of float text)) refl h
     where
       second : Option (ℕ × AsmKind)
-      second = first_faulty_line (fault_of_uses (symbols_of (places_of text))) (places_of text)
+      second = first_faulty_line (fault_of_uses (symbols_of (places_of float text))) (places_of float text)
 
-      by : (first : Option (ℕ × AsmKind)) → first_faulty_line fault_alone (places_of text) ≡ first → option_or first second ≢ Some (line, NoMemory)
-      by None e k = from_never (symbols_of (places_of text)) 1 0 (lines_of text) line (sym (uses-placed (symbols_of (places_of text)) 1 0 (λ _. false) (lines_of text)) ∙ k)
+      by : (first : Option (ℕ × AsmKind)) → first_faulty_line fault_alone (places_of float text) ≡ first → option_or first second ≢ Some (line, NoMemory)
+      by None e k = from_never (symbols_of (places_of float text)) 1 0 (lines_of text) line (sym (uses-placed float (symbols_of (places_of float text)) 1 0 (λ _. false) (lines_of text)) ∙ k)
       by (Some fault) e k = alone_never 1 0 (λ _. false) (lines_of text) line (e ∙ k)

@@ -1,16 +1,17 @@
 -- A text has one image at most.
-use Rattle.std.proofs.Common.{◌≡◌, ℕ, zero, suc, ◌+◌, ◌^◌, List, [], ◌∷◌, ◌++◌, length, map, Any, Contains, IsSome, IsSomeAnd, Option, Some, None, Result, Ok, refl, sym, ◌∙◌, ap, subst, arith, w32}
+use Rattle.std.proofs.Common.{◌≡◌, Bool, ℕ, zero, suc, ◌+◌, ◌^◌, List, [], ◌∷◌, ◌++◌, length, map, Any, Contains, IsSome, IsSomeAnd, Option, Some, None, Result, Ok, refl, sym, ◌∙◌, ap, subst, arith, w32}
 use Rattle.std.specs.Int.{to_le_bytes}
 use Rattle.std.proofs.lemmas.List.Elements.{All-contains}
 use Rattle.node_memory.specs.Image.{Image, segments_from_0}
 use Rattle.rv_tables.specs.declared.instr.Instr.{Instr}
 use Rattle.rv_tables.specs.declared.instr.Instr.TheVariants.{Branch, Jal}
-use Rattle.asm_syntax.specs.Statements.{Line, Statement, instruction, branch, jump_and_link, load_immediate, load_address, words, halves, bytes, ascii, space, align, entry}
+use Rattle.asm_syntax.specs.Statements.{Line, Statement, instruction, float_instruction, branch, jump_and_link, load_immediate, load_address, words, halves, bytes, ascii, space, align, entry}
 use Rattle.asm_syntax.specs.declared.error.LineError.{LineError}
 use Rattle.rv_asm.specs.Layout.{Spell, load_of, lui_addi, HasBytes}
 use Rattle.rv_asm.specs.Symbols.{Symbols}
 use Rattle.rv_asm.specs.Targets.{modulo, value_of, offset_to}
 use Rattle.rv_asm.specs.Text.{LineHasBytes, AreLaid, IsImageOfText, last_entry}
+use Rattle.rv_asm.proofs.EachFloatWord.{one_float_word}
 use Rattle.rv_asm.proofs.EachWord.{one_word}
 use Rattle.rv_asm.proofs.Sizes.{length-line}
 
@@ -25,6 +26,7 @@ one_code (Some v) code x y h k = one_spelling (code v) x y h k
 
 one_statement : (s : Symbols) (a : ℕ) (statement : Statement) (x y : List ℕ) → HasBytes s a statement x → HasBytes s a statement y → x ≡ y
 one_statement s a (instruction i) x y h k = one_spelling (i ∷ []) x y h k
+one_statement s a (float_instruction i) x y (v, v_in, is_v, e) (w, w_in, is_w, e') = e ∙ ap (to_le_bytes w32) (one_float_word i v w v_in w_in is_v is_w) ∙ sym e'
 one_statement s a (branch op rs1 rs2 target) x y h k = one_code (value_of s target) (λ v. Branch op rs1 rs2 (offset_to a v) ∷ []) x y h k
 one_statement s a (jump_and_link rd target) x y h k = one_code (value_of s target) (λ v. Jal rd (offset_to a v) ∷ []) x y h k
 one_statement s a (load_immediate rd n) x y h k = one_spelling (load_of rd (modulo (2 ^ 32) n)) x y h k
@@ -71,8 +73,8 @@ same_where P None None f g = refl
 same_where P None (Some y) f g = g refl
 same_where P (Some x) p f g = f refl
 
-pub one_image : (text : List ℕ) (a b : Image) → IsImageOfText text a → IsImageOfText text b → a ≡ b
-one_image text a b h k =
+pub one_image : (float : Bool) (text : List ℕ) (a b : Image) → IsImageOfText float text a → IsImageOfText float text b → a ≡ b
+one_image float text a b h k =
     let lines : k.out.lines ≡ h.out.lines = ok_lines k.out.lines h.out.lines (sym k.out.are_lines ∙ h.out.are_lines) in
     let laid : AreLaid k.symbols 0 h.out.lines k.bytes = subst (λ ls. AreLaid k.symbols 0 ls k.bytes) lines k.out.laid in
     let enters : last_entry k.symbols 0 h.out.lines ≡ b.entry = subst (λ ls. last_entry k.symbols 0 ls ≡ b.entry) lines k.out.entry_is in

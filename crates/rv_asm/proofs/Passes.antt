@@ -34,18 +34,18 @@ is_some-with_labels s (label ∷ rest) a q =
     ∙ ap (λ b. list_any (λ l. bytes_eq l q) rest || b) (is_some-with_symbol s label a q)
     ∙ or_mid (bytes_eq label q) (list_any (λ l. bytes_eq l q) rest) (is_some (s q))
 
-module _ (s t : Symbols) (number address end : ℕ) (line : List ℕ) (texts : List (List ℕ)) (ends : end ≡ end_from address (line_of line)) (labels : (q : List ℕ) → t q ≡ with_labels s (line_labels (line_of line)) address q) where
-  known_next : (q : List ℕ) → (list_any (λ label. bytes_eq label q) (line_labels (line_of line)) || is_some (s q)) ≡ is_some (t q)
-  known_next q = sym (ap is_some (labels q) ∙ is_some-with_labels s (line_labels (line_of line)) address q)
+module _ (float : Bool) (s t : Symbols) (number address end : ℕ) (line : List ℕ) (texts : List (List ℕ)) (ends : end ≡ end_from address (line_of float line)) (labels : (q : List ℕ) → t q ≡ with_labels s (line_labels (line_of float line)) address q) where
+  known_next : (q : List ℕ) → (list_any (λ label. bytes_eq label q) (line_labels (line_of float line)) || is_some (s q)) ≡ is_some (t q)
+  known_next q = sym (ap is_some (labels q) ∙ is_some-with_labels s (line_labels (line_of float line)) address q)
 
-  pub judged_more : fault_of_line address (λ q. is_some (s q)) (line_of line) ≡ None
-      → first_faulty_line fault_alone (placed number address (λ q. is_some (s q)) (line ∷ texts)) ≡ first_faulty_line fault_alone (placed (number + 1) end (λ q. is_some (t q)) texts)
+  pub judged_more : fault_of_line address (λ q. is_some (s q)) (line_of float line) ≡ None
+      → first_faulty_line fault_alone (placed float number address (λ q. is_some (s q)) (line ∷ texts)) ≡ first_faulty_line fault_alone (placed float (number + 1) end (λ q. is_some (t q)) texts)
   judged_more none =
-      ap (λ f. option_or (option_map (λ kind. (number, kind)) f) (first_faulty_line fault_alone (placed (number + 1) (end_from address (line_of line)) (λ q. list_any (λ label. bytes_eq label q) (line_labels (line_of line)) || is_some (s q)) texts))) none
-      ∙ (λ i. first_faulty_line fault_alone (placed (number + 1) (sym ends i) (λ q. known_next q i) texts))
+      ap (λ f. option_or (option_map (λ kind. (number, kind)) f) (first_faulty_line fault_alone (placed float (number + 1) (end_from address (line_of float line)) (λ q. list_any (λ label. bytes_eq label q) (line_labels (line_of float line)) || is_some (s q)) texts))) none
+      ∙ (λ i. first_faulty_line fault_alone (placed float (number + 1) (sym ends i) (λ q. known_next q i) texts))
 
-  pub known_more : (q : List ℕ) → symbols_from s (placed number address (λ p. is_some (s p)) (line ∷ texts)) q ≡ symbols_from t (placed (number + 1) end (λ p. is_some (t p)) texts) q
-  known_more q = λ i. symbols_from (λ p. sym (labels p) i) (placed (number + 1) (sym ends i) (λ p. known_next p i) texts) q
+  pub known_more : (q : List ℕ) → symbols_from s (placed float number address (λ p. is_some (s p)) (line ∷ texts)) q ≡ symbols_from t (placed float (number + 1) end (λ p. is_some (t p)) texts) q
+  known_more q = λ i. symbols_from (λ p. sym (labels p) i) (placed float (number + 1) (sym ends i) (λ p. known_next p i) texts) q
 
 pub left-below : (rest : Option (Bor (List ℕ))) (n : ℕ) → IfSome rest (λ r. length r.now < n) → left_in rest ≤ n
 left-below None n h = omega arith

@@ -8,7 +8,7 @@ use Rattle.std.proofs.Math.ListN.{length-replicate}
 use Rattle.rv_tables.specs.declared.instr.Instr.{Instr}
 use Rattle.rv_tables.specs.declared.instr.Instr.TheVariants.{Branch, Jal}
 use Rattle.asm_syntax.specs.Operands.{Target}
-use Rattle.asm_syntax.specs.Statements.{Statement, instruction, branch, jump_and_link, load_immediate, load_address, words, halves, bytes, ascii, space, align, entry}
+use Rattle.asm_syntax.specs.Statements.{Statement, instruction, float_instruction, branch, jump_and_link, load_immediate, load_address, words, halves, bytes, ascii, space, align, entry}
 use Rattle.rv_asm.specs.Layout.{Spell, load_of, lui_addi, size_of, HasBytes, word_bytes}
 use Rattle.rv_asm.specs.Places.{end_of_statement}
 use Rattle.rv_asm.specs.Symbols.{Symbols}
@@ -41,6 +41,7 @@ length-pairs f (x ∷ xs) h = let tail = length-pairs f xs h in let first = h x 
 
 pub length-own : (symbols : Symbols) (address : ℕ) (statement : Statement) (own : List ℕ) → HasBytes symbols address statement own → length own ≡ size_of statement address
 length-own symbols address (instruction i) own h = length-spelled (i ∷ []) own h
+length-own symbols address (float_instruction i) own (w, w_in, is, e) = ap length e
 length-own symbols address (branch op rs1 rs2 target) own h =
     length-code (value_of symbols target) (λ v. Branch op rs1 rs2 (offset_to address v) ∷ []) 4 own (λ _. refl) h
 length-own symbols address (jump_and_link rd target) own h =

@@ -14,7 +14,7 @@ use Rattle.rv_tables.specs.Fields.{bits, sign_extended}
 use Rattle.rv_tables.specs.Operands.{IsSigned, IsEven, IsEncodable, IsImmediate, IsBranchOffset, IsJumpOffset}
 use Rattle.asm_syntax.specs.Lines.{lines_of}
 use Rattle.asm_syntax.specs.Parse.{line_of}
-use Rattle.asm_syntax.specs.Statements.{Line, Statement, IsInRange, instruction, branch, jump_and_link, load_immediate, load_address, words, halves, bytes, ascii, space, align, entry}
+use Rattle.asm_syntax.specs.Statements.{Line, Statement, IsInRange, instruction, float_instruction, branch, jump_and_link, load_immediate, load_address, words, halves, bytes, ascii, space, align, entry}
 use Rattle.rv_asm.specs.declared.errors.AsmKind.{AsmKind}
 use Rattle.rv_asm.specs.declared.errors.AsmKind.TheVariants.{OutOfRange, UndefinedLabel}
 use Rattle.rv_asm.specs.Faults.{text_fault, fault_alone, fault_of_use, fault_of_uses, first_faulty_line}
@@ -23,6 +23,7 @@ use Rattle.rv_asm.specs.Places.{places_of, symbols_of, line_statement, end_of_st
 use Rattle.rv_asm.specs.Symbols.{Symbols}
 use Rattle.rv_asm.specs.Targets.{modulo, value_of, offset_to, is_signed, is_reached}
 use Rattle.rv_asm.specs.Text.{LineHasBytes, AreLaid, IsImageOfText, last_entry}
+use Rattle.rv_asm.proofs.EachFloatWord.{the_word}
 use Rattle.rv_asm.proofs.EachWord.{word_of}
 use Rattle.rv_asm.proofs.Laying.{uses_from, uses-placed, ok_parts}
 use Rattle.rv_asm.proofs.Sizes.{length-line}
@@ -114,6 +115,7 @@ some_of (Some v) h = refl
 
 statement_bytes : (s : Symbols) (a : ℕ) (statement : Statement) → IsInRange statement → fault_of_use s a statement ≡ None → (own : List ℕ) × HasBytes s a statement own
 statement_bytes s a (instruction i) r h = one i r
+statement_bytes s a (float_instruction i) r h = let w = the_word i r in (to_le_bytes w32 w.word, (w.word, w.fits, w.only.0, refl))
 statement_bytes s a (branch op rs1 rs2 target) r h =
     jump_of (value_of s target) 13 a (λ v. Branch op rs1 rs2 (offset_to a v)) h (λ v e. (r.0, r.1, reached_branch (offset_to a v) e))
 statement_bytes s a (jump_and_link rd target) r h =
@@ -138,23 +140,23 @@ fault_parts number None others h = (refl, h)
 fault_parts number (Some kind) others h = cc
 
 -- lines, and their bytes from an address on
-record Laid (s : Symbols) (a : ℕ) (texts : List (List ℕ)) : Type 0 where
+record Laid (float : Bool) (s : Symbols) (a : ℕ) (texts : List (List ℕ)) : Type 0 where
   lines : List Line
   bytes : List ℕ
-  are_lines : map line_of texts ≡ map Ok lines
+  are_lines : map (line_of float) texts ≡ map Ok lines
   laid : AreLaid s a lines bytes
 
-module _ (ranges : (text : List ℕ) (line : Line) → line_of text ≡ Ok line → IfSome line.statement IsInRange) where
-  lay : (s : Symbols) (n a : ℕ) (texts : List (List ℕ)) → AreSound s a texts → uses_from s n a texts ≡ None → Laid s a texts
+module _ (float : Bool) (ranges : (text : List ℕ) (line : Line) → line_of float text ≡ Ok line → IfSome line.statement IsInRange) where
+  lay : (s : Symbols) (n a : ℕ) (texts : List (List ℕ)) → AreSound float s a texts → uses_from float s n a texts ≡ None → Laid float s a texts
   lay s n a [] sound uses = record { lines = []; bytes = []; are_lines = refl; laid = refl }
   lay s n a (text ∷ rest) sound uses =
-      let p = ok_parts (line_of text) (λ l. All (λ label. s label ≡ Some a) l.labels × (end_of_statement a l.statement ≤ 2 ^ 24)) sound.0 in
-      let says : line_statement (line_of text) ≡ p.0.statement = ap line_statement p.1 in
-      let faults = fault_parts n (option_and_then (fault_of_use s a) (line_statement (line_of text))) (uses_from s (n + 1) (end_from a (line_of text)) rest) uses in
+      let p = ok_parts (line_of float text) (λ l. All (λ label. s label ≡ Some a) l.labels × (end_of_statement a l.statement ≤ 2 ^ 24)) sound.0 in
+      let says : line_statement (line_of float text) ≡ p.0.statement = ap line_statement p.1 in
+      let faults = fault_parts n (option_and_then (fault_of_use s a) (line_statement (line_of float text))) (uses_from float s (n + 1) (end_from a (line_of float text)) rest) uses in
       let none : option_and_then (fault_of_use s a) p.0.statement ≡ None = sym (ap (option_and_then (fault_of_use s a)) says) ∙ faults.0 in
       let own = line_bytes s a p.0.statement (ranges text p.0 p.1) none in
-      let ends : end_from a (line_of text) ≡ a + length own.0 = ap (end_of_statement a) says ∙ sym (length-line s a p.0.statement own.0 own.1) in
-      let more = lay s (n + 1) (end_from a (line_of text)) rest sound.1 faults.1 in
+      let ends : end_from a (line_of float text) ≡ a + length own.0 = ap (end_of_statement a) says ∙ sym (length-line s a p.0.statement own.0 own.1) in
+      let more = lay s (n + 1) (end_from a (line_of float text)) rest sound.1 faults.1 in
       record {
         lines = p.0 ∷ more.lines;
         bytes = own.0 ++ more.bytes;
@@ -162,14 +164,14 @@ module _ (ranges : (text : List ℕ) (line : Line) → line_of text ≡ Ok line 
         laid = (own.0, more.bytes, refl, p.2.0, own.1, subst (λ e. AreLaid s e more.lines more.bytes) ends more.laid);
       }
 
-  pub some_image : (text : List ℕ) → text_fault text ≡ None → (image : Image) × IsImageOfText text image
+  pub some_image : (text : List ℕ) → text_fault float text ≡ None → (image : Image) × IsImageOfText float text image
   unfolding text_fault
   some_image text h =
-      let s = symbols_of (places_of text) in
-      let parts = none_parts (first_faulty_line fault_alone (places_of text)) (first_faulty_line (fault_of_uses s) (places_of text)) h in
-      let l = lay s 1 0 (lines_of text) (sound_text s text parts.0 (λ q. refl)) (sym (uses-placed s 1 0 (λ _. false) (lines_of text)) ∙ parts.1) in
+      let s = symbols_of (places_of float text) in
+      let parts = none_parts (first_faulty_line fault_alone (places_of float text)) (first_faulty_line (fault_of_uses s) (places_of float text)) h in
+      let l = lay s 1 0 (lines_of text) (sound_text float s text parts.0 (λ q. refl)) (sym (uses-placed float s 1 0 (λ _. false) (lines_of text)) ∙ parts.1) in
       let image : Image = record { entry = last_entry s 0 l.lines; segments = segments_from_0 l.bytes } in
-      (image, image-laid text s l.bytes image (λ q. refl) (record { lines = l.lines; are_lines = l.are_lines; laid = l.laid; entry_is = refl }) refl)
+      (image, image-laid float text s l.bytes image (λ q. refl) (record { lines = l.lines; are_lines = l.are_lines; laid = l.laid; entry_is = refl }) refl)
     where
       none_parts : (first second : Option (ℕ × AsmKind)) → option_or first second ≡ None → (first ≡ None) × (second ≡ None)
       none_parts None second e = (refl, e)

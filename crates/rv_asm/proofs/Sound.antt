@@ -23,9 +23,9 @@ IsSoundLine symbols address line =
     IsOkAnd line (λ l. All (λ label. symbols label ≡ Some address) l.labels × (end_of_statement address l.statement ≤ 2 ^ 24))
 
 -- so have those of lines from an address on, each where the one before it ends
-abbrev pub AreSound : Symbols → ℕ → List (List ℕ) → Type 0
-AreSound symbols address [] = Unit {0}
-AreSound symbols address (text ∷ rest) = IsSoundLine symbols address (line_of text) × AreSound symbols (end_from address (line_of text)) rest
+abbrev pub AreSound : (float : Bool) → Symbols → ℕ → List (List ℕ) → Type 0
+AreSound float symbols address [] = Unit {0}
+AreSound float symbols address (text ∷ rest) = IsSoundLine symbols address (line_of float text) × AreSound float symbols (end_from address (line_of float text)) rest
 
 -- no test of the first judging fails
 record PassesTests (address : ℕ) (known : List ℕ → Bool) (line : Line) : Type 0 where
@@ -93,36 +93,36 @@ distinct_labels a known (Ok line) h = (passes a known line h).distinct
 distinct_labels a known (Err fault) h = refl
 
 -- the first line of some without a fault, and those behind it
-module _ (s : Symbols) (n a : ℕ) (text : List ℕ) (rest : List (List ℕ)) (h : first_faulty_line fault_alone (placed n a (λ p. is_some (s p)) (text ∷ rest)) ≡ None) where
+module _ (float : Bool) (s : Symbols) (n a : ℕ) (text : List ℕ) (rest : List (List ℕ)) (h : first_faulty_line fault_alone (placed float n a (λ p. is_some (s p)) (text ∷ rest)) ≡ None) where
   after : Symbols
-  after = with_labels s (line_labels (line_of text)) a
+  after = with_labels s (line_labels (line_of float text)) a
 
-  head : fault_of_line a (λ p. is_some (s p)) (line_of text) ≡ None
-  head = none_parts n (fault_of_line a (λ p. is_some (s p)) (line_of text)) (first_faulty_line fault_alone (placed (n + 1) (end_from a (line_of text)) (λ q. list_any (λ label. bytes_eq label q) (line_labels (line_of text)) || is_some (s q)) rest)) h
+  head : fault_of_line a (λ p. is_some (s p)) (line_of float text) ≡ None
+  head = none_parts n (fault_of_line a (λ p. is_some (s p)) (line_of float text)) (first_faulty_line fault_alone (placed float (n + 1) (end_from a (line_of float text)) (λ q. list_any (λ label. bytes_eq label q) (line_labels (line_of float text)) || is_some (s q)) rest)) h
 
-  tail : first_faulty_line fault_alone (placed (n + 1) (end_from a (line_of text)) (λ p. is_some (after p)) rest) ≡ None
+  tail : first_faulty_line fault_alone (placed float (n + 1) (end_from a (line_of float text)) (λ p. is_some (after p)) rest) ≡ None
   unfolding after
-  tail = sym (judged_more s after n a (end_from a (line_of text)) text rest refl (λ q. refl) head) ∙ h
+  tail = sym (judged_more float s after n a (end_from a (line_of float text)) text rest refl (λ q. refl) head) ∙ h
 
-  further : (q : List ℕ) → symbols_from s (placed n a (λ p. is_some (s p)) (text ∷ rest)) q ≡ symbols_from after (placed (n + 1) (end_from a (line_of text)) (λ p. is_some (after p)) rest) q
+  further : (q : List ℕ) → symbols_from s (placed float n a (λ p. is_some (s p)) (text ∷ rest)) q ≡ symbols_from after (placed float (n + 1) (end_from a (line_of float text)) (λ p. is_some (after p)) rest) q
   unfolding after
-  further = known_more s after n a (end_from a (line_of text)) text rest refl (λ q. refl)
+  further = known_more float s after n a (end_from a (line_of float text)) text rest refl (λ q. refl)
 
   not_again : (q : List ℕ) → is_some (s q) ≡ true → after q ≡ s q
   unfolding after
-  not_again q k = unchanged s (line_labels (line_of text)) a q (apart (λ p. is_some (s p)) (line_labels (line_of text)) q (distinct_labels a (λ p. is_some (s p)) (line_of text) head) k)
+  not_again q k = unchanged s (line_labels (line_of float text)) a q (apart (λ p. is_some (s p)) (line_labels (line_of float text)) q (distinct_labels a (λ p. is_some (s p)) (line_of float text) head) k)
 
-  of_line : (q : List ℕ) → list_any (λ label. bytes_eq label q) (line_labels (line_of text)) ≡ true → after q ≡ Some a
+  of_line : (q : List ℕ) → list_any (λ label. bytes_eq label q) (line_labels (line_of float text)) ≡ true → after q ≡ Some a
   unfolding after
-  of_line q member = given s (line_labels (line_of text)) a q (inr member)
+  of_line q member = given s (line_labels (line_of float text)) a q (inr member)
 
 -- the lines behind a label do not change its address
-kept : (s : Symbols) (n a : ℕ) (texts : List (List ℕ)) (q : List ℕ) → first_faulty_line fault_alone (placed n a (λ p. is_some (s p)) texts) ≡ None → is_some (s q) ≡ true
-    → symbols_from s (placed n a (λ p. is_some (s p)) texts) q ≡ s q
-kept s n a [] q h k = refl
-kept s n a (text ∷ rest) q h k =
-    let same = not_again s n a text rest h q k in
-    further s n a text rest h q ∙ kept (after s n a text rest h) (n + 1) (end_from a (line_of text)) rest q (tail s n a text rest h) (ap is_some same ∙ k) ∙ same
+kept : (float : Bool) (s : Symbols) (n a : ℕ) (texts : List (List ℕ)) (q : List ℕ) → first_faulty_line fault_alone (placed float n a (λ p. is_some (s p)) texts) ≡ None → is_some (s q) ≡ true
+    → symbols_from s (placed float n a (λ p. is_some (s p)) texts) q ≡ s q
+kept float s n a [] q h k = refl
+kept float s n a (text ∷ rest) q h k =
+    let same = not_again float s n a text rest h q k in
+    further float s n a text rest h q ∙ kept float (after float s n a text rest h) (n + 1) (end_from a (line_of float text)) rest q (tail float s n a text rest h) (ap is_some same ∙ k) ∙ same
 
 each_member : (P : List ℕ → Type 0) (labels : List (List ℕ)) → ((q : List ℕ) → list_any (λ label. bytes_eq label q) labels ≡ true → P q) → All P labels
 each_member P [] f = All-nil P
@@ -136,19 +136,19 @@ sound_line symbols a known (Err fault) h f = let clash : Some (kind_of fault) �
 sound_line symbols a known (Ok line) h f = (each_member (λ label. symbols label ≡ Some a) line.labels f, (passes a known line h).within)
 
 -- where no line has a fault in the first judging, the lines are sound with the labels of all
-pub sound : (s : Symbols) (n a : ℕ) (texts : List (List ℕ)) → first_faulty_line fault_alone (placed n a (λ p. is_some (s p)) texts) ≡ None
-    → AreSound (symbols_from s (placed n a (λ p. is_some (s p)) texts)) a texts
-sound s n a [] h = tt
-sound s n a (text ∷ rest) h =
-    let t = after s n a text rest h in
-    let at_end = end_from a (line_of text) in
-    let others = tail s n a text rest h in
-    let all = further s n a text rest h in (
-      sound_line _ a (λ p. is_some (s p)) (line_of text) (head s n a text rest h)
-          (λ q m. let address = of_line s n a text rest h q m in all q ∙ kept t (n + 1) at_end rest q others (ap is_some address) ∙ address),
-      subst (λ symbols. AreSound symbols at_end rest) (λ i q. sym (all q) i) (sound t (n + 1) at_end rest others),
+pub sound : (float : Bool) (s : Symbols) (n a : ℕ) (texts : List (List ℕ)) → first_faulty_line fault_alone (placed float n a (λ p. is_some (s p)) texts) ≡ None
+    → AreSound float (symbols_from s (placed float n a (λ p. is_some (s p)) texts)) a texts
+sound float s n a [] h = tt
+sound float s n a (text ∷ rest) h =
+    let t = after float s n a text rest h in
+    let at_end = end_from a (line_of float text) in
+    let others = tail float s n a text rest h in
+    let all = further float s n a text rest h in (
+      sound_line _ a (λ p. is_some (s p)) (line_of float text) (head float s n a text rest h)
+          (λ q m. let address = of_line float s n a text rest h q m in all q ∙ kept float t (n + 1) at_end rest q others (ap is_some address) ∙ address),
+      subst (λ symbols. AreSound float symbols at_end rest) (λ i q. sym (all q) i) (sound float t (n + 1) at_end rest others),
     )
 
 -- a text without a fault in the first judging is sound with its labels
-pub sound_text : (symbols : Symbols) (text : List ℕ) → first_faulty_line fault_alone (places_of text) ≡ None → ((q : List ℕ) → symbols q ≡ symbols_of (places_of text) q) → AreSound symbols 0 (lines_of text)
-sound_text symbols text judged known = subst (λ s. AreSound s 0 (lines_of text)) (λ i q. sym (known q) i) (sound no_symbols 1 0 (lines_of text) judged)
+pub sound_text : (float : Bool) (symbols : Symbols) (text : List ℕ) → first_faulty_line fault_alone (places_of float text) ≡ None → ((q : List ℕ) → symbols q ≡ symbols_of (places_of float text) q) → AreSound float symbols 0 (lines_of text)
+sound_text float symbols text judged known = subst (λ s. AreSound float s 0 (lines_of text)) (λ i q. sym (known q) i) (sound float no_symbols 1 0 (lines_of text) judged)

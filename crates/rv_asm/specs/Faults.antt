@@ -55,7 +55,7 @@ first_faulty_line fault_of (place ∷ rest) =
     option_or (option_map (λ kind. (place.number, kind)) (fault_of place)) (first_faulty_line fault_of rest)
 
 -- the first faulty line of the first judging and its fault; where there is none, those of the second
-unfoldable pub text_fault : List ℕ → Option (ℕ × AsmKind)
-text_fault text =
-    let places = places_of text in
+unfoldable pub text_fault : (float : Bool) → List ℕ → Option (ℕ × AsmKind)
+text_fault float text =
+    let places = places_of float text in
     option_or (first_faulty_line fault_alone places) (first_faulty_line (fault_of_uses (symbols_of places)) places)

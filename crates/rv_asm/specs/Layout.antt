@@ -12,8 +12,10 @@ use Rattle.rv_tables.specs.declared.instr.UpperOp.TheVariants.{Lui}
 use Rattle.rv_tables.specs.declared.instr.PlainOp.TheVariants.{Fence, FenceI}
 use Rattle.rv_tables.specs.Fields.{bits, sign_extended}
 use Rattle.rv_tables.specs.Rows.{instruction_of}
+use Rattle.rv_float_tables.specs.declared.instr.FloatInstr.{FloatInstr}
+use Rattle.rv_float_tables.specs.Rows.{instruction_of as float_instruction_of}
 use Rattle.asm_syntax.specs.Operands.{Target}
-use Rattle.asm_syntax.specs.Statements.{Statement, instruction, branch, jump_and_link, load_immediate, load_address, words, halves, bytes, ascii, space, align, entry}
+use Rattle.asm_syntax.specs.Statements.{Statement, instruction, float_instruction, branch, jump_and_link, load_immediate, load_address, words, halves, bytes, ascii, space, align, entry}
 use Rattle.rv_asm.specs.Symbols.{Symbols}
 use Rattle.rv_asm.specs.Targets.{modulo, is_signed, value_of, uses_undefined, offset_to}
 
@@ -30,6 +32,10 @@ abbrev pub Spell : List Instr → List ℕ → Type 0
 Spell [] own = own ≡ []
 Spell (i ∷ rest) own = (w : ℕ) × (more : List ℕ) × IsWordOf i w × Spell rest more × (own ≡ to_le_bytes w32 w ++ more)
 
+-- the bytes of an instruction of floating point: those of the one word that decodes to it
+abbrev pub SpellFloat : FloatInstr → List ℕ → Type 0
+SpellFloat i own = (w : ℕ) × (w < 2 ^ 32) × (float_instruction_of w ≡ Some i) × (own ≡ to_le_bytes w32 w)
+
 -- a word goes into a register by its upper 20 bits, rounded, and its low 12 bits as a signed number
 abbrev pub lui_addi : ℕ → ℕ → List Instr
 lui_addi rd word = Upper Lui rd (bits (word + 0x800) 31 12) ∷ I Addi rd rd (sign_extended 12 (bits word 11 0)) ∷ []
@@ -45,6 +51,7 @@ load_of rd word = if is_short word then I Addi rd 0 (cast_signed w32 word) ∷ [
 -- how many bytes a statement at an address has: that depends on no label
 abbrev pub size_of : Statement → ℕ → ℕ
 size_of (instruction i) address = 4
+size_of (float_instruction i) address = 4
 size_of (branch op rs1 rs2 target) address = 4
 size_of (jump_and_link rd target) address = 4
 size_of (load_immediate rd n) address = 4 * length (load_of rd (modulo (2 ^ 32) n))
@@ -64,6 +71,7 @@ word_bytes symbols target = option_map_or (to_le_bytes w32) (value_of symbols ta
 -- the bytes of a statement at an address, where labels stand for these addresses
 abbrev pub HasBytes : Symbols → ℕ → Statement → List ℕ → Type 0
 HasBytes symbols address (instruction i) own = Spell (i ∷ []) own
+HasBytes symbols address (float_instruction i) own = SpellFloat i own
 HasBytes symbols address (branch op rs1 rs2 target) own =
     IsSomeAnd (value_of symbols target) (λ value. Spell (Branch op rs1 rs2 (offset_to address value) ∷ []) own)
 HasBytes symbols address (jump_and_link rd target) own =

@@ -39,16 +39,17 @@ end_from address line = end_of_statement address (line_statement line)
 abbrev pub is_among : List (List ℕ) → List ℕ → Bool
 is_among labels name = list_any (λ label. bytes_eq label name) labels
 
--- lines from a number and an address on, each where the one before it ends, with the labels of those before
-abbrev pub placed : ℕ → ℕ → (List ℕ → Bool) → List (List ℕ) → List Place
-placed number address is_earlier [] = []
-placed number address is_earlier (text ∷ rest) =
-    record { number = number; address = address; is_earlier = is_earlier; line = line_of text }
-    ∷ placed (number + 1) (end_from address (line_of text)) (λ name. is_among (line_labels (line_of text)) name || is_earlier name) rest
+-- lines from a number and an address on, each where the one before it ends, with the labels of those before. They are in the language
+-- with statements of floating point, or in that without them
+abbrev pub placed : (float : Bool) → ℕ → ℕ → (List ℕ → Bool) → List (List ℕ) → List Place
+placed float number address is_earlier [] = []
+placed float number address is_earlier (text ∷ rest) =
+    record { number = number; address = address; is_earlier = is_earlier; line = line_of float text }
+    ∷ placed float (number + 1) (end_from address (line_of float text)) (λ name. is_among (line_labels (line_of float text)) name || is_earlier name) rest
 
 -- the lines of a text: they are counted from 1, and the first is at address 0
-abbrev pub places_of : List ℕ → List Place
-places_of text = placed 1 0 (λ _. false) (lines_of text)
+abbrev pub places_of : (float : Bool) → List ℕ → List Place
+places_of float text = placed float 1 0 (λ _. false) (lines_of text)
 
 -- the labels of lines, each with its line's address
 abbrev pub symbols_of : List Place → Symbols

@@ -34,18 +34,22 @@ fn image_of<A: Allocator + Copy>(alloc: A, program: Program<A>) -> Result<Image<
     })
 }
 
-/// The image of an assembly text, or its first fault.
+/// The image of an assembly text, or its first fault. Statements of floating point are of the language where `float` says so.
 ///
 /// The text has at most 4 MiB, of any bytes. It is gone through twice: once for the addresses of its labels, and once for
 /// its bytes. Its labels are kept in an ordered map.
-pub fn assemble<A: Allocator + Copy>(alloc: A, text: &[u8]) -> Result<Image<A>, AsmError>
+pub fn assemble<A: Allocator + Copy>(
+    alloc: A,
+    float: bool,
+    text: &[u8],
+) -> Result<Image<A>, AsmError>
     requires { length text.now ≤ 2 ^ 22 }
-    ensures ok { IfOk result (λ image. IsImageOfText text.now image) }
-    ensures faultless { OnOk result (text_fault text.now ≡ None) }
-    ensures err { IfErr result (λ e. e.kind ≢ AsmKind.NoMemory → text_fault text.now ≡ Some (e.line, e.kind)) }
+    ensures ok { IfOk result (λ image. IsImageOfText float text.now image) }
+    ensures faultless { OnOk result (text_fault float text.now ≡ None) }
+    ensures err { IfErr result (λ e. e.kind ≢ AsmKind.NoMemory → text_fault float text.now ≡ Some (e.line, e.kind)) }
     ensures no_memory { IfErr result (λ e. e.kind ≡ AsmKind.NoMemory → e.line ≡ 0) }
 {
-    let labels = define_labels(alloc, text)?;
-    let program = write_lines(alloc, &labels, text)?;
+    let labels = define_labels(alloc, float, text)?;
+    let program = write_lines(alloc, float, &labels, text)?;
     Ok(image_of(alloc, program)?)
 }

@@ -44,7 +44,10 @@ fn size_of<A: Allocator>(statement: &Statement<'_, A>, address: u32) -> u64
     ensures { result ≡ min (Layout.size_of (statement_value statement.now) address) (2 ^ 64 - 1) }
 {
     match statement {
-        Statement::Instruction(_) | Statement::Branch { .. } | Statement::Jal { .. } => 4,
+        Statement::Instruction(_)
+        | Statement::FloatInstruction(_)
+        | Statement::Branch { .. }
+        | Statement::Jal { .. } => 4,
         Statement::LoadImmediate { value, .. } => load_size(word_of(*value)),
         Statement::LoadAddress { .. } => 8,
         Statement::Words(targets) => (targets.len() as u64).saturating_mul(4),

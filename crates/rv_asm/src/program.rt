@@ -47,6 +47,7 @@ impl<A: Allocator + Copy> Program<A> {
         let bytes = &mut self.bytes;
         match statement {
             Statement::Instruction(instr) => writer::push_instr(bytes, instr),
+            Statement::FloatInstruction(instr) => writer::push_float_instr(bytes, instr),
             Statement::Branch {
                 op,
                 rs1,

@@ -3,4 +3,4 @@ use Rattle.rv_asm.proofs.NeverMemory.{never_memory}
 use Rattle.rv_asm.proofs.laws.want_of_memory_is_no_fault.Goals as goal
 
 pub returns : goal.returns
-returns c = never_memory Facts.never_memory
+returns c = λ float. never_memory float (Facts.never_memory float)

@@ -33,12 +33,17 @@ REQUEST = (
 )
 TEXT = rb'"(?:[ !#-\[\]-~]|\\[tnr"\\]|\\x[0-9a-f]{2})*"'
 CODE = rb"([0-9a-f]{8}): [0-9a-f]{2,8} +[.a-z].*"
+# What stands behind the name of a refusal.
+ADVICE = {"NoFloatUnit": b": nodes have one with --float"}
 HEXADECIMAL = re.compile(rb"0x[0-9a-fA-F]+")
 # The registers by the names that programs have for them, which a dialogue tells, and what it tells them by.
 REGISTERS = (
     "zero ra sp gp tp t0 t1 t2 s0 s1 a0 a1 a2 a3 a4 a5 a6 a7 s2 s3 s4 s5 s6 s7 s8 s9 s10 s11 t3 t4 t5 t6".split()
 )
-NAMED = re.compile(rb"\b(x[0-9]+)/[a-z0-9]+=")
+NAMED = re.compile(rb"\b([fx][0-9]+)/[a-z0-9]+=")
+# The same of floating point; and the flags of fcsr, by the numbers of their bits.
+FLOATS = "ft0 ft1 ft2 ft3 ft4 ft5 ft6 ft7 fs0 fs1 fa0 fa1 fa2 fa3 fa4 fa5 fa6 fa7 fs2 fs3 fs4 fs5 fs6 fs7 fs8 fs9 fs10 fs11 ft8 ft9 ft10 ft11".split()
+FLAGS = "NX UF OF DZ NV".split()
 # Of so many nodes a dialogue tells where they are where a run is over, and that there are more.
 PLACES = 16
 # The words of each kind of line, with the bits of its numbers; or a name where it has one of a line.
@@ -48,6 +53,7 @@ FORMS: Dict[bytes, List[Form]] = {
     b"clear": [(32, 32), (b"superstep", 64)],
     b"step": [(32, 64)],
     b"regs": [(32,)],
+    b"fregs": [(32,)],
     b"bytes": [(32, 32, 32)],
     b"queue": [(32,)],
     **{word: [()] for word in (b"phase", b"turn", b"go", b"costs", b"output", b"quit")},
@@ -148,6 +154,8 @@ class Judge:
         is_of_rank = name not in (b"break", b"clear", b"back", b"forget") or (name == b"break" and len(numbers) == 2)
         if is_of_rank and numbers and numbers[0] >= self.machine.nodes:
             return "BadRank"
+        if name == b"fregs" and not self.machine.float:
+            return "NoFloatUnit"
         if name in (b"words", b"text", b"list") and numbers[1] >= self.machine.memory:
             return "BadRange"
         if name in (b"back", b"forget") and (numbers[0] >= len(self.kept) or self.kept[numbers[0]] is None):
@@ -185,7 +193,7 @@ class Judge:
             return
         refusal = self.refusal(words)
         if refusal:
-            self.expect(self.take(b"refused: " + refusal.encode()) is not None, line)
+            self.expect(self.take(b"refused: " + refusal.encode() + ADVICE.get(refusal, b"")) is not None, line)
             return
         answer: Callable[..., bool] = getattr(self, "answers_" + words.name.decode())
         self.expect(answer(*words.numbers), line)
@@ -309,6 +317,18 @@ class Judge:
         zero = re.match(rb"[^=]*=00000000 ", values[0]) if values else None
         return found is not None and found[0].startswith(b"rank %d " % rank) and zero is not None
 
+    def answers_fregs(self, rank: int) -> bool:
+        """The fcsr of a node, with what stands in it, and its registers of floating point."""
+        found = self.take(rb"rank %d fcsr 000000([0-9a-f]{2}) frm ([0-7]) flags(| -|(?: [A-Z]{2})+)" % rank)
+        width = 2 if self.is_dialogue else 4
+        names = [f"{f'f{at}/{name}':>8}" if self.is_dialogue else f"f{at}" for at, name in enumerate(FLOATS)]
+        rows = [" ".join(f"{name}=[0-9a-f]{{16}}" for name in names[first : first + width]) for first in range(0, 32, width)]
+        if found is None or self.take("\n".join(rows).encode()) is None:
+            return False
+        fcsr = int(found[1], 16)
+        flags = [name for bit, name in enumerate(FLAGS) if fcsr >> bit & 1]
+        return fcsr >> 5 == int(found[2]) and found[3].decode().split() == (flags[::-1] or ["-"])
+
     def answers_bytes(self, _: int, __: int, count: int) -> bool:
         """A line for each 16 bytes and for the rest."""
         rows = [b" ".join([b"[0-9a-f]{2}"] * min(16, count - first)) for first in range(0, count, 16)]
@@ -373,7 +393,7 @@ def is_same(words: Optional[Asked], reply: bytes, other: bytes) -> bool:
         return other.startswith(reply[:-1])
     if words.name in (b"go", b"turn"):
         return other.startswith(reply)
-    if words.name == b"regs":
+    if words.name in (b"regs", b"fregs"):
         return reply.split() == NAMED.sub(rb"\1=", other).split()
     return reply == other
 

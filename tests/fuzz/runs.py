@@ -53,8 +53,9 @@ def program(trial: Trial) -> None:
 
 
 def debugger(trial: Trial) -> None:
-    """A script is answered line by line, and the same in a dialogue, which has more lines."""
+    """A script is answered line by line, and the same in a dialogue, which has more lines. Some nodes have units of floating point."""
     text, machine = made(trial)
+    machine = dataclasses.replace(machine, float=trial.one_in(3))
     script = dialogues.script(trial.random, machine, dialogues.SPOKEN if trial.one_in(2) else dialogues.FORMS)
     if trial.one_in(100):
         script = script[: MOST_LINES] + b" " * (MOST_LINES - len(script) + trial.random.choice([0, 1]))

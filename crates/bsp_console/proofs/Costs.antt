@@ -12,13 +12,13 @@ use Rattle.machine_core.specs.Turn.{lowest}
 use Rattle.machine_core.specs.Events.{is_enabled, after, event as event_of}
 use Rattle.machine_core.specs.Walk.{next_event, walked}
 use Rattle.bsp_debug.specs.declared.command.Command.{Command}
-use Rattle.bsp_debug.specs.declared.command.Command.TheVariants.{Step, Return, Phase, Turn, Go, Regs, Bytes, Queue, Costs}
+use Rattle.bsp_debug.specs.declared.command.Command.TheVariants.{Step, Return, Phase, Turn, Go, Regs, Fregs, Bytes, Queue, Costs}
 use Rattle.bsp_debug.specs.declared.point.Point.{Point}
 use Rattle.bsp_debug.specs.declared.point.Point.TheVariants.{Address, Superstep}
 use Rattle.bsp_debug.specs.Points.{is_set}
 use Rattle.bsp_debug.specs.Reply.{Answer, stopped, finished, turned, costs}
 use Rattle.bsp_debug.specs.Stops.{stop_if_set, superstep_stop, stop_at, stop_after}
-use Rattle.bsp_debug.specs.Debugger.{Makes, turn_answer}
+use Rattle.bsp_debug.specs.Debugger.{Makes, turn_answer, unit_at}
 
 -- an answer that is not costs
 abbrev IsNoCosts : Option Answer → Type 0
@@ -74,6 +74,7 @@ costs_are points m Phase events rows makes = absurd cc
 costs_are points m Turn events rows makes = absurd (turned-no_costs (is_enabled m event.Turn) (after m events).outcome rows (sym makes.1))
 costs_are points m Go events rows makes = absurd (stop-no_costs points makes.before m rows makes.stops)
 costs_are points m (Regs rank) events rows makes = absurd (mapped-no_costs _ (slice_get m.nodes rank) (λ v rows e. cc) rows makes.1)
+costs_are points m (Fregs rank) events rows makes = absurd (mapped-no_costs _ (unit_at m rank) (λ v rows e. cc) rows makes.1)
 costs_are points m (Bytes rank addr len) events rows makes = absurd (mapped-no_costs _ (slice_get m.nodes rank) (λ v rows e. cc) rows makes.1)
 costs_are points m (Queue rank) events rows makes = absurd (mapped-no_costs _ (slice_get m.nodes rank) (λ v rows e. cc) rows makes.1)
 costs_are points m Costs events rows makes = (makes.0, cc)

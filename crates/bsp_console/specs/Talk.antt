@@ -18,12 +18,13 @@ use Rattle.bsp_debug.specs.Debugger.{DebuggerState, has_rank, add_fault, remove_
 use Rattle.bsp_debug.specs.Kept.{kept_fault, keeping, back_at, without}
 use Rattle.bsp_debug.specs.Made.{events_of}
 use Rattle.bsp_debug.specs.Points.{is_set, HasAlso, HasNoMore}
-use Rattle.bsp_debug.specs.Reply.{Answer, finished, registers}
+use Rattle.bsp_debug.specs.Reply.{Answer, finished, floats, registers}
 use Rattle.bsp_debug.specs.Returns.{next_rank, over}
 use Rattle.debug_lines.specs.declared.line.Line.{Line}
 use Rattle.debug_lines.specs.declared.line.Line.TheVariants.{Break, Clear, Command, Output, Keep, Back, Forget, Kept, Points, Shown, Areas, Requests, StepNext, Over, Nodes, Place, Places, OutputFrom, CostsFrom, Help, HelpOn, Quit, Empty, Unknown, Misused, NoLine}
 use Rattle.debug_lines.specs.declared.verdict.Verdict.TheVariants.{Done, Kept as KeptAs, Refused, BadCommand, Misused as MisusedAs, NoLine as NoLineAs}
 use Rattle.debug_lines.specs.declared.form.Form.{Form}
+use Rattle.debug_lines.specs.Floats.{named_float_registers}
 use Rattle.debug_lines.specs.Framed.{cost_lines_from, framed_text, place_text, setup_text}
 use Rattle.debug_lines.specs.Kept.{kept_text}
 use Rattle.debug_lines.specs.Lines.{line_of, dialogue_line_of, framed_line_of}
@@ -81,6 +82,7 @@ plainly job m reply = reply_text job.ledger job.g job.l reply
 -- to a person: the same, but that registers have their names too, and behind the outcome stands where the nodes are
 abbrev pub in_person : Job → Telling
 in_person job m (registers rank pc ticks state x) = named_registers rank pc ticks state x
+in_person job m (floats rank fcsr f) = named_float_registers rank fcsr f
 in_person job m (finished outcome) = reply_text job.ledger job.g job.l (finished outcome) ++ places_at outcome m
 in_person job m reply = reply_text job.ledger job.g job.l reply
 

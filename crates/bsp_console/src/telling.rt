@@ -11,7 +11,7 @@ use crate::manner::Manner;
 use crate::place::add_first_places;
 use bsp_debug::Reply;
 use bsp_session::Job;
-use debug_lines::{named_registers, reply_text};
+use debug_lines::{named_float_registers, named_registers, reply_text};
 use machine_core::{Machine, Outcome};
 use std::alloc::{AllocError, Allocator};
 
@@ -63,6 +63,7 @@ fn in_person<A: Allocator + Copy>(
             state,
             x,
         } => named_registers(alloc, *rank, *pc, *ticks, *state, x),
+        Reply::Fregs { rank, fcsr, f } => named_float_registers(alloc, *rank, *fcsr, f),
         Reply::Finished(outcome) => outcome_told(alloc, *outcome, machine),
         Reply::Moved(_)
         | Reply::Turned(_)

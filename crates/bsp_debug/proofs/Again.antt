@@ -14,7 +14,7 @@ use Rattle.machine_core.proofs.Resume.{phases-after}
 use Rattle.machine_core.proofs.Steps.{after-nil}
 use Rattle.machine_core.proofs.Walks.{walked-add}
 use Rattle.bsp_debug.specs.declared.command.Command.{Command}
-use Rattle.bsp_debug.specs.declared.command.Command.TheVariants.{Step, Return, Phase, Turn, Go, Regs, Bytes, Queue, Costs}
+use Rattle.bsp_debug.specs.declared.command.Command.TheVariants.{Step, Return, Phase, Turn, Go, Regs, Fregs, Bytes, Queue, Costs}
 use Rattle.bsp_debug.specs.declared.point.Point.{Point}
 use Rattle.bsp_debug.specs.Debugger.{steps_at, IsWithinPhases, MakesPhases, Makes, MakesPart, rest_of}
 use Rattle.bsp_debug.specs.Reply.{Answer, moved}
@@ -149,6 +149,7 @@ again points m Phase part rest reply sound some made = (moved (length (part ++ r
 again points m Turn part rest reply sound some made = (reply, from-nothing points m Turn part rest reply some.0 made)
 again points m Go part rest reply sound some made = (reply, go-again points m part rest reply some made)
 again points m (Regs rank) part rest reply sound some made = absurd some
+again points m (Fregs rank) part rest reply sound some made = absurd some
 again points m (Bytes rank addr len) part rest reply sound some made = (reply, from-nothing points m (Bytes rank addr len) part rest reply some made)
 again points m (Queue rank) part rest reply sound some made = (reply, from-nothing points m (Queue rank) part rest reply some made)
 again points m Costs part rest reply sound some made = (reply, from-nothing points m Costs part rest reply some made)

@@ -1,7 +1,10 @@
 -- A debugger: a machine, the states that were kept of it, the points that are set, and what the last command made. What each command
 -- makes of the machine's events, and what it answers (own rules).
-use Rattle.std.specs.Prelude.{◌≡◌, ℕ, ◌-◌, ◌≤◌, Bool, true, false, List, [], ◌∷◌, length, replicate, slice_get, nat_lt, if◌then◌else◌, Option, Some, None, is_some, is_none, option_map}
-use Rattle.std.specs.Option.{option_or, option_map_or}
+use Rattle.std.specs.Prelude.{◌≡◌, ℕ, ◌-◌, ◌≤◌, Bool, true, false, List, [], ◌∷◌, length, map, replicate, slice_get, slice_index, nat_lt, if◌then◌else◌, Option, Some, None, is_some, is_none, option_map}
+use Rattle.std.specs.List.{range_with_len}
+use Rattle.std.specs.Option.{option_or, option_and_then, option_map_or}
+use Rattle.rv_float_tables.specs.declared.instr.FloatCsr.TheVariants.{Fcsr}
+use Rattle.float_unit.specs.State.{FloatState, csr_value}
 use Rattle.node_memory.specs.Bytes.{fits, bytes_at}
 use Rattle.node_core.specs.Node.{NodeState, local_steps}
 use Rattle.machine_core.specs.declared.event.Event.{Event}
@@ -12,14 +15,14 @@ use Rattle.machine_core.specs.Turn.{with_phases}
 use Rattle.machine_core.specs.Events.{is_enabled, after, MakeNoTurn}
 use Rattle.machine_core.specs.Walk.{walk}
 use Rattle.bsp_debug.specs.declared.command.Command.{Command}
-use Rattle.bsp_debug.specs.declared.command.Command.TheVariants.{Step, Return, Phase, Turn, Go, Regs, Bytes, Queue, Costs}
+use Rattle.bsp_debug.specs.declared.command.Command.TheVariants.{Step, Return, Phase, Turn, Go, Regs, Fregs, Bytes, Queue, Costs}
 use Rattle.bsp_debug.specs.declared.error.DebugError.{DebugError}
-use Rattle.bsp_debug.specs.declared.error.DebugError.TheVariants.{BadRank, BadRange, TooMany, NoSuchBreak, Over}
+use Rattle.bsp_debug.specs.declared.error.DebugError.TheVariants.{BadRank, BadRange, NoFloatUnit, TooMany, NoSuchBreak, Over}
 use Rattle.bsp_debug.specs.declared.made.Made.{Made}
 use Rattle.bsp_debug.specs.declared.point.Point.{Point}
 use Rattle.bsp_debug.specs.declared.point.Point.TheVariants.{Address, Superstep}
 use Rattle.bsp_debug.specs.Points.{is_set, most_points}
-use Rattle.bsp_debug.specs.Reply.{Answer, moved, turned, finished, registers, bytes, queue, costs}
+use Rattle.bsp_debug.specs.Reply.{Answer, moved, turned, finished, registers, floats, bytes, queue, costs}
 use Rattle.bsp_debug.specs.Returns.{HasReturned, IsReturning}
 use Rattle.bsp_debug.specs.Stops.{Goes, IsOnTheWay}
 
@@ -36,6 +39,10 @@ pub record DebuggerState : Type 0 where
 
 abbrev pub has_rank : MachineState → ℕ → Bool
 has_rank m rank = is_some (slice_get m.nodes rank)
+
+-- the unit of floating point of the node of a rank, if there is such a node, and it has one
+abbrev pub unit_at : MachineState → (rank : ℕ) → Option FloatState
+unit_at m rank = option_and_then (λ (n : NodeState). n.hart.unit) (slice_get m.nodes rank)
 
 -- a test that gives no refusal, or the refusal
 abbrev pub refused_unless : Bool → DebugError → Option DebugError
@@ -60,8 +67,8 @@ abbrev range_fault : MachineState → (rank addr len : ℕ) → Option DebugErro
 range_fault m rank addr len =
     refused_unless (option_map_or (λ (n : NodeState). fits (length n.hart.memory) addr len) (slice_get m.nodes rank) true) BadRange
 
--- why a command is refused: it names no node, or bytes that are not in its memory; or it is to make events, and the machine has its
--- outcome
+-- why a command is refused: it names no node, or bytes that are not in its memory, or a unit of floating point that it does not have; or it is
+-- to make events, and the machine has its outcome
 abbrev pub command_fault : MachineState → Command → Option DebugError
 command_fault m (Step rank n) = option_or (refused_unless (has_rank m rank) BadRank) (refused_unless (is_none m.outcome) Over)
 command_fault m (Return rank addr sp) = option_or (refused_unless (has_rank m rank) BadRank) (refused_unless (is_none m.outcome) Over)
@@ -69,6 +76,7 @@ command_fault m Phase = refused_unless (is_none m.outcome) Over
 command_fault m Turn = refused_unless (is_none m.outcome) Over
 command_fault m Go = refused_unless (is_none m.outcome) Over
 command_fault m (Regs rank) = refused_unless (has_rank m rank) BadRank
+command_fault m (Fregs rank) = option_or (refused_unless (has_rank m rank) BadRank) (refused_unless (is_some (unit_at m rank)) NoFloatUnit)
 command_fault m (Bytes rank addr len) = option_or (refused_unless (has_rank m rank) BadRank) (range_fault m rank addr len)
 command_fault m (Queue rank) = refused_unless (has_rank m rank) BadRank
 command_fault m Costs = None
@@ -104,6 +112,13 @@ turn_answer None = turned true
 abbrev pub registers_of : NodeState → Answer
 registers_of s = registers s.hart.rank s.hart.pc s.ticks s.state s.hart.registers
 
+-- what f0 to f31 hold
+abbrev pub float_registers : FloatState → List ℕ
+float_registers u = map (λ r. slice_index u.registers r) (range_with_len 0 32)
+
+abbrev pub floats_of : (rank : ℕ) → FloatState → Answer
+floats_of rank u = floats rank (csr_value Fcsr u) (float_registers u)
+
 -- what a command makes of a machine's events, and what it answers
 abbrev pub Makes : List Point → MachineState → Command → List Event → Answer → Type 0
 Makes points m (Step rank n) events reply = (events ≡ replicate (steps_at m rank n) (event.Step rank)) × (reply ≡ moved (length events))
@@ -114,6 +129,7 @@ Makes points m Turn events reply = (events ≡ turn_events m)
     × (reply ≡ (if is_enabled m event.Turn then turn_answer (after m events).outcome else turned false))
 Makes points m Go events reply = Goes points m events reply
 Makes points m (Regs rank) events reply = (events ≡ []) × (Some reply ≡ option_map registers_of (slice_get m.nodes rank))
+Makes points m (Fregs rank) events reply = (events ≡ []) × (Some reply ≡ option_map (floats_of rank) (unit_at m rank))
 Makes points m (Bytes rank addr len) events reply = (events ≡ [])
     × (Some reply ≡ option_map (λ (n : NodeState). bytes (bytes_at n.hart.memory addr len)) (slice_get m.nodes rank))
 Makes points m (Queue rank) events reply = (events ≡ [])
@@ -121,7 +137,7 @@ Makes points m (Queue rank) events reply = (events ≡ [])
 Makes points m Costs events reply = (events ≡ []) × (reply ≡ costs m.ledger)
 
 -- what a command made where it was refused memory: some first of its events, and for `Return`, `Turn` and `Go` not all of them (a turn that
--- is not enabled has no events of which one could be missing). `Regs` asks for no memory
+-- is not enabled has no events of which one could be missing). `Regs` and `Fregs` ask for no memory
 abbrev pub MakesPart : List Point → MachineState → Command → List Event → Type 0
 MakesPart points m (Step rank n) events = (k : ℕ) × (k ≤ steps_at m rank n) × (events ≡ replicate k (event.Step rank))
 MakesPart points m (Return rank addr sp) events =
@@ -130,6 +146,7 @@ MakesPart points m Phase events = IsWithinPhases m events
 MakesPart points m Turn events = (events ≡ []) × (is_enabled m event.Turn ≡ true)
 MakesPart points m Go events = IsOnTheWay points m events
 MakesPart points m (Regs rank) events = ⊥
+MakesPart points m (Fregs rank) events = ⊥
 MakesPart points m (Bytes rank addr len) events = events ≡ []
 MakesPart points m (Queue rank) events = events ≡ []
 MakesPart points m Costs events = events ≡ []
@@ -142,6 +159,7 @@ rest_of Phase made = Phase
 rest_of Turn made = Turn
 rest_of Go made = Go
 rest_of (Regs rank) made = Regs rank
+rest_of (Fregs rank) made = Fregs rank
 rest_of (Bytes rank addr len) made = Bytes rank addr len
 rest_of (Queue rank) made = Queue rank
 rest_of Costs made = Costs

@@ -17,6 +17,8 @@ pub enum Command {
     Go,
     /// The registers of the node of a rank, its pc, its ticks and its state.
     Regs { rank: u32 },
+    /// The registers of floating point of the node of a rank, and its fcsr.
+    Fregs { rank: u32 },
     /// `len` bytes of the memory of the node of a rank, from the address `addr` on.
     Bytes { rank: u32, addr: u32, len: u32 },
     /// The messages that the node of a rank has received and not moved yet.

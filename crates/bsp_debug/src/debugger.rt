@@ -1,10 +1,10 @@
 //! The debugger.
 
-ghost use Rattle.std.specs.Prelude.{◌≡◌, ◌+◌, ◌⊎◌, [], length, slice_get, option_copied, true, false, Some, None, IsSome, is_none, Err, IfOk, IfErr, OnOk, OnErr, if◌then◌else◌};
+ghost use Rattle.std.specs.Prelude.{◌≡◌, ◌+◌, ◌⊎◌, [], length, slice_get, option_copied, true, false, Some, None, IsSome, is_none, is_some, Err, IfOk, IfErr, OnOk, OnErr, if◌then◌else◌};
 ghost use Rattle.machine_core.specs.Events.{after};
 ghost use Rattle.bsp_debug.specs.declared.command.Command.TheVariants.{Bytes as bytes_command};
 ghost use Rattle.bsp_debug.specs.declared.error.DebugError.{DebugError as DebugErrorValue};
-ghost use Rattle.bsp_debug.specs.Debugger.{has_rank, add_fault, remove_fault, command_fault, Makes, MakesPart};
+ghost use Rattle.bsp_debug.specs.Debugger.{has_rank, unit_at, add_fault, remove_fault, command_fault, Makes, MakesPart};
 ghost use Rattle.bsp_debug.specs.Kept.{state_at, kept_fault, keeping, back_at, without};
 ghost use Rattle.bsp_debug.specs.Made.{events_of, AreFew};
 ghost use Rattle.bsp_debug.specs.Points.{is_set, AreInOrder, HasAlso, HasNoMore};
@@ -19,9 +19,10 @@ use crate::made::Made;
 use crate::over::{next_rank, over};
 use crate::point::Point;
 use crate::points::Points;
-use crate::reads::{bytes_of, costs_of, queue_of, registers_of};
+use crate::reads::{bytes_of, costs_of, floats_of, queue_of, registers_of};
 use crate::reply::Reply;
 use crate::trace::Trace;
+use float_unit::FloatUnit;
 use machine_core::Machine;
 use node_core::Node;
 use std::alloc::{AllocError, Allocator};
@@ -141,8 +142,8 @@ impl<A: Allocator + Copy> Debugger<A> {
     /// Does what a command says, and answers it. The events that it made are those of [`Debugger::events_of_last`].
     ///
     /// # Errors
-    /// The first that applies of [`DebugError::BadRank`], [`DebugError::BadRange`] and [`DebugError::Over`], at which no event
-    /// was made; then [`DebugError::NoMemory`], after some first of the command's events, of [`Command::Return`], [`Command::Turn`]
+    /// The first that applies of [`DebugError::BadRank`], [`DebugError::BadRange`], [`DebugError::NoFloatUnit`] and [`DebugError::Over`], at
+    /// which no event was made; then [`DebugError::NoMemory`], after some first of the command's events, of [`Command::Return`], [`Command::Turn`]
     /// and [`Command::Go`] not all of them. The command given again goes on from there: it leaves what it would have left,
     /// [`Command::Step`] with as many steps less as were made.
     pub fn command(&mut self, command: Command) -> Result<Reply<A>, DebugError>
@@ -233,6 +234,7 @@ impl<A: Allocator + Copy> Debugger<A> {
             Command::Return { rank, .. } => self.check_rank(rank).and(self.check_open()),
             Command::Phase | Command::Turn | Command::Go => self.check_open(),
             Command::Regs { rank } | Command::Queue { rank } => self.check_rank(rank),
+            Command::Fregs { rank } => self.check_rank(rank).and(self.check_unit(rank)),
             Command::Bytes { rank, addr, len } => self.check_range(rank, addr, len),
             Command::Costs => Ok(()),
         }
@@ -247,6 +249,18 @@ impl<A: Allocator + Copy> Debugger<A> {
             Some(_) => Ok(()),
             None => Err(DebugError::BadRank),
         }
+    }
+
+    /// Whether the node of a rank has a unit of floating point.
+    fn check_unit(&self, rank: u32) -> Result<(), DebugError>
+        ensures ok { OnOk result (is_some (unit_at self.now.machine rank) ≡ true) }
+        ensures err { IfErr result (λ e. (e ≡ DebugError.NoFloatUnit)
+            × (is_some (unit_at self.now.machine rank) ≡ false)) }
+    {
+        if unit_of(self.machine(), rank).is_none() {
+            return Err(DebugError::NoFloatUnit);
+        }
+        Ok(())
     }
 
     /// Whether a range lies in the memory of the node of a rank.
@@ -370,6 +384,7 @@ fn reply_to<A: Allocator + Copy>(
         Command::Turn => trace.turn_with_reply(),
         Command::Go => trace.go(points),
         Command::Regs { rank } => Ok(registers_of(node_of(trace.machine(), rank))),
+        Command::Fregs { rank } => Ok(floats_of(rank, unit_that_is(trace.machine(), rank))),
         Command::Bytes { rank, addr, len } => {
             bytes_of(alloc, node_of(trace.machine(), rank), addr, len)
         }
@@ -387,4 +402,22 @@ fn node_of<A: Allocator>(machine: &Machine<A>, rank: u32) -> &Node<A>
         Some(node) => node,
         None => unreachable!(),
     }
+}
+
+/// The unit of floating point of a node that has one.
+fn unit_that_is<A: Allocator>(machine: &Machine<A>, rank: u32) -> &FloatUnit
+    requires { is_some (unit_at machine.now rank) ≡ true }
+    ensures { unit_at machine.now rank ≡ Some result.now }
+{
+    match unit_of(machine, rank) {
+        Some(unit) => unit,
+        None => unreachable!(),
+    }
+}
+
+/// The unit of floating point of the node of a rank, if there is such a node, and it has one.
+fn unit_of<A: Allocator>(machine: &Machine<A>, rank: u32) -> Option<&FloatUnit>
+    ensures { option_copied result ≡ unit_at machine.now rank }
+{
+    machine.node(rank)?.unit()
 }

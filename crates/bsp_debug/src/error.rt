@@ -10,6 +10,8 @@ pub enum DebugError {
     BadRank,
     /// The range does not lie in the node's memory.
     BadRange,
+    /// The node has no unit of floating point.
+    NoFloatUnit,
     /// As many points are set as can be, 1,024.
     TooMany,
     /// The point is not set.
@@ -32,6 +34,7 @@ impl fmt::Display for DebugError {
         f.write_str(match self {
             DebugError::BadRank => "BadRank",
             DebugError::BadRange => "BadRange",
+            DebugError::NoFloatUnit => "NoFloatUnit",
             DebugError::TooMany => "TooMany",
             DebugError::NoSuchBreak => "NoSuchBreak",
             DebugError::NoSuchKept => "NoSuchKept",

@@ -2,14 +2,16 @@
 
 ghost use Rattle.std.specs.Prelude.{◌≡◌, length, IfOk, IsTrue};
 ghost use Rattle.node_memory.specs.Bytes.{fits, bytes_at};
-ghost use Rattle.bsp_debug.specs.Debugger.{registers_of as registers_of_node};
+ghost use Rattle.bsp_debug.specs.Debugger.{floats_of as floats_of_unit, registers_of as registers_of_node};
 ghost use Rattle.bsp_debug.specs.Reply.{answer, bytes as bytes_answer, queue as queue_answer, costs as costs_answer};
 
 use crate::reply::Reply;
 use bsp_requests::Message;
+use float_unit::FloatUnit;
 use list_vec::ListVec;
 use machine_core::Machine;
 use node_core::Node;
+use rv_float_tables::FloatCsr;
 use std::alloc::{AllocError, Allocator};
 
 /// The registers of a node, its pc, its ticks and its state.
@@ -29,6 +31,18 @@ pub(crate) fn registers_of<A: Allocator>(node: &Node<A>) -> Reply<A>
         state: node.state(),
         x,
     }
+}
+
+/// The registers of floating point and fcsr of the unit of the node of a rank.
+pub(crate) fn floats_of<A: Allocator>(rank: u32, unit: &FloatUnit) -> Reply<A>
+    ensures { answer result ≡ floats_of_unit rank unit.now }
+{
+    let mut f = [0; 32];
+    for n in 0..32u8 {
+        f[usize::from(n)] = unit.register(n);
+    }
+    let fcsr = unit.csr(FloatCsr::Fcsr);
+    Reply::Fregs { rank, fcsr, f }
 }
 
 /// A range of the memory of a node.

@@ -27,6 +27,12 @@ pub enum Reply<A: Allocator> {
         state: State,
         x: [u32; 32],
     },
+    /// The rank of a node, its fcsr, and the patterns of 64 bits in its registers f0 to f31.
+    Fregs {
+        rank: u32,
+        fcsr: u32,
+        f: [u64; 32],
+    },
     /// Bytes of a node's memory, that of the lowest address first.
     Bytes(ListVec<u8, A>),
     /// The messages that a node has not moved yet, the next one first.

@@ -1,3 +1,4 @@
+pub mod Floats
 pub mod Framed
 pub mod Kept
 pub mod Lines

@@ -2,7 +2,7 @@
 use Rattle.std.specs.Prelude.{ℕ, ◌&&◌, Bool, true, false, if◌then◌else◌, List, [], ◌∷◌, bytes_eq, codes, Option, Some, None, option_map}
 use Rattle.std.specs.Option.{option_and_then, option_map_or, option_or}
 use Rattle.bsp_debug.specs.declared.command.Command.{Command as Asked}
-use Rattle.bsp_debug.specs.declared.command.Command.TheVariants.{Step, Phase, Turn, Go, Regs, Bytes, Queue, Costs}
+use Rattle.bsp_debug.specs.declared.command.Command.TheVariants.{Step, Phase, Turn, Go, Regs, Fregs, Bytes, Queue, Costs}
 use Rattle.bsp_debug.specs.declared.point.Point.{Point}
 use Rattle.bsp_debug.specs.declared.point.Point.TheVariants.{Address, Superstep}
 use Rattle.debug_lines.specs.declared.form.Form.{Form}
@@ -27,11 +27,12 @@ line_of_one word =
     if bytes_eq word (codes "output") then Some Output else
     (if bytes_eq word (codes "quit") then Some Quit else option_map Command (command_of_one word))
 
--- a line of two: `regs RANK`, `queue RANK`
+-- a line of two: `regs RANK`, `fregs RANK`, `queue RANK`
 abbrev pub line_of_two : (word rank : List ℕ) → Option Line
 line_of_two word rank =
     if bytes_eq word (codes "regs") then option_map (λ r. Command (Regs r)) (number_in 32 rank) else
-    (if bytes_eq word (codes "queue") then option_map (λ r. Command (Queue r)) (number_in 32 rank) else None)
+    (if bytes_eq word (codes "fregs") then option_map (λ r. Command (Fregs r)) (number_in 32 rank) else
+    (if bytes_eq word (codes "queue") then option_map (λ r. Command (Queue r)) (number_in 32 rank) else None))
 
 -- `RANK ADDR`, or `superstep K`
 abbrev pub point_of : (a b : List ℕ) → Option Point

@@ -3,12 +3,12 @@ use Rattle.std.specs.Prelude.{ℕ, List, [], ◌∷◌, ◌++◌, Option, find, 
 use Rattle.std.specs.List.{flat_map}
 use Rattle.std.specs.Str.{bytes_eq}
 use Rattle.debug_lines.specs.declared.topic.Topic.{Topic}
-use Rattle.debug_lines.specs.declared.topic.Topic.TheVariants.{Break, Clear, Points, Go, Step, Over, Phase, Turn, Where, Regs, Codes, Bytes, Words, Text, Areas, Requests, Queue, Keep, Kept, Back, Forget, Costs, Output, Nodes, Help, Quit}
+use Rattle.debug_lines.specs.declared.topic.Topic.TheVariants.{Break, Clear, Points, Go, Step, Over, Phase, Turn, Where, Regs, Fregs, Codes, Bytes, Words, Text, Areas, Requests, Queue, Keep, Kept, Back, Forget, Costs, Output, Nodes, Help, Quit}
 
 -- all of them, in the order in which they are told
 unfoldable pub topics : List Topic
 topics =
-    Break ∷ Clear ∷ Points ∷ Go ∷ Step ∷ Over ∷ Phase ∷ Turn ∷ Where ∷ Regs ∷ Codes ∷ Bytes ∷ Words ∷ Text ∷ Areas ∷ Requests ∷ Queue
+    Break ∷ Clear ∷ Points ∷ Go ∷ Step ∷ Over ∷ Phase ∷ Turn ∷ Where ∷ Regs ∷ Fregs ∷ Codes ∷ Bytes ∷ Words ∷ Text ∷ Areas ∷ Requests ∷ Queue
     ∷ Keep ∷ Kept ∷ Back ∷ Forget ∷ Costs ∷ Output ∷ Nodes ∷ Help ∷ Quit ∷ []
 
 -- the first word of its lines
@@ -23,6 +23,7 @@ topic_name Phase = codes "phase"
 topic_name Turn = codes "turn"
 topic_name Where = codes "where"
 topic_name Regs = codes "regs"
+topic_name Fregs = codes "fregs"
 topic_name Codes = codes "list"
 topic_name Bytes = codes "bytes"
 topic_name Words = codes "words"
@@ -52,6 +53,7 @@ usage Phase = codes "phase"
 usage Turn = codes "turn"
 usage Where = codes "where [RANK]"
 usage Regs = codes "regs RANK"
+usage Fregs = codes "fregs RANK"
 usage Codes = codes "list RANK ADDR N"
 usage Bytes = codes "bytes RANK ADDR LEN"
 usage Words = codes "words RANK ADDR N"
@@ -81,6 +83,7 @@ purpose Phase = codes "every rank goes on until it stops by itself"
 purpose Turn = codes "ends the superstep, if no rank runs any more"
 purpose Where = codes "where the ranks are, or one"
 purpose Regs = codes "the registers of a rank"
+purpose Fregs = codes "the registers of floating point of a rank, and fcsr"
 purpose Codes = codes "N instructions from ADDR on"
 purpose Bytes = codes "LEN bytes of memory"
 purpose Words = codes "N words of four bytes"

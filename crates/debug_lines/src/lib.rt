@@ -7,7 +7,7 @@
 //! There are three such languages, each with the lines of the one before it and some more: that of scripts, that of dialogues
 //! ([`parse_dialogue_line`]) and that of framed sessions ([`parse_framed_line`]). [`add_place`], [`add_kept`], [`point_lines`],
 //! [`shown_text`], [`area_lines`], [`request_lines`], [`help_lines`], [`setup_line`] and [`costs_from`] give what answers the lines that
-//! scripts do not have, and [`named_registers`] what tells of a node in a dialogue. Each reply stands behind a header in a framed session
+//! scripts do not have, and [`named_registers`] and [`named_float_registers`] what tells of a node in a dialogue. Each reply stands behind a header in a framed session
 //! ([`framed_text`]).
 //!
 //! Callers may rely on this:
@@ -25,6 +25,7 @@
 #![tactic(auto)]
 
 mod character;
+mod floats;
 mod form;
 mod framed;
 mod kept;
@@ -38,6 +39,7 @@ mod topic;
 mod verdict;
 mod word;
 
+pub use floats::named_float_registers;
 pub use form::Form;
 pub use framed::{add_place, costs_from, framed_text, setup_line};
 pub use kept::add_kept;

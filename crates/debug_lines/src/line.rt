@@ -20,8 +20,8 @@ pub enum Line {
     Break(Point),
     /// To take a point away: `clear RANK ADDR` or `clear superstep K`.
     Clear(Point),
-    /// A command of the debugger: `step RANK COUNT`, `phase`, `turn`, `go`, `regs RANK`, `bytes RANK ADDR LEN`, `queue RANK`
-    /// or `costs`.
+    /// A command of the debugger: `step RANK COUNT`, `phase`, `turn`, `go`, `regs RANK`, `fregs RANK`, `bytes RANK ADDR LEN`,
+    /// `queue RANK` or `costs`.
     Command(Command),
     /// What the nodes wrote: `output`.
     Output,
@@ -378,6 +378,8 @@ fn line_of_two(word: &[u8], rank: &[u8]) -> Option<Line>
     let rank = u32_of(rank)?;
     if word == b"regs".as_slice() {
         Some(Line::Command(Command::Regs { rank }))
+    } else if word == b"fregs".as_slice() {
+        Some(Line::Command(Command::Fregs { rank }))
     } else if word == b"queue".as_slice() {
         Some(Line::Command(Command::Queue { rank }))
     } else {

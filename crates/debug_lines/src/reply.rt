@@ -7,6 +7,7 @@ ghost use Rattle.cost_ledger.specs.declared.CostRow.{CostRow as CostRowValue};
 ghost use Rattle.bsp_debug.specs.Reply.{answer, costs};
 ghost use Rattle.debug_lines.specs.Replies.{entry_end, message_line, node_line, register_lines, byte_lines as byte_lines_of, queue_lines as queue_lines_of, reply_text as reply_text_of};
 
+use crate::floats::float_registers;
 use crate::octets::Octets;
 use bsp_debug::{Point, Reply};
 use bsp_requests::Message;
@@ -48,6 +49,7 @@ pub fn reply_text<A: Allocator, L: Allocator, B: Allocator>(
             add_registers(&mut text, x)?;
             Ok(text)
         }
+        Reply::Fregs { rank, fcsr, f } => float_registers(alloc, *rank, *fcsr, f),
         Reply::Bytes(bytes) => byte_lines(alloc, bytes.as_slice()),
         Reply::Queue(messages) => queue_lines(alloc, messages.as_slice()),
         Reply::Costs(_) => ledger.lines(alloc, version, g, l),

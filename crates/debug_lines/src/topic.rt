@@ -28,6 +28,8 @@ pub enum Topic {
     Where,
     /// `regs`.
     Regs,
+    /// `fregs`.
+    Fregs,
     /// `list`.
     Codes,
     /// `bytes`.
@@ -63,7 +65,7 @@ pub enum Topic {
 }
 
 /// All of them, in the order in which they are told.
-static TOPICS: [Topic; 26] = [
+static TOPICS: [Topic; 27] = [
     Topic::Break,
     Topic::Clear,
     Topic::Points,
@@ -74,6 +76,7 @@ static TOPICS: [Topic; 26] = [
     Topic::Turn,
     Topic::Where,
     Topic::Regs,
+    Topic::Fregs,
     Topic::Codes,
     Topic::Bytes,
     Topic::Words,
@@ -145,6 +148,7 @@ fn name_of(topic: Topic) -> &'static str
         Topic::Turn => "turn",
         Topic::Where => "where",
         Topic::Regs => "regs",
+        Topic::Fregs => "fregs",
         Topic::Codes => "list",
         Topic::Bytes => "bytes",
         Topic::Words => "words",
@@ -179,6 +183,7 @@ pub(crate) fn usage_of(topic: Topic) -> &'static str
         Topic::Turn => "turn",
         Topic::Where => "where [RANK]",
         Topic::Regs => "regs RANK",
+        Topic::Fregs => "fregs RANK",
         Topic::Codes => "list RANK ADDR N",
         Topic::Bytes => "bytes RANK ADDR LEN",
         Topic::Words => "words RANK ADDR N",
@@ -213,6 +218,7 @@ fn purpose_of(topic: Topic) -> &'static str
         Topic::Turn => "ends the superstep, if no rank runs any more",
         Topic::Where => "where the ranks are, or one",
         Topic::Regs => "the registers of a rank",
+        Topic::Fregs => "the registers of floating point of a rank, and fcsr",
         Topic::Codes => "N instructions from ADDR on",
         Topic::Bytes => "LEN bytes of memory",
         Topic::Words => "N words of four bytes",

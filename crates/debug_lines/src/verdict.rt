@@ -1,5 +1,8 @@
 //! What a line is answered that has no reply.
 
+ghost use Rattle.std.specs.Prelude.{◌≡◌};
+ghost use Rattle.debug_lines.specs.Verdicts.{advice};
+
 use crate::topic::{Topic, usage_of};
 use bsp_debug::DebugError;
 use std::fmt;
@@ -31,7 +34,10 @@ impl fmt::Display for Verdict {
         match self {
             Verdict::Done => write!(f, "ok\n"),
             Verdict::Kept(number) => write!(f, "kept {number}\n"),
-            Verdict::Refused(error) => write!(f, "refused: {error}\n"),
+            Verdict::Refused(error) => {
+                let advice = advice_on(*error);
+                write!(f, "refused: {error}{advice}\n")
+            }
             Verdict::BadCommand => write!(f, "refused: BadCommand\n"),
             Verdict::Misused(topic) => {
                 let usage = usage_of(*topic);
@@ -42,5 +48,21 @@ impl fmt::Display for Verdict {
                 "refused: BadCommand: there is no such line; help tells the lines\n"
             ),
         }
+    }
+}
+
+/// What is told behind the name of a refusal.
+fn advice_on(error: DebugError) -> &'static str
+    ensures { result.now ≡ advice error }
+{
+    match error {
+        DebugError::NoFloatUnit => ": nodes have one with --float",
+        DebugError::BadRank
+        | DebugError::BadRange
+        | DebugError::TooMany
+        | DebugError::NoSuchBreak
+        | DebugError::NoSuchKept
+        | DebugError::Over
+        | DebugError::NoMemory => "",
     }
 }

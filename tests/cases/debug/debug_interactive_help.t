@@ -19,6 +19,7 @@ Help tells how the lines are spelled and what they do: all of them, or those wit
   turn: ends the superstep, if no rank runs any more
   where [RANK]: where the ranks are, or one
   regs RANK: the registers of a rank
+  fregs RANK: the registers of floating point of a rank, and fcsr
   list RANK ADDR N: N instructions from ADDR on
   bytes RANK ADDR LEN: LEN bytes of memory
   words RANK ADDR N: N words of four bytes

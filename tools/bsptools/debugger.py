@@ -26,6 +26,8 @@ ENDING = 1.0
 _HEADER = re.compile(rb"(done|refused) (\d+)\n")
 _NODE = re.compile(r"rank (\d+) pc ([0-9a-f]{8}) ticks (\d+) state (.+)")
 _REGISTER = re.compile(r"=([0-9a-f]{8})")
+_FCSR = re.compile(r"rank \d+ fcsr ([0-9a-f]{8}) .+")
+_FLOAT = re.compile(r"=([0-9a-f]{16})")
 
 
 class DebuggerEnded(Refused):
@@ -70,6 +72,31 @@ def node_of(reply: Sequence[str], stack: bytes = b"") -> Node | None:
         return None
     x = tuple(int(value, 16) for line in reply[1:] for value in _REGISTER.findall(line))
     return Node(int(head[1]), int(head[2], 16), int(head[3]), head[4], x, stack)
+
+
+class Floats(NamedTuple):
+    """The registers of floating point of a node as the debugger shows them: fcsr, and the 64 bits of each of f0 to f31."""
+
+    fcsr: int
+    f: tuple[int, ...]
+
+    @property
+    def fflags(self) -> int:
+        """The flags."""
+        return self.fcsr & 31
+
+    @property
+    def frm(self) -> int:
+        """The rounding mode."""
+        return self.fcsr >> 5 & 7
+
+
+def floats_of(reply: Sequence[str]) -> Floats:
+    """What a reply to `fregs` shows."""
+    head = _FCSR.fullmatch(reply[0]) if len(reply) == 9 else None
+    if head is None:
+        raise Refused("the debugger shows no registers of floating point")
+    return Floats(int(head[1], 16), tuple(int(value, 16) for line in reply[1:] for value in _FLOAT.findall(line)))
 
 
 class Reply(NamedTuple):

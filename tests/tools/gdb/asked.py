@@ -112,12 +112,25 @@ def of_this_rank(bench: Bench) -> None:
 
 @case
 def floats(bench: Bench) -> None:
-    """A program for registers of floating point: gdb takes it, forwards and back, and is not told what these hold."""
-    program = bench.build("tests/tools/gdb/floats.c", "-march=rv32imfdc")
-    commands = ["watch total", "continue", "continue", "print total", "info registers fa0", "monitor wrote total", "reverse-continue"]
+    """A program for registers of floating point: gdb takes it, and shows what each rank has in these, forwards and back."""
+    program = bench.build("tests/tools/gdb/floats.c", "-march=rv32imfdc", "-O2")
+    commands = ["watch total", "continue", "continue", "print total", "monitor wrote total", "reverse-continue"]
     text = bench.gdb(program, [*commands, "delete", "continue"])
-    wrote = "a store by rank 0 in superstep 0: main, floats.c:10, pc 0x"
-    in_order(text, "New value = 0.5", "New value = 1.5", "= 1.5\n", "<unavailable>", wrote, "New value = 0.5", "total 3\nended\n")
+    wrote = "a store by rank 0 in superstep 0: main, floats.c:14, pc 0x"
+    in_order(text, "New value = 0.5", "New value = 1.5", "= 1.5\n", wrote, "New value = 0.5", "total 3\nended\n")
+    both = ["print $fa0.double", "print $fa1.double"]
+    commands = ["break *plus", "continue", "continue", *both, "stepi", *both, "info registers float", "reverse-stepi", *both]
+    # Of a rank that has not begun; and as the rank was at an earlier call, by the run once more.
+    commands += ["thread 2", *both, "thread 1", "reverse-continue", *both, "print $fcsr", "set var $fa0.double = 1"]
+    text = bench.gdb(program, commands, "-n", "2")
+    told = [float(it) for it in re.findall(r"^(?:\(gdb\) )?\$\d+ = (.*)$", text, re.MULTILINE)]
+    expect(told == [0.5, 1, 1.5, 1, 0.5, 1, 0, 0, 0, 0.5, 0], (told, text))
+    in_order(text, "fa0 ", "double = 1.5}", "(raw 0x3ff8000000000000)", "fa1 ", "double = 1}", "ft11 ", "fflags ", "NX:0", "frm ", "fcsr ")
+    expect("Writing to registers is not allowed" in text, text)
+    # What the debugger says of the same state: `plus` is called for the second time, and has made its sum.
+    addr = int(re.findall(r"0x[0-9a-f]+", bench.gdb(program, ["info address plus"]))[-1], 16)
+    told_there = bench.debug(program, [f"break 0 {addr}", "go", "go", "step 0 1", "fregs 0"], "--nodes", "2", "--float", "--clock")
+    in_order("\n".join(told_there), "rank 0 fcsr 00000000 frm 0 flags -", "f10=3ff8000000000000 f11=3ff0000000000000")
 
 
 @case

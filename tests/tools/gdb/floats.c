@@ -4,10 +4,14 @@
 
 volatile double total;
 
+__attribute__((noinline)) double plus(double a, double b) {
+    return a + b;
+}
+
 int main(void) {
     bsp_begin(bsp_nprocs());
     for (int i = 1; i <= 3; i++)
-        total += 0.5 * i;
+        total = plus(total, 0.5 * i);
     printf("total %d\n", (int)total);
     bsp_end();
 }

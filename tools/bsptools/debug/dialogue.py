@@ -5,7 +5,7 @@ from __future__ import annotations
 import re
 from typing import Callable, Dict, Iterator, List, Optional, Sequence, Set
 
-from ..debugger import DebuggerEnded, Node, Reply, Session
+from ..debugger import DebuggerEnded, Node, Reply, Session, floats_of
 from ..refusals import Refused, printable, put
 from . import showing
 from .arrivals import Asked as Question
@@ -56,6 +56,7 @@ class Dialogue:
         self._own: Dict[str, Callable[[Asked], Iterator[str]]] = {
             "help": lambda asked: iter(help_of("".join(asked.words))),
             "regs": lambda asked: iter(showing.registers(self.names, self._node(asked.operands["RANK"]))),
+            "fregs": self._fregs,
             "bytes": self._bytes,
             "words": self._words,
             "text": self._text,
@@ -216,6 +217,13 @@ class Dialogue:
         if node is None:
             raise Refused("the debugger shows no node")
         return node
+
+    def _fregs(self, asked: Asked) -> Iterator[str]:
+        rank = asked.operands["RANK"]
+        reply = self._session.ask(f"fregs {rank}")
+        if not reply.is_done:
+            raise Refused("refused: NoFloatUnit: the program was not compiled for one, as bspcc -march=rv32imfdc does")
+        yield from showing.floats(rank, floats_of(reply.lines))
 
     def _memory(self, rank: int, addr: int, count: int) -> bytes:
         """Bytes of a rank; those that come before the memory's end."""

@@ -22,6 +22,7 @@ LINES = {
     "turn": "ends the superstep, if no rank runs any more",
     "where [RANK]": "where the ranks are, or one",
     "regs RANK": "the registers of a rank",
+    "fregs RANK": "the registers of floating point of a rank, and fcsr",
     "list RANK [ADDR] [N]": "N instructions, or 8, of a rank's memory, from ADDR or from where it stands",
     "bytes RANK ADDR [N]": "N bytes, or 16",
     "words RANK ADDR [N]": "N words, or 8",

@@ -13,14 +13,14 @@ import copy
 import time
 from typing import Callable, Dict, Iterable, List, Optional, Sequence, Tuple
 
-from ..debugger import Session
+from ..debugger import Floats, Session, floats_of
 from ..limits import MOST_POINTS
 from ..refusals import Refused
 from .arrivals import Arrival, Asked, AtSuperstep, BrokenOff, Interrupted, Over, Place, Point, never
 from .kept import Kept, State
 from .process import Process
 from .spare import PIECE, Spare
-from .trace import Moment, Trace, stored
+from .trace import Moment, Trace, changes_floats, stored
 
 # How many addresses may have breakpoints: beside these a superstep and a rank are points of the bridge's own.
 MOST_BREAKPOINTS = MOST_POINTS - 2
@@ -316,15 +316,22 @@ class Machine(Process):
         self._is_at_begin = False
         moments: List[Moment] = []
         code: Dict[int, bytes] = {}
+        floats: Optional[Floats] = None
         for number in range(count):
             if number % RECORDED == 0 and must_break_off():
                 raise Interrupted
             node = self.node(rank)
-            change = stored(self.code_at(rank, node.pc, code), node.x)
+            instruction = self.code_at(rank, node.pc, code)
+            change = stored(instruction, node.x)
             lines = [] if not change else [f"bytes {rank} {change.addr} {change.length}"]
-            replies = self._session.ask_all([*lines, f"step {rank} 1", f"regs {rank}"])
+            # Most instructions leave the registers of floating point as they are.
+            asked = [f"fregs {rank}"] if self.has_floats and floats is None else []
+            replies = self._session.ask_all([*lines, *asked, f"step {rank} 1", f"regs {rank}"])
             old = bytes.fromhex("".join(replies[0].lines)) if change and replies[0].is_done else b""
-            moments.append(Moment(node, 0 if change is None else change.addr, old))
+            floats = floats_of(replies[-3].accepted()) if asked else floats
+            moments.append(Moment(node, floats, 0 if change is None else change.addr, old))
+            if changes_floats(instruction):
+                floats = None
             for place in range(moments[-1].addr - 3, moments[-1].addr + len(old)):
                 code.pop(place, None)
             if change is None:

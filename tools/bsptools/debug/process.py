@@ -8,7 +8,7 @@ from __future__ import annotations
 import abc
 from typing import Dict, Iterable, List, Optional, Sequence
 
-from ..debugger import Node, Reply, Session, Shown
+from ..debugger import Floats, Node, Reply, Session, Shown, floats_of
 from .arrivals import Arrival, Asked, AtRank, AtSuperstep, Interrupted, Over, Place, Point, Points, never, spelled, told
 from .trace import Trace
 
@@ -23,6 +23,7 @@ class Process(abc.ABC):
 
     def __init__(self, command: Sequence[str]) -> None:
         self.command = list(command)
+        self.has_floats = "--float" in self.command
         self._session = Session(self.command)
         self._points: Points = frozenset()
         self._nodes: Dict[int, Node] = {}
@@ -59,6 +60,13 @@ class Process(abc.ABC):
         """All nodes."""
         self._make_room()
         return self._look_at(range(self.ranks))
+
+    def floats(self, rank: int) -> Floats:
+        """The registers of floating point of a node, where the nodes have them."""
+        self._make_room()
+        if self._trace is not None and self._trace.rank == rank and self._trace.floats is not None:
+            return self._trace.floats
+        return floats_of(self._session.ask(f"fregs {rank}").accepted())
 
     @property
     def superstep(self) -> int:

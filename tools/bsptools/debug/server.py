@@ -101,6 +101,6 @@ def make_session(command: Sequence[str], connection: Connection, typed: Typed = 
     """Serves a session, with a machine of its own, until gdb ends it."""
     machine = Machine(command)
     try:
-        Stub(connection, machine, typed, "--float" in command).serve()
+        Stub(connection, machine, typed).serve()
     finally:
         machine.close()

@@ -3,14 +3,18 @@
 from __future__ import annotations
 
 import re
+import struct
 from typing import Iterator, List
 
-from ..debugger import Node
+from ..debugger import Floats, Node
 from ..run.program import listing
 from .names import Names
-from .words import REGISTERS
+from .words import FLOATS, REGISTERS
 
 WORDS, BYTES = 4, 16
+# What stands above a single in a register of 64 bits; the flags of fcsr from the lowest bit on, and the rounding modes.
+BOX = 0xFFFFFFFF
+FLAGS, ROUNDING = ("NX", "UF", "OF", "DZ", "NV"), ("rne", "rtz", "rdn", "rup", "rmm")
 
 _REGISTER = re.compile(r"\bx([0-9]|[12][0-9]|3[01])\b")
 _TARGET = re.compile(r"0x[0-9a-f]{8}$")
@@ -21,6 +25,21 @@ def registers(names: Names, node: Node) -> List[str]:
     cells = [f"{name}={value:08x}" for name, value in zip(REGISTERS, node.x)]
     rows = [" ".join(f"{cell:13}" for cell in cells[at : at + WORDS]).rstrip() for at in range(0, len(cells), WORDS)]
     return [f"rank {node.rank} pc {behind(names, node.pc)} ticks {node.ticks} state {node.state}", *rows]
+
+
+def floats(rank: int, shown: Floats) -> List[str]:
+    """The parts of fcsr of a rank, and its registers of floating point by the names that programs have for them, with the numbers that they
+    hold."""
+    flags = " ".join(name for bit, name in reversed(list(enumerate(FLAGS))) if shown.fflags >> bit & 1) or "-"
+    mode = ROUNDING[shown.frm] if shown.frm < len(ROUNDING) else "none"
+    return [f"rank {rank} fcsr {shown.fcsr:08x} frm {shown.frm} {mode} flags {flags}", *map(_float, FLOATS, shown.f)]
+
+
+def _float(name: str, pattern: int) -> str:
+    """A register, which holds a single where that stands in its box of ones, and else a double."""
+    if pattern >> 32 == BOX:
+        return f"{name:>4}={pattern:016x} single {struct.unpack('<f', struct.pack('<I', pattern & BOX))[0]:.9g}"
+    return f"{name:>4}={pattern:016x} double {struct.unpack('<d', struct.pack('<Q', pattern))[0]!r}"
 
 
 def behind(names: Names, address: int) -> str:

@@ -40,15 +40,13 @@ Answer = Callable[[str], bytes]
 
 
 class Stub:
-    """Answers gdb's packets over a connection, until one ends the session. `typed` asks how often Ctrl-C was typed at gdb's terminal, and
-    `has_floats` says whether the nodes have registers of floating point, which the debugger does not tell."""
+    """Answers gdb's packets over a connection, until one ends the session. `typed` asks how often Ctrl-C was typed at gdb's terminal."""
 
-    def __init__(self, connection: Connection, machine: Machine, typed: Typed, has_floats: bool) -> None:
+    def __init__(self, connection: Connection, machine: Machine, typed: Typed) -> None:
         self._connection = connection
         self._machine = machine
         self._runner = Runner(machine, self._show, connection.is_interrupted)
         self._monitored = Monitor(self._runner, typed)
-        self._has_floats = has_floats
         self._current = 0
         self._resumed: Optional[int] = None
         self._halt: Halt = Stop(0, words.TRAP)
@@ -74,7 +72,7 @@ class Stub:
             "bs": self._step_back,
             "bc": self._go_back,
             "?": lambda _: self._told(self._halt),
-            "g": lambda _: b"".join([*map(_register, self._registers()), *[words.NOT_TOLD] * (words.FLOATS * self._has_floats)]),
+            "g": lambda _: b"".join([*self._registers(), *self._floats()]),
         }
 
     def _answers_to_beginnings(self) -> Dict[str, Answer]:
@@ -162,7 +160,7 @@ class Stub:
         kind, operation, annex, place = text.split(":")
         offset, length = numbers.pair(place)
         if (kind, operation, annex) == ("features", "read", "target.xml"):
-            whole = words.target_description(self._has_floats)
+            whole = words.target_description(self._machine.has_floats)
         elif (kind, operation, annex) == ("threads", "read", ""):
             whole = words.thread_list(self._machine.superstep, (node.state for node in self._machine.nodes()))
         else:
@@ -197,15 +195,21 @@ class Stub:
         self._resumed = self._rank_or_all(text)
         return OK
 
-    def _registers(self) -> List[int]:
+    def _registers(self) -> List[bytes]:
+        """The registers and pc, by gdb's numbers."""
         node = self._machine.node(self._current)
-        return [*node.x, node.pc]
+        return [_register(it) for it in (*node.x, node.pc)]
+
+    def _floats(self) -> List[bytes]:
+        """The registers of floating point, whose numbers follow; none where the nodes have none."""
+        if not self._machine.has_floats:
+            return []
+        floats = self._machine.floats(self._current)
+        return [*(_double(it) for it in floats.f), *(_register(it) for it in (floats.fflags, floats.frm, floats.fcsr))]
 
     def _read_register(self, text: str) -> bytes:
         number = numbers.number(text)
-        if self._has_floats and words.FIRST_FLOAT <= number < words.FIRST_FLOAT + words.FLOATS:
-            return words.NOT_TOLD
-        return _register(self._registers()[number])
+        return self._registers()[number] if number < words.FIRST_FLOAT else self._floats()[number - words.FIRST_FLOAT]
 
     def _read_memory(self, text: str) -> bytes:
         addr, length = numbers.pair(text)
@@ -348,3 +352,8 @@ class Stub:
 def _register(value: int) -> bytes:
     """A register as the protocol spells it: in the target's order of bytes."""
     return hexadecimal(value.to_bytes(4, "little"))
+
+
+def _double(pattern: int) -> bytes:
+    """A register of floating point likewise."""
+    return hexadecimal(pattern.to_bytes(8, "little"))

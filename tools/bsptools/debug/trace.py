@@ -4,11 +4,13 @@ from __future__ import annotations
 
 from typing import Dict, List, NamedTuple, Optional, Tuple
 
-from ..debugger import Node
+from ..debugger import Floats, Node
 
 # Opcodes that change no memory: LOAD, LOAD-FP, MISC-MEM, OP-IMM, AUIPC, OP, LUI, MADD, MSUB, NMSUB, NMADD, OP-FP, BRANCH, JALR, JAL.
 QUIET = {0x03, 0x07, 0x0F, 0x13, 0x17, 0x33, 0x37, 0x43, 0x47, 0x4B, 0x4F, 0x53, 0x63, 0x67, 0x6F}
 LOADS, STORE, STORE_FP, SYSTEM = {0x03, 0x07}, 0x23, 0x27, 0x73
+# Opcodes that may change registers of floating point or fcsr: LOAD-FP, MADD, MSUB, NMSUB, NMADD, OP-FP, SYSTEM.
+OF_UNIT = {0x07, 0x43, 0x47, 0x4B, 0x4F, 0x53, 0x73}
 # Calls that change no memory before the turn, by their number, and the one that stores a word at its operand. The others that store do so at
 # more places, or take from a queue.
 ECALL = 0x00000073
@@ -17,8 +19,8 @@ SET_TAGSIZE = 11
 # Compressed instructions that change no memory, by their lowest two bits, and then by funct3: C.ADDI4SPN, C.FLD, C.LW, C.FLW; all; C.SLLI,
 # C.FLDSP, C.LWSP, C.FLWSP, and C.JR with its like.
 QUIET_COMPRESSED = {0: {0, 1, 2, 3}, 1: set(range(8)), 2: {0, 1, 2, 3, 4}}
-# Those that are of doubles, and of floating point at all.
-OF_DOUBLES, OF_FLOATS = {1, 5}, {1, 3, 5, 7}
+# Those that are of doubles, of floating point at all, and loads of these.
+OF_DOUBLES, OF_FLOATS, LOADS_OF_FLOATS = {1, 5}, {1, 3, 5, 7}, {1, 3}
 SP, A0, A7 = 2, 10, 17
 
 
@@ -61,6 +63,12 @@ def stores_floats(code: bytes) -> bool:
     """Whether an instruction is a store of a register of floating point."""
     word = int.from_bytes(code, "little")
     return word & 0x7F == STORE_FP if word & 3 == 3 else word & 1 == 0 and word >> 13 & 7 in OF_FLOATS
+
+
+def changes_floats(code: bytes) -> bool:
+    """Whether an instruction may change registers of floating point or fcsr."""
+    word = int.from_bytes(code, "little")
+    return word & 0x7F in OF_UNIT if word & 3 == 3 else word & 1 == 0 and word >> 13 & 7 in LOADS_OF_FLOATS
 
 
 def _stored_compressed(half: int, x: Tuple[int, ...]) -> Optional[Stored]:
@@ -113,9 +121,10 @@ def loaded(code: bytes, x: Tuple[int, ...]) -> Stored:
 
 
 class Moment(NamedTuple):
-    """A rank before an instruction, and the bytes that the instruction has overwritten."""
+    """A rank before an instruction, with its registers of floating point, if it has them, and the bytes that the instruction has overwritten."""
 
     node: Node
+    floats: Optional[Floats]
     addr: int
     overwritten: bytes
 
@@ -128,6 +137,8 @@ class Trace:
         self._moments = moments
         self._old: Dict[int, int] = {}
         self.is_behind = False
+        # The registers of floating point where it has gone back to.
+        self.floats: Optional[Floats] = None
 
     def back(self) -> Optional[Node]:
         """Goes an instruction back, if there is one. Answers the node there."""
@@ -136,6 +147,7 @@ class Trace:
         moment = self._moments.pop()
         self._old.update(enumerate(moment.overwritten, moment.addr))
         self.is_behind = True
+        self.floats = moment.floats
         return moment.node
 
     def restored(self, addr: int, data: bytes) -> bytes:

@@ -25,10 +25,13 @@ SIGNALS = {
 # The exit status of a run with this outcome: that of `bspemu run`.
 ENDED, STOPPED, EXHAUSTED, REFUSED = 0, 2, 3, 4
 
-# How many registers of floating point there are behind those and pc, by gdb's numbers, and what says that it is not told what one holds.
-FLOATS, FIRST_FLOAT, NOT_TOLD = 32, 33, b"x" * 16
 REGISTERS = """zero ra sp gp tp t0 t1 t2 s0 s1 a0 a1 a2 a3 a4 a5 a6 a7 s2 s3 s4 s5 s6 s7 s8 s9 s10 s11 t3 t4 t5 t6""".split()
 PC = 32
+# The registers of floating point by the names that programs have for them. gdb's numbers for these begin behind pc, and go on with those for the
+# parts of fcsr and for fcsr.
+FLOATS = """ft0 ft1 ft2 ft3 ft4 ft5 ft6 ft7 fs0 fs1 fa0 fa1 fa2 fa3 fa4 fa5 fa6 fa7 fs2 fs3 fs4 fs5 fs6 fs7 fs8 fs9 fs10 fs11 ft8 ft9 ft10 ft11""".split()
+FIRST_FLOAT = PC + 1
+CONTROL = ["fflags", "frm", "fcsr"]
 # The registers that a stop tells by itself, since gdb asks for them at each one: ra, sp, fp and pc.
 TOLD = [1, 2, 8, PC]
 
@@ -67,7 +70,9 @@ def target_description(has_floats: bool) -> str:
     )
     features = f'<feature name="org.gnu.gdb.riscv.cpu">{rows}</feature>'
     if has_floats:
-        rows = "".join(f'<reg name="f{it}" bitsize="64" type="ieee_double" regnum="{FIRST_FLOAT + it}"/>' for it in range(FLOATS))
+        first = FIRST_FLOAT + len(FLOATS)
+        rows = "".join(f'<reg name="f{it}" bitsize="64" type="ieee_double" regnum="{FIRST_FLOAT + it}"/>' for it in range(len(FLOATS)))
+        rows += "".join(f'<reg name="{name}" bitsize="32" type="int" regnum="{first + it}"/>' for it, name in enumerate(CONTROL))
         features += f'<feature name="org.gnu.gdb.riscv.fpu">{rows}</feature>'
     return (
         '<?xml version="1.0"?><!DOCTYPE target SYSTEM "gdb-target.dtd"><target version="1.0">'

@@ -36,8 +36,8 @@ def word_r(head: int, funct: int, rd: int, rs1: int, rs2: int) -> int:
     return head << 25 | rs2 << 20 | rs1 << 15 | funct << 12 | rd << 7 | 0x33
 
 
-def word_s(rs1: int, rs2: int, imm: int) -> int:
-    return imm >> 5 << 25 | rs2 << 20 | rs1 << 15 | 2 << 12 | (imm & 31) << 7 | 0x23
+def word_s(rs1: int, rs2: int, imm: int, funct: int = 2, opcode: int = 0x23) -> int:
+    return imm >> 5 << 25 | rs2 << 20 | rs1 << 15 | funct << 12 | (imm & 31) << 7 | opcode
 
 
 def word_j(rd: int, imm: int) -> int:
@@ -49,9 +49,25 @@ def word_b(funct: int, rs1: int, imm: int) -> int:
             | (imm >> 11 & 1) << 7 | 0x63)
 
 
-def expanded(half: int) -> Optional[int]:
-    """The word of the instruction to which a halfword expands, or None."""
-    return (first, second, third, nothing)[half & 3](half, half >> 13)
+def expanded(half: int, has_floats: bool = False) -> Optional[int]:
+    """The word of the instruction to which a halfword expands, or None. Those of floating point are there where nodes have units."""
+    word = (first, second, third, nothing)[half & 3](half, half >> 13)
+    return floating(half, half >> 13) if word is None and has_floats else word
+
+
+def floating(half: int, funct: int) -> Optional[int]:
+    """Loads and stores of floating point: doubles where bit 1 of funct3 is clear, and singles where it is set."""
+    if half & 1 or not funct & 1:
+        return None
+    is_double, is_store = not funct & 2, funct & 4
+    width = 3 if is_double else 2
+    if half & 3 == 0:
+        low, base = 8 + (half >> 2 & 7), 8 + (half >> 7 & 7)
+        offset = field(half, "12:5-3", "6:7-6" if is_double else "6:2|6")
+        return word_s(base, low, offset, width, 0x27) if is_store else word_i(0x07, width, low, base, offset)
+    if is_store:
+        return word_s(SP, half >> 2 & 31, field(half, "12:5-3|8-6" if is_double else "12:5-2|7-6"), width, 0x27)
+    return word_i(0x07, width, half >> 7 & 31, SP, field(half, "12:5", "6:4-3|8-6" if is_double else "6:4-2|7-6"))
 
 
 def nothing(_half: int, _funct: int) -> Optional[int]:

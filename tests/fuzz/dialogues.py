@@ -154,7 +154,7 @@ class Judge:
         is_of_rank = name not in (b"break", b"clear", b"back", b"forget") or (name == b"break" and len(numbers) == 2)
         if is_of_rank and numbers and numbers[0] >= self.machine.nodes:
             return "BadRank"
-        if name == b"fregs" and not self.machine.float:
+        if name == b"fregs" and not self.machine.floats:
             return "NoFloatUnit"
         if name in (b"words", b"text", b"list") and numbers[1] >= self.machine.memory:
             return "BadRange"

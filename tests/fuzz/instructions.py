@@ -37,6 +37,44 @@ def word_of_form(chance: random.Random) -> int:
     return word | chance.randrange(32) << 7 | chance.choice([0, 0, 2, chance.randrange(32)]) << 15 | chance.randrange(32) << 20
 
 
+def float_word(chance: random.Random, is_bad: bool) -> int:
+    """A word of floating point that computes, converts, moves, or reads or writes a control and status register; a bad one may have any
+    rounding mode and any fields. Of the registers there are few, so that results are operands again."""
+    rd, rs1, rs2, rs3 = (chance.randrange(8) for _ in range(4))
+    kind, rm = chance.randrange(2), chance.choice([0, 7])
+    rm = chance.randrange(8) if is_bad else rm
+    form = chance.randrange(12)
+    if form < 2:
+        return chance.choice([0x43, 0x47, 0x4B, 0x4F]) | rd << 7 | rm << 12 | rs1 << 15 | rs2 << 20 | kind << 25 | rs3 << 27
+    if form == 2:
+        # The rounding mode is written by bad ones alone: it is a fault of most that come behind.
+        register = chance.randrange(5) if is_bad else chance.choice([1, 1, 2, 3])
+        funct3 = chance.choice([1, 2, 3, 5, 6, 7]) if is_bad or register == 1 else 2
+        return 0x73 | rd << 7 | funct3 << 12 | (rs1 if is_bad or register == 1 else 0) << 15 | register << 20
+    if form < 7:
+        funct5 = chance.choice([0, 1, 2, 3, 11])
+        rs2 = 0 if funct5 == 11 and not is_bad else rs2
+    elif form < 9:
+        funct5, rm = chance.choice([(4, 0), (4, 1), (4, 2), (5, 0), (5, 1), (20, 0), (20, 1), (20, 2)])
+    else:
+        funct5, rs2, rm, kind = chance.choice([
+            (24, rs2 & 1, chance.randrange(5), kind), (26, rs2 & 1, rm, kind), (8, 1 - kind, rm, kind), (28, 0, 1, kind), (28, 0, 0, 0),
+            (30, 0, 0, 0),
+        ])  # fmt: skip
+    word = 0x53 | rd << 7 | rm << 12 | rs1 << 15 | rs2 << 20 | kind << 25 | funct5 << 27
+    return word ^ (1 << chance.randrange(7, 32) if is_bad and chance.randrange(4) == 0 else 0)
+
+
+def pattern(chance: random.Random) -> int:
+    """The pattern of a double or of a boxed single: a special one, or one that is near to something, or any."""
+    digits, exponents = chance.choice([(52, 11), (23, 8)])
+    most = (1 << exponents) - 1
+    exponent = chance.choice([0, 0, 1, 2, most, most - 1, most // 2, most // 2 + 1, most // 2 + 30, chance.randint(0, most)])
+    fraction = chance.choice([0, 0, 1, (1 << digits) - 1, 1 << (digits - 1), chance.getrandbits(digits), 3 << chance.randrange(digits - 1)])
+    found = chance.randrange(2) << (digits + exponents) | exponent << digits | fraction
+    return found if digits == 52 else found | (0 if chance.randrange(20) == 0 else 0xFFFF_FFFF << 32)
+
+
 def call(chance: random.Random) -> List[int]:
     """Words that make an environment call with small operands."""
     words = [0x13 | register << 7 | chance.choice([0, 1, 4, 0x7FF, 0xFFF, chance.randrange(1 << 12)]) << 20
@@ -48,8 +86,12 @@ def words(chance: random.Random, count: int) -> List[int]:
     """Words for an image: instructions, calls, the numbers of ranks, and anything."""
     made: List[int] = list(RANKS) if chance.randrange(4) == 0 else []
     rate = chance.choice([0, 1, 5, 50])
+    floating = chance.choice([0, 0, 0, 30])
     while len(made) < count:
         made += call(chance) if chance.randrange(4) == 0 else [word_of_form(chance)]
+        if chance.randrange(100) < floating:
+            moved = chance.choice([0x07, 0x27]) | chance.choice([2, 3]) << 12 | chance.randrange(8) << 7 | chance.randrange(1 << 12) << 20
+            made.append(chance.choice([moved, float_word(chance, chance.randrange(100) < rate)]))
         if chance.randrange(100) < rate:
             made[-1] ^= 1 << chance.randrange(32)
         if chance.randrange(100) < rate:

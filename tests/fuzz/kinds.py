@@ -16,7 +16,8 @@ def small_machine(trial: Trial, form: str) -> Machine:
     """A machine whose run is short."""
     chance = trial.random
     prices = [chance.choice([0, 1, 7, (1 << 32) - 1]) for _ in range(2)]
-    return Machine(chance.choice(NODES), chance.choice(SIZES), chance.choice(LIMITS), prices[0], prices[1], form)
+    nodes, size, limit = chance.choice(NODES), chance.choice(SIZES), chance.choice(LIMITS)
+    return Machine(nodes, size, limit, prices[0], prices[1], form, floats=chance.randrange(2) == 0)
 
 
 def elf_file(trial: Trial) -> bytes:

@@ -33,7 +33,7 @@ class Node(Hart):
     """A node: a hart with registrations, requests, output, a queue and a place in the input."""
 
     def __init__(self, entry: int, memory: bytearray, rank: int, machine: Machine, text: bytes) -> None:
-        super().__init__(entry, memory)
+        super().__init__(entry, memory, machine.floats)
         self.rank, self.nodes, self.limit, self.text = rank, machine.nodes, machine.limit, text
         self.state, self.ticks, self.cursor = "running", 0, 0
         self.areas: List[Area] = []

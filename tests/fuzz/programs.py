@@ -6,6 +6,8 @@ import dataclasses
 import random
 from typing import List, Tuple
 
+from fuzz import instructions
+
 END, NPROCS, PID, SYNC, PUSH, POP, PUT, GET, HPPUT, HPGET, TAGSIZE, SEND, QSIZE, GET_TAG, MOVE, ABORT, WRITE, READ, CLOCK = range(1, 20)
 WORDS = (1 << 32) - 1
 NODES = ((6, 1), (8, 2), (6, 3), (4, 4), (3, 5), (3, 8), (1, 17), (1, 64))
@@ -22,6 +24,7 @@ class Shape:
     base: int
     rate: int
     clock: bool
+    floats: bool
 
 
 class Program:
@@ -155,10 +158,26 @@ class Program:
         if self.is_bad():
             self.lines.append(self.chance.choice(["ebreak", ".word 0xFFFFFFFF", "jr t1", "li a7,20", "li a7,0"]))
 
+    def compute(self) -> None:
+        """Registers of floating point get values, some instructions compute with them, and the result is written with the flags."""
+        chance, place = self.chance, self.place(16)
+        for register in chance.sample(range(8), chance.randint(1, 3)):
+            pattern = instructions.pattern(chance)
+            self.word(place, pattern & WORDS)
+            self.word(place + 4, pattern >> 32)
+            self.lines += [f"li t1,{place}", f".word {3 << 12 | 6 << 15 | register << 7 | 0x07}"]
+        self.lines += [f".word {instructions.float_word(chance, self.is_bad())}" for _ in range(chance.randint(1, 8))]
+        stored = chance.randrange(8)
+        self.lines += [f"li t1,{place}", f".word {3 << 12 | 6 << 15 | stored << 20 | 0x27}"]
+        # What x0 to x7 have is written too, of which conversions and comparisons change some.
+        self.lines += [f".word {3 << 20 | 2 << 12 | 5 << 7 | 0x73}", "sw t0,8(t1)", f"sw {chance.choice(['t2', 'tp', 'gp', 'ra'])},12(t1)"]
+        self.call(WRITE, place, 16)
+
     def act(self) -> None:
         """One thing that ranks may do by themselves, or the same one several times."""
         begin = len(self.lines)
-        self.chance.choice([self.transfer, self.transfer, self.transfer, self.message, self.message, self.text, self.work])()
+        acts = [self.transfer, self.transfer, self.transfer, self.message, self.message, self.text, self.work]
+        self.chance.choice(acts + [self.compute] * 5 * self.shape.floats)()
         if self.chance.randrange(8) == 0 and self.lines[-1] == "ecall" and len(self.lines) > begin + 1:
             self.labels += 1
             self.lines[-1:] = [f"li s1,{self.chance.choice([2, 3, 20])}", f"again{self.labels}: ecall", "addi s1,s1,-1",
@@ -200,11 +219,11 @@ class Made:
     memory: int
 
 
-def program(chance: random.Random, clock: bool = False) -> Made:
-    """A program of some supersteps, which reads a clock where there is one."""
+def program(chance: random.Random, clock: bool = False, floats: bool = False) -> Made:
+    """A program of some supersteps, which reads a clock where there is one, and computes where there are units of floating point."""
     nodes, memory = (chance.choices([size for _, size in sizes], [weight for weight, _ in sizes])[0] for sizes in (NODES, MEMORIES))
     base = 0xC00 if memory == 4096 else chance.choice([0x1000, 0x1800, 0x1000])
-    made = Program(chance, Shape(nodes, memory, base, chance.choice([0, 0, 0, 2, 5, 20, 200]), clock))
+    made = Program(chance, Shape(nodes, memory, base, chance.choice([0, 0, 0, 2, 5, 20, 200]), clock, floats))
     for _ in range(chance.choice([1, 2, 3, 4, 8])):
         if not made.is_full():
             made.superstep()

@@ -42,13 +42,13 @@ class Machine:
     format: str = "elf"
     input: str = ""
     clock: bool = False
-    float: bool = False
+    floats: bool = False
 
     def words(self) -> List[str]:
         """The words of these options."""
         words = ["--nodes", self.nodes, "--memory", self.memory, "--limit", self.limit, "--g", self.g, "--l", self.l]
         words += ["--format", self.format] + (["--input", self.input] if self.input else []) + ["--clock"] * self.clock
-        words += ["--float"] * self.float
+        words += ["--float"] * self.floats
         return [str(word) for word in words]
 
 

@@ -17,12 +17,12 @@ MOST_LINES = 1 << 20
 def made(trial: Trial) -> Tuple[str, Machine]:
     """A program as a text, and a machine for it."""
     chance = trial.random
-    clock = chance.randrange(3) == 0
-    found = programs.program(chance, clock)
+    clock, floats = chance.randrange(3) == 0, chance.randrange(4) == 0
+    found = programs.program(chance, clock, floats)
     limit = chance.choice([3000, 3000, 3000, 3000, 20_000, chance.randint(1, 300)])
     g, l = (chance.choice([0, 1, 3, (1 << 32) - 1]) for _ in range(2))
     given = trial.file("input", bytes(chance.randrange(256) for _ in range(100))) if chance.randrange(2) else ""
-    return trial.file("text", found.text), Machine(found.nodes, found.memory, limit, g, l, "asm", given, clock)
+    return trial.file("text", found.text), Machine(found.nodes, found.memory, limit, g, l, "asm", given, clock, floats)
 
 
 def program(trial: Trial) -> None:
@@ -55,7 +55,7 @@ def program(trial: Trial) -> None:
 def debugger(trial: Trial) -> None:
     """A script is answered line by line, and the same in a dialogue, which has more lines. Some nodes have units of floating point."""
     text, machine = made(trial)
-    machine = dataclasses.replace(machine, float=trial.one_in(3))
+    machine = dataclasses.replace(machine, floats=machine.floats or trial.one_in(3))
     script = dialogues.script(trial.random, machine, dialogues.SPOKEN if trial.one_in(2) else dialogues.FORMS)
     if trial.one_in(100):
         script = script[: MOST_LINES] + b" " * (MOST_LINES - len(script) + trial.random.choice([0, 1]))

@@ -4,4 +4,5 @@
     at   far.s:3 (stderr)
     call bsp_put(pid 3, src 0x0 (NULL), dst 0x0 (NULL), offset 0, nbytes 0) (stderr)
     why  there is no rank 3: with 1 node rank 0 is the only one (stderr)
+    gdb  bspgdb far.s -- -ex continue (stderr)
   [2]

@@ -17,10 +17,11 @@ from .. import children, emulator
 from ..debugger import DebuggerEnded
 from ..machines import Take
 from ..options import Parser
-from ..refusals import BY_SIGNAL, NO_MEMORY, Refused, tell
+from ..refusals import BY_SIGNAL, NO_MEMORY, Refused, about, tell
 from ..run.job import Job, prepared
 from . import prompt, server
 from .packets import Closed, Connection
+from .symbols import symbol_file
 
 GDB = "gdb-multiarch"
 SETTINGS = pathlib.Path(__file__).resolve().with_name("settings.gdb")
@@ -74,7 +75,7 @@ def main(words: Sequence[str]) -> int:
         job = prepared(asked, folder, "bspgdb")
         check(job)
         if not (asked.stdio or asked.dialogue or asked.server or asked.tcp is not None):
-            return start_gdb(job, folder / "typed")
+            return start_gdb(job, folder)
         with children.looking_for_signals():
             if asked.stdio:
                 bridge(command(job))
@@ -118,14 +119,25 @@ def check(job: Job) -> None:
         sys.exit(status)
 
 
-def start_gdb(job: Job, typed: pathlib.Path) -> int:
+def file_for_gdb(job: Job, folder: pathlib.Path) -> List[str]:
+    """The file from which gdb takes names and lines, where there is one. Of a text one is made."""
+    if job.kind != "asm":
+        return [str(job.image)] if job.is_for_gdb else []
+    content = symbol_file(job.code, job.options.program, job.content.decode(errors="surrogateescape"))
+    path = folder / "symbols.elf"
+    with about(path):
+        path.write_bytes(content)
+    return [str(path)] if content else []
+
+
+def start_gdb(job: Job, folder: pathlib.Path) -> int:
     """Runs gdb on the program, with a bridge at the other end of a pipe, and takes down in a file how often Ctrl-C is typed. Answers gdb's exit
     status."""
     if shutil.which(GDB) is None:
         raise Refused(f"{GDB} is missing: install the package {GDB}")
+    typed = folder / "typed"
     pipe = shlex.join([emulator.program("bspgdb"), PIPE, str(typed), *command(job)])
-    words = [GDB, "-q", "-x", str(SETTINGS), "-ex", f"target remote | {pipe}", *job.options.gdb_options]
-    words += [str(job.image)] if job.is_for_gdb else []
+    words = [GDB, "-q", "-x", str(SETTINGS), "-ex", f"target remote | {pipe}", *job.options.gdb_options, *file_for_gdb(job, folder)]
 
     def note() -> None:
         with contextlib.suppress(OSError), typed.open("ab") as file:

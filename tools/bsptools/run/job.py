@@ -51,7 +51,7 @@ class Job(NamedTuple):
     @property
     def is_for_gdb(self) -> bool:
         """Whether gdb takes it, which it does for the names and lines that it has."""
-        return self.kind == "elf"
+        return self.kind in ("elf", "asm")
 
     def replays(self) -> Replays:
         """The same run, in the debugger, of which places are to be told."""

@@ -21,6 +21,8 @@ ECALLS = re.compile(ECALL)
 MOST_OF_A_FUNCTION = 1 << 18
 # The bytes that a line of a text takes besides at the least, with a label before it and a word behind it.
 MARKS = len("__line_1: ") + len(".word __line_1\n")
+# Of a line of a text: a label, and the first word of a statement. Labels that begin so are for jumps within a function.
+LABEL, WORD, LOCAL = re.compile(r"[ \t]*([A-Za-z_.][\w.]*)[ \t]*:", re.ASCII), re.compile(r"[ \t]*([A-Za-z_.][\w.]*)", re.ASCII), ".L"
 
 
 def kind_of(path: pathlib.Path, content: bytes) -> str:
@@ -196,8 +198,9 @@ def read_text(emulator: list[str], path: str, content: bytes, folder: pathlib.Pa
         return Code()
     lines = content.decode(errors="surrogateescape").split("\n")
     marked = folder / "marked.s"
-    labels = [f"__line_{i}" for i in range(1, len(lines) + 1)]
-    text = "\n".join(f"{label}: {line}" for label, line in zip(labels, lines))
+    # One more is behind the last line, where the text ends.
+    labels = [f"__line_{i}" for i in range(1, len(lines) + 2)]
+    text = "\n".join(f"{label}: {line}" for label, line in zip(labels, [*lines, ""]))
     words = "\n".join(f".word {label}" for label in labels)
     marked.write_text(f"{text}\n.align 2\n__lines: {words}\n.word __lines\n", errors="surrogateescape")
     image = folder / "marked.elf"
@@ -206,16 +209,25 @@ def read_text(emulator: list[str], path: str, content: bytes, folder: pathlib.Pa
         return Code()
     code = read_elf(content_of(image, MOST_PROGRAM))
     start, stored = code.segments[0]
-    end = struct.unpack_from("<I", stored, len(stored) - 4)[0]
-    places = struct.unpack_from(f"<{len(lines)}I", stored, end - start)
-    code.segments = [(start, stored[: end - start])]
+    marks = struct.unpack_from("<I", stored, len(stored) - 4)[0]
+    *places, code.need = struct.unpack_from(f"<{len(labels)}I", stored, marks - start)
+    code.segments = [(start, stored[: code.need - start])]
     code.lines = list(zip(places, range(1, len(lines) + 1)))
     code.text, code.content = path, b""
     for address, number in code.lines:
-        words_of_line = lines[number - 1].split("#")[0].split(":")
-        code.functions += [(address, 0, word.strip()) for word in words_of_line[:-1] if word.strip().isidentifier()]
+        code.functions += [(address, 0, name) for name in parts_of(lines[number - 1])[0] if not name.startswith(LOCAL)]
     code.functions.sort()
     return code
+
+
+def parts_of(line: str) -> tuple[list[str], str]:
+    """The labels of a line of a text, and the first word of its statement, or nothing."""
+    labels, at = [], 0
+    while (found := LABEL.match(line, at)) is not None:
+        labels.append(found[1])
+        at = found.end()
+    word = WORD.match(line, at)
+    return labels, word[1] if word else ""
 
 
 def source_lines(code: Code, address: int) -> list[tuple[str, str]]:

@@ -73,7 +73,12 @@ class Why:
         """Has gdb come to a call of those that a rank made in a superstep, and show its line."""
         before = sum(it.stop < call.stop and it.node.pc == call.node.pc for it in made)
         self.gdb = [f"monitor superstep {superstep}", "continue"] if superstep > 0 else []
-        self.gdb += [f"break *{call.node.pc:#x} thread {rank + 1}", *([f"ignore 1 {before}"] if before else []), "continue", "up"]
+        self.gdb += [f"break *{call.node.pc:#x} thread {rank + 1}", *([f"ignore 1 {before}"] if before else []), "continue", *self._up]
+
+    @property
+    def _up(self) -> list[str]:
+        """What leads gdb from a call to its line: out of the library's function, where the program has one."""
+        return ["up"] if self.code.functions and not self.code.lines else []
 
     # A node that was stopped.
 
@@ -114,8 +119,7 @@ class Why:
         if node.state == "aborted":
             return lines
         if is_call:
-            # gdb stands in the library's function then.
-            self.gdb = ["continue", "up"] if self.code.functions else self.gdb
+            self.gdb = ["continue", *self._up]
             lines.append(f"  call {spelled(self.code, node)}")
         return lines + [f"  why  {text}" for text in self.reasons(node, superstep)]
 

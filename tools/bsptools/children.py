@@ -6,21 +6,25 @@ import contextlib
 import ctypes
 import os
 import pathlib
+import select
 import signal
 import subprocess
 import tempfile
+import threading
 from collections.abc import Callable, Iterator, Sequence
 from typing import Any, NoReturn
 
 PR_SET_PDEATHSIG = 1
 # Of a signal that no process has sent.
 SI_KERNEL = 0x80
-# For how many seconds a process may go on that was told to end.
-PATIENCE = 1
+# For how many seconds a process may go on that was told to end, and after how many a stopped one looks whether it is to go on.
+PATIENCE, POLL = 1, 0.1
 # What ends a tool from outside. Each comes to the same end as Ctrl-C: temporary folders are removed, and children are ended.
 SIGNALS = (signal.SIGTERM, signal.SIGHUP, signal.SIGQUIT)
 _LIBC = ctypes.CDLL(None, use_errno=True)
 _taken: list[signal.Signals] = []
+# Those that were started by `start`, and that `end` was not told of.
+_running: list[subprocess.Popen[bytes]] = []
 
 
 class Ended(BaseException):
@@ -38,8 +42,59 @@ def _end(number: int, _frame: object) -> NoReturn:
     raise Ended(number)
 
 
+@contextlib.contextmanager
+def held() -> Iterator[None]:
+    """A block in which the processes that this one has started are stopped."""
+    running = [child for child in list(_running) if child.poll() is None]
+    _signal_all(running, signal.SIGSTOP)
+    try:
+        yield
+    finally:
+        _signal_all(running, signal.SIGCONT)
+
+
+def _signal_all(children: Sequence[subprocess.Popen[bytes]], number: int) -> None:
+    for child in children:
+        with contextlib.suppress(ProcessLookupError):
+            os.killpg(child.pid, number)
+
+
+def _stop(_number: int, _frame: object) -> None:
+    """What Ctrl-Z does: the processes that this one has started have groups of their own, and so would go on without it."""
+    with held():
+        stop_here()
+
+
+def stop_here() -> None:
+    """Stops this process as Ctrl-Z does, until a shell has it go on. Where no shell looks after its group, nothing is done."""
+    before = signal.signal(signal.SIGTSTP, signal.SIG_DFL)
+    mask = signal.pthread_sigmask(signal.SIG_UNBLOCK, {signal.SIGTSTP})
+    try:
+        signal.raise_signal(signal.SIGTSTP)
+    finally:
+        signal.pthread_sigmask(signal.SIG_SETMASK, mask)
+        signal.signal(signal.SIGTSTP, before)
+
+
+def stop_by_signal(source: int) -> None:
+    """Has SIGTSTP stop what this process has started until SIGCONT comes, or something to read from a pipe, as its end. So does a process of
+    another session, which no shell would have go on."""
+    has_come = threading.Event()
+
+    def stop(_number: int, _frame: object) -> None:
+        has_come.clear()
+        with held():
+            while not has_come.is_set() and not select.select([source], [], [], POLL)[0]:
+                pass
+
+    signal.signal(signal.SIGCONT, lambda _number, _frame: has_come.set())
+    signal.signal(signal.SIGTSTP, stop)
+
+
 def end_by_signals() -> None:
-    """Has each signal that ends this process raise `Ended`, but those that it was started to ignore."""
+    """Has each signal that ends this process raise `Ended`, but those that it was started to ignore; and Ctrl-Z stop what it has started."""
+    if signal.getsignal(signal.SIGTSTP) != signal.SIG_IGN:
+        signal.signal(signal.SIGTSTP, _stop)
     _taken.extend(number for number in (signal.SIGINT, *SIGNALS) if signal.getsignal(number) != signal.SIG_IGN)
     end_by_signals_again()
 
@@ -79,7 +134,9 @@ def start(words: Sequence[str], by: int = signal.SIGKILL, **given: Any) -> subpr
         for number in (signal.SIGINT, *SIGNALS):
             signal.signal(number, signal.SIG_DFL)
 
-    return subprocess.Popen(list(words), start_new_session=True, preexec_fn=prepare, **given)
+    child = subprocess.Popen(list(words), start_new_session=True, preexec_fn=prepare, **given)
+    _running.append(child)
+    return child
 
 
 def end(child: subprocess.Popen[bytes], by: int = signal.SIGKILL) -> None:
@@ -87,6 +144,7 @@ def end(child: subprocess.Popen[bytes], by: int = signal.SIGKILL) -> None:
     if child.poll() is None:
         os.killpg(child.pid, by)
     child.wait()
+    _running[:] = [it for it in _running if it is not child]
     for stream in (child.stdin, child.stdout, child.stderr):
         with contextlib.suppress(BrokenPipeError):
             if stream is not None:
@@ -103,10 +161,12 @@ def running(words: Sequence[str], by: int = signal.SIGKILL, **given: Any) -> Ite
         end(child, by)
 
 
-def at_terminal(words: Sequence[str], note: Callable[[], None]) -> int:
+def at_terminal(words: Sequence[str], note: Callable[[], None], tell: Callable[[int], None]) -> int:
     """Runs a process that has this one's terminal, and gets Ctrl-C by itself, which is noted here. What ends this one ends it, also where
-    the terminal has stopped it, as one in the background: this one is not stopped so. Answers what it ended with, as Popen has it."""
-    parent, waited = os.getpid(), {signal.SIGCHLD, *_taken}
+    the terminal has stopped it, as one in the background: this one is not stopped so. Ctrl-Z stops both; what else is to stop then is told of
+    SIGTSTP, and of SIGCONT. Answers what it ended with, as Popen has it."""
+    stops = {signal.SIGTSTP} if signal.getsignal(signal.SIGTSTP) != signal.SIG_IGN else set()
+    parent, waited = os.getpid(), {signal.SIGCHLD, *_taken, *stops}
     mask = signal.pthread_sigmask(signal.SIG_BLOCK, {signal.SIGTTIN, signal.SIGTTOU, *waited})
 
     def prepare() -> None:
@@ -122,6 +182,10 @@ def at_terminal(words: Sequence[str], note: Callable[[], None]) -> int:
                     if got.si_code != SI_KERNEL:
                         child.send_signal(got.si_signo)
                     note()
+                elif got.si_signo == signal.SIGTSTP:
+                    tell(signal.SIGTSTP)
+                    stop_here()
+                    tell(signal.SIGCONT)
                 elif got.si_signo != signal.SIGCHLD:
                     _end_stopped(child)
                     raise Ended(got.si_signo)

@@ -3,13 +3,15 @@
 from __future__ import annotations
 
 import os
+import pathlib
 import pty
 import re
 import select
+import shlex
 import time
-from typing import Sequence
+from typing import Sequence, Set
 
-from checks import SOON
+from checks import SOON, becomes_true, commands_with
 
 
 class Terminal:
@@ -54,3 +56,40 @@ class Terminal:
         _, status = os.waitpid(self.process, 0)
         os.close(self.master)
         return os.WEXITSTATUS(status) if os.WIFEXITED(status) else -os.WTERMSIG(status)
+
+
+def job_control(words: Sequence[str], program: str, prompt: str, go: str) -> str:
+    """What is wrong where a shell stops a session by Ctrl-Z in the midst of what goes on for ever, has it go on, and ends it; or nothing.
+    The program is one of which there are no other processes."""
+    shell = Terminal(["/bin/bash", "--norc", "--noediting", "-i"])
+    shell.type("PS1='the ''shell: '\r")
+    steps = [(shlex.join([*words, program]) + "\r", prompt), (go, ""), ("\x1a", "Stopped.*\nthe shell: $"), ("fg\r", ""), ("\x03", prompt)]
+    steps += [(go, ""), ("\x1a", "Stopped.*\nthe shell: $"), ("kill %1\r", "the shell: $")]
+    said = shell.wait("the shell: $")
+    for typed, wanted in steps:
+        if said.startswith(("no ", "the end")):
+            return said
+        shell.type(typed)
+        if wanted:
+            said = shell.wait(wanted)
+        elif not becomes_true(lambda: "R" in states_of(program)):
+            return f"nothing runs behind {typed!r}"
+        if typed == "\x1a" and not becomes_true(lambda: states_of(program) == {"T"}):
+            return f"Ctrl-Z leaves emulators in {states_of(program)}"
+    is_left = not becomes_true(lambda: not commands_with(program + " "))
+    shell.type("exit\r")
+    shell.status()
+    return f"kill %1 leaves {commands_with(program)}" if is_left else ""
+
+
+def states_of(program: str) -> Set[str]:
+    """In which states the emulators are that debug a program, by the letters of proc(5)."""
+    found = set()
+    for place in pathlib.Path("/proc").glob("[0-9]*"):
+        try:
+            words = (place / "cmdline").read_bytes().split(b"\0")
+            if words[1:3] == [b"debug", program.encode()]:
+                found.add((place / "stat").read_text().rpartition(")")[2].split()[0])
+        except OSError:
+            continue
+    return found

@@ -5,7 +5,9 @@ from __future__ import annotations
 import re
 from typing import Callable, List
 
+from checks import REPO
 from sessions import Bench, expect, in_order
+from terminals import job_control
 
 CASES: List[Callable[[Bench], None]] = []
 # Labels of all kinds, and what looks like one: data before code, between code and behind it, and a last line without a line feed.
@@ -31,6 +33,11 @@ past:   lw a1, 0(sp)
         ecall
 count: .half 3
 end:"""
+# A rank that counts for ever.
+LOOP = """\
+loop:   addi t0, t0, 1
+        j loop
+"""
 
 
 def case(function: Callable[[Bench], None]) -> Callable[[Bench], None]:
@@ -79,3 +86,13 @@ def texts_without_labels(bench: Bench) -> None:
         source.write_text(content)
         text = bench.gdb(str(source), [])
         expect(said in text and "symbols.elf" not in text, text)
+
+
+@case
+def stopped_by_a_shell(bench: Bench) -> None:
+    """Ctrl-Z stops gdb, the bridge and both emulators, which go on with fg; and kill leaves nothing."""
+    source = bench.folder / "stopped.s"
+    source.write_text(LOOP)
+    words = [str(REPO / "bspgdb"), "--bspemu", bench.bspemu]
+    wrong = job_control(words, str(source), r"\(gdb\) $", "continue\r")
+    expect(not wrong, wrong)

@@ -4,6 +4,7 @@ from __future__ import annotations
 
 import argparse
 import contextlib
+import functools
 import os
 import pathlib
 import shlex
@@ -107,9 +108,26 @@ def bridge(command: Sequence[str], typed: Optional[pathlib.Path] = None) -> int:
     def count() -> int:
         return typed.stat().st_size if typed is not None and typed.exists() else 0
 
+    if typed is not None:
+        children.stop_by_signal(0)
+        with about(number_file(typed)):
+            number_file(typed).write_text(str(os.getpid()))
     with contextlib.suppress(Closed):
         server.make_session(command, Connection(0, 1), count if typed is not None else None)
     return 0
+
+
+def number_file(typed: pathlib.Path) -> pathlib.Path:
+    """The file beside this one in which the bridge says its process number."""
+    return typed.with_name("bridge")
+
+
+def tell_bridge(typed: pathlib.Path, number: int) -> None:
+    """Sends the bridge a signal, if it is there, since gdb has put it where the terminal's signals do not come."""
+    with contextlib.suppress(OSError, ValueError):
+        process = int(number_file(typed).read_text())
+        if os.fsencode(typed) in pathlib.Path(f"/proc/{process}/cmdline").read_bytes().split(b"\0"):
+            os.kill(process, number)
 
 
 def check(job: Job) -> None:
@@ -143,5 +161,5 @@ def start_gdb(job: Job, folder: pathlib.Path) -> int:
         with contextlib.suppress(OSError), typed.open("ab") as file:
             file.write(b"C")
 
-    status = children.at_terminal(words, note)
+    status = children.at_terminal(words, note, functools.partial(tell_bridge, typed))
     return status if status >= 0 else BY_SIGNAL - status

@@ -9,7 +9,7 @@ import re
 import tempfile
 from typing import Callable, Iterator, List, NamedTuple, Optional, Sequence, Set, Tuple
 
-from bsptools.debug import arrivals, halts, history, kept, machine, runner
+from bsptools.debug import arrivals, halts, history, kept, machine, monitor, runner
 from sessions import SHOW_REGISTERS, Bench, expect, in_order, registers_in
 
 NO_MORE = "No more reverse-execution history."
@@ -286,6 +286,61 @@ def back_after_long(bench: Bench) -> None:
                 expect(Counting.made < place.ticks[0] // 2, f"{Counting.made} instructions are made again")
                 expect(run.place() == place._replace(ticks=(place.ticks[0] - left, 0)), (run.place(), place))
             expect([run.node(0).pc, run.node(0).x[8]] == [8, 1], run.node(0))
+        finally:
+            run.close()
+
+
+# Ranks that make a million instructions in each superstep, and store at its end.
+MANY_SUPERSTEPS = """\
+        li s0, 40
+again:  li t0, 500000
+count:  addi t0, t0, -1
+        bnez t0, count
+        la t1, mark
+        sw s0, 0(t1)
+        li a7, 4
+        ecall
+        addi s0, s0, -1
+        bnez s0, again
+        li a7, 1
+        ecall
+mark:   .word 0
+"""
+
+
+class Noting(machine.Machine):
+    """A machine that notes which others, with a limit of their own, are begun at the start of the run."""
+
+    limits: List[int] = []
+
+    def limited(self, limit: int) -> machine.Machine:
+        other = super().limited(limit)
+        other.__class__ = Noting
+        Noting.limits += [limit] if limit != self.limit else []
+        return other
+
+
+@case
+def back_in_a_superstep_that_has_just_begun(bench: Bench) -> None:
+    """What is looked for there is found from states that were kept, without the run to there once more: also where a rank has not come to the
+    superstep's end, which might never come."""
+    source = bench.folder / "many.s"
+    source.write_text(MANY_SUPERSTEPS)
+    with bench.machines, _keeping(0.02, 32, 8):
+        run = Noting([bench.bspemu, "debug", str(source), "--format", "asm", "--nodes", "2", "--limit", "1000000000"])
+        there = runner.Runner(run, lambda text: None, lambda: False, supersteps={30})
+        try:
+            there.go(0)
+            for rank, count in ((1, 5), (0, 9)):
+                run.step(rank, count)
+            there.supersteps = set()
+            there.breakpoints = {8}
+            told = [monitor.Monitor(there, None).answer(it, 0).decode() for it in ("sent", "wrote 1 mark")]
+            expect(told[0] == "superstep 30: 0 requests so far\n" and "a store by rank 1 in superstep 29: count, many.s:6" in told[1], told)
+            stops = [(there.go_back(None, 0), run.superstep) for _ in range(4)]
+            found = [(superstep, it.rank) for it, superstep in stops if isinstance(it, halts.Stop) and it.is_breakpoint]
+            expect(found == [(30, 1), (30, 0), (29, 1), (29, 0)], stops)
+            expect(not Noting.limits, Noting.limits)
         finally:
             run.close()
 

@@ -8,9 +8,9 @@ where the superstep began; then to the end of the superstep before that, and thr
 from __future__ import annotations
 
 import contextlib
-from typing import Callable, FrozenSet, Iterator, List, NamedTuple, Optional, Sequence, Tuple
+from typing import Callable, FrozenSet, Iterator, List, NamedTuple, Optional, Sequence, Tuple, Union
 
-from ..debugger import ALL, Node
+from ..debugger import ALL, MOST_BATCH, Node, Shown
 from .arrivals import Asked, AtRank, Interrupted, Place, Point
 from .machine import MOST_BREAKPOINTS, Machine
 
@@ -19,6 +19,8 @@ LEAST_RECORDED, MORE_RECORDED, MOST_RECORDED = 16, 8, 4096
 # How many times in a superstep a rank is stopped at breakpoints before the last time is looked for from the superstep's end: in so many
 # instructions first, and then in more.
 MOST_STOPS, WINDOW, WIDER = 32, 4096, 16
+# Of how many instructions at the most each is looked at, for a rank that may go on for ever behind them.
+MOST_WALKED = 1 << 14
 # The rank, in the order of history, of the beginning of a superstep itself.
 BEGIN = -1
 
@@ -126,12 +128,7 @@ class History:
             return None
         begin = self._begin_of(place.superstep)
         moved = [rank for rank, ticks in enumerate(place.ticks) if ticks > begin[rank]]
-        # A rank may go on for ever behind where it stands. None has come further than this.
-        limit = min(self._machine.limit, max(*begin, *place.ticks) + 1)
-        try:
-            hit = self._last_in(place.superstep, goal, moved, place.ticks, limit)
-        finally:
-            self._close_limited()
+        hit = self._last_begun(goal, place, begin, moved)
         if hit is not None:
             return hit
         begun = [it for it in goal.supersteps if it < place.superstep or it == place.superstep and (moved or place.is_over)]
@@ -140,6 +137,35 @@ class History:
         if superstep is not None:
             return self._last_in(superstep, goal, range(self._machine.ranks), (ALL,) * self._machine.ranks)
         return Hit(first, BEGIN, 0) if begun else None
+
+    def _last_begun(self, goal: Goal, place: Place, begin: Sequence[int], moved: Sequence[int]) -> Optional[Hit]:
+        """The last hit of the ranks that have moved in the superstep that has begun."""
+        free = self._machine.first_running
+        for rank in reversed([it for it in moved if it >= free and goal.addresses and goal.rank in (None, it)]):
+            hit = self._last_of_running(goal, place, begin, rank)
+            if hit is not None:
+                return hit
+        # These, and all below them, stop by themselves where they stand.
+        return self._last_in(place.superstep, goal, [it for it in moved if it < free], place.ticks)
+
+    def _last_of_running(self, goal: Goal, place: Place, begin: Sequence[int], rank: int) -> Optional[Hit]:
+        """The same of a rank that may go on for ever behind where it stands, or has such a one below it."""
+        start, width = place.ticks[rank], WINDOW
+        while begin[rank] < start and place.ticks[rank] - start < MOST_WALKED:
+            end, start = start, max(begin[rank], start - width)
+            with contextlib.closing(self._at(place._replace(ticks=_with(place.ticks, rank, start)))) as machine:
+                found = walked(machine, rank, end - start, goal, self._must_break_off)
+            if found:
+                return Hit(place.superstep, rank, found[-1].ticks)
+            width *= WIDER
+        if start == begin[rank]:
+            return None
+        # No rank has come further than this.
+        limit = min(self._machine.limit, max(*begin, *place.ticks) + 1)
+        try:
+            return self._last_in(place.superstep, goal, [rank], _with(place.ticks, rank, start), limit)
+        finally:
+            self._close_limited()
 
     def _last_superstep(self, first: int, end: int, goal: Goal) -> Optional[int]:
         """The last superstep from a first one on, and before an end, in which a rank was at a breakpoint."""
@@ -235,6 +261,7 @@ class Scout:
         """Where it stays in one superstep, it does not go past the last of the ranks."""
         self._machine = machine
         self._ranks = frozenset(ranks)
+        self._last = max(ranks) if is_in_superstep else machine.ranks
         self._goal = goal
         self._points: List[Point] = [(rank, addr) for rank in ranks for addr in goal.addresses]
         if is_in_superstep and max(ranks) + 1 < machine.ranks:
@@ -254,6 +281,9 @@ class Scout:
         while True:
             if self._must_break_off():
                 raise Interrupted
+            first = self._machine.first_running if self._must_look else 0
+            if self._last < first < self._machine.ranks:
+                return None
             rank = self._standing() if self._must_look else None
             self._must_look = False
             if rank is None:
@@ -280,6 +310,23 @@ class Scout:
         """The rank that stands at a breakpoint, and goes on next."""
         running = next((node for node in self._machine.nodes() if node.runs), None)
         return running.rank if running and running.rank in self._ranks and running.pc in self._goal.addresses else None
+
+
+def walked(machine: Machine, rank: int, count: int, goal: Goal, must_break_off: Asked) -> List[Node]:
+    """A rank makes so many instructions one by one. The node before each of those where it stands at what is looked for."""
+    found: List[Node] = []
+    before: Union[Node, Shown] = machine.node(rank)
+    while count > 0:
+        if must_break_off():
+            raise Interrupted
+        trail = machine.trail(rank, min(count, MOST_BATCH // 2))
+        for it in (before, *trail[:-1]):
+            if it.pc in goal.addresses:
+                node = it if isinstance(it, Node) else it.node
+                found += [node] if goal.accepts(node) else []
+        before = trail[-1]
+        count -= len(trail)
+    return found
 
 
 def _with(ticks: Tuple[int, ...], rank: int, count: int) -> Tuple[int, ...]:

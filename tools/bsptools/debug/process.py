@@ -69,6 +69,11 @@ class Process(abc.ABC):
         return floats_of(self._session.ask(f"fregs {rank}").accepted())
 
     @property
+    def first_running(self) -> int:
+        """The lowest rank that runs; where none does, how many there are."""
+        return next((node.rank for node in self.nodes() if node.runs), self.ranks)
+
+    @property
     def superstep(self) -> int:
         """The superstep that has begun last."""
         self._make_room()

@@ -3,14 +3,14 @@
 from __future__ import annotations
 
 import contextlib
-from typing import Dict, Iterable, List, NamedTuple, Optional, Sequence, Tuple
+from typing import Dict, FrozenSet, Iterable, List, NamedTuple, Optional, Sequence, Tuple
 
 from ..debugger import Node
 from ..refusals import Refused
 from ..run.calls import CHANGES, FUNCTIONS, GETS, NAMES, PUTS, REQUESTS, Areas, Call
 from ..run.program import Code
 from .arrivals import Asked, Place
-from .history import Goal, Scout
+from .history import MOST_WALKED, Goal, Scout, walked
 from .machine import MOST_BREAKPOINTS, Machine
 from .names import STACK, Names
 
@@ -55,6 +55,9 @@ class Requests:
         if superstep < self._place.superstep or self._place.is_over:
             return self.within(superstep, superstep + 1, (*REQUESTS, *CHANGES))
         begin = self._machine.begin_of(superstep, self._must_break_off)
+        made = [now - before for now, before in zip(self._place.ticks, begin)]
+        if sum(made) <= MOST_WALKED:
+            return [it for rank, count in enumerate(made) if count > 0 for it in self._walked(rank, count)]
         # A rank may go on for ever behind where it stands. None has come further than this.
         limit = min(self._machine.limit, max(*begin, *self._place.ticks) + 1)
         return self.within(superstep, superstep + 1, (*REQUESTS, *CHANGES), self._place.ticks, limit)
@@ -65,13 +68,32 @@ class Requests:
         """The calls of these numbers in the supersteps from one up to before another, by their supersteps and ranks; of each rank those
         before it has made so many instructions."""
         found: List[Made] = []
-        addresses, wanted = sites(self._names.code, numbers), set(numbers)
-        goal = Goal(frozenset(addresses), frozenset(), None, lambda node: node.x[17] in wanted)
-        for ranks in self._groups(addresses):
+        goal = self._goal(numbers)
+        for ranks in self._groups(goal.addresses):
             start = Place(first, (0,) * self._machine.ranks, False)
             with contextlib.closing(self._machine.at(start, self._must_break_off, limit)) as machine:
                 found += self._made(machine, end, Scout(machine, ranks, goal, self._must_break_off), ends)
         return sorted(found, key=lambda it: (it.superstep, it.rank, it.node.ticks))
+
+    def _walked(self, rank: int, count: int) -> List[Made]:
+        """The requests and registrations of the last instructions of a rank, so many, before the place."""
+        ticks = self._place.ticks
+        start = self._place._replace(ticks=(*ticks[:rank], ticks[rank] - count, *ticks[rank + 1 :]))
+        with contextlib.closing(self._machine.at(start, self._must_break_off)) as machine:
+            found = walked(machine, rank, count, self._goal((*REQUESTS, *CHANGES)), self._must_break_off)
+            last = machine.node(rank)
+        made: List[Made] = []
+        # Once more, for their stacks.
+        with contextlib.closing(self._machine.at(start, self._must_break_off)) as machine:
+            for node in (it for it in found if not _has_failed(it, last)):
+                machine.step(rank, node.ticks - machine.node(rank).ticks)
+                made.append(Made(start.superstep, Call(node._replace(stack=machine.memory(rank, node.x[2], STACK)), 0)))
+        return made
+
+    def _goal(self, numbers: Sequence[int]) -> Goal:
+        """What is looked for where these calls are."""
+        wanted = set(numbers)
+        return Goal(frozenset(sites(self._names.code, numbers)), frozenset(), None, lambda node: node.x[17] in wanted)
 
     def areas(self, superstep: int) -> List[Areas]:
         """The registrations of each rank that are in effect in a superstep."""
@@ -82,7 +104,7 @@ class Requests:
             self._areas = {superstep: areas}
         return [Areas(list(it.entries)) for it in self._areas[superstep]]
 
-    def _groups(self, addresses: Sequence[int]) -> List[Tuple[int, ...]]:
+    def _groups(self, addresses: FrozenSet[int]) -> List[Tuple[int, ...]]:
         """The ranks in parts, of which each has room for its points."""
         ranks = tuple(range(self._machine.ranks))
         size = max(1, MOST_BREAKPOINTS // max(1, len(addresses)))

@@ -58,32 +58,34 @@ class Search:
         self._wanted: Sequence[int] = ()
         self._found: Dict[int, Writer] = {}
         self._left = MOST
+        # Where it is given up, and how many instructions the rank had made where supersteps began.
+        self._first = max(0, place.superstep - MOST_SUPERSTEPS)
+        self._begins: Dict[int, int] = {}
 
     def find(self, addr: int, count: int, is_any_enough: bool = False) -> Found:
         """The last writer of each of so many bytes, as far as it is found; or the last writers of some, with those of the others left out."""
         self._wanted, self._found, self._left = range(addr, addr + count), {}, MOST
         made = 0
         superstep, end = self._place.superstep, self._place.ticks[self._rank]
-        begins = self._begins()
-        first = min(begins)
+        first = self._first
         width = PIECE
         wanted = 1 if is_any_enough else count
-        while len(self._found) < wanted and (superstep, end) != (first, begins[first]) and self._left > 0:
-            begin, last = begins[superstep], end
+        while len(self._found) < wanted and self._left > 0 and (superstep > first or end > self._begin(first)):
+            begin, last = self._begin(superstep), end
             if end > begin:
                 end = max(begin, end - width)
                 self._note(self._instructions(superstep, end, last - end))
             else:
                 earlier = superstep - 1
-                while earlier > first and begins[superstep] - begins[earlier - 1] <= width:
+                while earlier > first and begin - self._begin(earlier - 1) <= width:
                     earlier -= 1
-                is_small = begins[superstep] - begins[earlier] <= width
+                is_small = begin - self._begin(earlier) <= width
                 self._note(self._supersteps(earlier, superstep) if is_small else self._landed(earlier, superstep))
-                superstep, end = earlier, begins[earlier] if is_small else begins[superstep]
+                superstep, end = earlier, self._begin(earlier) if is_small else begin
             made += last - end
             self._left -= last - end
             width = min(WIDER * width, MOST_PIECE)
-        return Found(self._found, made, superstep, end, end - begins[superstep], (superstep, end) == (0, 0))
+        return Found(self._found, made, superstep, end, end - self._begin(superstep), (superstep, end) == (0, 0))
 
     def message(self, own: Own) -> Optional[Made]:
         """The request by which the message was sent that a call has moved."""
@@ -97,16 +99,17 @@ class Search:
         for addr, writer in written.items():
             self._found.setdefault(addr, writer)
 
-    def _begins(self) -> Dict[int, int]:
-        """How many instructions the rank had made where each superstep began, from the first one on that is gone back to."""
-        first = max(0, self._place.superstep - MOST_SUPERSTEPS)
-        found: Dict[int, int] = {}
-        with self._at(first) as machine:
-            for superstep in range(first, self._place.superstep):
-                found[superstep] = machine.node(self._rank).ticks
-                machine.finish(self._must_break_off)
-            found[self._place.superstep] = machine.node(self._rank).ticks
-        return found
+    def _begin(self, superstep: int) -> int:
+        """How many instructions the rank had made where a superstep began. With one that is not known yet some before it come to be known, of
+        which more each time: most searches end in the first ones."""
+        if superstep not in self._begins:
+            first = max(self._first, superstep - len(self._begins))
+            with self._at(first) as machine:
+                for it in range(first, superstep):
+                    self._begins[it] = machine.node(self._rank).ticks
+                    machine.finish(self._must_break_off)
+                self._begins[superstep] = machine.node(self._rank).ticks
+        return self._begins[superstep]
 
     @contextlib.contextmanager
     def _at(self, superstep: int, ticks: int = 0) -> Iterator[Machine]:

@@ -35,7 +35,7 @@ pub fn contested_bytes_are_not()
         × (byte_at (memory_in one rank memory) addr ≢ byte_at (memory_in two rank memory) addr) }
 {}
 
-/// Small examples. Two puts that meet in a byte to which both bring a 4 have no contested byte, and neither have two that touch. Where
+/// Small examples. Two puts that overlap in a byte to which both bring a 4 have no contested byte, and neither have two that touch. Where
 /// they bring a 4 and a 9 to it, that byte is contested, and no other. A put and a get's answer are as two puts.
 pub fn examples()
     ensures alike { AreSettled (put_by_0 ∷ alike_by_2 ∷ []) }

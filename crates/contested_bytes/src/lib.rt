@@ -1,7 +1,7 @@
 //! Which bytes a superstep leaves to an order that BSPlib does not define.
 //!
 //! In BSPlib (Hill and others, 1998) all gets of a superstep read before anything is written. In which order puts write, and gets what
-//! they read, is not defined where they meet. A byte is *contested* if two of them bring it different bytes, and else it is
+//! they read, is not defined where they overlap. A byte is *contested* if two of them bring it different bytes, and else it is
 //! *settled*: an exchange here has one order of its own (`bsp_exchange`), and a program that is to run the same elsewhere should have no
 //! contested bytes.
 //!
@@ -18,7 +18,7 @@
 //!   in it.
 //! - The order of messages in a queue, which BSPlib leaves open too, is not looked at.
 //!
-//! Of two requests of one caller that meet, BSPlib does not say either which one is the later; so they count as any others.
+//! Of two requests of one caller that overlap, BSPlib does not say either which one is the later; so they count as any others.
 #![tactic(auto)]
 
 mod gather;

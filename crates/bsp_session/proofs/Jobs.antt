@@ -1,18 +1,19 @@
 -- What a job without a fault is, and the nodes that it asks for.
-use Rattle.std.proofs.Common.{◌≡◌, ◌⊎◌, inl, inr, ℕ, List, [], length, Bool, true, false, Option, Some, None, option_map, if◌then◌else◌, refl}
+use Rattle.std.proofs.Common.{◌≡◌, ℕ, List, length, Bool, true, false, Option, Some, None, Result, Err, option_map, if◌then◌else◌, refl}
 use Rattle.std.specs.Option.{option_or}
 use Rattle.std.proofs.lemmas.List.FromFn.{length-map-range_with_len}
 use Rattle.node_memory.specs.Image.{Image, is_segment_outside}
 use Rattle.machine_core.specs.declared.error.MachineError.{MachineError}
 use Rattle.machine_core.specs.declared.error.MachineError.TheVariants.{SegmentOutside}
 use Rattle.machine_core.specs.declared.settings.Settings.{Settings}
-use Rattle.machine_core.specs.Machine.{fresh, node_at_start, machine_fault, settings_fault}
+use Rattle.machine_core.specs.Machine.{MachineState, fresh, node_at_start, machine_fault, settings_fault}
 use Rattle.phase_pool.specs.declared.error.PoolError.{PoolError}
 use Rattle.phase_pool.specs.declared.error.PoolError.TheVariants.{BadWorkers, BadSlice, NoWorker, NoMemory}
+use Rattle.phase_pool.specs.Answers.{RefusesInOrder}
 use Rattle.phase_pool.specs.Numbers.{numbers_fault}
 use Rattle.bsp_session.specs.declared.job.Job.{Job}
 use Rattle.bsp_session.specs.Outcome.{error_of_machine, error_of_pool}
-use Rattle.bsp_session.specs.Session.{IsErrorOfRun, NeedsWorkers, job_fault}
+use Rattle.bsp_session.specs.Session.{IsErrorOfThreads, job_fault}
 
 neither : {X Y E : Type 0} (f : X → E) (h : Y → E) (x : Option X) (y : Option Y)
     → option_or (option_map f x) (option_map h y) ≡ None → y ≡ None
@@ -52,11 +53,10 @@ pub length-fresh : (image : Image) (input : List ℕ) (s : Settings) → length 
 length-fresh image input s = length-map-range_with_len (node_at_start image s) 0 s.nodes
 
 -- a run is refused for want of a thread or of memory alone
-pub IsErrorOfRun-of_pool : (job : Job) (file : List ℕ) (cause : PoolError) → (cause ≡ NoWorker) ⊎ (cause ≡ NoMemory)
-    → (cause ≡ NoWorker → NeedsWorkers job file) → IsErrorOfRun job file (error_of_pool cause)
-IsErrorOfRun-of_pool job file NoWorker kinds lacking = lacking refl
-IsErrorOfRun-of_pool job file NoMemory kinds lacking = tt
-IsErrorOfRun-of_pool job file BadWorkers (inl is) lacking = cc
-IsErrorOfRun-of_pool job file BadWorkers (inr is) lacking = cc
-IsErrorOfRun-of_pool job file BadSlice (inl is) lacking = cc
-IsErrorOfRun-of_pool job file BadSlice (inr is) lacking = cc
+pub IsErrorOfThreads-of_pool : {X : Type 0} (job : Job) (start new : MachineState) (r : Result X PoolError) (cause : PoolError)
+    → numbers_fault job.workers job.slice ≡ None → RefusesInOrder job.workers job.slice start new r → r ≡ Err cause
+    → IsErrorOfThreads job start (error_of_pool cause)
+IsErrorOfThreads-of_pool job start new r NoWorker none refusals is = refusals.no_worker is
+IsErrorOfThreads-of_pool job start new r NoMemory none refusals is = tt
+IsErrorOfThreads-of_pool job start new r BadWorkers none refusals is = let fault = refusals.bad_workers.0 is in cc
+IsErrorOfThreads-of_pool job start new r BadSlice none refusals is = let fault = refusals.bad_slice.0 is in cc

@@ -1,11 +1,8 @@
-pub mod ContestedErrors
 pub mod Conversions
-pub mod CountedErrors
 pub mod Jobs
 pub mod LiveErrors
 pub mod Outputs
-pub mod ProfiledErrors
 pub mod Refusals
-pub mod Reports
 pub mod SessionErrors
 pub mod Supersteps
+pub mod Told

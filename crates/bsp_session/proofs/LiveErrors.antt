@@ -1,6 +1,6 @@
 -- The errors of a session that writes while the run goes on, by the stage that ended it.
 use Rattle.std.proofs.Common.{◌≡◌, ◌⊎◌, ℕ, inl, inr, ◌+◌, ◌<◌, ◌≤◌, List, [], ◌++◌, length, take, Option, Some, None, Result, Ok, Err, refl, sym, ap, ◌∙◌, arith, true, append_assoc, append-nil, length-append}
-use Rattle.std.specs.Prelude.{IfErr, IfOk, IsErrOf, ◌↔◌}
+use Rattle.std.specs.Prelude.{IfErr, IsErrOf, ◌↔◌}
 use Rattle.std.specs.Fn.{iterate}
 use Rattle.std.specs.Io.KnownBytes.{Appends}
 use Rattle.std.proofs.KnownBytes.{Appends-nil, Appends-trans}
@@ -17,13 +17,11 @@ use Rattle.bsp_session.specs.declared.errors.SessionError.TheVariants.{BadSettin
 use Rattle.bsp_session.specs.declared.job.Job.{Job}
 use Rattle.bsp_session.specs.Live.{AppendsSome, FailsAt, IsErrorOfLive, IsErrorOfLiveRun, IsErrorOfSuperstep, MayComeLate, WantsThreads}
 use Rattle.bsp_session.specs.Outcome.{error_of_pool}
-use Rattle.bsp_session.specs.Profiles.{StartsAt}
 use Rattle.bsp_session.specs.Report.{report_lines, report_of}
-use Rattle.bsp_session.specs.Session.{IsErrorOfFiles, IsErrorOfRun, ReadsBoth, Session, job_fault}
+use Rattle.bsp_session.specs.Session.{IsErrorOf, Session, StartsAt, job_fault}
 use Rattle.bsp_session.specs.Streams.{IsUntouched, Stream}
 use Rattle.bsp_session.proofs.Supersteps.{extends-end, output-open}
 use Rattle.bsp_session.proofs.Outputs.{HasRisen-above}
-use Rattle.bsp_session.proofs.SessionErrors.{IsErrorOf-files, IsErrorOf-run}
 
 -- some first bytes of what comes next, after what was written, are some of all
 pub AppendsSome-behind : (done next rest whole : List ℕ) (a b c : Option (List ℕ)) → whole ≡ done ++ (next ++ rest)
@@ -91,34 +89,23 @@ IsErrorOfLive-run s start (BadImage cause) starts p = absurd p
 IsErrorOfLive-run s start SegmentOutside starts p = absurd p
 IsErrorOfLive-run s start ReadFault starts p = absurd p
 
--- what ended the reading of the two is an error of the session
-pub IsErrorOfLive-files : (s : Session) (e : SessionError) → IsErrorOfFiles job_fault s.job s.image s.input e → IsUntouched s.out → IsErrorOfLive s e
-IsErrorOfLive-files s (BadSettings cause) why untouched = IsErrorOf-files s (BadSettings cause) why untouched
-IsErrorOfLive-files s TooLong why untouched = IsErrorOf-files s TooLong why untouched
-IsErrorOfLive-files s (Text cause) why untouched = absurd why
-IsErrorOfLive-files s (BadImage cause) why untouched = absurd why
-IsErrorOfLive-files s SegmentOutside why untouched = absurd why
-IsErrorOfLive-files s ReadFault why untouched = IsErrorOf-files s ReadFault why untouched
-IsErrorOfLive-files s WriteFault why untouched = absurd why
-IsErrorOfLive-files s NoWorker why untouched = absurd why
-IsErrorOfLive-files s NoMemory why untouched = inl (IsErrorOf-files s NoMemory why untouched)
-
--- so is why there is no machine
-pub IsErrorOfLive-unmade : (s : Session) (i n : List ℕ) (e : SessionError) → ReadsBoth s i n → IsErrorOfRun s.job i e → IsUntouched s.out → IsErrorOfLive s e
-IsErrorOfLive-unmade s i n (BadSettings cause) both why untouched = absurd why
-IsErrorOfLive-unmade s i n TooLong both why untouched = absurd why
-IsErrorOfLive-unmade s i n (Text cause) both why untouched = IsErrorOf-run s i n (Text cause) both why untouched
-IsErrorOfLive-unmade s i n (BadImage cause) both why untouched = IsErrorOf-run s i n (BadImage cause) both why untouched
-IsErrorOfLive-unmade s i n SegmentOutside both why untouched = IsErrorOf-run s i n SegmentOutside both why untouched
-IsErrorOfLive-unmade s i n ReadFault both why untouched = absurd why
-IsErrorOfLive-unmade s i n WriteFault both why untouched = absurd why
-IsErrorOfLive-unmade s i n NoWorker both why untouched =
-    let start : MachineState = fresh why.m n s.job.settings in (
+-- so is an error of a session that writes at the end
+pub IsErrorOfLive-of : (s : Session) (e : SessionError) → IsErrorOf s e → IsErrorOfLive s e
+IsErrorOfLive-of s WriteFault why =
+    (why.start, why.starts, ((why.part.written.0, omega (arith, why.part.written.1), omega (arith, why.part.written.1), why.part.written.2), why.part.failed))
+IsErrorOfLive-of s NoWorker why =
+    let start : MachineState = fresh why.cause.m why.n s.job.settings in (
       start,
-      record { i = i; n = n; m = why.m; read = both; image = why.image; is = refl },
-      ((start, record { count = 0; is = refl; written = rw untouched.bytes (Appends-nil s.out.before) }, refl), (why.workers, why.nodes)),
+      record { i = why.i; n = why.n; m = why.cause.m; read = why.read; image = why.cause.image; is = refl },
+      ((start, record { count = 0; is = refl; written = rw why.unwritten.bytes (Appends-nil s.out.before) }, refl), (why.cause.workers, why.cause.nodes)),
     )
-IsErrorOfLive-unmade s i n NoMemory both why untouched = inl (IsErrorOf-run s i n NoMemory both why untouched)
+IsErrorOfLive-of s NoMemory why = inl why
+IsErrorOfLive-of s (BadSettings cause) why = why
+IsErrorOfLive-of s TooLong why = why
+IsErrorOfLive-of s (Text cause) why = why
+IsErrorOfLive-of s (BadImage cause) why = why
+IsErrorOfLive-of s SegmentOutside why = why
+IsErrorOfLive-of s ReadFault why = why
 
 -- and why the lines behind the whole output were not all written
 pub IsErrorOfLive-lines : (s : Session) (start end : MachineState) (here : Stream) (e : SessionError) → StartsAt s start → end ≡ end_of start
@@ -155,18 +142,16 @@ IsErrorOfSuperstep-of_pool job m out pool.BadSlice none workers slice wanted unt
 IsErrorOfSuperstep-of_pool job m out pool.NoWorker none workers slice wanted untouched = (untouched, wanted refl)
 IsErrorOfSuperstep-of_pool job m out pool.NoMemory none workers slice wanted untouched = untouched
 
--- settings are refused exactly where a job is refused for them
-pub settings_exact : {X : Type 0} (s : Session) (r : Result X SessionError) → IfOk r (λ _. job_fault s.job ≡ None) → IfErr r (IsErrorOfLive s)
-    → (cause : BadSetting) → IsErrOf r (BadSettings cause) ↔ (job_fault s.job ≡ Some (BadSettings cause))
-settings_exact s (Ok x) none err cause = (λ is. cc, λ fault. cc)
-settings_exact s (Err (BadSettings other)) none err cause = let fault = err.cause.0 in (λ is. cc, λ is. cc)
-settings_exact s (Err TooLong) none err cause = let good = err.cause.settings in (λ is. cc, λ fault. cc)
-settings_exact s (Err (Text fault)) none err cause = let good = err.read.settings in (λ is. cc, λ fault. cc)
-settings_exact s (Err (BadImage fault)) none err cause = let good = err.read.settings in (λ is. cc, λ fault. cc)
-settings_exact s (Err SegmentOutside) none err cause = let good = err.read.settings in (λ is. cc, λ fault. cc)
-settings_exact s (Err ReadFault) none err cause = let good = err.cause.settings in (λ is. cc, λ fault. cc)
-settings_exact s (Err WriteFault) none err cause = let good = err.1.read.settings in (λ is. cc, λ fault. cc)
-settings_exact s (Err NoWorker) none err cause = let good = err.1.read.settings in (λ is. cc, λ fault. cc)
-settings_exact s (Err NoMemory) none (inl (inl ended)) cause = let good = ended.cause.settings in (λ is. cc, λ fault. cc)
-settings_exact s (Err NoMemory) none (inl (inr ended)) cause = let good = ended.read.settings in (λ is. cc, λ fault. cc)
-settings_exact s (Err NoMemory) none (inr run) cause = let good = run.1.read.settings in (λ is. cc, λ fault. cc)
+-- an error that may come late refuses no settings, and these are good
+pub settings_late : {X : Type 0} (job : Job) (r : Result X SessionError) → job_fault job ≡ None → IfErr r MayComeLate
+    → (cause : BadSetting) → IsErrOf r (BadSettings cause) ↔ (job_fault job ≡ Some (BadSettings cause))
+settings_late job (Ok x) none late cause = (λ is. cc, λ fault. cc)
+settings_late job (Err WriteFault) none late cause = (λ is. cc, λ fault. cc)
+settings_late job (Err NoWorker) none late cause = (λ is. cc, λ fault. cc)
+settings_late job (Err NoMemory) none late cause = (λ is. cc, λ fault. cc)
+settings_late job (Err (BadSettings other)) none late cause = absurd late
+settings_late job (Err TooLong) none late cause = absurd late
+settings_late job (Err (Text fault)) none late cause = absurd late
+settings_late job (Err (BadImage fault)) none late cause = absurd late
+settings_late job (Err SegmentOutside) none late cause = absurd late
+settings_late job (Err ReadFault) none late cause = absurd late

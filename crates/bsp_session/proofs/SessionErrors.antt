@@ -1,15 +1,20 @@
 -- The errors of a session, by the stage that ended it.
-use Rattle.std.proofs.Common.{◌≡◌, ℕ, inl, inr, List, Option, Some, None, Result, Ok, Err, IfOk, IfErr, arith}
+use Rattle.std.proofs.Common.{◌≡◌, ◌∙◌, ℕ, ap, inl, inr, length, List, Option, Some, None, Result, Ok, Err, IfOk, IfErr, arith, subst}
 use Rattle.std.specs.Prelude.{IsErrOf, ◌↔◌}
+use Rattle.std.specs.Io.KnownBytes.{Appends}
 use Rattle.counted_io.specs.declared.ReadError.{ReadError}
 use Rattle.counted_io.specs.declared.ReadError.TheVariants as read
+use Rattle.machine_core.specs.Machine.{MachineState}
+use Rattle.machine_core.specs.Turn.{end_of}
 use Rattle.bsp_session.specs.declared.errors.BadSetting.{BadSetting}
 use Rattle.bsp_session.specs.declared.errors.SessionError.{SessionError}
 use Rattle.bsp_session.specs.declared.errors.SessionError.TheVariants.{BadSettings, TooLong, Text, BadImage, SegmentOutside, ReadFault, WriteFault, NoWorker, NoMemory}
 use Rattle.bsp_session.specs.Outcome.{error_of_read}
+use Rattle.bsp_session.specs.Report.{report_of}
 use Rattle.bsp_session.specs.declared.job.Job.{Job}
-use Rattle.bsp_session.specs.Session.{EndsAtFile, IsErrorOf, IsErrorOfFiles, IsErrorOfRun, ReadsBoth, Session, job_fault}
+use Rattle.bsp_session.specs.Session.{EndsAtFile, IsErrorOf, IsErrorOfFiles, IsErrorOfReport, IsErrorOfRun, IsErrorOfThreads, IsReportPart, ReadsBoth, ReportsFrom, Session, StartsAt, job_fault}
 use Rattle.bsp_session.specs.Streams.{IsUntouched, Stream}
+use Rattle.bsp_session.proofs.Jobs.{length-fresh}
 
 -- what a job is refused for is a setting
 pub IsErrorOfFiles-settings : (job : Job) (image input : Stream) (e : SessionError) → job_fault job ≡ Some e → IsUntouched image → IsUntouched input
@@ -54,10 +59,46 @@ IsErrorOf-run s i n WriteFault both why untouched = absurd why
 IsErrorOf-run s i n NoWorker both why untouched = record { i = i; n = n; read = both; cause = why; unwritten = untouched }
 IsErrorOf-run s i n NoMemory both why untouched = inr (record { i = i; n = n; read = both; cause = why; unwritten = untouched })
 
--- what holds by itself holds where there is a value
-pub IfOk-always : {X : Type 0} {P : Type 0} (r : Result X SessionError) → P → IfOk r (λ _. P)
-IfOk-always (Ok x) p = p
-IfOk-always (Err e) p = tt
+-- and so is why a machine came to no outcome
+pub IsErrorOf-threads : (s : Session) (start : MachineState) (e : SessionError) → StartsAt s start → IsUntouched s.out → IsErrorOfThreads s.job start e → IsErrorOf s e
+IsErrorOf-threads s start NoWorker starts untouched (workers, nodes) =
+    let all : length start.nodes ≡ s.job.settings.nodes = ap (λ (m : MachineState). length m.nodes) starts.is ∙ length-fresh starts.m starts.n s.job.settings in
+    record {
+      i = starts.i;
+      n = starts.n;
+      read = starts.read;
+      cause = record { m = starts.m; image = starts.image; workers = workers; nodes = rw all at nodes };
+      unwritten = untouched;
+    }
+IsErrorOf-threads s start NoMemory starts untouched why = inr (record { i = starts.i; n = starts.n; read = starts.read; cause = tt; unwritten = untouched })
+IsErrorOf-threads s start (BadSettings cause) starts untouched why = absurd why
+IsErrorOf-threads s start TooLong starts untouched why = absurd why
+IsErrorOf-threads s start (Text cause) starts untouched why = absurd why
+IsErrorOf-threads s start (BadImage cause) starts untouched why = absurd why
+IsErrorOf-threads s start SegmentOutside starts untouched why = absurd why
+IsErrorOf-threads s start ReadFault starts untouched why = absurd why
+IsErrorOf-threads s start WriteFault starts untouched why = absurd why
+
+-- or why its report was not all written
+pub IsErrorOf-report : (s : Session) (start end : MachineState) (e : SessionError) → StartsAt s start → end ≡ end_of start → IsErrorOfReport s.job end s.out e → IsErrorOf s e
+IsErrorOf-report s start end WriteFault starts is part =
+    record { start = start; starts = starts; part = subst (λ (m : MachineState). IsReportPart s.job m s.out) is part }
+IsErrorOf-report s start end NoMemory starts is untouched = inr (record { i = starts.i; n = starts.n; read = starts.read; cause = tt; unwritten = untouched })
+IsErrorOf-report s start end NoWorker starts is why = absurd why
+IsErrorOf-report s start end (BadSettings cause) starts is why = absurd why
+IsErrorOf-report s start end TooLong starts is why = absurd why
+IsErrorOf-report s start end (Text cause) starts is why = absurd why
+IsErrorOf-report s start end (BadImage cause) starts is why = absurd why
+IsErrorOf-report s start end SegmentOutside starts is why = absurd why
+IsErrorOf-report s start end ReadFault starts is why = absurd why
+
+-- the report of the machine at the end of a run is the run's
+pub ReportsFrom-end : (s : Session) (start end : MachineState) → StartsAt s start → end ≡ end_of start
+    → Appends s.out.before s.out.after (report_of s.job end) → ReportsFrom s start
+ReportsFrom-end s start end starts is written = record {
+  starts = starts;
+  written = subst (λ (m : MachineState). Appends s.out.before s.out.after (report_of s.job m)) is written;
+}
 
 -- settings are refused exactly where a job is refused for them
 pub settings_exact : {X : Type 0} (s : Session) (r : Result X SessionError) → IfOk r (λ _. job_fault s.job ≡ None) → IfErr r (IsErrorOf s)
@@ -69,7 +110,7 @@ settings_exact s (Err (Text fault)) none err cause = let good = err.read.setting
 settings_exact s (Err (BadImage fault)) none err cause = let good = err.read.settings in (λ is. cc, λ fault. cc)
 settings_exact s (Err SegmentOutside) none err cause = let good = err.read.settings in (λ is. cc, λ fault. cc)
 settings_exact s (Err ReadFault) none err cause = let good = err.cause.settings in (λ is. cc, λ fault. cc)
-settings_exact s (Err WriteFault) none err cause = let good = err.runs.read.settings in (λ is. cc, λ fault. cc)
+settings_exact s (Err WriteFault) none err cause = let good = err.starts.read.settings in (λ is. cc, λ fault. cc)
 settings_exact s (Err NoWorker) none err cause = let good = err.read.settings in (λ is. cc, λ fault. cc)
 settings_exact s (Err NoMemory) none (inl ended) cause = let good = ended.cause.settings in (λ is. cc, λ fault. cc)
 settings_exact s (Err NoMemory) none (inr ended) cause = let good = ended.read.settings in (λ is. cc, λ fault. cc)

@@ -8,3 +8,4 @@ pub mod Profiles
 pub mod Streams
 pub mod Report
 pub mod Session
+pub mod Told

@@ -9,9 +9,8 @@ use Rattle.machine_core.specs.Turn.{end_of, superstep, with_phases, written}
 use Rattle.bsp_session.specs.declared.errors.SessionError.{SessionError}
 use Rattle.bsp_session.specs.declared.errors.SessionError.TheVariants.{WriteFault, NoWorker, NoMemory}
 use Rattle.bsp_session.specs.declared.job.Job.{Job}
-use Rattle.bsp_session.specs.Profiles.{StartsAt}
 use Rattle.bsp_session.specs.Report.{report_of}
-use Rattle.bsp_session.specs.Session.{IsErrorOf, Session}
+use Rattle.bsp_session.specs.Session.{IsErrorOf, Session, StartsAt}
 use Rattle.bsp_session.specs.Streams.{Stream, IsUntouched, HasFailed}
 
 -- ---- what stands written

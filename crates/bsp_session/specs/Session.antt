@@ -1,6 +1,6 @@
 -- A session over the bytes of its readers and its writer, where they are known. The order of the stages is an own rule:
 -- settings, image read, input read, image understood, machine made, run, report written.
-use Rattle.std.specs.Prelude.{◌≡◌, ℕ, ◌^◌, ◌<◌, ◌⊎◌, false, true, List, Option, None, Some, option_map}
+use Rattle.std.specs.Prelude.{◌≡◌, ℕ, ◌^◌, ◌<◌, ◌⊎◌, false, true, List, length, Option, None, Some, option_map, Result, IfErr, OnOk, IsSome}
 use Rattle.std.specs.Option.{option_or}
 use Rattle.std.specs.Io.KnownBytes.{Appends}
 use Rattle.counted_io.specs.Transfers.{AppendsPrefix}
@@ -8,7 +8,6 @@ use Rattle.counted_io.specs.declared.ReadError.{ReadError}
 use Rattle.counted_io.specs.declared.ReadError.TheVariants as read
 use Rattle.node_memory.specs.Image.{Image, is_segment_outside}
 use Rattle.machine_core.specs.declared.outcome.Outcome.{Outcome}
-use Rattle.machine_core.specs.declared.settings.Settings.{Settings}
 use Rattle.machine_core.specs.Machine.{MachineState, fresh, settings_fault}
 use Rattle.machine_core.specs.Turn.{end_of}
 use Rattle.phase_pool.specs.Numbers.{numbers_fault}
@@ -84,10 +83,6 @@ job_fault job =
     option_or (option_map error_of_machine (settings_fault job.settings))
     (option_map error_of_pool (numbers_fault job.workers job.slice))
 
--- the machine at the end of its run
-abbrev pub run_of : Image → List ℕ → Settings → MachineState
-run_of image input settings = end_of (fresh image input settings)
-
 -- both were read
 abbrev pub ReadsBoth : Session → (i n : List ℕ) → Type 0
 ReadsBoth s i n = ReadsFiles job_fault s.job s.image s.input i n
@@ -99,28 +94,36 @@ pub record NeedsWorkers (job : Job) (file : List ℕ) : Type 0 where
   pub workers : 1 < job.workers
   pub nodes : 1 < job.settings.nodes
 
--- both were read, the file gives an image that fits, and this is the machine at the end of its run
-pub record RunsTo (s : Session) (end : MachineState) : Type 0 where
+-- both were read, the file gives an image that fits, and this is the machine at the start of its run
+pub record StartsAt (s : Session) (start : MachineState) : Type 0 where
   pub i : List ℕ
   pub n : List ℕ
   pub m : Image
   pub read : ReadsBoth s i n
   pub image : HasImage s.job i m
-  pub ends : end ≡ run_of m n s.job.settings
+  pub is : start ≡ fresh m n s.job.settings
+
+-- the whole of the report was written
+pub record ReportsFrom (s : Session) (start : MachineState) : Type 0 where
+  pub starts : StartsAt s start
+  pub written : Appends s.out.before s.out.after (report_of s.job (end_of start))
 
 -- an answer: how the run ended, after the whole of its report was written
 pub record Reports (s : Session) (o : Outcome) : Type 0 where
-  pub end : MachineState
-  pub runs : RunsTo s end
-  pub outcome : end.outcome ≡ Some o
-  pub written : Appends s.out.before s.out.after (report_of s.job end)
+  pub start : MachineState
+  pub reports : ReportsFrom s start
+  pub outcome : (end_of start).outcome ≡ Some o
 
--- the writer failed after some first bytes of the report were written, and not all
+-- some first bytes of a report were written, and not all, and then the writer failed
+pub record IsReportPart (job : Job) (end : MachineState) (out : Stream) : Type 0 where
+  pub written : AppendsPrefix out.before out.after (report_of job end)
+  pub failed : HasFailed out
+
+-- so it was in a session
 pub record ReportsPart (s : Session) : Type 0 where
-  pub end : MachineState
-  pub runs : RunsTo s end
-  pub written : AppendsPrefix s.out.before s.out.after (report_of s.job end)
-  pub failed : HasFailed s.out
+  pub start : MachineState
+  pub starts : StartsAt s start
+  pub part : IsReportPart s.job (end_of start) s.out
 
 -- a setting was bad, or the two were not both read, for this; nothing was written
 pub record EndsReading (s : Session) (e : SessionError) : Type 0 where
@@ -151,3 +154,23 @@ IsErrorOf s ReadFault = EndsReading s ReadFault
 IsErrorOf s WriteFault = ReportsPart s
 IsErrorOf s NoWorker = EndsUnrun s NoWorker
 IsErrorOf s NoMemory = EndsReading s NoMemory ⊎ EndsUnrun s NoMemory
+
+-- ---- for private contracts, which speak of one stage
+
+-- why a machine did not come to its outcome: a thread was refused, which only several workers and several nodes want, or memory
+abbrev pub IsErrorOfThreads : Job → MachineState → SessionError → Type 0
+IsErrorOfThreads job start NoWorker = (1 < job.workers) × (1 < length start.nodes)
+IsErrorOfThreads job start NoMemory = Unit {0}
+IsErrorOfThreads job start _ = ⊥
+
+-- a machine was to be run to its outcome
+pub record ComesToEnd {X : Type 0} (job : Job) (start end : MachineState) (answer : Result X SessionError) : Type 0 where
+  pub is : OnOk answer (end ≡ end_of start)
+  pub over : OnOk answer (IsSome end.outcome)
+  pub err : IfErr answer (IsErrorOfThreads job start)
+
+-- why its report was not all written
+abbrev pub IsErrorOfReport : Job → MachineState → Stream → SessionError → Type 0
+IsErrorOfReport job end out WriteFault = IsReportPart job end out
+IsErrorOfReport job end out NoMemory = IsUntouched out
+IsErrorOfReport job end out _ = ⊥

@@ -35,9 +35,9 @@
 //! A session waits for its own threads alone. It ends if these and the calls of its readers and its writer do: a node makes at
 //! most as many steps as its limit of ticks, there is at most one superstep more than that, and an interrupted call is tried
 //! again for a bounded number of times. It takes the memory of the image once for all nodes, of a table of pages for each, and
-//! of each page that a node writes; and beside it that of the image's file, of the input twice, of the output, of a row of
-//! costs for each superstep, and where a report is asked for of a line for each of these; and for each further worker that of
-//! a thread's stack and of a list of its nodes.
+//! of each page that a node writes; and beside it that of the input, of the output, of a row of costs for each superstep, and where a
+//! report is asked for of a line for each of these; and for each further worker that of a thread's stack and of a list of its nodes.
+//! Up to the start of the run it takes that of the image's file and of the image too, and of the input once more.
 #![tactic(auto)]
 
 mod contested;

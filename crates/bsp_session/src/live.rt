@@ -7,16 +7,15 @@ ghost use Rattle.machine_core.specs.Sound.{IsSoundMachine};
 ghost use Rattle.machine_core.specs.Turn.{end_of, superstep as superstep_of, with_phases, written as written_by};
 ghost use Rattle.phase_pool.specs.Numbers.{numbers_fault};
 ghost use Rattle.bsp_session.specs.declared.errors.BadSetting.{BadSetting as BadSettingCause};
-ghost use Rattle.bsp_session.specs.Images.{most_bytes};
 ghost use Rattle.bsp_session.specs.Live.{AppendsSome, FailsAt, IsErrorOfLive, IsErrorOfLiveRun, IsErrorOfSuperstep, MayComeLate};
-ghost use Rattle.bsp_session.specs.Streams.{IsUntouched, Stream, stream};
+ghost use Rattle.bsp_session.specs.Streams.{IsUntouched, stream};
 ghost use Rattle.bsp_session.specs.Report.{report_lines as report_lines_of};
-ghost use Rattle.bsp_session.specs.Session.{ReadsBoth, Reports, job_fault, session_of};
+ghost use Rattle.bsp_session.specs.Session.{Reports, job_fault, session_of};
 
 use crate::errors::SessionError;
 use crate::job::Job;
-use crate::report::report_lines;
-use crate::sessions::{machine_of, read_both};
+use crate::report::{outcome_of, report_lines};
+use crate::sessions::start;
 use counted_io::{Counted, WriteFault, flush_whole, write_whole};
 use machine_core::{Machine, Outcome};
 use phase_pool::run_phase_sparing;
@@ -64,37 +63,10 @@ pub fn live_session<
         → (image.new ≡ image.old) × (input.new ≡ input.old) }
     ensures nothing_written { IfErr result (λ e. (out.new ≡ out.old) ⊎ MayComeLate e) }
 {
-    let (file, input) = read_both(alloc, image, input, job)?;
-    run_and_tell(rt, alloc, file.as_slice(), input.as_slice(), job, out)
-}
-
-/// Runs the program that the bytes of a file give, and writes its report meanwhile.
-fn run_and_tell<T: Threads + Wait + Sync, A: Allocator + Copy + Send + Sync, W: Write>(
-    rt: &T,
-    alloc: A,
-    file: &[u8],
-    input: &[u8],
-    job: &Job,
-    out: &mut Counted<W>,
-) -> Result<Outcome, SessionError>
-    requires settings { job_fault job.now ≡ None }
-    requires limit { length file.now ≤ most_bytes job.now.format }
-    // For a session that read these bytes, its answer and its errors.
-    ensures ok { IfOk result (λ outcome. (i n : Stream)
-        → ReadsBoth (session_of i n (stream W.contents out.old out.new) job.now) file.now input.now
-        → Reports (session_of i n (stream W.contents out.old out.new) job.now) outcome) }
-    ensures err { IfErr result (λ e. (i n : Stream)
-        → ReadsBoth (session_of i n (stream W.contents out.old out.new) job.now) file.now input.now
-        → IsErrorOfLive (session_of i n (stream W.contents out.old out.new) job.now) e) }
-    ensures nothing_written { IfErr result (λ e. (out.new ≡ out.old) ⊎ MayComeLate e) }
-{
-    let mut machine = machine_of(alloc, file, input, job)?;
+    let mut machine = start(alloc, image, input, job)?;
     run_live(rt, &mut machine, job, out)?;
     write_lines(alloc, &machine, job, out)?;
-    match machine.outcome() {
-        Some(outcome) => Ok(outcome),
-        None => unreachable!(),
-    }
+    Ok(outcome_of(&machine))
 }
 
 /// Runs a machine that has written nothing to its outcome, and writes its output superstep by superstep.

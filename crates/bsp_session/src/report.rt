@@ -1,15 +1,17 @@
 //! What a session writes of a machine at its end.
 
-ghost use Rattle.std.specs.Prelude.{◌≡◌, ◌++◌, ◌≤◌, IfOk, OnOk, OnErr, string_bytes, true};
+ghost use Rattle.std.specs.Prelude.{◌≡◌, ◌≢◌, ◌≤◌, IfOk, IfErr, OnOk, OnErr, IsSome, Some, string_bytes, true};
 ghost use Rattle.std.specs.Io.KnownBytes.{Appends};
-ghost use Rattle.counted_io.specs.Counted.{HasRisen};
-ghost use Rattle.counted_io.specs.Transfers.{AppendsPrefix};
-ghost use Rattle.bsp_session.specs.Report.{costs_and_outcome as costs_and_outcome_of, report_lines as report_lines_of};
+ghost use Rattle.bsp_session.specs.Report.{costs_and_outcome as costs_and_outcome_of, report_lines as report_lines_of, report_of};
+ghost use Rattle.bsp_session.specs.Session.{IsErrorOfReport};
+ghost use Rattle.bsp_session.specs.Streams.{stream};
+ghost use Rattle.bsp_session.specs.Told.{IsErrorOfBoth, WritesBoth};
 
+use crate::errors::SessionError;
 use crate::job::Job;
 use cost_ledger::LedgerText;
-use counted_io::{Counted, WriteFault, write_whole};
-use machine_core::Machine;
+use counted_io::{Counted, write_whole};
+use machine_core::{Machine, Outcome};
 use std::alloc::{AllocError, Allocator};
 use std::io::Write;
 
@@ -46,19 +48,53 @@ fn costs_and_outcome<A: Allocator + Copy>(
     Ok(text)
 }
 
-/// Writes the output of a machine, and some lines after it.
-pub(crate) fn write_report<W: Write>(
-    output: &[u8],
-    lines: &[u8],
-    out: &mut Counted<W>,
-) -> Result<(), WriteFault>
-    ensures ok { OnOk result (Appends
-        (W.contents out.old.inner) (W.contents out.new.inner) (output.now ++ lines.now)) }
-    ensures err { OnErr result (AppendsPrefix
-        (W.contents out.old.inner) (W.contents out.new.inner) (output.now ++ lines.now)) }
-    ensures fault { OnErr result (HasRisen out.old.failures out.new.failures) }
-    ensures never_falls { out.old.failures ≤ out.new.failures }
+/// How a machine that is over ended.
+pub(crate) fn outcome_of<A: Allocator>(machine: &Machine<A>) -> Outcome
+    requires { IsSome machine.now.outcome }
+    ensures { machine.now.outcome ≡ Some result }
 {
-    write_whole(out, output)?;
-    write_whole(out, lines)
+    match machine.outcome() {
+        Some(outcome) => outcome,
+        None => unreachable!(),
+    }
+}
+
+/// Writes the report of a machine at its end, which is whole before its first byte is written.
+pub(crate) fn write_report<A: Allocator + Copy, W: Write>(
+    alloc: A,
+    machine: &Machine<A>,
+    job: &Job,
+    out: &mut Counted<W>,
+) -> Result<(), SessionError>
+    ensures ok { OnOk result (Appends
+        (W.contents out.old.inner) (W.contents out.new.inner) (report_of job.now machine.now)) }
+    ensures err { IfErr result (IsErrorOfReport job.now machine.now (stream W.contents out.old out.new)) }
+    ensures nothing_written { IfErr result (λ e. e ≢ SessionError.WriteFault → out.new ≡ out.old) }
+{
+    let lines = report_lines(alloc, machine, job)?;
+    write_whole(out, machine.output())?;
+    write_whole(out, lines.as_bytes())?;
+    Ok(())
+}
+
+/// Writes the report of a machine that is over, and then a text on its run to a writer of its own. How it ended.
+pub(crate) fn write_both<A: Allocator + Copy, W: Write, T: Write>(
+    alloc: A,
+    machine: &Machine<A>,
+    job: &Job,
+    text: &[u8],
+    out: &mut Counted<W>,
+    told: &mut Counted<T>,
+) -> Result<Outcome, SessionError>
+    requires { IsSome machine.now.outcome }
+    ensures ok { IfOk result (WritesBoth job.now machine.now text.now
+        (stream W.contents out.old out.new) (stream T.contents told.old told.new)) }
+    ensures err { IfErr result (IsErrorOfBoth job.now machine.now text.now
+        (stream W.contents out.old out.new) (stream T.contents told.old told.new)) }
+    ensures nothing_written { IfErr result (λ e. e ≢ SessionError.WriteFault
+        → (out.new ≡ out.old) × (told.new ≡ told.old)) }
+{
+    write_report(alloc, machine, job, out)?;
+    write_whole(told, text)?;
+    Ok(outcome_of(machine))
 }

@@ -1,23 +1,18 @@
 //! The session that runs a program.
 
-ghost use Rattle.std.specs.Prelude.{◌≡◌, ◌≢◌, ◌↔◌, ◌⊎◌, ◌<◌, ◌≤◌, length, string_bytes, Some, None, IfOk, IfErr, OnOk, IsErrOf};
-ghost use Rattle.node_memory.specs.Image.{Image};
-ghost use Rattle.machine_core.specs.Machine.{fresh};
-ghost use Rattle.machine_core.specs.Turn.{end_of};
+ghost use Rattle.std.specs.Prelude.{◌≡◌, ◌≢◌, ◌↔◌, Some, None, IfOk, IfErr, OnOk, IsErrOf, IsSome};
 ghost use Rattle.phase_pool.specs.Numbers.{numbers_fault};
 ghost use Rattle.bsp_session.specs.declared.errors.BadSetting.{BadSetting as BadSettingCause};
-ghost use Rattle.bsp_session.specs.Images.{most_bytes};
-ghost use Rattle.bsp_session.specs.Streams.{Stream, stream};
-ghost use Rattle.bsp_session.specs.Report.{report_lines as report_lines_of};
-ghost use Rattle.bsp_session.specs.Session.{HasImage, IsErrorOf, IsErrorOfFiles, IsErrorOfRun, ReadsBoth, ReadsFiles, Reports, job_fault, run_of, session_of};
+ghost use Rattle.bsp_session.specs.Streams.{IsUntouched, Stream, stream};
+ghost use Rattle.bsp_session.specs.Session.{ComesToEnd, IsErrorOf, IsErrorOfFiles, ReadsFiles, Reports, StartsAt, job_fault, session_of};
 
 use crate::errors::SessionError;
 use crate::images::image_of;
 use crate::job::Job;
-use crate::report::{report_lines, write_report};
+use crate::report::{outcome_of, write_report};
 use counted_io::{Counted, read_at_most};
 use machine_core::{Machine, Outcome};
-use phase_pool::{PoolError, check_numbers, run_sparing};
+use phase_pool::{check_numbers, run_sparing};
 use std::alloc::Allocator;
 use std::io::{Read, Write};
 use std::sync::Wait;
@@ -70,12 +65,34 @@ pub fn session<
     ensures nothing_written { IfErr result (λ e.
         e ≢ SessionError.WriteFault → out.new ≡ out.old) }
 {
+    let mut machine = start(alloc, image, input, job)?;
+    run_to_end(rt, &mut machine, job)?;
+    write_report(alloc, &machine, job, out)?;
+    Ok(outcome_of(&machine))
+}
+
+/// The machine of a job at its start, by what the readers give: the file of its image and its input, each read to its end.
+pub(crate) fn start<A: Allocator + Copy, I: Read, R: Read>(
+    alloc: A,
+    image: &mut Counted<I>,
+    input: &mut Counted<R>,
+    job: &Job,
+) -> Result<Machine<A>, SessionError>
+    // For a session with this writer, its machine and its errors.
+    ensures ok { IfOk result (λ machine. (out : Stream) → StartsAt (session_of
+        (stream I.remaining image.old image.new) (stream R.remaining input.old input.new) out job.now) machine) }
+    ensures err { IfErr result (λ e. (out : Stream) → IsUntouched out → IsErrorOf (session_of
+        (stream I.remaining image.old image.new) (stream R.remaining input.old input.new) out job.now) e) }
+    ensures settings_first { job_fault job.now ≢ None
+        → (image.new ≡ image.old) × (input.new ≡ input.old) }
+{
     let (file, input) = read_both(alloc, image, input, job)?;
-    run_and_report(rt, alloc, file.as_slice(), input.as_slice(), job, out)
+    let image = image_of(alloc, job.format, file.as_slice())?;
+    Ok(Machine::new(alloc, &image, input.as_slice(), job.settings)?)
 }
 
 /// Reads the file of an image and an input, where the settings of the job are within their ranges.
-pub(crate) fn read_both<A: Allocator + Copy, I: Read, R: Read>(
+fn read_both<A: Allocator + Copy, I: Read, R: Read>(
     alloc: A,
     image: &mut Counted<I>,
     input: &mut Counted<R>,
@@ -104,88 +121,14 @@ fn check_job(job: &Job) -> Result<(), SessionError>
     Ok(())
 }
 
-/// Runs the program that the bytes of a file give, and then writes its report.
-fn run_and_report<T: Threads + Wait + Sync, A: Allocator + Copy + Send + Sync, W: Write>(
-    rt: &T,
-    alloc: A,
-    file: &[u8],
-    input: &[u8],
-    job: &Job,
-    out: &mut Counted<W>,
-) -> Result<Outcome, SessionError>
-    requires settings { job_fault job.now ≡ None }
-    requires limit { length file.now ≤ most_bytes job.now.format }
-    // For a session that read these bytes, its answer and its errors.
-    ensures ok { IfOk result (λ outcome. (i n : Stream)
-        → ReadsBoth (session_of i n (stream W.contents out.old out.new) job.now) file.now input.now
-        → Reports (session_of i n (stream W.contents out.old out.new) job.now) outcome) }
-    ensures err { IfErr result (λ e. (i n : Stream)
-        → ReadsBoth (session_of i n (stream W.contents out.old out.new) job.now) file.now input.now
-        → IsErrorOf (session_of i n (stream W.contents out.old out.new) job.now) e) }
-    ensures nothing_written { IfErr result (λ e.
-        e ≢ SessionError.WriteFault → out.new ≡ out.old) }
-{
-    let (outcome, machine, lines) = run_file(rt, alloc, file, input, job)?;
-    write_report(machine.output(), lines.as_bytes(), out)?;
-    Ok(outcome)
-}
-
-/// Runs the program that the bytes of a file give: its outcome, the machine at its end, and the lines that follow the
-/// machine's output in the report.
-fn run_file<T: Threads + Wait + Sync, A: Allocator + Copy + Send + Sync>(
-    rt: &T,
-    alloc: A,
-    file: &[u8],
-    input: &[u8],
-    job: &Job,
-) -> Result<(Outcome, Machine<A>, String<A>), SessionError>
-    requires settings { job_fault job.now ≡ None }
-    requires limit { length file.now ≤ most_bytes job.now.format }
-    ensures machine { IfOk result (λ ran. (m : Image) × HasImage job.now file.now m
-        × (ran.1 ≡ run_of m input.now job.now.settings)) }
-    ensures outcome { IfOk result (λ ran. ran.1.outcome ≡ Some ran.0) }
-    ensures lines { IfOk result (λ ran. string_bytes ran.2 ≡ report_lines_of job.now ran.1) }
-    ensures err { IfErr result (λ e. IsErrorOfRun job.now file.now e) }
-{
-    let mut machine = machine_of(alloc, file, input, job)?;
-    let outcome = run_to_outcome(rt, &mut machine, job)?;
-    let lines = report_lines(alloc, &machine, job)?;
-    Ok((outcome, machine, lines))
-}
-
-/// The machine of a file and an input, at its start.
-pub(crate) fn machine_of<A: Allocator + Copy>(
-    alloc: A,
-    file: &[u8],
-    input: &[u8],
-    job: &Job,
-) -> Result<Machine<A>, SessionError>
-    requires settings { job_fault job.now ≡ None }
-    requires limit { length file.now ≤ most_bytes job.now.format }
-    ensures ok { IfOk result (λ machine. (m : Image) × HasImage job.now file.now m
-        × (machine ≡ fresh m input.now job.now.settings)) }
-    ensures err { IfErr result (λ e. IsErrorOfRun job.now file.now e) }
-{
-    let image = image_of(alloc, job.format, file)?;
-    Ok(Machine::new(alloc, &image, input, job.settings)?)
-}
-
 /// Runs a machine to its outcome, in no more threads than the job has workers, and only where the work pays for them.
-fn run_to_outcome<T: Threads + Wait + Sync, A: Allocator + Copy + Send + Sync>(
+fn run_to_end<T: Threads + Wait + Sync, A: Allocator + Copy + Send + Sync>(
     rt: &T,
     machine: &mut Machine<A>,
     job: &Job,
-) -> Result<Outcome, PoolError>
+) -> Result<(), SessionError>
     requires { numbers_fault job.now.workers job.now.slice ≡ None }
-    ensures end { OnOk result (machine.new ≡ end_of machine.old) }
-    ensures outcome { IfOk result (λ outcome. machine.new.outcome ≡ Some outcome) }
-    ensures kinds { IfErr result (λ e. (e ≡ PoolError.NoWorker) ⊎ (e ≡ PoolError.NoMemory)) }
-    ensures no_worker { IsErrOf result PoolError.NoWorker
-        → (1 < job.now.workers) × (1 < length machine.old.nodes) }
+    ensures { ComesToEnd job.now machine.old machine.new result }
 {
-    run_sparing(rt, machine, job.workers, job.slice)?;
-    match machine.outcome() {
-        Some(outcome) => Ok(outcome),
-        None => unreachable!(),
-    }
+    Ok(run_sparing(rt, machine, job.workers, job.slice)?)
 }

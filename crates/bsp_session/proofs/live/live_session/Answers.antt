@@ -1,61 +1,102 @@
--- What was read is what is run, and where it was not read whole, nothing was written.
-use Rattle.std.proofs.Common.{Err, refl}
-use Rattle.std.proofs.lemmas.Result.{IfErr-weaker, IfOk-weaker, err_from_is_err_and}
-use Rattle.bsp_session.specs.Live.{IsErrorOfLive}
-use Rattle.bsp_session.specs.Session.{Reports, ReadsBoth, Session, session_of}
+-- Where there is no machine nothing is written; and then what there is of its run.
+use Rattle.std.proofs.Common.{Err, Ok, ap, inl, inr, refl}
+use Rattle.std.proofs.KnownBytes.{Appends-trans}
+use Rattle.std.proofs.lemmas.Result.{err_from_is_err_and}
+use Rattle.machine_core.specs.Machine.{MachineState}
+use Rattle.bsp_session.specs.Session.{session_of}
 use Rattle.bsp_session.specs.Streams.{Stream, stream}
-use Rattle.bsp_session.proofs.LiveErrors.{IsErrorOfLive-files, settings_exact}
-use Rattle.bsp_session.proofs.SessionErrors.{IfOk-always}
+use Rattle.bsp_session.proofs.Jobs.{numbers_are_in_range}
+use Rattle.bsp_session.proofs.LiveErrors.{IsErrorOfLive-lines, IsErrorOfLive-of, IsErrorOfLive-run, late, late_lines, settings_late}
+use Rattle.bsp_session.proofs.SessionErrors.{ReportsFrom-end, settings_exact}
 use Rattle.bsp_session.proofs.live.live_session.Goals as goal
 
-pub returns-in_err-file-clause-err : goal.returns-in_err-file-clause-err
-returns-in_err-file-clause-err g c =
+pub returns-in_err-machine-clause-err : goal.returns-in_err-machine-clause-err
+returns-in_err-machine-clause-err g c =
     let p = err_from_is_err_and c.from_residual.result c.from_residual.ensures.1 in
-    let s : Session = session_of (stream g.I.Read.remaining c.args.image.now c.read_both.new.image) (stream g.R.Read.remaining c.args.input.now c.read_both.new.input)
-    (stream g.W.Write.contents c.args.out.now c.args.out.now) c.args.job.now in
-    rw (p.1, p.2) (IsErrorOfLive-files s _ c.in_err-file.ensures.err (record { bytes = refl; failures = refl }))
+    let i = stream g.I.Read.remaining c.args.image.now c.start.new.image in
+    let n = stream g.R.Read.remaining c.args.input.now c.start.new.input in
+    let out = stream g.W.Write.contents c.args.out.now c.args.out.now in
+    rw (p.1, p.2) (IsErrorOfLive-of (session_of i n out c.args.job.now) _ (c.in_err-machine.ensures.err out (record { bytes = refl; failures = refl })))
 
-pub returns-in_err-file-clause-bad_settings : goal.returns-in_err-file-clause-bad_settings
-returns-in_err-file-clause-bad_settings g c =
+pub returns-in_err-machine-clause-bad_settings : goal.returns-in_err-machine-clause-bad_settings
+returns-in_err-machine-clause-bad_settings g c =
     let p = err_from_is_err_and c.from_residual.result c.from_residual.ensures.1 in
-    let unwritten = stream g.W.Write.contents c.args.out.now c.args.out.now in
-    let s : Session = session_of (stream g.I.Read.remaining c.args.image.now c.read_both.new.image) (stream g.R.Read.remaining c.args.input.now c.read_both.new.input) unwritten c.args.job.now in
-    rw (p.1, p.2) (settings_exact s (Err _) tt (IsErrorOfLive-files s _ c.in_err-file.ensures.err (record { bytes = refl; failures = refl })))
+    let i = stream g.I.Read.remaining c.args.image.now c.start.new.image in
+    let n = stream g.R.Read.remaining c.args.input.now c.start.new.input in
+    let out = stream g.W.Write.contents c.args.out.now c.args.out.now in
+    rw (p.1, p.2) (settings_exact (session_of i n out c.args.job.now) (Err _) tt (c.in_err-machine.ensures.err out (record { bytes = refl; failures = refl })))
 
-pub run_and_tell-requires-clause-settings : goal.run_and_tell-requires-clause-settings
-run_and_tell-requires-clause-settings g c = λ lifetimes bounds. c.in_ok-file.ensures.ok.settings
+pub returns-in_err-machine-clause-nothing_written : goal.returns-in_err-machine-clause-nothing_written
+returns-in_err-machine-clause-nothing_written g c =
+    let p = err_from_is_err_and c.from_residual.result c.from_residual.ensures.1 in
+    rw p.1 (inl refl)
 
-pub run_and_tell-requires-clause-limit : goal.run_and_tell-requires-clause-limit
-run_and_tell-requires-clause-limit g c = λ lifetimes bounds.
-    rw c.as_slice.ensures.value c.in_ok-file.ensures.ok.image_read.limited
+pub run_live-requires-clause-numbers : goal.run_live-requires-clause-numbers
+run_live-requires-clause-numbers g c =
+    let out = stream g.W.Write.contents c.args.out.now c.args.out.now in
+    λ lifetimes bounds. numbers_are_in_range c.args.job.now (c.in_ok-machine.ensures.ok out).read.settings
+
+-- a machine at its start has written nothing
+pub run_live-requires-clause-silent : goal.run_live-requires-clause-silent
+run_live-requires-clause-silent g c =
+    let out = stream g.W.Write.contents c.args.out.now c.args.out.now in
+    λ lifetimes bounds. ap (λ (m : MachineState). m.output) (c.in_ok-machine.ensures.ok out).is
+
+pub returns-in_err-run_live-clause-err : goal.returns-in_err-run_live-clause-err
+returns-in_err-run_live-clause-err g c =
+    let p = err_from_is_err_and c.from_residual-in_err-run_live.result c.from_residual-in_err-run_live.ensures.1 in
+    let i = stream g.I.Read.remaining c.args.image.now c.start.new.image in
+    let n = stream g.R.Read.remaining c.args.input.now c.start.new.input in
+    let out = stream g.W.Write.contents c.args.out.now c.run_live.new.out in
+    rw (p.1, p.2) (IsErrorOfLive-run (session_of i n out c.args.job.now) c.in_ok-machine.machine _ (c.in_ok-machine.ensures.ok out) c.in_err-run_live.ensures.err)
+
+pub returns-in_err-run_live-clause-bad_settings : goal.returns-in_err-run_live-clause-bad_settings
+returns-in_err-run_live-clause-bad_settings g c =
+    let p = err_from_is_err_and c.from_residual-in_err-run_live.result c.from_residual-in_err-run_live.ensures.1 in
+    let out = stream g.W.Write.contents c.args.out.now c.run_live.new.out in
+    rw (p.1, p.2) (settings_late c.args.job.now (Err _) (c.in_ok-machine.ensures.ok out).read.settings
+    (late c.args.job.now c.in_ok-machine.machine out _ c.in_err-run_live.ensures.err))
+
+pub returns-in_err-run_live-clause-nothing_written : goal.returns-in_err-run_live-clause-nothing_written
+returns-in_err-run_live-clause-nothing_written g c =
+    let p = err_from_is_err_and c.from_residual-in_err-run_live.result c.from_residual-in_err-run_live.ensures.1 in
+    rw (p.1, p.2) (inr (late c.args.job.now c.in_ok-machine.machine (stream g.W.Write.contents c.args.out.now c.run_live.new.out) _ c.in_err-run_live.ensures.err))
+
+pub returns-in_err-write_lines-clause-err : goal.returns-in_err-write_lines-clause-err
+returns-in_err-write_lines-clause-err g c =
+    let p = err_from_is_err_and c.from_residual-in_err-write_lines.result c.from_residual-in_err-write_lines.ensures.1 in
+    let i = stream g.I.Read.remaining c.args.image.now c.start.new.image in
+    let n = stream g.R.Read.remaining c.args.input.now c.start.new.input in
+    let out = stream g.W.Write.contents c.args.out.now c.write_lines.new.out in
+    let ran = c.in_ok-run_live.ensures in
+    rw (p.1, p.2) (IsErrorOfLive-lines (session_of i n out c.args.job.now) c.in_ok-machine.machine c.run_live.new.machine
+    (stream g.W.Write.contents c.run_live.new.out c.write_lines.new.out) _ (c.in_ok-machine.ensures.ok out) ran.end refl refl c.run_live.ensures.never_falls ran.written
+    c.in_err-write_lines.ensures.err)
+
+pub returns-in_err-write_lines-clause-bad_settings : goal.returns-in_err-write_lines-clause-bad_settings
+returns-in_err-write_lines-clause-bad_settings g c =
+    let p = err_from_is_err_and c.from_residual-in_err-write_lines.result c.from_residual-in_err-write_lines.ensures.1 in
+    let out = stream g.W.Write.contents c.run_live.new.out c.write_lines.new.out in
+    rw (p.1, p.2) (settings_late c.args.job.now (Err _) (c.in_ok-machine.ensures.ok out).read.settings
+    (late_lines c.args.job.now c.run_live.new.machine out _ c.in_err-write_lines.ensures.err))
+
+pub returns-in_err-write_lines-clause-nothing_written : goal.returns-in_err-write_lines-clause-nothing_written
+returns-in_err-write_lines-clause-nothing_written g c =
+    let p = err_from_is_err_and c.from_residual-in_err-write_lines.result c.from_residual-in_err-write_lines.ensures.1 in
+    rw (p.1, p.2) (inr (late_lines c.args.job.now c.run_live.new.machine (stream g.W.Write.contents c.run_live.new.out c.write_lines.new.out) _ c.in_err-write_lines.ensures.err))
 
 pub returns-clause-ok : goal.returns-clause-ok
 returns-clause-ok g c =
-    let i = stream g.I.Read.remaining c.args.image.now c.read_both.new.image in
-    let n = stream g.R.Read.remaining c.args.input.now c.read_both.new.input in
-    let s : Session = session_of i n (stream g.W.Write.contents c.args.out.now c.run_and_tell.new.out) c.args.job.now in
-    let both : ReadsBoth s c.as_slice.result.now c.as_slice-2.result.now =
-    rw (c.as_slice.ensures.value, c.as_slice-2.ensures.value) c.in_ok-file.ensures.ok in
-    IfOk-weaker c.run_and_tell.result (λ outcome. (i n : Stream) → ReadsBoth (session_of i n s.out s.job) c.as_slice.result.now c.as_slice-2.result.now → Reports (session_of i n s.out s.job) outcome) (Reports s)
-    (λ outcome told. told i n both) c.run_and_tell.ensures.ok
-
-pub returns-clause-err : goal.returns-clause-err
-returns-clause-err g c =
-    let i = stream g.I.Read.remaining c.args.image.now c.read_both.new.image in
-    let n = stream g.R.Read.remaining c.args.input.now c.read_both.new.input in
-    let s : Session = session_of i n (stream g.W.Write.contents c.args.out.now c.run_and_tell.new.out) c.args.job.now in
-    let both : ReadsBoth s c.as_slice.result.now c.as_slice-2.result.now =
-    rw (c.as_slice.ensures.value, c.as_slice-2.ensures.value) c.in_ok-file.ensures.ok in
-    IfErr-weaker c.run_and_tell.result (λ e. (i n : Stream) → ReadsBoth (session_of i n s.out s.job) c.as_slice.result.now c.as_slice-2.result.now → IsErrorOfLive (session_of i n s.out s.job) e) (IsErrorOfLive s)
-    (λ e told. told i n both) c.run_and_tell.ensures.err
+    let ran = c.in_ok-run_live.ensures in
+    let out : Stream = stream g.W.Write.contents c.args.out.now c.write_lines.new.out in
+    record {
+      start = c.in_ok-machine.machine;
+      reports = ReportsFrom-end (session_of (stream g.I.Read.remaining c.args.image.now c.start.new.image) (stream g.R.Read.remaining c.args.input.now c.start.new.input) out c.args.job.now)
+          c.in_ok-machine.machine c.run_live.new.machine (c.in_ok-machine.ensures.ok out) ran.end (Appends-trans _ _ _ _ _ ran.written c.in_ok-write_lines.ensures.ok);
+      outcome = rw ran.end at c.outcome_of.ensures;
+    }
 
 pub returns-clause-bad_settings : goal.returns-clause-bad_settings
 returns-clause-bad_settings g c =
-    let i = stream g.I.Read.remaining c.args.image.now c.read_both.new.image in
-    let n = stream g.R.Read.remaining c.args.input.now c.read_both.new.input in
-    let s : Session = session_of i n (stream g.W.Write.contents c.args.out.now c.run_and_tell.new.out) c.args.job.now in
-    let both : ReadsBoth s c.as_slice.result.now c.as_slice-2.result.now =
-    rw (c.as_slice.ensures.value, c.as_slice-2.ensures.value) c.in_ok-file.ensures.ok in
-    settings_exact s c.run_and_tell.result (IfOk-always c.run_and_tell.result both.settings)
-    (IfErr-weaker c.run_and_tell.result (λ e. (i n : Stream) → ReadsBoth (session_of i n s.out s.job) c.as_slice.result.now c.as_slice-2.result.now → IsErrorOfLive (session_of i n s.out s.job) e) (IsErrorOfLive s)
-    (λ e told. told i n both) c.run_and_tell.ensures.err)
+    let out = stream g.W.Write.contents c.args.out.now c.args.out.now in
+    settings_late c.args.job.now (Ok _) (c.in_ok-machine.ensures.ok out).read.settings tt

@@ -1,48 +1,68 @@
--- What was read is what is run, and where it was not read whole, nothing was written.
-use Rattle.std.proofs.Common.{refl}
+-- Neither writer is touched but by the last stage.
+use Rattle.std.proofs.Common.{◌∙◌, ap, refl, subst, string_bytes}
 use Rattle.std.proofs.lemmas.Result.{IfErr-weaker, IfOk-weaker, err_from_is_err_and}
-use Rattle.bsp_session.specs.Profiles.{IsErrorOfProfiled, Profiles}
-use Rattle.bsp_session.specs.Session.{ReadsBoth, Session, session_of}
+use Rattle.bsp_session.specs.Profiles.{IsProfile}
+use Rattle.bsp_session.specs.Session.{Session, session_of}
 use Rattle.bsp_session.specs.Streams.{Stream, stream}
-use Rattle.bsp_session.proofs.ProfiledErrors.{unprofiled}
-use Rattle.bsp_session.proofs.SessionErrors.{IsErrorOf-files}
+use Rattle.bsp_session.specs.Told.{IsErrorOfBoth, IsErrorOfTold, ReportsAndTells, WritesBoth}
+use Rattle.bsp_session.proofs.Jobs.{numbers_are_in_range}
+use Rattle.bsp_session.proofs.SessionErrors.{IsErrorOf-threads}
+use Rattle.bsp_session.proofs.Told.{IsErrorOfTold-both, ReportsAndTells-both, untold}
 use Rattle.bsp_session.proofs.profiles.profile_session.Goals as goal
 
-pub returns-in_err-file-clause-err : goal.returns-in_err-file-clause-err
-returns-in_err-file-clause-err g c =
+pub returns-in_err-machine-clause-err : goal.returns-in_err-machine-clause-err
+returns-in_err-machine-clause-err g c =
     let p = err_from_is_err_and c.from_residual.result c.from_residual.ensures.1 in
-    let i = stream g.I.Read.remaining c.args.image.now c.read_both.new.image in
-    let n = stream g.R.Read.remaining c.args.input.now c.read_both.new.input in
+    let i = stream g.I.Read.remaining c.args.image.now c.start.new.image in
+    let n = stream g.R.Read.remaining c.args.input.now c.start.new.input in
     let out = stream g.W.Write.contents c.args.out.now c.args.out.now in
-    let profile = stream g.P.Write.contents c.args.profile.now c.args.profile.now in
+    let told = stream g.P.Write.contents c.args.profile.now c.args.profile.now in
+    rw (p.1, p.2) (untold IsProfile (session_of i n out c.args.job.now) told _ (c.in_err-machine.ensures.err out (record { bytes = refl; failures = refl })) (record { bytes = refl; failures = refl }))
+
+pub returns-in_err-machine-clause-nothing_written : goal.returns-in_err-machine-clause-nothing_written
+returns-in_err-machine-clause-nothing_written g c =
+    let p = err_from_is_err_and c.from_residual.result c.from_residual.ensures.1 in
+    rw p.1 (λ other. (refl, refl))
+
+pub run_profiled-requires-after_bounds : goal.run_profiled-requires-after_bounds
+run_profiled-requires-after_bounds g c =
+    let out = stream g.W.Write.contents c.args.out.now c.args.out.now in
+    λ lifetimes bounds. numbers_are_in_range c.args.job.now (c.in_ok-machine.ensures.ok out).read.settings
+
+pub returns-in_err-told-clause-err : goal.returns-in_err-told-clause-err
+returns-in_err-told-clause-err g c =
+    let p = err_from_is_err_and c.from_residual-in_err-told.result c.from_residual-in_err-told.ensures.1 in
+    let i = stream g.I.Read.remaining c.args.image.now c.start.new.image in
+    let n = stream g.R.Read.remaining c.args.input.now c.start.new.input in
+    let out = stream g.W.Write.contents c.args.out.now c.args.out.now in
+    let told = stream g.P.Write.contents c.args.profile.now c.args.profile.now in
     let s : Session = session_of i n out c.args.job.now in
-    rw (p.1, p.2) (unprofiled s profile c.in_err-file.field-0.0 (IsErrorOf-files s _ c.in_err-file.ensures.err (record { bytes = refl; failures = refl })) (record { bytes = refl; failures = refl }))
+    rw (p.1, p.2) (untold IsProfile s told _
+    (IsErrorOf-threads s c.in_ok-machine.machine _ (c.in_ok-machine.ensures.ok out) (record { bytes = refl; failures = refl }) c.in_err-told.ensures.end.err) (record { bytes = refl; failures = refl }))
 
-pub profile_and_report-requires-clause-settings : goal.profile_and_report-requires-clause-settings
-profile_and_report-requires-clause-settings g c = λ lifetimes bounds. c.in_ok-file.ensures.ok.settings
-
-pub profile_and_report-requires-clause-limit : goal.profile_and_report-requires-clause-limit
-profile_and_report-requires-clause-limit g c = λ lifetimes bounds.
-    rw c.as_slice.ensures.value c.in_ok-file.ensures.ok.image_read.limited
+pub returns-in_err-told-clause-nothing_written : goal.returns-in_err-told-clause-nothing_written
+returns-in_err-told-clause-nothing_written g c =
+    let p = err_from_is_err_and c.from_residual-in_err-told.result c.from_residual-in_err-told.ensures.1 in
+    rw p.1 (λ other. (refl, refl))
 
 pub returns-clause-ok : goal.returns-clause-ok
 returns-clause-ok g c =
-    let i = stream g.I.Read.remaining c.args.image.now c.read_both.new.image in
-    let n = stream g.R.Read.remaining c.args.input.now c.read_both.new.input in
-    let s : Session = session_of i n (stream g.W.Write.contents c.args.out.now c.profile_and_report.new.out) c.args.job.now in
-    let profile : Stream = stream g.P.Write.contents c.args.profile.now c.profile_and_report.new.profile in
-    let both : ReadsBoth s c.as_slice.result.now c.as_slice-2.result.now =
-    rw (c.as_slice.ensures.value, c.as_slice-2.ensures.value) c.in_ok-file.ensures.ok in
-    IfOk-weaker c.profile_and_report.result (λ outcome. (i n : Stream) → ReadsBoth (session_of i n s.out s.job) c.as_slice.result.now c.as_slice-2.result.now → Profiles (session_of i n s.out s.job) profile outcome) (Profiles s profile)
-    (λ outcome told. told i n both) c.profile_and_report.ensures.ok
+    let i = stream g.I.Read.remaining c.args.image.now c.start.new.image in
+    let n = stream g.R.Read.remaining c.args.input.now c.start.new.input in
+    let out : Stream = stream g.W.Write.contents c.args.out.now c.write_both.new.out in
+    let told : Stream = stream g.P.Write.contents c.args.profile.now c.write_both.new.told in
+    let s : Session = session_of i n out c.args.job.now in
+    IfOk-weaker c.write_both.result (WritesBoth s.job c.run_profiled.new.machine c.as_bytes.result.now out told) (ReportsAndTells IsProfile s told)
+    (ReportsAndTells-both IsProfile s told c.in_ok-machine.machine c.run_profiled.new.machine c.as_bytes.result.now (c.in_ok-machine.ensures.ok out) c.in_ok-told.ensures.end.is
+    (c.as_bytes.ensures ∙ c.in_ok-told.ensures.profile)) c.write_both.ensures.ok
 
 pub returns-clause-err : goal.returns-clause-err
 returns-clause-err g c =
-    let i = stream g.I.Read.remaining c.args.image.now c.read_both.new.image in
-    let n = stream g.R.Read.remaining c.args.input.now c.read_both.new.input in
-    let s : Session = session_of i n (stream g.W.Write.contents c.args.out.now c.profile_and_report.new.out) c.args.job.now in
-    let profile : Stream = stream g.P.Write.contents c.args.profile.now c.profile_and_report.new.profile in
-    let both : ReadsBoth s c.as_slice.result.now c.as_slice-2.result.now =
-    rw (c.as_slice.ensures.value, c.as_slice-2.ensures.value) c.in_ok-file.ensures.ok in
-    IfErr-weaker c.profile_and_report.result (λ e. (i n : Stream) → ReadsBoth (session_of i n s.out s.job) c.as_slice.result.now c.as_slice-2.result.now → IsErrorOfProfiled (session_of i n s.out s.job) profile e) (IsErrorOfProfiled s profile)
-    (λ e told. told i n both) c.profile_and_report.ensures.err
+    let i = stream g.I.Read.remaining c.args.image.now c.start.new.image in
+    let n = stream g.R.Read.remaining c.args.input.now c.start.new.input in
+    let out : Stream = stream g.W.Write.contents c.args.out.now c.write_both.new.out in
+    let told : Stream = stream g.P.Write.contents c.args.profile.now c.write_both.new.told in
+    let s : Session = session_of i n out c.args.job.now in
+    IfErr-weaker c.write_both.result (IsErrorOfBoth s.job c.run_profiled.new.machine c.as_bytes.result.now out told) (IsErrorOfTold IsProfile s told)
+    (IsErrorOfTold-both IsProfile s told c.in_ok-machine.machine c.run_profiled.new.machine c.as_bytes.result.now (c.in_ok-machine.ensures.ok out) c.in_ok-told.ensures.end.is
+    (c.as_bytes.ensures ∙ c.in_ok-told.ensures.profile)) c.write_both.ensures.err

@@ -1,59 +1,86 @@
--- What was read is what is run, and where it was not read whole, nothing was written.
-use Rattle.std.proofs.Common.{Err, refl}
-use Rattle.std.proofs.lemmas.Result.{IfErr-weaker, IfOk-weaker, err_from_is_err_and}
-use Rattle.bsp_session.specs.Session.{IsErrorOf, Reports, ReadsBoth, Session, session_of}
+-- A writer is touched by the last stage alone.
+use Rattle.std.proofs.Common.{Err, Ok, refl}
+use Rattle.std.proofs.lemmas.Result.{err_from_is_err_and}
+use Rattle.bsp_session.specs.Session.{Session, session_of}
 use Rattle.bsp_session.specs.Streams.{Stream, stream}
-use Rattle.bsp_session.proofs.SessionErrors.{IfOk-always, IsErrorOf-files, settings_exact}
+use Rattle.bsp_session.proofs.Jobs.{numbers_are_in_range}
+use Rattle.bsp_session.proofs.SessionErrors.{IsErrorOf-report, IsErrorOf-threads, ReportsFrom-end, settings_exact}
 use Rattle.bsp_session.proofs.sessions.session.Goals as goal
 
-pub returns-in_err-file-clause-err : goal.returns-in_err-file-clause-err
-returns-in_err-file-clause-err g c =
+pub returns-in_err-machine-clause-err : goal.returns-in_err-machine-clause-err
+returns-in_err-machine-clause-err g c =
     let p = err_from_is_err_and c.from_residual.result c.from_residual.ensures.1 in
-    let s : Session = session_of (stream g.I.Read.remaining c.args.image.now c.read_both.new.image) (stream g.R.Read.remaining c.args.input.now c.read_both.new.input)
-    (stream g.W.Write.contents c.args.out.now c.args.out.now) c.args.job.now in
-    rw (p.1, p.2) (IsErrorOf-files s _ c.in_err-file.ensures.err (record { bytes = refl; failures = refl }))
+    let out = stream g.W.Write.contents c.args.out.now c.args.out.now in
+    rw (p.1, p.2) (c.in_err-machine.ensures.err out (record { bytes = refl; failures = refl }))
 
-pub returns-in_err-file-clause-bad_settings : goal.returns-in_err-file-clause-bad_settings
-returns-in_err-file-clause-bad_settings g c =
+pub returns-in_err-machine-clause-bad_settings : goal.returns-in_err-machine-clause-bad_settings
+returns-in_err-machine-clause-bad_settings g c =
     let p = err_from_is_err_and c.from_residual.result c.from_residual.ensures.1 in
-    let unwritten = stream g.W.Write.contents c.args.out.now c.args.out.now in
-    let s : Session = session_of (stream g.I.Read.remaining c.args.image.now c.read_both.new.image) (stream g.R.Read.remaining c.args.input.now c.read_both.new.input) unwritten c.args.job.now in
-    rw (p.1, p.2) (settings_exact s (Err _) tt (IsErrorOf-files s _ c.in_err-file.ensures.err (record { bytes = refl; failures = refl })))
+    let i = stream g.I.Read.remaining c.args.image.now c.start.new.image in
+    let n = stream g.R.Read.remaining c.args.input.now c.start.new.input in
+    let out = stream g.W.Write.contents c.args.out.now c.args.out.now in
+    rw (p.1, p.2) (settings_exact (session_of i n out c.args.job.now) (Err _) tt (c.in_err-machine.ensures.err out (record { bytes = refl; failures = refl })))
 
-pub run_and_report-requires-clause-settings : goal.run_and_report-requires-clause-settings
-run_and_report-requires-clause-settings g c = λ lifetimes bounds. c.in_ok-file.ensures.ok.settings
+pub run_to_end-requires-after_bounds : goal.run_to_end-requires-after_bounds
+run_to_end-requires-after_bounds g c =
+    let out = stream g.W.Write.contents c.args.out.now c.args.out.now in
+    λ lifetimes bounds. numbers_are_in_range c.args.job.now (c.in_ok-machine.ensures.ok out).read.settings
 
-pub run_and_report-requires-clause-limit : goal.run_and_report-requires-clause-limit
-run_and_report-requires-clause-limit g c = λ lifetimes bounds.
-    rw c.as_slice.ensures.value c.in_ok-file.ensures.ok.image_read.limited
+pub returns-in_err-run_to_end-clause-err : goal.returns-in_err-run_to_end-clause-err
+returns-in_err-run_to_end-clause-err g c =
+    let p = err_from_is_err_and c.from_residual-in_err-run_to_end.result c.from_residual-in_err-run_to_end.ensures.1 in
+    let i = stream g.I.Read.remaining c.args.image.now c.start.new.image in
+    let n = stream g.R.Read.remaining c.args.input.now c.start.new.input in
+    let out = stream g.W.Write.contents c.args.out.now c.args.out.now in
+    rw (p.1, p.2) (IsErrorOf-threads (session_of i n out c.args.job.now) c.in_ok-machine.machine _ (c.in_ok-machine.ensures.ok out) (record { bytes = refl; failures = refl }) c.in_err-run_to_end.ensures.err)
+
+pub returns-in_err-run_to_end-clause-bad_settings : goal.returns-in_err-run_to_end-clause-bad_settings
+returns-in_err-run_to_end-clause-bad_settings g c =
+    let p = err_from_is_err_and c.from_residual-in_err-run_to_end.result c.from_residual-in_err-run_to_end.ensures.1 in
+    let i = stream g.I.Read.remaining c.args.image.now c.start.new.image in
+    let n = stream g.R.Read.remaining c.args.input.now c.start.new.input in
+    let out = stream g.W.Write.contents c.args.out.now c.args.out.now in
+    let s : Session = session_of i n out c.args.job.now in
+    rw (p.1, p.2) (settings_exact s (Err _) tt
+    (IsErrorOf-threads s c.in_ok-machine.machine _ (c.in_ok-machine.ensures.ok out) (record { bytes = refl; failures = refl }) c.in_err-run_to_end.ensures.err))
+
+pub returns-in_err-write_report-clause-err : goal.returns-in_err-write_report-clause-err
+returns-in_err-write_report-clause-err g c =
+    let p = err_from_is_err_and c.from_residual-in_err-write_report.result c.from_residual-in_err-write_report.ensures.1 in
+    let i = stream g.I.Read.remaining c.args.image.now c.start.new.image in
+    let n = stream g.R.Read.remaining c.args.input.now c.start.new.input in
+    let out = stream g.W.Write.contents c.args.out.now c.write_report.new.out in
+    rw (p.1, p.2) (IsErrorOf-report (session_of i n out c.args.job.now) c.in_ok-machine.machine c.run_to_end.new.machine _ (c.in_ok-machine.ensures.ok out) c.in_ok-run_to_end.ensures.is c.in_err-write_report.ensures.err)
+
+pub returns-in_err-write_report-clause-bad_settings : goal.returns-in_err-write_report-clause-bad_settings
+returns-in_err-write_report-clause-bad_settings g c =
+    let p = err_from_is_err_and c.from_residual-in_err-write_report.result c.from_residual-in_err-write_report.ensures.1 in
+    let i = stream g.I.Read.remaining c.args.image.now c.start.new.image in
+    let n = stream g.R.Read.remaining c.args.input.now c.start.new.input in
+    let out = stream g.W.Write.contents c.args.out.now c.write_report.new.out in
+    let s : Session = session_of i n out c.args.job.now in
+    rw (p.1, p.2) (settings_exact s (Err _) tt
+    (IsErrorOf-report s c.in_ok-machine.machine c.run_to_end.new.machine _ (c.in_ok-machine.ensures.ok out) c.in_ok-run_to_end.ensures.is c.in_err-write_report.ensures.err))
+
+pub returns-in_err-write_report-clause-nothing_written : goal.returns-in_err-write_report-clause-nothing_written
+returns-in_err-write_report-clause-nothing_written g c =
+    let p = err_from_is_err_and c.from_residual-in_err-write_report.result c.from_residual-in_err-write_report.ensures.1 in
+    rw (p.1, p.2) (λ other. c.in_err-write_report.ensures.nothing_written other)
 
 pub returns-clause-ok : goal.returns-clause-ok
 returns-clause-ok g c =
-    let i = stream g.I.Read.remaining c.args.image.now c.read_both.new.image in
-    let n = stream g.R.Read.remaining c.args.input.now c.read_both.new.input in
-    let s : Session = session_of i n (stream g.W.Write.contents c.args.out.now c.run_and_report.new.out) c.args.job.now in
-    let both : ReadsBoth s c.as_slice.result.now c.as_slice-2.result.now =
-    rw (c.as_slice.ensures.value, c.as_slice-2.ensures.value) c.in_ok-file.ensures.ok in
-    IfOk-weaker c.run_and_report.result (λ outcome. (i n : Stream) → ReadsBoth (session_of i n s.out s.job) c.as_slice.result.now c.as_slice-2.result.now → Reports (session_of i n s.out s.job) outcome) (Reports s)
-    (λ outcome told. told i n both) c.run_and_report.ensures.ok
-
-pub returns-clause-err : goal.returns-clause-err
-returns-clause-err g c =
-    let i = stream g.I.Read.remaining c.args.image.now c.read_both.new.image in
-    let n = stream g.R.Read.remaining c.args.input.now c.read_both.new.input in
-    let s : Session = session_of i n (stream g.W.Write.contents c.args.out.now c.run_and_report.new.out) c.args.job.now in
-    let both : ReadsBoth s c.as_slice.result.now c.as_slice-2.result.now =
-    rw (c.as_slice.ensures.value, c.as_slice-2.ensures.value) c.in_ok-file.ensures.ok in
-    IfErr-weaker c.run_and_report.result (λ e. (i n : Stream) → ReadsBoth (session_of i n s.out s.job) c.as_slice.result.now c.as_slice-2.result.now → IsErrorOf (session_of i n s.out s.job) e) (IsErrorOf s)
-    (λ e told. told i n both) c.run_and_report.ensures.err
+    let out : Stream = stream g.W.Write.contents c.args.out.now c.write_report.new.out in
+    let is = c.in_ok-run_to_end.ensures.is in
+    record {
+      start = c.in_ok-machine.machine;
+      reports = ReportsFrom-end (session_of (stream g.I.Read.remaining c.args.image.now c.start.new.image) (stream g.R.Read.remaining c.args.input.now c.start.new.input) out c.args.job.now)
+          c.in_ok-machine.machine c.run_to_end.new.machine (c.in_ok-machine.ensures.ok out) is c.in_ok-write_report.ensures.ok;
+      outcome = rw is at c.outcome_of.ensures;
+    }
 
 pub returns-clause-bad_settings : goal.returns-clause-bad_settings
 returns-clause-bad_settings g c =
-    let i = stream g.I.Read.remaining c.args.image.now c.read_both.new.image in
-    let n = stream g.R.Read.remaining c.args.input.now c.read_both.new.input in
-    let s : Session = session_of i n (stream g.W.Write.contents c.args.out.now c.run_and_report.new.out) c.args.job.now in
-    let both : ReadsBoth s c.as_slice.result.now c.as_slice-2.result.now =
-    rw (c.as_slice.ensures.value, c.as_slice-2.ensures.value) c.in_ok-file.ensures.ok in
-    settings_exact s c.run_and_report.result (IfOk-always c.run_and_report.result both.settings)
-    (IfErr-weaker c.run_and_report.result (λ e. (i n : Stream) → ReadsBoth (session_of i n s.out s.job) c.as_slice.result.now c.as_slice-2.result.now → IsErrorOf (session_of i n s.out s.job) e) (IsErrorOf s)
-    (λ e told. told i n both) c.run_and_report.ensures.err)
+    let i = stream g.I.Read.remaining c.args.image.now c.start.new.image in
+    let n = stream g.R.Read.remaining c.args.input.now c.start.new.input in
+    let out = stream g.W.Write.contents c.args.out.now c.write_report.new.out in
+    settings_exact (session_of i n out c.args.job.now) (Ok _) (c.in_ok-machine.ensures.ok out).read.settings tt

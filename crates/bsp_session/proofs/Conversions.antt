@@ -1,5 +1,5 @@
 -- What the stages of a listing and of an assembly give, and their errors.
-use Rattle.std.proofs.Common.{◌≡◌, ◌≢◌, ◌∙◌, ℕ, suc, ◌<◌, ◌≤◌, inl, inr, List, [], ◌∷◌, ◌++◌, length, get_or, take, drop, Option, Some, ap, sym, refl, subst, arith, append_assoc, length-append}
+use Rattle.std.proofs.Common.{◌≡◌, ◌≢◌, ◌∙◌, ℕ, Bool, suc, ◌<◌, ◌≤◌, inl, inr, List, [], ◌∷◌, ◌++◌, length, get_or, take, drop, Option, Some, ap, sym, refl, subst, arith, append_assoc, length-append}
 use Rattle.std.specs.List.{flat_map}
 use Rattle.std.specs.Io.KnownBytes.{Appends}
 use Rattle.std.proofs.KnownBytes.{Appends-trans}
@@ -9,7 +9,7 @@ use Rattle.counted_io.specs.declared.ReadError.TheVariants as read
 use Rattle.counted_io.specs.Transfers.{AppendsPrefix}
 use Rattle.node_memory.specs.Image.{Image, Segment}
 use Rattle.rv_listing.specs.declared.lines.Line.{Line}
-use Rattle.rv_listing.specs.Listing.{ended_text, listing_of, listing_of_segment}
+use Rattle.rv_listing.specs.Listing.{ended_line, listing_of, listing_of_segment}
 use Rattle.bsp_session.specs.declared.errors.SessionError.{SessionError}
 use Rattle.bsp_session.specs.declared.errors.SessionError.TheVariants.{BadSettings, TooLong, Text, BadImage, SegmentOutside, ReadFault, WriteFault, NoWorker, NoMemory}
 use Rattle.bsp_session.specs.declared.job.Format.TheVariants.{Asm}
@@ -22,10 +22,10 @@ use Rattle.bsp_session.proofs.Refusals.{of_image, text_alone}
 
 -- ---- the file was not read whole
 
-pub IsErrorOfListing-reading : (c : Conversion) (why : ReadError) → EndsUnread c why → IsErrorOfListing c (error_of_read why)
-IsErrorOfListing-reading c read.TooLong ended = ended
-IsErrorOfListing-reading c read.ReadFault ended = ended
-IsErrorOfListing-reading c read.NoMemory ended = inl (inl ended)
+pub IsErrorOfListing-reading : (float : Bool) (c : Conversion) (why : ReadError) → EndsUnread c why → IsErrorOfListing float c (error_of_read why)
+IsErrorOfListing-reading float c read.TooLong ended = ended
+IsErrorOfListing-reading float c read.ReadFault ended = ended
+IsErrorOfListing-reading float c read.NoMemory ended = inl (inl ended)
 
 pub IsErrorOfAssembly-reading : (c : Conversion) (why : ReadError) → EndsUnread c why → IsErrorOfAssembly c (error_of_read why)
 IsErrorOfAssembly-reading c read.TooLong ended = ended
@@ -34,43 +34,43 @@ IsErrorOfAssembly-reading c read.NoMemory ended = inl ended
 
 -- ---- the file was read, and gives no image, or memory was refused
 
-pub IsErrorOfListing-image : (c : Conversion) (i : List ℕ) (e : SessionError) → ReadsWhole c.file i (most_bytes c.format)
-    → (e ≢ NoMemory → image_fault c.format i ≡ Some e) → IsUntouched c.out → IsErrorOfListing c e
-IsErrorOfListing-image c i e whole made untouched =
-    of_image c.format i (IsErrorOfListing c) (inl (inr (record { i = i; read = whole; unwritten = untouched })))
+pub IsErrorOfListing-image : (float : Bool) (c : Conversion) (i : List ℕ) (e : SessionError) → ReadsWhole c.file i (most_bytes c.format)
+    → (e ≢ NoMemory → image_fault c.format i ≡ Some e) → IsUntouched c.out → IsErrorOfListing float c e
+IsErrorOfListing-image float c i e whole made untouched =
+    of_image c.format i (IsErrorOfListing float c) (inl (inr (record { i = i; read = whole; unwritten = untouched })))
     (λ cause is. record { i = i; read = whole; refused = is; unwritten = untouched })
     (λ cause is. record { i = i; read = whole; refused = is; unwritten = untouched }) e made
 
-pub IsErrorOfAssembly-image : (c : Conversion) (i : List ℕ) (e : SessionError) → c.format ≡ Asm → ReadsWhole c.file i (most_bytes c.format)
+pub IsErrorOfAssembly-image : (float : Bool) (c : Conversion) (i : List ℕ) (e : SessionError) → c.format ≡ Asm float → ReadsWhole c.file i (most_bytes c.format)
     → (e ≢ NoMemory → image_fault c.format i ≡ Some e) → IsUntouched c.out → IsErrorOfAssembly c e
-IsErrorOfAssembly-image c i e text whole made untouched =
+IsErrorOfAssembly-image float c i e text whole made untouched =
     of_image c.format i (IsErrorOfAssembly c) (inr (record { i = i; read = whole; unwritten = untouched }))
     (λ cause is. record { i = i; read = whole; refused = is; unwritten = untouched })
-    (λ cause is. absurd (text_alone i cause (subst (λ f. image_fault f i ≡ Some (BadImage cause)) text is))) e made
+    (λ cause is. absurd (text_alone float i cause (subst (λ f. image_fault f i ≡ Some (BadImage cause)) text is))) e made
 
 -- ---- lines that were not all written
 
 -- the texts of lines of lines, one after another
-texts-flat : {X : Type 0} (lines : X → List Line) (xs : List X) → flat_map ended_text (flat_map lines xs) ≡ flat_map (λ x. flat_map ended_text (lines x)) xs
-texts-flat lines [] = refl
-texts-flat lines (x ∷ xs) = flat_map-append ended_text (lines x) (flat_map lines xs) ∙ ap (λ rest. flat_map ended_text (lines x) ++ rest) (texts-flat lines xs)
+texts-flat : (float : Bool) {X : Type 0} (lines : X → List Line) (xs : List X) → flat_map (ended_line float) (flat_map lines xs) ≡ flat_map (λ x. flat_map (ended_line float) (lines x)) xs
+texts-flat float lines [] = refl
+texts-flat float lines (x ∷ xs) = flat_map-append (ended_line float) (lines x) (flat_map lines xs) ∙ ap (λ rest. flat_map (ended_line float) (lines x) ++ rest) (texts-flat float lines xs)
 
 -- the text of lines in three parts
-pub texts-parted : (all first mid last : List Line) → all ≡ first ++ (mid ++ last)
-    → flat_map ended_text all ≡ flat_map ended_text first ++ (flat_map ended_text mid ++ flat_map ended_text last)
-texts-parted all first mid last is =
-    ap (flat_map ended_text) is ∙ flat_map-append ended_text first (mid ++ last)
-    ∙ ap (λ bs. flat_map ended_text first ++ bs) (flat_map-append ended_text mid last)
+pub texts-parted : (float : Bool) (all first mid last : List Line) → all ≡ first ++ (mid ++ last)
+    → flat_map (ended_line float) all ≡ flat_map (ended_line float) first ++ (flat_map (ended_line float) mid ++ flat_map (ended_line float) last)
+texts-parted float all first mid last is =
+    ap (flat_map (ended_line float)) is ∙ flat_map-append (ended_line float) first (mid ++ last)
+    ∙ ap (λ bs. flat_map (ended_line float) first ++ bs) (flat_map-append (ended_line float) mid last)
 
 -- an image's listing has the texts of its lines
-pub listing-lines : (m : Image) → flat_map ended_text (lines_of_image m) ≡ listing_of m
-listing-lines m = texts-flat lines_of_segment m.segments
+pub listing-lines : (float : Bool) (m : Image) → flat_map (ended_line float) (lines_of_image m) ≡ listing_of float m
+listing-lines float m = texts-flat float lines_of_segment m.segments
 
 -- the lines of some segments, and some first ones of the next
-first_lines : (segments : List Segment) (k : ℕ) (s : Segment) (a b d : Option (List ℕ)) → k < length segments → s ≡ get_or segments k s
-    → Appends a b (flat_map listing_of_segment (take k segments)) → AppendsFirstLines b d (lines_of_segment s)
-    → AppendsFirstLines a d (flat_map lines_of_segment segments)
-first_lines segments k s a b d within is before p =
+first_lines : (float : Bool) (segments : List Segment) (k : ℕ) (s : Segment) (a b d : Option (List ℕ)) → k < length segments → s ≡ get_or segments k s
+    → Appends a b (flat_map (listing_of_segment float) (take k segments)) → AppendsFirstLines float b d (lines_of_segment s)
+    → AppendsFirstLines float a d (flat_map lines_of_segment segments)
+first_lines float segments k s a b d within is before p =
     let done = flat_map lines_of_segment (take k segments) in
     let behind = flat_map lines_of_segment (drop (suc k) segments) in
     record {
@@ -80,39 +80,39 @@ first_lines segments k s a b d within is before p =
           ∙ ap (λ ls. done ++ ls) (append_assoc p.first p.rest behind) ∙ sym (append_assoc done p.first (p.rest ++ behind));
       some_left = omega (arith, p.some_left, length-append p.rest behind);
       written = subst (Appends a d)
-          (sym (flat_map-append ended_text done p.first ∙ ap (λ bs. bs ++ flat_map ended_text p.first) (texts-flat lines_of_segment (take k segments))))
+          (sym (flat_map-append (ended_line float) done p.first ∙ ap (λ bs. bs ++ flat_map (ended_line float) p.first) (texts-flat float lines_of_segment (take k segments))))
           (Appends-trans a b d _ _ before p.written);
     }
 
 -- an error of a segment's lines, after those of the segments before it
-pub IsErrorOfLines-at : (m : Image) (segments : List Segment) (k : ℕ) (s : Segment) (out next : Stream) (e : SessionError) → segments ≡ m.segments
+pub IsErrorOfLines-at : (float : Bool) (m : Image) (segments : List Segment) (k : ℕ) (s : Segment) (out next : Stream) (e : SessionError) → segments ≡ m.segments
     → k < length segments → s ≡ get_or segments k s → out.after ≡ next.after → out.failures_after ≡ next.failures_after → out.failures_before ≤ next.failures_before
-    → Appends out.before next.before (flat_map listing_of_segment (take k segments)) → IsErrorOfLines next (lines_of_segment s) e
-    → IsErrorOfLines out (lines_of_image m) e
-IsErrorOfLines-at m segments k s out next WriteFault all within is same count rises before (some, failed) = (
-  rw (same, ap (λ i. flat_map ended_text (flat_map lines_of_segment i)) (sym all), texts-flat lines_of_segment segments)
-      (AppendsPrefix-at listing_of_segment segments k s out.before next.before next.after within is before some),
+    → Appends out.before next.before (flat_map (listing_of_segment float) (take k segments)) → IsErrorOfLines float next (lines_of_segment s) e
+    → IsErrorOfLines float out (lines_of_image m) e
+IsErrorOfLines-at float m segments k s out next WriteFault all within is same count rises before (some, failed) = (
+  rw (same, ap (λ i. flat_map (ended_line float) (flat_map lines_of_segment i)) (sym all), texts-flat float lines_of_segment segments)
+      (AppendsPrefix-at (listing_of_segment float) segments k s out.before next.before next.after within is before some),
   rw count (HasRisen-above _ _ _ rises failed),
 )
-IsErrorOfLines-at m segments k s out next NoMemory all within is same count rises before first =
-    rw (same, sym all) (first_lines segments k s out.before next.before next.after within is before first)
-IsErrorOfLines-at m segments k s out next (BadSettings cause) all within is same count rises before p = absurd p
-IsErrorOfLines-at m segments k s out next TooLong all within is same count rises before p = absurd p
-IsErrorOfLines-at m segments k s out next (Text cause) all within is same count rises before p = absurd p
-IsErrorOfLines-at m segments k s out next (BadImage cause) all within is same count rises before p = absurd p
-IsErrorOfLines-at m segments k s out next SegmentOutside all within is same count rises before p = absurd p
-IsErrorOfLines-at m segments k s out next ReadFault all within is same count rises before p = absurd p
-IsErrorOfLines-at m segments k s out next NoWorker all within is same count rises before p = absurd p
+IsErrorOfLines-at float m segments k s out next NoMemory all within is same count rises before first =
+    rw (same, sym all) (first_lines float segments k s out.before next.before next.after within is before first)
+IsErrorOfLines-at float m segments k s out next (BadSettings cause) all within is same count rises before p = absurd p
+IsErrorOfLines-at float m segments k s out next TooLong all within is same count rises before p = absurd p
+IsErrorOfLines-at float m segments k s out next (Text cause) all within is same count rises before p = absurd p
+IsErrorOfLines-at float m segments k s out next (BadImage cause) all within is same count rises before p = absurd p
+IsErrorOfLines-at float m segments k s out next SegmentOutside all within is same count rises before p = absurd p
+IsErrorOfLines-at float m segments k s out next ReadFault all within is same count rises before p = absurd p
+IsErrorOfLines-at float m segments k s out next NoWorker all within is same count rises before p = absurd p
 
 -- an error of an image's lines is one of the listing
-pub IsErrorOfListing-lines : (c : Conversion) (m : Image) (e : SessionError) → ReadsImage c m → IsErrorOfLines c.out (lines_of_image m) e → IsErrorOfListing c e
-IsErrorOfListing-lines c m WriteFault given (some, failed) =
-    record { m = m; given = given; written = subst (AppendsPrefix c.out.before c.out.after) (listing-lines m) some; failed = failed }
-IsErrorOfListing-lines c m NoMemory given p = inr (record { m = m; given = given; written = p })
-IsErrorOfListing-lines c m (BadSettings cause) given p = absurd p
-IsErrorOfListing-lines c m TooLong given p = absurd p
-IsErrorOfListing-lines c m (Text cause) given p = absurd p
-IsErrorOfListing-lines c m (BadImage cause) given p = absurd p
-IsErrorOfListing-lines c m SegmentOutside given p = absurd p
-IsErrorOfListing-lines c m ReadFault given p = absurd p
-IsErrorOfListing-lines c m NoWorker given p = absurd p
+pub IsErrorOfListing-lines : (float : Bool) (c : Conversion) (m : Image) (e : SessionError) → ReadsImage c m → IsErrorOfLines float c.out (lines_of_image m) e → IsErrorOfListing float c e
+IsErrorOfListing-lines float c m WriteFault given (some, failed) =
+    record { m = m; given = given; written = subst (AppendsPrefix c.out.before c.out.after) (listing-lines float m) some; failed = failed }
+IsErrorOfListing-lines float c m NoMemory given p = inr (record { m = m; given = given; written = p })
+IsErrorOfListing-lines float c m (BadSettings cause) given p = absurd p
+IsErrorOfListing-lines float c m TooLong given p = absurd p
+IsErrorOfListing-lines float c m (Text cause) given p = absurd p
+IsErrorOfListing-lines float c m (BadImage cause) given p = absurd p
+IsErrorOfListing-lines float c m SegmentOutside given p = absurd p
+IsErrorOfListing-lines float c m ReadFault given p = absurd p
+IsErrorOfListing-lines float c m NoWorker given p = absurd p

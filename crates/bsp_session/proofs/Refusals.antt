@@ -36,7 +36,7 @@ of_file f (Some x) e each is =
 is_of_file : (format : Format) (file : List ℕ) (e : SessionError) → image_fault format file ≡ Some e → IsOfFile e
 is_of_file Elf file e is = of_file BadImage (file_fault file) e (λ cause. tt) is
 is_of_file Raw file e is = cc
-is_of_file Asm file e is = of_file (λ fault. Text (record { line = fault.0; kind = fault.1 })) (text_fault file) e (λ fault. tt) is
+is_of_file (Asm float) file e is = of_file (λ fault. Text (record { line = fault.0; kind = fault.1 })) (text_fault float file) e (λ fault. tt) is
 
 -- what holds of want of memory, and of a text's or an ELF file's refusal, holds of each error of an image
 pub of_image : (format : Format) (file : List ℕ) (P : SessionError → Type 0) → P NoMemory
@@ -54,8 +54,8 @@ of_image format file P memory text image WriteFault made = absurd (is_of_file fo
 of_image format file P memory text image NoWorker made = absurd (is_of_file format file NoWorker (made (λ is. cc)))
 
 -- no text is refused as an ELF file
-pub text_alone : (file : List ℕ) (cause : ElfError) → image_fault Asm file ≡ Some (BadImage cause) → ⊥
-text_alone file cause is = not_image (text_fault file) is
+pub text_alone : (float : Bool) (file : List ℕ) (cause : ElfError) → image_fault (Asm float) file ≡ Some (BadImage cause) → ⊥
+text_alone float file cause is = not_image (text_fault float file) is
   where
     not_image : (fault : Option (ℕ × AsmKind)) → option_map (λ f. Text (record { line = f.0; kind = f.1 })) fault ≡ Some (BadImage cause) → ⊥
     not_image None made = cc

@@ -1,5 +1,5 @@
 -- The image that the bytes of a file give, by their format, and what they are refused for where they give none.
-use Rattle.std.specs.Prelude.{◌≡◌, ℕ, ◌^◌, List, Option, None, option_map}
+use Rattle.std.specs.Prelude.{◌≡◌, ℕ, ◌^◌, Bool, List, Option, None, option_map}
 use Rattle.node_memory.specs.Image.{Image}
 use Rattle.elf_image.specs.Presents.{Presents, raw_image}
 use Rattle.elf_image.specs.Faults.{file_fault}
@@ -14,12 +14,12 @@ use Rattle.bsp_session.specs.declared.errors.SessionError.TheVariants.{BadImage,
 abbrev pub most_bytes : Format → ℕ
 most_bytes Elf = 2 ^ 25
 most_bytes Raw = 2 ^ 24
-most_bytes Asm = 2 ^ 22
+most_bytes (Asm float) = 2 ^ 22
 
--- a text without a fault, and its image
-pub record Assembles (text : List ℕ) (image : Image) : Type 0 where
-  pub faultless : text_fault text ≡ None
-  pub is : IsImageOfText text image
+-- a text without a fault, and its image, in the language with statements of floating point or in that without them
+pub record Assembles (float : Bool) (text : List ℕ) (image : Image) : Type 0 where
+  pub faultless : text_fault float text ≡ None
+  pub is : IsImageOfText float text image
 
 -- an ELF file without a fault, and the image that it presents
 pub record Loads (file : List ℕ) (image : Image) : Type 0 where
@@ -30,14 +30,14 @@ pub record Loads (file : List ℕ) (image : Image) : Type 0 where
 abbrev pub Gives : Format → List ℕ → Image → Type 0
 Gives Elf bytes image = Loads bytes image
 Gives Raw bytes image = image ≡ raw_image bytes
-Gives Asm bytes image = Assembles bytes image
+Gives (Asm float) bytes image = Assembles float bytes image
 
 -- what a text is refused for
-abbrev pub refused_text : List ℕ → Option SessionError
-refused_text text = option_map (λ fault. Text (record { line = fault.0; kind = fault.1 })) (text_fault text)
+abbrev pub refused_text : (float : Bool) → List ℕ → Option SessionError
+refused_text float text = option_map (λ fault. Text (record { line = fault.0; kind = fault.1 })) (text_fault float text)
 
 -- what bytes are refused for, if they are; a raw file gives an image whatever it holds
 abbrev pub image_fault : Format → List ℕ → Option SessionError
 image_fault Elf bytes = option_map BadImage (file_fault bytes)
 image_fault Raw bytes = None
-image_fault Asm bytes = refused_text bytes
+image_fault (Asm float) bytes = refused_text float bytes

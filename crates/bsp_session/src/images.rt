@@ -24,6 +24,6 @@ pub fn image_of<A: Allocator + Copy>(
     match format {
         Format::Elf => Ok(load(alloc, bytes)?),
         Format::Raw => Ok(raw(alloc, bytes)?),
-        Format::Asm => Ok(assemble(alloc, bytes)?),
+        Format::Asm { float } => Ok(assemble(alloc, float, bytes)?),
     }
 }

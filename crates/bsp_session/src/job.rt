@@ -10,8 +10,8 @@ pub enum Format {
     Elf,
     /// The bytes are the memory's, from address 0 on, and pc starts there; there are at most 2^24 of them.
     Raw,
-    /// A text in assembly language; at most 2^22 bytes.
-    Asm,
+    /// A text in assembly language, with statements of floating point where `float` says so; at most 2^22 bytes.
+    Asm { float: bool },
 }
 
 impl Format {
@@ -25,7 +25,7 @@ impl Format {
         match self {
             Format::Elf => 1 << 25,
             Format::Raw => 1 << 24,
-            Format::Asm => 1 << 22,
+            Format::Asm { .. } => 1 << 22,
         }
     }
 }

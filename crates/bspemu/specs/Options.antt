@@ -30,7 +30,12 @@ IsNeverMet {X} P = (x : X) → P x → ⊥
 abbrev pub name_of_format : Format → Text
 name_of_format Elf = codes "elf"
 name_of_format Raw = codes "raw"
-name_of_format Asm = codes "asm"
+name_of_format (Asm float) = codes "asm"
+
+-- a text may have statements of floating point where they are asked for, and only there
+abbrev pub IsFormatFor : (float : Bool) → Format → Type 0
+IsFormatFor float (Asm names) = names ≡ float
+IsFormatFor float _ = Unit {0}
 
 -- a value spells this number of so many bits in decimal digits, which a plus may precede
 pub record GivesNumber (bits : ℕ) (value : Option Text) (n : ℕ) : Type 0 where
@@ -83,6 +88,7 @@ pub record GivesMachineOptions (rows : List Row) (o : MachineOptions) : Type 0 w
   pub input : first_of (codes "input") rows ≡ text_of o.input
   pub format : first_of (codes "format") rows ≡ Some (name_of_format o.job.format)
   pub settings : GivesSettings rows o.job.settings
+  pub language : IsFormatFor o.job.settings.float o.job.format
   pub g : GivesNumber 32 (one_of (codes "g") rows) o.job.g
   pub l : GivesNumber 32 (one_of (codes "l") rows) o.job.l
   pub ledger : GivesLedger rows o.job.ledger
@@ -136,11 +142,14 @@ pub record GivesDebugOptions (rows : List Row) (o : DebugOptions) : Type 0 where
 pub record GivesListOptions (rows : List Row) (o : ListOptions) : Type 0 where
   pub image : first_of (codes "image") rows ≡ Some o.image.now
   pub format : first_of (codes "format") rows ≡ Some (name_of_format o.format)
+  pub float : GivesFlag (one_of (codes "float") rows) o.float
+  pub language : IsFormatFor o.float o.format
 
 -- the matches of `asm` give these options
 pub record GivesAsmOptions (rows : List Row) (o : AsmOptions) : Type 0 where
   pub text : first_of (codes "text") rows ≡ Some o.text.now
   pub image : first_of (codes "image") rows ≡ Some o.image.now
+  pub float : GivesFlag (one_of (codes "float") rows) o.float
 
 -- the matches of a subcommand of this name give this action
 abbrev pub GivesAction : Text → List Row → Action → Type 0

@@ -87,31 +87,31 @@ IsAnswerOfDebug o (Ok outcome) = (outcome ≡ Ended) × AnswersLines o.framed o.
 IsAnswerOfDebug o (Err (CannotOpen path)) = NamesFile o.machine path
 IsAnswerOfDebug o (Err (Session error)) = IsDebugError o.framed o.machine.job error
 
--- a file in this format was listed, and an error that this can have
-abbrev pub IsListed : Format → Type 0
-IsListed format = (c : Conversion) × (c.format ≡ format) × AnswersListing c
+-- a file in this format was listed, with the names of instructions of floating point or without them, and an error that this can have
+abbrev pub IsListed : (float : Bool) → Format → Type 0
+IsListed float format = (c : Conversion) × (c.format ≡ format) × AnswersListing float c
 
-abbrev pub IsListError : Format → SessionError → Type 0
-IsListError format error = (c : Conversion) × (c.format ≡ format) × IsErrorOfListing c error
+abbrev pub IsListError : (float : Bool) → Format → SessionError → Type 0
+IsListError float format error = (c : Conversion) × (c.format ≡ format) × IsErrorOfListing float c error
 
 -- an answer that a listing with these options can have
 abbrev pub IsAnswerOfList : ListOptions → Result Outcome RunError → Type 0
-IsAnswerOfList o (Ok outcome) = (outcome ≡ Ended) × IsListed o.format
+IsAnswerOfList o (Ok outcome) = (outcome ≡ Ended) × IsListed o.float o.format
 IsAnswerOfList o (Err (CannotOpen path)) = (o.image.now ≢ codes "-") × (o.image ≡ path)
-IsAnswerOfList o (Err (Session error)) = IsListError o.format error
+IsAnswerOfList o (Err (Session error)) = IsListError o.float o.format error
 
--- the image of a text was saved, and an error that this can have
-abbrev pub IsSaved : Type 0
-IsSaved = (c : Conversion) × (c.format ≡ Asm) × AnswersAssembly c
+-- the image of a text, with statements of floating point or without them, was saved, and an error that this can have
+abbrev pub IsSaved : (float : Bool) → Type 0
+IsSaved float = (c : Conversion) × (c.format ≡ Asm float) × AnswersAssembly c
 
-abbrev pub IsAsmError : SessionError → Type 0
-IsAsmError error = (c : Conversion) × (c.format ≡ Asm) × IsErrorOfAssembly c error
+abbrev pub IsAsmError : (float : Bool) → SessionError → Type 0
+IsAsmError float error = (c : Conversion) × (c.format ≡ Asm float) × IsErrorOfAssembly c error
 
 -- an answer that an assembly with these options can have
 abbrev pub IsAnswerOfAsm : AsmOptions → Result Outcome RunError → Type 0
-IsAnswerOfAsm o (Ok outcome) = (outcome ≡ Ended) × IsSaved
+IsAnswerOfAsm o (Ok outcome) = (outcome ≡ Ended) × IsSaved o.float
 IsAnswerOfAsm o (Err (CannotOpen path)) = (o.text ≡ path) ⊎ (o.image ≡ path)
-IsAnswerOfAsm o (Err (Session error)) = IsAsmError error
+IsAnswerOfAsm o (Err (Session error)) = IsAsmError o.float error
 
 -- an answer that an action can have
 abbrev pub IsAnswer : Action → Result Outcome RunError → Type 0

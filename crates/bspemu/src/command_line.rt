@@ -165,7 +165,11 @@ fn list_command<'a>(alloc: Global, formats: &'a [&'a str]) -> Result<Command<'a>
     Command::new(alloc, "list")
         .about("Write each word of a program with its address and its instruction")
         .arg(image(alloc))?
-        .arg(format(alloc, formats))
+        .arg(format(alloc, formats))?
+        .arg(float_names(
+            alloc,
+            "Name instructions of floating point, as on nodes with units for them; without it they are data",
+        ))
 }
 
 fn asm_command<'a>(alloc: Global) -> Result<Command<'a>, AllocError>
@@ -175,7 +179,8 @@ fn asm_command<'a>(alloc: Global) -> Result<Command<'a>, AllocError>
         .about("Assemble a text and save it as an ELF file")
         .after_help(ASM_AFTER_HELP)
         .arg(text(alloc))?
-        .arg(saved_image(alloc))
+        .arg(saved_image(alloc))?
+        .arg(float_names(alloc, "Take statements of floating point, those of F and D"))
 }
 
 fn image<'a>(alloc: Global) -> Arg<'a>
@@ -414,6 +419,16 @@ fn float<'a>(alloc: Global) -> Arg<'a>
         .long("float")
         .action(ArgAction::SetTrue)
         .help("Give each node a unit of floating point, for the instructions of F and D")
+}
+
+/// The same flag where no machine is made.
+fn float_names<'a>(alloc: Global, help: &'a str) -> Arg<'a>
+    ensures { HasRule result (flag_rule (codes "float")) }
+{
+    Arg::new(alloc, "float")
+        .long("float")
+        .action(ArgAction::SetTrue)
+        .help(help)
 }
 
 fn workers<'a>(alloc: Global) -> Arg<'a>

@@ -4,7 +4,7 @@ ghost use Rattle.std.specs.Prelude.{◌≡◌, IfOk, IfErr, IfNone, IfSome, fals
 ghost use Rattle.clap.specs.Words.{found_of, kind_of, rows_of, subcommand_rows_of};
 ghost use Rattle.bspemu.specs.Options.{AsksFor, AsksForSeveral, Gives, GivesAction, GivesAsmOptions, GivesClock, GivesDebugOptions, GivesLedger, GivesListOptions};
 ghost use Rattle.bspemu.specs.Options.{GivesMachineOptions, GivesPrices, GivesRunOptions, GivesSettings, GivesTelling, HasConflict, IsFaultOf, IsLack, IsNeverMet, Tells};
-ghost use Rattle.bspemu.specs.Options.{are_several, name_of_format, number_of_ledger, text_of};
+ghost use Rattle.bspemu.specs.Options.{IsFormatFor, are_several, name_of_format, number_of_ledger, text_of};
 
 use crate::command_line::command;
 use bsp_session::{Format, Job, LedgerText, Prices, Settings};
@@ -79,6 +79,8 @@ pub struct ListOptions<'a> {
     /// The file of the program; `-` is standard input.
     pub image: &'a str,
     pub format: Format,
+    /// Whether instructions of floating point have their names.
+    pub float: bool,
 }
 
 /// What `bspemu asm` was asked to do.
@@ -88,6 +90,8 @@ pub struct AsmOptions<'a> {
     pub text: &'a str,
     /// The file to save the image in.
     pub image: &'a str,
+    /// Whether the text may have statements of floating point.
+    pub float: bool,
 }
 
 /// What the command line asks for.
@@ -279,12 +283,13 @@ fn options_of_machine<'a>(
     ensures rest { IfSome result (λ o. (o.job.workers ≡ workers) × (o.job.slice ≡ slice) × (o.job.report ≡ report)) }
     ensures none { IfNone result (IsNeverMet (GivesMachineOptions (rows_of (found_of found.now)))) }
 {
+    let settings = settings_of_machine(found)?;
     Some(MachineOptions {
         image: found.get_str("image")?,
         input: found.get_str("input"),
         job: Job {
-            format: format_named(found.get_str("format")?)?,
-            settings: settings_of_machine(found)?,
+            format: format_named(found.get_str("format")?, settings.float)?,
+            settings,
             workers,
             slice,
             report,
@@ -299,9 +304,11 @@ fn options_of_list<'a>(list: &ArgMatches<'a>) -> Option<ListOptions<'a>>
     ensures some { IfSome result (GivesListOptions (rows_of (found_of list.now))) }
     ensures none { IfNone result (IsNeverMet (GivesListOptions (rows_of (found_of list.now)))) }
 {
+    let float = list.get_one("float")?;
     Some(ListOptions {
         image: list.get_str("image")?,
-        format: format_named(list.get_str("format")?)?,
+        format: format_named(list.get_str("format")?, float)?,
+        float,
     })
 }
 
@@ -312,6 +319,7 @@ fn options_of_asm<'a>(asm: &ArgMatches<'a>) -> Option<AsmOptions<'a>>
     Some(AsmOptions {
         text: asm.get_str("text")?,
         image: asm.get_str("image")?,
+        float: asm.get_one("float")?,
     })
 }
 
@@ -370,14 +378,15 @@ fn ledger_numbered(number: u32) -> Option<LedgerText>
     }
 }
 
-fn format_named(name: &str) -> Option<Format>
-    ensures some { IfSome result (λ format. name.now ≡ name_of_format format) }
+/// The format with a name; a text may have statements of floating point where `float` says so.
+fn format_named(name: &str, float: bool) -> Option<Format>
+    ensures some { IfSome result (λ format. (name.now ≡ name_of_format format) × IsFormatFor float format) }
     ensures none { IfNone result (IsNeverMet (λ format. name.now ≡ name_of_format format)) }
 {
     match name {
         "elf" => Some(Format::Elf),
         "raw" => Some(Format::Raw),
-        "asm" => Some(Format::Asm),
+        "asm" => Some(Format::Asm { float }),
         _ => None,
     }
 }

@@ -342,7 +342,13 @@ fn list<'a, R: AllocGlobal + Files + Input + Print>(
 {
     let mut image = Counted::new(open_image(rt, options.image)?);
     let mut out = Counted::new(io::writer(rt));
-    list_session(rt.alloc(), options.format, &mut image, &mut out)?;
+    list_session(
+        rt.alloc(),
+        options.format,
+        options.float,
+        &mut image,
+        &mut out,
+    )?;
     Ok(Outcome::Ended)
 }
 
@@ -357,7 +363,7 @@ fn assemble<'a, R: AllocGlobal + Files + Input>(
     let text = open_file(rt, options.text)?;
     let mut image = Counted::new(create(rt, options.image, &text)?);
     let mut text = Counted::new(text);
-    asm_session(rt.alloc(), &mut text, &mut image)?;
+    asm_session(rt.alloc(), options.float, &mut text, &mut image)?;
     Ok(Outcome::Ended)
 }
 

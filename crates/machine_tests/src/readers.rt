@@ -62,7 +62,14 @@ fn cut(source: Source, given: usize) -> Source {
 
 // What comes of a session over sources.
 fn done(rt: &(impl Threads + Wait + Sync), alloc: Global, kind: Kind, sources: Sources) -> Done {
-    make(rt, alloc, alloc, kind, Format::Asm, sources)
+    make(
+        rt,
+        alloc,
+        alloc,
+        kind,
+        Format::Asm { float: false },
+        sources,
+    )
 }
 
 // Whether a session is a read fault that writes nothing.

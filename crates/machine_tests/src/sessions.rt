@@ -141,9 +141,9 @@ fn convert<A: Allocator + Copy, I: Read, J, L>(
     streams: &mut Streams<I, J, L>,
 ) -> Result<(), SessionError> {
     if kind == Lists {
-        list_session(alloc, format, &mut streams.image, &mut streams.out)
+        list_session(alloc, format, false, &mut streams.image, &mut streams.out)
     } else {
-        asm_session(alloc, &mut streams.image, &mut streams.out)
+        asm_session(alloc, false, &mut streams.image, &mut streams.out)
     }
 }
 
@@ -280,7 +280,7 @@ static ROWS: [Row; 10] = [
     Row {
         name: "asm_session",
         kind: Saves,
-        format: Format::Asm,
+        format: Format::Asm { float: false },
         requests: 426,
     },
     Row {
@@ -342,7 +342,7 @@ static ROWS: [Row; 10] = [
 // The program in a format. In its file, which has one segment, the bytes stand behind 84 of headers.
 fn program_in(format: Format, file: &[u8]) -> &[u8] {
     match format {
-        Format::Asm => TEXT.as_bytes(),
+        Format::Asm { .. } => TEXT.as_bytes(),
         Format::Elf => file,
         Format::Raw => file.get(84..).unwrap_or(b""),
     }

@@ -1,14 +1,15 @@
   $ bspemu asm --help
   Assemble a text and save it as an ELF file
   
-  Usage: bspemu asm <TEXT> <IMAGE>
+  Usage: bspemu asm [OPTIONS] <TEXT> <IMAGE>
   
   Arguments:
     <TEXT>   File with the assembly text, at most 4194304 bytes
     <IMAGE>  File to save the program in; it is created, or emptied, once TEXT is open
   
   Options:
-    -h, --help  Print help
+        --float  Take statements of floating point, those of F and D
+    -h, --help   Print help
   
   A text that is refused has a line `line N: NAME` on standard error:
     BadToken         something that is no name, number, string or sign

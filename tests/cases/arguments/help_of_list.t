@@ -8,4 +8,5 @@
   
   Options:
         --format <FORMAT>  Format of IMAGE: elf, an ELF executable; raw, the bytes of memory from address 0; asm, an assembly text [default: elf]
+        --float            Name instructions of floating point, as on nodes with units for them; without it they are data
     -h, --help             Print help

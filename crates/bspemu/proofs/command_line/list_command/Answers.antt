@@ -9,4 +9,5 @@ pub returns : goal.returns
 returns c =
     let named : HasApp c.about.result (new_app (codes "list")) = record { is = search rules; local = search rules } in
     let image = with_arg _ _ _ _ _ c.in_ok-arg.ensures named c.image.ensures in
-    IfOk-weaker c.arg-2.result _ _ (λ r adds. with_arg _ _ _ _ _ adds image c.format.ensures) c.arg-2.ensures
+    let format = with_arg _ _ _ _ _ c.in_ok-arg-2.ensures image c.format.ensures in
+    IfOk-weaker c.arg-3.result _ _ (λ r adds. with_arg _ _ _ _ _ adds format c.float_names.ensures) c.arg-3.ensures

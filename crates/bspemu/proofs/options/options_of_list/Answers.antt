@@ -1,7 +1,7 @@
 use Rattle.std.proofs.Common.{◌∙◌, ap, codes, List, Some, sym, ℕ}
 use Rattle.clap.specs.Words.{found_of}
 use Rattle.clap.proofs.WalkLemmas.{first_value-rows}
-use Rattle.bspemu.proofs.Getters.{none≢some, same_text}
+use Rattle.bspemu.proofs.Getters.{flag_of_getter, no_flag_of_getter, none≢some, same_text}
 use Rattle.bspemu.proofs.options.options_of_list.Goals as goal
 
 pub returns-clause-some : goal.returns-clause-some
@@ -9,13 +9,20 @@ returns-clause-some c =
     let found = found_of c.args.list.now in
     record {
       image = sym (c.in_ok-get_str.ensures ∙ first_value-rows found (codes "image"));
-      format = sym (c.in_ok-get_str-2.ensures ∙ first_value-rows found (codes "format")) ∙ ap (λ (name : List ℕ). Some name) c.in_ok-format_named.ensures.some;
+      format = sym (c.in_ok-get_str-2.ensures ∙ first_value-rows found (codes "format")) ∙ ap (λ (name : List ℕ). Some name) c.in_ok-format_named.ensures.some.0;
+      float = flag_of_getter _ found (codes "float") c.in_ok-float.ensures.none c.in_ok-float.ensures.value;
+      language = c.in_ok-format_named.ensures.some.1;
     }
+
+pub returns-in_err-float-clause-none : goal.returns-in_err-float-clause-none
+returns-in_err-float-clause-none c =
+    rw c.from_residual.ensures
+    (λ o gives. no_flag_of_getter o.float (found_of c.args.list.now) (codes "float") c.in_err-float.ensures.value gives.float)
 
 pub returns-in_err-get_str-clause-none : goal.returns-in_err-get_str-clause-none
 returns-in_err-get_str-clause-none c =
     let row = c.in_err-get_str.ensures ∙ first_value-rows (found_of c.args.list.now) (codes "image") in
-    rw c.from_residual.ensures (λ o gives. none≢some (row ∙ gives.image))
+    rw c.from_residual-in_err-get_str.ensures (λ o gives. none≢some (row ∙ gives.image))
 
 pub returns-in_err-get_str-2-clause-none : goal.returns-in_err-get_str-2-clause-none
 returns-in_err-get_str-2-clause-none c =

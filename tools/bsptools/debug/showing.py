@@ -68,7 +68,7 @@ def text(data: bytes, is_cut: bool) -> str:
 
 def instructions(names: Names, addr: int, data: bytes, count: int, pc: int) -> Iterator[str]:
     """So many instructions, with the names of where they stand and go to; the one at which a node stands is marked."""
-    for number, (place, _, name, operands) in enumerate(listing(data)):
+    for number, (place, _, name, operands) in enumerate(listing(data, names.code.is_float)):
         if number == count:
             return
         mark = "=>" if addr + place == pc else "  "

@@ -116,7 +116,7 @@ def prepared(
             image.write_bytes(whole)
     settings = [str(image), "--format", kind, "--nodes", str(options.nodes), "--memory", str(options.memory)]
     settings += ["--limit", str(options.limit), "--clock", "--g", str(options.g), "--l", str(options.l)]
-    if kind == "elf" and elf.wants_floats(content):
+    if code.is_float:
         settings.append("--float")
     if given is not None:
         with about(folder / "input"):

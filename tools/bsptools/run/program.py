@@ -78,6 +78,8 @@ class Code:
         self.names: dict[str, int] = {}
         self.lines: list[tuple[int, int]] = []
         self.text, self.content = "", content
+        # Whether the program wants nodes with units of floating point.
+        self.is_float = False
         self.debug: elf.Debug | None = None
         # What was found out of functions and addresses already.
         self.bodies: dict[int, dict[int, Statement]] = {}
@@ -172,9 +174,10 @@ class Code:
         return found or self.calls()
 
 
-def listing(stored: bytes) -> Iterator[tuple[int, int, str, list[str]]]:
-    """Place, end, name and operands of each instruction of these bytes, as the emulator lists them."""
-    words = [emulator.emulator(), "list", "-", "--format", "raw"]
+def listing(stored: bytes, is_float: bool = False) -> Iterator[tuple[int, int, str, list[str]]]:
+    """Place, end, name and operands of each instruction of these bytes, as the emulator lists them, with or without the names of floating
+    point."""
+    words = [emulator.emulator(), "list", "-", "--format", "raw"] + ["--float"] * is_float
     listed = subprocess.run(words, input=stored, stdout=subprocess.PIPE, check=False).stdout.decode()
     for line in listed.splitlines():
         place, stored_as, name, *operands = line.split("#")[0].replace(",", " ").split()
@@ -185,6 +188,7 @@ def listing(stored: bytes) -> Iterator[tuple[int, int, str, list[str]]]:
 def read_elf(content: bytes) -> Code:
     """The code of an ELF file, as far as it can be read."""
     code = Code(content=content, entry=elf.entry(content))
+    code.is_float = elf.wants_floats(content)
     for address, stored, end in elf.segments(content):
         code.segments.append((address, stored))
         code.need = max(code.need, end)
@@ -193,7 +197,7 @@ def read_elf(content: bytes) -> Code:
 
 def read_text(emulator: list[str], path: str, content: bytes, folder: pathlib.Path) -> Code:
     """The code of a text of this path: it is assembled with a label at each line, and the words of these labels behind it. None of one that
-    would be too long for the assembler with these."""
+    would be too long for the assembler with these. A text that is taken with statements of floating point alone wants units for them."""
     if len(content) + content.count(b"\n") * MARKS > MOST_TEXT:
         return Code()
     lines = content.decode(errors="surrogateescape").split("\n")
@@ -204,10 +208,12 @@ def read_text(emulator: list[str], path: str, content: bytes, folder: pathlib.Pa
     words = "\n".join(f".word {label}" for label in labels)
     marked.write_text(f"{text}\n.align 2\n__lines: {words}\n.word __lines\n", errors="surrogateescape")
     image = folder / "marked.elf"
-    done = subprocess.run([*emulator, "asm", str(marked), str(image)], capture_output=True, check=False)
-    if done.returncode != 0:
+    command = [*emulator, "asm", str(marked), str(image)]
+    is_float = not is_assembled(command)
+    if is_float and not is_assembled([*command, "--float"]):
         return Code()
     code = read_elf(content_of(image, MOST_PROGRAM))
+    code.is_float = is_float
     start, stored = code.segments[0]
     marks = struct.unpack_from("<I", stored, len(stored) - 4)[0]
     *places, code.need = struct.unpack_from(f"<{len(labels)}I", stored, marks - start)
@@ -218,6 +224,11 @@ def read_text(emulator: list[str], path: str, content: bytes, folder: pathlib.Pa
         code.functions += [(address, 0, name) for name in parts_of(lines[number - 1])[0] if not name.startswith(LOCAL)]
     code.functions.sort()
     return code
+
+
+def is_assembled(command: list[str]) -> bool:
+    """Whether the emulator assembles a text."""
+    return subprocess.run(command, capture_output=True, check=False).returncode == 0
 
 
 def parts_of(line: str) -> tuple[list[str], str]:

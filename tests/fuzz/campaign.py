@@ -7,7 +7,7 @@ import pathlib
 import tempfile
 from typing import Callable, Dict, List, Optional, Tuple
 
-from fuzz import kinds, runs, words
+from fuzz import float_listings, kinds, runs, words
 from fuzz.bench import Bench, Trial
 
 Kind = Tuple[str, Callable[[Trial], None]]
@@ -15,6 +15,7 @@ Kind = Tuple[str, Callable[[Trial], None]]
 KINDS: List[Kind] = [
     ("program", runs.program), ("elf", kinds.elf), ("text", kinds.text), ("debugger", runs.debugger), ("words", words.command_line),
     ("program", runs.program), ("raw", kinds.raw), ("elf", kinds.elf), ("text", kinds.text), ("starved", runs.starved),
+    ("floats", float_listings.listing),
 ]
 
 

@@ -1,5 +1,5 @@
 -- Each line goes from those that are left to the block, and a whole block to what is written.
-use Rattle.std.proofs.Common.{◌≡◌, ◌<◌, ◌∙◌, ap, sym, List, [], ◌∷◌, ◌++◌, ℕ, length, string_bytes, append_assoc, append-nil, arith, length-append}
+use Rattle.std.proofs.Common.{◌≡◌, ◌<◌, Bool, ◌∙◌, ap, sym, List, [], ◌∷◌, ◌++◌, ℕ, length, string_bytes, append_assoc, append-nil, arith, length-append}
 use Rattle.std.specs.List.{flat_map}
 use Rattle.std.proofs.KnownBytes.{Appends-trans, Appends-nil}
 use Rattle.std.proofs.lemmas.Grind.{flat_map-append}

@@ -1,0 +1,50 @@
+/* floor, ceil, trunc, truncf and llround. Those of picolibc 1.8 are wrong for some numbers: its ceil(4294967295.5) is 4294965248, its
+   llround(1e18) 999999780956667904, and its trunc(1e300) and truncf(1e14f) are other numbers too. */
+#include <math.h>
+#include <stdint.h>
+#include <string.h>
+
+enum { DIGITS = 52, BIAS = 1023, DIGITS_OF_FLOAT = 23 };
+
+/* What lies behind the point is the low digits of the pattern. */
+double trunc(double x)
+{
+    uint64_t bits;
+    memcpy(&bits, &x, sizeof bits);
+    int exponent = (int)(bits >> DIGITS & 0x7FF) - BIAS;
+    if (exponent >= DIGITS)
+        return x;
+    bits &= ~UINT64_C(0) << (exponent < 0 ? 63 : DIGITS - exponent);
+    memcpy(&x, &bits, sizeof x);
+    return x;
+}
+
+float truncf(float x)
+{
+    uint32_t bits;
+    memcpy(&bits, &x, sizeof bits);
+    int exponent = (int)(bits >> DIGITS_OF_FLOAT & 0xFF) - 127;
+    if (exponent >= DIGITS_OF_FLOAT)
+        return x;
+    bits &= ~UINT32_C(0) << (exponent < 0 ? 31 : DIGITS_OF_FLOAT - exponent);
+    memcpy(&x, &bits, sizeof x);
+    return x;
+}
+
+double floor(double x)
+{
+    double whole = trunc(x);
+    return isgreater(whole, x) ? whole - 1 : whole;
+}
+
+double ceil(double x)
+{
+    double whole = trunc(x);
+    return isless(whole, x) ? whole + 1 : whole;
+}
+
+long long llround(double x)
+{
+    double whole = trunc(x);
+    return (long long)(fabs(x - whole) >= 0.5 ? whole + copysign(1, x) : whole);
+}

@@ -1,13 +1,16 @@
 /* floor, ceil, trunc, truncf and llround. Those of picolibc 1.8 are wrong for some numbers: its ceil(4294967295.5) is 4294965248, its
-   llround(1e18) 999999780956667904, and its trunc(1e300) and truncf(1e14f) are other numbers too. */
+   llround(1e18) 999999780956667904, and its trunc(1e300) and truncf(1e14f) are other numbers too. A program may have functions of these
+   names of its own: these are weak. */
 #include <math.h>
 #include <stdint.h>
 #include <string.h>
 
-enum { DIGITS = 52, BIAS = 1023, DIGITS_OF_FLOAT = 23 };
+#define WEAK __attribute__((weak))
+
+enum { DIGITS = 52, BIAS = 1023, DIGITS_OF_FLOAT = 23, BIAS_OF_FLOAT = 127 };
 
 /* What lies behind the point is the low digits of the pattern. */
-double trunc(double x)
+static double whole_of(double x)
 {
     uint64_t bits;
     memcpy(&bits, &x, sizeof bits);
@@ -19,11 +22,16 @@ double trunc(double x)
     return x;
 }
 
-float truncf(float x)
+WEAK double trunc(double x)
+{
+    return whole_of(x);
+}
+
+WEAK float truncf(float x)
 {
     uint32_t bits;
     memcpy(&bits, &x, sizeof bits);
-    int exponent = (int)(bits >> DIGITS_OF_FLOAT & 0xFF) - 127;
+    int exponent = (int)(bits >> DIGITS_OF_FLOAT & 0xFF) - BIAS_OF_FLOAT;
     if (exponent >= DIGITS_OF_FLOAT)
         return x;
     bits &= ~UINT32_C(0) << (exponent < 0 ? 31 : DIGITS_OF_FLOAT - exponent);
@@ -31,20 +39,20 @@ float truncf(float x)
     return x;
 }
 
-double floor(double x)
+WEAK double floor(double x)
 {
-    double whole = trunc(x);
+    double whole = whole_of(x);
     return isgreater(whole, x) ? whole - 1 : whole;
 }
 
-double ceil(double x)
+WEAK double ceil(double x)
 {
-    double whole = trunc(x);
+    double whole = whole_of(x);
     return isless(whole, x) ? whole + 1 : whole;
 }
 
-long long llround(double x)
+WEAK long long llround(double x)
 {
-    double whole = trunc(x);
+    double whole = whole_of(x);
     return (long long)(fabs(x - whole) >= 0.5 ? whole + copysign(1, x) : whole);
 }

@@ -166,6 +166,19 @@ def forget_registers(_stop):
 
 gdb.events.stop.connect(forget_registers)
 
+
+def tell_rank(_event):
+    """Over the machine interface no hook is made, so that a stop at no rank would be told at the one that was read last: before any rank goes
+    on, the machine is told which of them gdb looks at."""
+    thread = gdb.selected_thread()
+    try:
+        gdb.execute("maintenance packet QBsp.Rank:%x" % thread.ptid[1] if thread else "", to_string=True)
+    except gdb.error:
+        pass
+
+
+gdb.events.cont.connect(tell_rank)
+
 WATCHED = {}
 # The rank of each, and whether it is enabled.
 RANKS = {}

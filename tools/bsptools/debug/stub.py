@@ -87,6 +87,7 @@ class Stub:
             "vKill;": self._end,
             "D;": self._end,
             "Hg": self._choose,
+            "QBsp.Rank:": self._choose,
             "Hc": self._choose_resumed,
             "T": self._tell_of_thread,
             "p": self._read_register,

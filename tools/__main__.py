@@ -1,4 +1,4 @@
-"""Starts a tool of the package beside this file: `python3 -I -B tools NAME ARGUMENTS..`, which the starters at the top do."""
+"""Starts a tool of the package beside this file: `python3 -I -S -B tools NAME ARGUMENTS..`, which the starters at the top do."""
 
 import os
 import signal

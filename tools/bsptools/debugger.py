@@ -4,8 +4,10 @@ from __future__ import annotations
 
 import contextlib
 import fcntl
+import os
 import re
 import select
+import struct
 import subprocess
 from collections.abc import Sequence
 from typing import NamedTuple
@@ -20,8 +22,12 @@ ALL = (1 << 64) - 1
 BATCH, MOST_BATCH, LINE = 64, 1024, 64
 # The size of the pipe of replies, where the system gives it, and what asks for that. Python has names for these from 3.10 on.
 REPLIES, SET_SIZE, GET_SIZE = 1 << 18, 1031, 1032
-# For how many seconds its end is waited for, where its replies have ended.
-ENDING = 1.0
+# For how many seconds its end is waited for, where its replies have ended, and how many bytes of them are taken at once.
+ENDING, CHUNK = 1.0, 1 << 16
+# gdb reads memory by a few bytes, which lie side by side: so many bytes are read at once, and so many of these blocks are kept of a rank.
+BLOCK, MOST_BLOCKS = 256, 256
+# The lines that only show something, or only say where to stop.
+SHOWING = ("regs ", "bytes ", "queue ", "costs", "output ", "where ", "nodes", "break ", "clear ")
 
 _HEADER = re.compile(rb"(done|refused) (\d+)\n")
 _NODE = re.compile(r"rank (\d+) pc ([0-9a-f]{8}) ticks (\d+) state (.+)")
@@ -70,7 +76,8 @@ def node_of(reply: Sequence[str], stack: bytes = b"") -> Node | None:
     head = _NODE.fullmatch(reply[0]) if len(reply) == 9 else None
     if head is None:
         return None
-    x = tuple(int(value, 16) for line in reply[1:] for value in _REGISTER.findall(line))
+    values = _REGISTER.findall(" ".join(reply[1:]))
+    x = struct.unpack(f">{len(values)}I", bytes.fromhex("".join(values)))
     return Node(int(head[1]), int(head[2], 16), int(head[3]), head[4], x, stack)
 
 
@@ -150,6 +157,9 @@ class Session:
         with contextlib.suppress(OSError):
             fcntl.fcntl(self._replies, SET_SIZE, REPLIES)
             self._batch = max(BATCH, min(MOST_BATCH, fcntl.fcntl(self._lines, GET_SIZE) // LINE))
+        # What was read of replies, from where on it was not taken, and blocks of each rank's memory by their addresses.
+        self._read, self._taken = bytearray(), 0
+        self._blocks: dict[int, dict[int, bytes]] = {}
         self.room = limits.MOST_LINES
         self.is_open = True
 
@@ -162,6 +172,8 @@ class Session:
         """Sends lines, whose replies are still to be received."""
         data = "".join(line + "\n" for line in lines).encode()
         self.room -= len(data)
+        if self._blocks:
+            self._forget(lines)
         try:
             self._lines.write(data)
             self._lines.flush()
@@ -170,10 +182,10 @@ class Session:
 
     def reply(self) -> Reply:
         """The reply to the first line that has none yet. A header says how many lines it has."""
-        header = _HEADER.fullmatch(self._line())
+        header = _HEADER.fullmatch(self._take(1))
         if header is None:
             raise self._ended()
-        return Reply(header[1] == b"done", b"".join(self._line() for _ in range(int(header[2]))))
+        return Reply(header[1] == b"done", self._take(int(header[2])))
 
     def is_answered(self, seconds: float) -> bool:
         """Whether the only line that is not answered yet is answered within this time."""
@@ -202,6 +214,21 @@ class Session:
         """A node as it is, if there is one of this rank."""
         return node_of(self.ask(f"regs {rank}").lines)
 
+    def memory(self, rank: int, addr: int, count: int, size: int) -> bytes:
+        """Bytes of a rank, whose memory has this size and all of them. What lies beside few of them is read too, and kept until something
+        moves that can change it."""
+        if count > BLOCK:
+            return self._bytes(rank, addr, count)
+        blocks = self._blocks.setdefault(rank, {})
+        if len(blocks) > MOST_BLOCKS:
+            blocks.clear()
+        first = addr - addr % BLOCK
+        wanted = range(first, addr + count, BLOCK)
+        for at in wanted:
+            if at not in blocks:
+                blocks[at] = self._bytes(rank, at, min(BLOCK, size - at))
+        return b"".join(blocks[at] for at in wanted)[addr - first : addr - first + count]
+
     def superstep(self) -> int:
         """The superstep that has begun last."""
         return int(self.ask("where 0").accepted()[0].split()[5])
@@ -212,12 +239,41 @@ class Session:
         reply.accepted()
         return reply.data[:-1]
 
-    def _line(self) -> bytes:
-        """The next line, with its line feed."""
-        line: bytes = self._replies.readline()
-        if not line.endswith(b"\n"):
+    def _bytes(self, rank: int, addr: int, count: int) -> bytes:
+        return bytes.fromhex(" ".join(self.ask(f"bytes {rank} {addr} {count}").accepted()))
+
+    def _forget(self, lines: Sequence[str]) -> None:
+        """Drops the blocks of memory that these lines may change: a step changes that of its rank alone."""
+        for line in lines:
+            rank = line.split(" ", 2)[1] if line.startswith("step ") else ""
+            if rank.isdecimal():
+                self._blocks.pop(int(rank), None)
+            elif not line.startswith(SHOWING):
+                self._blocks.clear()
+
+    def _take(self, count: int) -> bytes:
+        """The next lines, each with its line feed."""
+        read, end = self._read, self._taken
+        for _ in range(count):
+            found = read.find(b"\n", end)
+            while found < 0:
+                known = len(read)
+                read += self._more()
+                found = read.find(b"\n", known)
+            end = found + 1
+        data = bytes(read[self._taken : end])
+        self._taken = end
+        if end == len(read):
+            read.clear()
+            self._taken = 0
+        return data
+
+    def _more(self) -> bytes:
+        """More of what it answers."""
+        data = os.read(self._replies.fileno(), CHUNK)
+        if not data:
             raise self._ended()
-        return line
+        return data
 
     def _ended(self) -> DebuggerEnded:
         """What says that the debugger has ended."""

@@ -2,9 +2,9 @@
 
 from __future__ import annotations
 
+import functools
 import importlib.util
 import os
-import site
 import subprocess
 import sys
 
@@ -17,8 +17,18 @@ ELFTOOLS, MATPLOTLIB = "elftools", "matplotlib"
 PACKAGES = {ELFTOOLS: "python3-pyelftools", MATPLOTLIB: "python3-matplotlib"}
 
 
+@functools.lru_cache(maxsize=None)
+def look_at_sites() -> None:
+    """Has what is installed for this Python found, also by a tool that was started without that: most runs want nothing of it."""
+    if sys.flags.no_site:
+        import site
+
+        site.main()
+
+
 def missing(module: str) -> str:
     """The line that says which package to install where this Python lacks a module; nothing where it is here."""
+    look_at_sites()
     package = PACKAGES[module]
     return "" if importlib.util.find_spec(module) else f"{package} is missing: apt-get install {package}"
 
@@ -37,7 +47,9 @@ def is_systems() -> bool:
 
 def look_at_home(module: str) -> None:
     """Has a module found that the person has in a folder of their own."""
-    if missing(module) and sys.flags.isolated and not sys.flags.no_site:
+    if missing(module) and sys.flags.isolated:
+        import site
+
         site.addsitedir(site.getusersitepackages())
 
 
@@ -62,6 +74,6 @@ def find(module: str, words: list[str]) -> str:
     is_again = is_systems()
     os.environ.pop(AGAIN, "")
     if missing(module) and words and not is_again:
-        options = ["-I", "-B"] if sys.flags.isolated else []
+        options = ["-I", *["-S"] * sys.flags.no_site, "-B"] if sys.flags.isolated else []
         os.execve(SYSTEM, [SYSTEM, *options, *words], {**os.environ, AGAIN: "1"})
     return missing(module)

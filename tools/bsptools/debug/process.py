@@ -85,7 +85,7 @@ class Process(abc.ABC):
         if count <= 0:
             return b""
         self._make_room()
-        data = bytes.fromhex(" ".join(self._session.ask(f"bytes {rank} {addr} {count}").accepted()))
+        data = self._session.memory(rank, addr, count, self.size)
         return data if self._trace is None or self._trace.rank != rank else self._trace.restored(addr, data)
 
     def queue(self, rank: int) -> List[str]:

@@ -260,8 +260,9 @@ class Dialogue:
         node = self._node(asked.operands["RANK"])
         addr = asked.operands.setdefault("ADDR", node.pc)
         if addr % 2:
-            what = f"instructions stand at even addresses, and {addr:#x} is none"
-            raise Refused(f"refused: BadCommand: {what}; N of them from where the rank stands are list {node.rank} $pc N")
+            count = asked.operands.get("N", addr)
+            what = f"instructions stand at even addresses, and {addr:#x} is odd"
+            raise Refused(f"refused: BadCommand: {what}; {count} of them from where the rank stands are list {node.rank} $pc {count}")
         count = asked.operands.get("N", DEFAULTS["list"])
         yield from showing.instructions(self.names, asked.operands["ADDR"], self._shown(asked, 4), count, node.pc)
 

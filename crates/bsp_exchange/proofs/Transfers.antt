@@ -1,7 +1,7 @@
 -- A transfer that keeps to its area keeps to its node's memory.
 use Rattle.std.proofs.Common.{◌≡◌, ℕ, ◌+◌, ◌<◌, ◌≤◌, ◌^◌, false, not, leb, List, length, get_or, refl, sym, ap, ◌∙◌, [], arith, Option, Some, None}
 use Rattle.std.specs.Prelude.{IsTrue, slice_get, option_map}
-use Rattle.std.specs.Option.{option_map_or}
+use Rattle.std.specs.Option.{option_and_then, option_map_or}
 use Rattle.std.proofs.lemmas.Bool.{true≢false}
 use Rattle.std.proofs.lemmas.Bool.Decides.{nat_tests}
 use Rattle.std.proofs.lemmas.Option.{slice_get-map, slice_get_read, slice_get_within, get_or_from_slice_get}
@@ -17,6 +17,7 @@ use Rattle.bsp_exchange.specs.Faults.{is_outside}
 use Rattle.bsp_exchange.specs.Landings.{area_start, memory_of}
 use Rattle.bsp_exchange.specs.Arrivals.{fetched}
 use Rattle.bsp_exchange.proofs.Finds.{area_of}
+use Rattle.bsp_exchange.proofs.Gathered.{length-states}
 
 -- the memory of a rank's node is that of the node at its place
 pub memory_at : (ps : List PreparedNode) (rank : ℕ) (p : PreparedNode) → rank < length ps → p ≡ get_or ps rank p → memory_of (states ps) rank ≡ p.node.hart.memory
@@ -41,16 +42,16 @@ area_within p slot area hart found =
 within_area : (offset len size : ℕ) → not (leb (offset + len) size) ≡ false → offset + len ≤ size
 within_area offset len size inside = grind (arith, nat_tests, inside)
 
-pub transfer_within : (ps : List PreparedNode) (rank slot offset len : ℕ) (area : Area) (p : PreparedNode) → rank < length ps → p ≡ get_or ps rank p → IsHart p.node.hart → area_at (states ps) rank slot ≡ Some area → is_outside (states ps) rank slot offset len ≡ false → area.addr + offset + len ≤ length p.node.hart.memory
+transfer_within : (ps : List PreparedNode) (rank slot offset len : ℕ) (area : Area) (p : PreparedNode) → rank < length ps → p ≡ get_or ps rank p → IsHart p.node.hart → area_at (states ps) rank slot ≡ Some area → is_outside (states ps) rank slot offset len ≡ false → area.addr + offset + len ≤ length p.node.hart.memory
 transfer_within ps rank slot offset len area p there is hart found inside =
     let here : slice_get p.node.hart.communication.registrations.in_effect slot ≡ Some area = sym (area_of ps rank slot p (slice_get_read ps (length ps) rank p refl there is)) ∙ found in
     let room : area.addr + area.size ≤ length p.node.hart.memory = area_within p slot area hart here in
     let kept : offset + len ≤ area.size = within_area offset len area.size (rw found at inside) in
     omega (arith, room, kept)
 
--- and so its end is a number of 32 bits
-pub transfer_fits : (ps : List PreparedNode) (rank slot offset len : ℕ) (area : Area) (p : PreparedNode) → rank < length ps → p ≡ get_or ps rank p → IsHart p.node.hart → area_at (states ps) rank slot ≡ Some area → is_outside (states ps) rank slot offset len ≡ false → area.addr + offset < 2 ^ 32
-transfer_fits ps rank slot offset len area p there is hart found inside =
+-- and so its end is no more than that of the greatest memory
+pub transfer_most : (ps : List PreparedNode) (rank slot offset len : ℕ) (area : Area) (p : PreparedNode) → rank < length ps → p ≡ get_or ps rank p → IsHart p.node.hart → area_at (states ps) rank slot ≡ Some area → is_outside (states ps) rank slot offset len ≡ false → area.addr + offset + len ≤ 2 ^ 24
+transfer_most ps rank slot offset len area p there is hart found inside =
     let within = transfer_within ps rank slot offset len area p there is hart found inside in
     let size : length p.node.hart.memory ≤ 2 ^ 24 = memory_size (length p.node.hart.memory) hart.memory in
     omega (arith, within, size)
@@ -72,3 +73,12 @@ start_at ps rank slot offset area found = rw found refl
 -- a transfer that keeps to its area has one
 pub never_without : (ps : List PreparedNode) (rank slot offset len : ℕ) → area_at (states ps) rank slot ≡ None → is_outside (states ps) rank slot offset len ≡ false → ⊥
 never_without ps rank slot offset len none inside = true≢false (rw none at inside)
+
+-- and so has its node
+pub node_there : (ps : List PreparedNode) (rank slot offset len : ℕ) → is_outside (states ps) rank slot offset len ≡ false → rank < length ps
+node_there ps rank slot offset len inside = by (slice_get (states ps) rank) refl
+  where
+    by : (o : Option NodeState) → slice_get (states ps) rank ≡ o → rank < length ps
+    by None none =
+        absurd (never_without ps rank slot offset len (ap (option_and_then (λ (n : NodeState). slice_get n.hart.communication.registrations.in_effect slot)) none) inside)
+    by (Some n) is = let within = slice_get_within (states ps) rank n is in rw (length-states ps) at within

@@ -206,7 +206,6 @@ fn add_get<A: Allocator + Copy>(
 ) -> Result<(), AllocError>
     requires parts { length parts.old ≡ length nodes.now }
     requires caller { caller < length nodes.now }
-    requires target { get.now.target < length nodes.now }
     requires inside { leaves_area (states nodes.now) (asks_get get.now) ≡ false }
     ensures { OnOk result (parts.new ≡ changed_at (with_get (fetched (states nodes.now) get.now)) caller parts.old) }
 {
@@ -229,17 +228,17 @@ fn add_message<A: Allocator + Copy>(
 }
 
 /// Where a transfer of `len` bytes begins that keeps to its area, in the memory of the area's node.
-fn start_of<A: Allocator + Copy>(
+pub fn start_of<A: Allocator + Copy>(
     nodes: &[Node<A>],
     target: u16,
     slot: usize,
     offset: u32,
     len: usize,
 ) -> u32
-    requires target { target < length nodes.now }
     requires inside { is_outside (states nodes.now) target slot offset len ≡ false }
     ensures value { result ≡ area_start (states nodes.now) target slot + offset }
     ensures within { IsTrue (fits (length (memory_of (states nodes.now) target)) result len) }
+    ensures most { result + len ≤ 2 ^ 24 }
 {
     // Its contract says that the node is sound, and so that its areas lie in its memory.
     let _memory = nodes[target as usize].memory();

@@ -51,6 +51,7 @@ mod traffic;
 
 pub use barrier::{exchange, land_all};
 pub use fault::{ExchangeError, ExchangeFault};
+pub use gather::start_of;
 pub use part::{Part, Plan};
 pub use planning::{draft, plan, prepare_all};
 pub use sync::{are_at_sync, first_fault};

@@ -9,12 +9,9 @@ pub returns : goal.returns
 returns g c =
     rw (sym c.start_of-start.ensures.value) (put_back (with_put (record { addr = c.start_of-start.result; bytes = c.args.bytes.now })) c.args.target c.args.parts.now c.index-parts-target.result c.add_put.new.self c.add_put.result (rw c.requires.parts c.requires.target) c.index-parts-target.is (rw c.index-parts-target.is c.add_put.ensures.ok))
 
-pub start_of-start-requires-clause-target : goal.start_of-start-requires-clause-target
-start_of-start-requires-clause-target g c = c.requires.target
-
-pub start_of-start-requires-clause-inside : goal.start_of-start-requires-clause-inside
-start_of-start-requires-clause-inside g c =
-    ap (λ (len : ℕ). is_outside (states c.args.nodes.now) c.args.target c.args.slot c.args.offset len) c.len.ensures ∙ c.requires.inside
+pub start_of-start-requires : goal.start_of-start-requires
+start_of-start-requires g c =
+    record { inside = ap (λ (len : ℕ). is_outside (states c.args.nodes.now) c.args.target c.args.slot c.args.offset len) c.len.ensures ∙ c.requires.inside }
 
 pub bounds-parts-target : goal.bounds-parts-target
 bounds-parts-target g c = rw c.requires.parts c.requires.target

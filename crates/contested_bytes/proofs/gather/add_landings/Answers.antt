@@ -3,19 +3,10 @@ use Rattle.bsp_requests.specs.Request.{asked}
 use Rattle.bsp_requests.specs.Requests.{Requests}
 use Rattle.bsp_exchange.specs.Exchange.{states}
 use Rattle.bsp_exchange.proofs.Finds.{asked_all, asked_here}
-use Rattle.bsp_exchange.proofs.Gathered.{target_there}
 use Rattle.contested_bytes.specs.Gathered.{landing_of}
 use Rattle.contested_bytes.proofs.Requested.{stays_inside, rest_inside, has_room, gathered-none, gathered-some, gathered-whole}
 use Rattle.contested_bytes.proofs.gather.add_landings.Goals.{in-Some+in_ok-push, in_default}
 use Rattle.contested_bytes.proofs.gather.add_landings.Goals as goal
-
-pub landing_of-requires-clause-target : goal.landing_of-requires-clause-target
-landing_of-requires-clause-target g c =
-    let i = c.loop-issue.issue in
-    let n = c.args.node.now.node in
-    let lent = c.as_slice-requests.ensures ∙ ap (λ (q : Requests). q.requests) c.requests.ensures.value in
-    let is = asked_here n.hart.communication.requests.requests c.as_slice-requests.result.now i c.index-requests-issue.result lent c.loop-issue-test.true c.index-requests-issue.is in
-    rw (← c.requires.count) (target_there n i (asked c.index-requests-issue.result) c.requests.ensures.sound is)
 
 pub landing_of-requires-clause-inside : goal.landing_of-requires-clause-inside
 landing_of-requires-clause-inside g c =

@@ -2,20 +2,17 @@ use Rattle.std.proofs.Common.{ℕ, ◌+◌, ◌-◌, ◌≤◌, List, length, dr
 use Rattle.std.proofs.lemmas.List.{length-take}
 use Rattle.node_memory.specs.Bytes.{bytes_at}
 use Rattle.bsp_exchange.specs.Landings.{get_key}
-use Rattle.bsp_exchange.proofs.Transfers.{memory_at}
+use Rattle.bsp_exchange.proofs.Transfers.{memory_at, node_there}
 use Rattle.contested_bytes.proofs.gather.get_landing.Goals as goal
 
 short : (m : List ℕ) (from len : ℕ) → length (bytes_at m from len) ≤ len
 short m from len = let e = length-take (from + len - from) (drop from m) in omega (arith, e)
 
-pub start_of-from-requires-clause-target : goal.start_of-from-requires-clause-target
-start_of-from-requires-clause-target g c = c.requires.target
-
-pub start_of-from-requires-clause-inside : goal.start_of-from-requires-clause-inside
-start_of-from-requires-clause-inside g c = c.requires.inside
+pub start_of-from-requires : goal.start_of-from-requires
+start_of-from-requires g c = record { inside = c.requires.inside }
 
 pub bounds-nodes-get : goal.bounds-nodes-get
-bounds-nodes-get g c = c.requires.target
+bounds-nodes-get g c = node_there c.args.nodes.now c.args.get.now.target c.args.get.now.slot c.args.get.now.offset c.args.get.now.len c.requires.inside
 
 pub invariant_of-result : goal.invariant_of-result
 invariant_of-result g c =
@@ -28,4 +25,7 @@ returns g c =
     let nodes = c.args.nodes.now in
     ap (λ (bs : List ℕ). record { rank = c.args.caller; addr = get.dst; bytes = bs; key = get_key c.args.caller c.args.issue })
     (c.in-Ok.ensures.ok
-    ∙ ap₂ (λ (m : List ℕ) (a : ℕ). bytes_at m a get.len) (c.memory-memory.ensures.value ∙ sym (memory_at nodes get.target c.index-nodes-get.result c.requires.target c.index-nodes-get.is)) c.start_of-from.ensures.value)
+    ∙ ap₂ (λ (m : List ℕ) (a : ℕ). bytes_at m a get.len) (c.memory-memory.ensures.value ∙ sym (memory_at nodes get.target c.index-nodes-get.result (node_there c.args.nodes.now c.args.get.now.target c.args.get.now.slot c.args.get.now.offset c.args.get.now.len c.requires.inside) c.index-nodes-get.is)) c.start_of-from.ensures.value)
+
+pub offset_bounds-nodes-get : goal.offset_bounds-nodes-get
+offset_bounds-nodes-get g c = let there = node_there c.args.nodes.now c.args.get.now.target c.args.get.now.slot c.args.get.now.offset c.args.get.now.len c.requires.inside in omega (arith, there)

@@ -1,19 +1,12 @@
-use Rattle.std.proofs.Common.{◌<◌, false, ◌≡◌, length, sym, ap, subst, ◌∙◌, Some}
+use Rattle.std.proofs.Common.{false, ◌≡◌, sym, ap, subst, ◌∙◌, Some}
 use Rattle.bsp_requests.specs.Request.{asked}
 use Rattle.bsp_exchange.specs.Exchange.{states}
 use Rattle.bsp_exchange.specs.Faults.{leaves_area}
-use Rattle.bsp_exchange.specs.Parts.{target_of}
 use Rattle.contested_bytes.specs.Gathered.{landing_of, HasRoom}
 use Rattle.contested_bytes.proofs.gather.landing_of.Goals as goal
 
-pub put_landing-requires-clause-target : goal.put_landing-requires-clause-target
-put_landing-requires-clause-target g c = subst (λ r. target_of (asked r) < length c.args.nodes.now) c.in-Put.is c.requires.target
-
-pub put_landing-requires-clause-inside : goal.put_landing-requires-clause-inside
-put_landing-requires-clause-inside g c = subst (λ r. leaves_area (states c.args.nodes.now) (asked r) ≡ false) c.in-Put.is c.requires.inside
-
-pub get_landing-requires-clause-target : goal.get_landing-requires-clause-target
-get_landing-requires-clause-target g c = subst (λ r. target_of (asked r) < length c.args.nodes.now) c.in-Get.is c.requires.target
+pub put_landing-requires : goal.put_landing-requires
+put_landing-requires g c = record { inside = subst (λ r. leaves_area (states c.args.nodes.now) (asked r) ≡ false) c.in-Put.is c.requires.inside }
 
 pub get_landing-requires-clause-inside : goal.get_landing-requires-clause-inside
 get_landing-requires-clause-inside g c = subst (λ r. leaves_area (states c.args.nodes.now) (asked r) ≡ false) c.in-Get.is c.requires.inside

@@ -1,21 +1,14 @@
-use Rattle.std.proofs.Common.{◌≡◌, length, sym, refl, ◌∙◌}
+use Rattle.std.proofs.Common.{length, sym, refl, ◌∙◌}
 use Rattle.std.proofs.lemmas.Option.{slice_get_read}
-use Rattle.node_core.specs.Node.{NodeState}
 use Rattle.bsp_exchange.specs.Exchange.{states}
-use Rattle.bsp_exchange.proofs.Gathered.{all_at, state_here, length-states}
 use Rattle.contested_bytes.proofs.Requested.{node_inside, nodes_inside, gathered-node, gathered-nodes}
 use Rattle.contested_bytes.proofs.gather.landings.Goals as goal
 
-pub add_landings-requires-clause-count : goal.add_landings-requires-clause-count
-add_landings-requires-clause-count g c =
-    let nodes = states c.args.nodes.now in
-    all_at (λ (n : NodeState). n.hart.nprocs ≡ length nodes) nodes c.loop-node.node-index c.node-item.result.node c.requires.row.counts (state_here c.args.nodes.now c.loop-node.node-index c.node-item.result c.loop-node-test.true c.node-item.is)
-    ∙ length-states c.args.nodes.now
-
-pub add_landings-requires-clause-inside : goal.add_landings-requires-clause-inside
-add_landings-requires-clause-inside g c =
-    node_inside (states c.args.nodes.now) c.args.nodes.now c.loop-node.node-index c.node-item.result
-    (slice_get_read c.args.nodes.now (length c.args.nodes.now) c.loop-node.node-index c.node-item.result refl c.loop-node-test.true c.node-item.is) c.loop-node.invariant.inside
+pub add_landings-requires : goal.add_landings-requires
+add_landings-requires g c = record {
+  inside = node_inside (states c.args.nodes.now) c.args.nodes.now c.loop-node.node-index c.node-item.result
+      (slice_get_read c.args.nodes.now (length c.args.nodes.now) c.loop-node.node-index c.node-item.result refl c.loop-node-test.true c.node-item.is) c.loop-node.invariant.inside;
+}
 
 pub loop-node-preserved : goal.loop-node-preserved
 loop-node-preserved g c =

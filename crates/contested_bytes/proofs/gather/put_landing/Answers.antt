@@ -1,4 +1,4 @@
-use Rattle.std.proofs.Common.{ℕ, ◌<◌, List, length, sym, ap, ap₂, subst, ◌∙◌}
+use Rattle.std.proofs.Common.{ℕ, List, ap, ap₂, ◌∙◌}
 use Rattle.bsp_requests.specs.Put.{Put}
 use Rattle.bsp_requests.specs.Request.{asks_put}
 use Rattle.bsp_exchange.specs.Exchange.{states}
@@ -6,16 +6,15 @@ use Rattle.bsp_exchange.specs.Faults.{is_outside, leaves_area}
 use Rattle.bsp_exchange.specs.Landings.{put_key, put_landing}
 use Rattle.contested_bytes.proofs.gather.put_landing.Goals as goal
 
-pub start_of-addr-requires-clause-target : goal.start_of-addr-requires-clause-target
-start_of-addr-requires-clause-target g c = subst (λ (p : Put). p.target < length c.args.nodes.now) (sym c.put.view_is) c.requires.target
-
-pub start_of-addr-requires-clause-inside : goal.start_of-addr-requires-clause-inside
-start_of-addr-requires-clause-inside g c =
+pub start_of-addr-requires : goal.start_of-addr-requires
+start_of-addr-requires g c =
     let nodes = states c.args.nodes.now in
     let put = c.put.inside in
-    ap (is_outside nodes put.target put.slot put.offset) c.len.ensures
-    ∙ ap (λ (p : Put). leaves_area nodes (asks_put p)) c.put.view_is
-    ∙ c.requires.inside
+    record {
+      inside = ap (is_outside nodes put.target put.slot put.offset) c.len.ensures
+          ∙ ap (λ (p : Put). leaves_area nodes (asks_put p)) c.put.view_is
+          ∙ c.requires.inside;
+    }
 
 pub returns : goal.returns
 returns g c =

@@ -10,8 +10,8 @@ use Rattle.contested_bytes.proofs.Requested.{none_outside, contains_landings, co
 use Rattle.contested_bytes.proofs.Shared.{ranges_among, exact}
 use Rattle.contested_bytes.proofs.superstep.contested_ranges.Goals as goal
 
-pub landings-requires-clause-inside : goal.landings-requires-clause-inside
-landings-requires-clause-inside g c = none_outside (states c.args.nodes.now) c.requires.faultless
+pub landings-requires : goal.landings-requires
+landings-requires g c = record { inside = none_outside (states c.args.nodes.now) c.requires.faultless }
 
 pub sweep-requires : goal.sweep-requires
 sweep-requires g c = rw c.deref.ensures.value c.sort_landings.ensures.order

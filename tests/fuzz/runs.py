@@ -17,7 +17,7 @@ MOST_LINES = 1 << 20
 def made(trial: Trial) -> Tuple[str, Machine]:
     """A program as a text, and a machine for it."""
     chance = trial.random
-    clock, floats = chance.randrange(3) == 0, chance.randrange(4) == 0
+    clock, floats = chance.randrange(3) == 0, trial.one_apart_in(4)
     found = programs.program(chance, clock, floats)
     limit = chance.choice([3000, 3000, 3000, 3000, 20_000, chance.randint(1, 300)])
     g, l = (chance.choice([0, 1, 3, (1 << 32) - 1]) for _ in range(2))

@@ -8,6 +8,7 @@
 //!
 //! - [`add_flags_d`] to [`negated_multiply_add_flags_d`], and the same of singles, are the flags of these operations to the nearest, ties
 //!   to even.
+//! - [`accrued_add_flags_d`], [`accrued_sub_flags_d`] and [`accrued_mul_flags_d`] are the first three with flags that are there already.
 //! - [`quiet_flags_d`] are those of FEQ, FMIN and FMAX, [`ordered_flags_d`] those of FLT and FLE.
 //! - [`d_to_word_flags`] and its kin are those of conversions. Sign injection, classes, moves and words to doubles raise nothing.
 //! - [`Flags`] accrue by `|`: what is set stays. Their word is that of fflags.

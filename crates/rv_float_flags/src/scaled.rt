@@ -121,6 +121,61 @@ pub(crate) fn is_sum(a: Scaled, b: Scaled, opposite: bool, c: Scaled) -> bool
     requires b_low { b.place < 2 ^ 16 }
     ensures { result ≡ (combined opposite (amount a) (amount b) == amount c) }
 {
+    if a.place <= b.place {
+        is_ordered_sum(a, b, opposite, c)
+    } else {
+        is_ordered_sum(b, a, opposite, c)
+    }
+}
+
+/// `is_sum` where `a` has the lower place.
+// For speed: most terms are so near to one another that nothing has to be known of their digits.
+fn is_ordered_sum(a: Scaled, b: Scaled, opposite: bool, c: Scaled) -> bool
+    requires ordered { a.place ≤ b.place }
+    requires a_narrow { a.digits < 2 ^ 106 }
+    requires b_narrow { b.digits < 2 ^ 106 }
+    requires c_narrow { c.digits < 2 ^ 53 }
+    requires a_low { a.place < 2 ^ 16 }
+    requires b_low { b.place < 2 ^ 16 }
+    ensures { result ≡ (combined opposite (amount a) (amount b) == amount c) }
+{
+    match times_power(b.digits, b.place - a.place) {
+        Some(digits) => is_aligned_sum(a, digits, opposite, c),
+        None => is_far_sum(a, b, opposite, c),
+    }
+}
+
+/// `is_sum` of `a` and of `digits` at its place.
+fn is_aligned_sum(a: Scaled, digits: u128, opposite: bool, c: Scaled) -> bool
+    requires narrow { a.digits < 2 ^ 106 }
+    requires digits_narrow { digits < 2 ^ 120 }
+    ensures { result ≡ (combined opposite (amount a) (digits * 2 ^ a.place) == amount c) }
+{
+    let sum = if opposite {
+        a.digits.abs_diff(digits)
+    } else {
+        a.digits + digits
+    };
+    is_same(
+        Scaled {
+            digits: sum,
+            place: a.place,
+        },
+        c,
+    )
+}
+
+/// `is_sum`, by the digits of the terms without the zeros at their ends.
+#[cold]
+#[inline(never)]
+fn is_far_sum(a: Scaled, b: Scaled, opposite: bool, c: Scaled) -> bool
+    requires a_narrow { a.digits < 2 ^ 106 }
+    requires b_narrow { b.digits < 2 ^ 106 }
+    requires c_narrow { c.digits < 2 ^ 53 }
+    requires a_low { a.place < 2 ^ 16 }
+    requires b_low { b.place < 2 ^ 16 }
+    ensures { result ≡ (combined opposite (amount a) (amount b) == amount c) }
+{
     if a.digits == 0 {
         return is_same(b, c);
     }
@@ -145,20 +200,7 @@ fn is_odd_sum(a: Scaled, b: Scaled, opposite: bool, c: Scaled) -> bool
     ensures { result ≡ (combined opposite (amount a) (amount b) == amount c) }
 {
     match times_power(b.digits, b.place - a.place) {
-        Some(digits) => {
-            let sum = if opposite {
-                a.digits.abs_diff(digits)
-            } else {
-                a.digits + digits
-            };
-            is_same(
-                Scaled {
-                    digits: sum,
-                    place: a.place,
-                },
-                c,
-            )
-        }
+        Some(digits) => is_aligned_sum(a, digits, opposite, c),
         None => false,
     }
 }

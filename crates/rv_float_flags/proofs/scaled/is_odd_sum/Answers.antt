@@ -1,27 +1,16 @@
-use Rattle.std.proofs.Common.{Bool, ◌≡◌, ◌+◌, ◌*◌, ◌-◌, ◌^◌, ℕ, ap, sym, ◌∙◌, nat_eq}
+use Rattle.std.proofs.Common.{◌≡◌, ◌*◌, ◌-◌, ◌^◌, ℕ, ap, sym, ◌∙◌, nat_eq}
 use Rattle.std.proofs.lemmas.Bool.{ne_eqb}
-use Rattle.std.specs.Int.{abs_diff}
 use Rattle.rv_float_flags.specs.Exact.{combined}
 use Rattle.rv_float_flags.proofs.Numbers.{combined_times, power_split}
 use Rattle.rv_float_flags.proofs.Odd.{far_sum, odd_far}
 use Rattle.rv_float_flags.proofs.scaled.is_odd_sum.Goals as goal
-use Rattle.rv_float_flags.proofs.scaled.is_odd_sum.Goals.{then-opposite, else-opposite}
 
-pub returns-after-opposite : goal.returns-after-opposite
-returns-after-opposite c =
+pub returns-in-Some : goal.returns-in-Some
+returns-in-Some c =
     let i = c.args.a.place in
-    let v = c.args.b.digits * 2 ^ (c.args.b.place - i) in
-    let w : v * 2 ^ i ≡ c.args.b.digits * 2 ^ c.args.b.place = power_split c.args.b.digits i c.args.b.place c.requires.ordered in
-    let s : c.if-opposite.sum ≡ combined c.args.opposite c.args.a.digits v =
-    elim c.if-opposite.branch [
-      | then-opposite w ↦ w.sum-is ∙ w.abs_diff-sum.ensures ∙ ap (λ (z : ℕ). abs_diff c.args.a.digits z) c.in-Some.ensures.0 ∙ ap (λ (o : Bool). combined o c.args.a.digits v) (sym w.if-opposite.true)
-      | else-opposite w ↦ w.sum-is ∙ ap (λ (z : ℕ). c.args.a.digits + z) c.in-Some.ensures.0 ∙ ap (λ (o : Bool). combined o c.args.a.digits v) (sym w.if-opposite.false)
-    ]
-    in
-    let e : combined c.args.opposite (c.args.a.digits * 2 ^ i) (c.args.b.digits * 2 ^ c.args.b.place) ≡ combined c.args.opposite c.args.a.digits v * 2 ^ i =
-    ap (λ (z : ℕ). combined c.args.opposite (c.args.a.digits * 2 ^ i) z) (sym w) ∙ combined_times c.args.opposite c.args.a.digits v (2 ^ i)
-    in
-    c.is_same.ensures ∙ ap (λ (z : ℕ). nat_eq z (c.args.c.digits * 2 ^ c.args.c.place)) (ap (λ (z : ℕ). z * 2 ^ i) s ∙ sym e)
+    let w : c.args.b.digits * 2 ^ (c.args.b.place - i) * 2 ^ i ≡ c.args.b.digits * 2 ^ c.args.b.place = power_split c.args.b.digits i c.args.b.place c.requires.ordered in
+    c.is_aligned_sum.ensures
+    ∙ ap (λ (z : ℕ). nat_eq (combined c.args.opposite (c.args.a.digits * 2 ^ i) z) (c.args.c.digits * 2 ^ c.args.c.place)) (ap (λ (z : ℕ). z * 2 ^ i) c.in-Some.ensures.0 ∙ w)
 
 pub returns-in-None : goal.returns-in-None
 returns-in-None c =

@@ -13,7 +13,7 @@ const BRANCH: &[u8] = b"start: beq x0,x0,next\nli a0,-2049\nnext: ecall\n";
 
 // Statements of each kind that asks for memory.
 const EACH_KIND: &[u8] =
-    b"a: .word a,b\n.byte 1,2\n.half 3\n.ascii \"text\"\nb: .space 3\n.align 2\nli a0,1\n";
+    b"a: .word a,b\n.byte 1,2\n.half 3\n.ascii \"text\"\nb: .space 11\n.align 2\nli a0,1\nfadd.d fa0,fa1,fa2\n";
 
 // The words of `BRANCH`: 00000663 fffff537 7ff50513 00000073.
 const WORDS: [u8; 16] = [
@@ -28,13 +28,13 @@ const SAVED: [u8; 100] = [
     0, 0x63, 0x06, 0, 0, 0x37, 0xF5, 0xFF, 0xFF, 0x13, 0x05, 0xF5, 0x7F, 0x73, 0, 0, 0,
 ];
 
-// What `EACH_KIND` is saved as: the label b stands at 16, and the instruction is 00100513.
-const SAVED_KINDS: [u8; 108] = [
+// What `EACH_KIND` is saved as: the label b stands at 16, and the instructions are 00100513 and 02c5f553.
+const SAVED_KINDS: [u8; 120] = [
     0x7F, 0x45, 0x4C, 0x46, 1, 1, 1, 0, 0, 0, 0, 0, 0, 0, 0, 0, 2, 0, 0xF3, 0, 1, 0, 0, 0, //
     0, 0, 0, 0, 52, 0, 0, 0, 0, 0, 0, 0, 0, 0, 0, 0, 52, 0, 32, 0, 1, 0, 0, 0, 0, 0, 0, 0, //
-    1, 0, 0, 0, 84, 0, 0, 0, 0, 0, 0, 0, 0, 0, 0, 0, 24, 0, 0, 0, 24, 0, 0, 0, 7, 0, 0, 0, 1, 0, 0,
-    0, 0, 0, 0, 0, 16, 0, 0, 0, 1, 2, 3, 0, b't', b'e', b'x', b't', 0, 0, 0, 0, 0x13, 0x05, 0x10,
-    0,
+    1, 0, 0, 0, 84, 0, 0, 0, 0, 0, 0, 0, 0, 0, 0, 0, 36, 0, 0, 0, 36, 0, 0, 0, 7, 0, 0, 0, 1, 0, 0,
+    0, 0, 0, 0, 0, 16, 0, 0, 0, 1, 2, 3, 0, b't', b'e', b'x', b't', 0, 0, 0, 0, 0, 0, 0, 0, 0, 0,
+    0, 0, 0x13, 0x05, 0x10, 0, 0x53, 0xF5, 0xC5, 0x02,
 ];
 
 // Eight bytes, to lie at 0x100 with four zeros after them.
@@ -72,7 +72,7 @@ static ROWS: [Row; 9] = [
         name: "assemble and save, each kind of statement",
         source: Source::Text(EACH_KIND),
         made: &SAVED_KINDS,
-        requests: 51,
+        requests: 58,
     },
     Row {
         name: "load and save, a saved image",
@@ -123,7 +123,7 @@ const LONGEST: usize = 0x40_0000;
 
 fn make<'h>(heap: &'h Heap, source: &Source) -> Result<Vec<u8, &'h Heap>, ElfError> {
     let image = match *source {
-        Source::Text(text) if text.len() <= LONGEST => match assemble(heap, false, text) {
+        Source::Text(text) if text.len() <= LONGEST => match assemble(heap, true, text) {
             Ok(image) => image,
             Err(error) if error.kind == AsmKind::NoMemory => return Err(ElfError::NoMemory),
             Err(_) => return Err(ElfError::NotElf),

@@ -7,6 +7,7 @@ use bsp_session::{
     list_session, live_session, profile_session, session,
 };
 use counted_io::Counted;
+use machine_core::Settings;
 use std::alloc::{Allocator, Global};
 use std::io::Read;
 use std::sync::Wait;
@@ -78,7 +79,7 @@ where
 {
     let job = Job {
         format,
-        settings: SETTINGS,
+        settings: settings_of(kind),
         workers: 2,
         slice: 1 << 16,
         report: true,
@@ -102,6 +103,14 @@ where
         answer,
         out: streams.out.into_inner(),
         beside: streams.beside.into_inner(),
+    }
+}
+
+// The settings of a session. Its nodes have units of floating point where what these hold is asked for.
+fn settings_of(kind: Kind) -> Settings {
+    Settings {
+        float: matches!(kind, Debugs | Talks),
+        ..SETTINGS
     }
 }
 
@@ -167,7 +176,7 @@ fn debug<A: Allocator + Copy, I: Read, J: Read, L: Read>(
     }
 }
 
-// Lines of every kind.
+// Lines of every kind that a script has.
 const LINES: &str = "\
 break 1 8
 break superstep 2
@@ -177,6 +186,7 @@ clear 1 8
 go
 queue 1
 regs 1
+fregs 1
 bytes 1 0x3000 4
 step 1 1
 step 3 1
@@ -191,6 +201,73 @@ quit
 step
 ";
 
+// Lines of a dialogue: those that a person wants, some that are none, and what it tells more of the others.
+const TALK_LINES: &str = "\
+fregs 1
+help over
+help
+break 1 8
+break superstep 1
+points
+step
+step 1
+over 0
+go
+go
+regs 1
+areas 1
+phase
+requests 0
+words 0 0x2000 5
+text 0 0x40 40
+list 0 0 3
+what
+over
+go
+quit
+";
+
+// What they are answered behind the registers of floating point and what help tells.
+const TALK_REPLIES: &str = "\
+ok
+ok
+rank 1 pc 00000008
+superstep 1
+moved 1
+rank 0 pc 00000004 superstep 0 state running
+moved 1
+moved 1
+rank 0 pc 00000008 superstep 0 state running
+stopped at rank 1 pc 00000008
+stopped at superstep 1
+rank 1 pc 00000038 ticks 50 state running
+x0/zero=00000000   x1/ra=00000000   x2/sp=00005000   x3/gp=00000000
+  x4/tp=00000000   x5/t0=00000000   x6/t1=00000000   x7/t2=00000000
+  x8/s0=00000000   x9/s1=000000dc  x10/a0=00000000  x11/a1=00000000
+ x12/a2=00000000  x13/a3=00000000  x14/a4=00000000  x15/a5=00000000
+ x16/a6=00000000  x17/a7=00000004  x18/s2=00000000  x19/s3=00000000
+ x20/s4=00000000  x21/s5=00000000  x22/s6=00000000  x23/s7=00000000
+ x24/s8=00000000  x25/s9=00000000 x26/s10=00000000 x27/s11=00000000
+ x28/t3=00000000  x29/t4=00000000  x30/t5=00000000  x31/t6=00000000
+area 0 at 00002000 size 4112
+moved 180
+request 0 put to rank 0 area 0 offset 4094 bytes 4
+request 1 put to rank 1 area 0 offset 4096 bytes 4
+request 2 get from rank 0 area 0 offset 4 bytes 4 into 00003ffe
+request 3 get from rank 1 area 0 offset 4094 bytes 4 into 00001204
+request 4 send to rank 0 bytes 3 tag bytes 4
+request 5 send to rank 1 bytes 30 tag bytes 4
+00002000: 00000000 00000000 00000000 00000000
+00002010: 00000000
+\"more than a few bytes of a message\"
+00000000: 00300893  addi x17,x0,3
+00000004: 00000073  ecall
+00000008: 03050513  addi x10,x10,48
+refused: BadCommand: there is no such line; help tells the lines
+refused: BadCommand: the line is over RANK
+ended
+";
+
 // Lines of a framed session: those that scripts do not have, and one that has no reply.
 const FRAMED_LINES: &str = "\
 break superstep 1
@@ -199,6 +276,7 @@ nodes
 where
 where 1
 where 3
+fregs 1
 keep
 go
 output 1
@@ -229,6 +307,8 @@ done 1
 rank 1 pc 00000038 superstep 1 state running
 refused 1
 refused: BadRank
+refused 1
+refused: NoFloatUnit: nodes have one with --float
 done 1
 kept 0
 done 1
@@ -323,19 +403,19 @@ static ROWS: [Row; 10] = [
         name: "debug_session",
         kind: Debugs,
         format: Format::Raw,
-        requests: 112,
+        requests: 120,
     },
     Row {
         name: "debug_dialogue",
         kind: Talks,
         format: Format::Raw,
-        requests: 113,
+        requests: 153,
     },
     Row {
         name: "debug_framed",
         kind: Frames,
         format: Format::Raw,
-        requests: 205,
+        requests: 212,
     },
 ];
 
@@ -351,6 +431,7 @@ fn program_in(format: Format, file: &[u8]) -> &[u8] {
 // The lines that a session is asked.
 fn lines_of(kind: Kind) -> &'static str {
     match kind {
+        Talks => TALK_LINES,
         Frames => FRAMED_LINES,
         _ => LINES,
     }
@@ -438,6 +519,7 @@ fn each_session_may_be_refused_memory(rt: HostRuntime) -> Result<(), Fail> {
         println!(rt; "{requests:4} refused: {}", row.name)?;
         let is_whole = whole.answer == Ok(())
             && (!is_run(row.kind) || whole.out.as_slice() == REPORT.as_bytes())
+            && (row.kind != Talks || whole.out.ends_with(TALK_REPLIES.as_bytes()))
             && (row.kind != Frames || whole.out.as_slice() == FRAMED_REPLIES.as_bytes());
         assert!(rt; is_whole && requests == row.requests);
         let wrong = first_wrong(&rt, &heap, rt.alloc(), row, &saved, &whole);

@@ -369,8 +369,9 @@ def refusals(check: Check) -> None:
     for (words, begin), (status, said) in zip(tried.items(), answers(check, list(tried))):
         right = status == 1 and said.startswith(begin) and said.count("\n") == 1
         check.expect(f"bspplot {' '.join(words)}", right, (status, said))
-    # Python without the packages that were installed beside it.
-    command = [sys.executable, "-S", str(REPO / "tools"), "bspplot", "--costs", "t.svg", "report.csv"]
+    # Python without matplotlib, wherever that is installed.
+    without = "import runpy, sys; sys.modules['matplotlib'] = None; del sys.argv[0]; runpy.run_path(sys.argv[0], run_name='__main__')"
+    command = [sys.executable, "-c", without, str(REPO / "tools"), "bspplot", "--costs", "t.svg", "report.csv"]
     environment = {"BSPTOOLS_AGAIN": "1"}
     done = subprocess.run(command, capture_output=True, text=True, check=False, cwd=check.folder, env=environment)
     line = "bspplot: python3-matplotlib is missing: apt-get install python3-matplotlib\n"

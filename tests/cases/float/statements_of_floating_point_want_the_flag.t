@@ -23,5 +23,5 @@
   superstep 0: w 4 h 0 m 0 last
   total 4
   ended
-  $ printf 'phase\nregs 0\n' | bspemu debug text.s --format asm --float | head -1
-  rank 0 ended
+  $ printf 'phase\n' | bspemu debug text.s --format asm --float | head -1
+  moved 4

@@ -7,7 +7,7 @@ use crate::scaled::Scaled;
 
 /// The magnitude of a double, if it is finite.
 #[inline(always)]
-pub(crate) fn magnitude_d(a: u64) -> Option<Scaled>
+pub fn magnitude_d(a: u64) -> Option<Scaled>
     ensures { IsMagnitudeOf binary64 (of_bits binary64 a) result }
 {
     let exponent = a % 0x8000_0000_0000_0000 / 0x10_0000_0000_0000;
@@ -28,7 +28,7 @@ pub(crate) fn magnitude_d(a: u64) -> Option<Scaled>
 }
 
 /// The magnitude of a single, if it is finite. The smallest positive one is 2^925 times that of doubles.
-pub(crate) fn magnitude_s(a: u32) -> Option<Scaled>
+pub fn magnitude_s(a: u32) -> Option<Scaled>
     ensures { IsMagnitudeOf binary32 (of_bits binary32 a) result }
 {
     let exponent = a % 0x8000_0000 / 0x80_0000;

@@ -6,9 +6,9 @@ ghost use Rattle.rv_float_flags.specs.Scaled.{amount};
 
 /// The number `digits * 2^place`.
 #[derive(Clone, Copy)]
-pub(crate) struct Scaled {
-    pub(crate) digits: u128,
-    pub(crate) place: u32,
+pub struct Scaled {
+    pub digits: u128,
+    pub place: u32,
 }
 
 pub(crate) const ZERO: Scaled = Scaled {
@@ -28,7 +28,8 @@ impl Scaled {
         }
     }
 
-    pub(crate) fn times(self, other: Scaled) -> Scaled
+    /// The product.
+    pub fn times(self, other: Scaled) -> Scaled
         requires narrow { self.digits < 2 ^ 53 }
         requires other_narrow { other.digits < 2 ^ 53 }
         requires low { self.place < 2 ^ 16 }

@@ -1,0 +1,19 @@
+//! Arithmetic of the RISC-V extensions F and D in the rounding modes: the patterns of the results, and their flags.
+//!
+//! An exact result is a fraction, whose magnitude is truncated to a pattern and then goes up to the next one or does not, by mode, sign and
+//! what was cut off (`specs/Modes.antt`). What is not finite is `rv_floats`' and `rv_float_flags`', in each mode.
+//!
+//! What callers may rely on:
+//!
+//! - [`mul_in_d`] is a product, with all that it raises.
+//!
+//! Source: The RISC-V Instruction Set Manual, Volume I: Unprivileged ISA, 20191213, chapters 11 and 12; IEEE 754-2008, clauses 4 and 7.
+#![tactic(auto)]
+
+mod double;
+mod magnitude;
+mod rounded;
+mod rounding;
+
+pub use double::mul_in_d;
+pub use rounded::Rounded;

@@ -12,7 +12,8 @@
 //! - [`quiet_flags_d`] are those of FEQ, FMIN and FMAX, [`ordered_flags_d`] those of FLT and FLE.
 //! - [`d_to_word_flags`] and its kin are those of conversions. Sign injection, classes, moves and words to doubles raise nothing.
 //! - [`Flags`] accrue by `|`: what is set stays. Their word is that of fflags.
-//! - [`magnitude_d`] and [`magnitude_s`] are the digits and the place of a finite value.
+//! - [`magnitude_d`] and [`magnitude_s`] are the digits and the place of a finite value; [`times_power`], [`cut_at`] and [`is_below`] are
+//!   for numbers of such digits and places.
 //! - [`laws`] has what holds of all results: tininess is a comparison, and a sum that is tiny is exact.
 //!
 //! No exact result is computed. Digits and places of the operands are compared with those of the result (`src/scaled.rt`), in numbers of
@@ -44,7 +45,7 @@ pub use double::{
 };
 pub use flags::Flags;
 pub use magnitude::{magnitude_d, magnitude_s};
-pub use scaled::Scaled;
+pub use scaled::{Scaled, cut_at, is_below, times_power};
 pub use single::{
     add_flags_s, div_flags_s, mul_flags_s, multiply_add_flags_s, multiply_subtract_flags_s,
     negated_multiply_add_flags_s, negated_multiply_subtract_flags_s, sqrt_flags_s, sub_flags_s,

@@ -18,7 +18,7 @@ pub(crate) const ZERO: Scaled = Scaled {
 
 impl Scaled {
     /// The same times 2^1074.
-    pub(crate) fn raised(self) -> Scaled
+    pub fn raised(self) -> Scaled
         requires { self.place < 2 ^ 16 }
         ensures { result ≡ record self { place = self.place + 1074 } }
     {
@@ -44,7 +44,7 @@ impl Scaled {
 }
 
 /// `x * 2^n`, where that is below 2^120.
-pub(crate) fn times_power(x: u128, n: u32) -> Option<u128>
+pub fn times_power(x: u128, n: u32) -> Option<u128>
     ensures { MatchOption result (2 ^ 120 ≤ x * 2 ^ n) (λ v. (v ≡ x * 2 ^ n) × (v < 2 ^ 120)) }
 {
     if x == 0 {
@@ -79,7 +79,7 @@ pub(crate) fn is_same(a: Scaled, b: Scaled) -> bool
 }
 
 /// Whether `a` is below `b`.
-pub(crate) fn is_below(a: Scaled, b: Scaled) -> bool
+pub fn is_below(a: Scaled, b: Scaled) -> bool
     requires a_narrow { a.digits < 2 ^ 120 }
     requires b_narrow { b.digits < 2 ^ 120 }
     ensures { result ≡ nat_lt (amount a) (amount b) }
@@ -231,7 +231,7 @@ pub(crate) fn sum_is_below(a: Scaled, b: Scaled, opposite: bool, limit: Scaled) 
 }
 
 /// How many times `2^place` goes into the number, and whether that leaves a rest.
-fn cut_at(a: Scaled, place: u32) -> (u128, bool)
+pub fn cut_at(a: Scaled, place: u32) -> (u128, bool)
     requires narrow { a.digits < 2 ^ 106 }
     requires low { a.place < place + 2 }
     requires low_place { place < 2 ^ 16 }

@@ -23,7 +23,7 @@ pub record Moved (D s : ℕ) : Type 0 where
   pub room : 1 ≤ count_leading_zeros 128 D
   pub little : s ≤ 126
   pub whole : D * 2 ^ s % 2 ^ 128 ≡ D * 2 ^ s
-  pub wide : 2 ^ 63 ≤ D * 2 ^ s
+  pub wide : 2 ^ 126 ≤ D * 2 ^ s
   pub narrow : D * 2 ^ s < 2 ^ 127
 
 pub moved : (D : ℕ) → 0 < D → D < 2 ^ 127 → Moved D (count_leading_zeros 128 D - 1)

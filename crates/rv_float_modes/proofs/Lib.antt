@@ -1,3 +1,4 @@
 pub mod Cuts
 pub mod Exactly
 pub mod Roundings
+pub mod Sums

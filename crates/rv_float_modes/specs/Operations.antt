@@ -1,23 +1,60 @@
--- Operations in a rounding mode (IEEE 754-2008, sections 4.3, 5.4.1, 6.3 and 7; RISC-V Unprivileged ISA 20191213, sections 11.2, 11.6
--- and 12.4). Where an operand is an infinity or a NaN, the result and the flags are the same in each mode.
-use Rattle.std.specs.Prelude.{ℕ, Bool, ◌&&◌, to_bits, if◌then◌else◌}
+-- Operations in a rounding mode (IEEE 754-2008, sections 4.3, 5.4.1, 6.3 and 7; RISC-V Unprivileged ISA 20191213, sections 11.2, 11.6,
+-- 11.7, 12.4 and 12.5). Where an operand is an infinity or a NaN, or the divisor is zero, the result and the flags are the same in each
+-- mode.
+use Rattle.std.specs.Prelude.{ℕ, ◌*◌, Bool, true, false, ◌&&◌, nat_lt, to_bits, if◌then◌else◌}
 use Rattle.std.specs.Float.{float_is_finite, is_sign_negative}
+use Rattle.rv_floats.specs.Fused.{multiply_add, multiply_subtract, negated_multiply_add, negated_multiply_subtract}
 use Rattle.rv_floats.specs.declared.rounding.Rounding.{Rounding}
-use Rattle.rv_float_flags.specs.Exact.{exact_product}
-use Rattle.rv_float_flags.specs.Operations.{mul_flags}
+use Rattle.rv_floats.specs.declared.rounding.Rounding.TheVariants.{NearestEven, TowardZero, Down, Up, NearestAway}
+use Rattle.rv_float_flags.specs.Exact.{exact_fused, exact_product, exact_quotient, exact_sum}
+use Rattle.rv_float_flags.specs.Operations.{add_flags, div_flags, mul_flags, multiply_add_flags, multiply_subtract_flags, negated_multiply_add_flags, negated_multiply_subtract_flags, sub_flags}
 use Rattle.rv_float_flags.specs.declared.flags.Flags.{Flags}
 use Rattle.rv_float_modes.specs.declared.rounded.Rounded.{Rounded}
 use Rattle.rv_float_modes.specs.Modes.{rounding_in}
-use lib.Ieee.{Format, mul, of_bits, unlike}
+use lib.Ieee.{Float, Format, add, div, mul, neg, of_bits, sub, unlike}
+use lib.Ieee.Positive.{num, den}
 
 -- what rounding makes of finite operands, and what is there of others
 abbrev pub either : Bool → Rounded → ℕ → Flags → Rounded
 either is_finite rounded bits flags = if is_finite then rounded else record { bits = bits; flags = flags }
 
--- FMUL
+-- ---- FMUL
+
+abbrev pub product_in : Rounding → Format → Float → Float → Rounded
+product_in mode f x y = rounding_in mode (unlike (is_sign_negative x) (is_sign_negative y)) f (exact_product x y)
+
 abbrev pub mul_in : Rounding → Format → ℕ → ℕ → Rounded
 mul_in mode f a b =
     let x = of_bits f a in
     let y = of_bits f b in
-    let negative = unlike (is_sign_negative x) (is_sign_negative y) in
-    either (float_is_finite x && float_is_finite y) (rounding_in mode negative f (exact_product x y)) (to_bits f (mul f x y)) (mul_flags f a b)
+    either (float_is_finite x && float_is_finite y) (product_in mode f x y) (to_bits f (mul f x y)) (mul_flags f a b)
+
+-- ---- FADD, FSUB
+
+abbrev pub is_down : Rounding → Bool
+is_down NearestEven = false
+is_down TowardZero = false
+is_down Down = true
+is_down Up = false
+is_down NearestAway = false
+
+-- The sign of a sum, by the signs and the magnitudes of its terms. A sum of terms with different signs that is exactly zero is +0, but
+-- -0 in the mode Down (section 6.3).
+abbrev pub sign_of_sum : Rounding → Bool → Bool → ℕ → ℕ → Bool
+sign_of_sum mode s t a b = if unlike s t then (if nat_lt a b then t else if nat_lt b a then s else is_down mode) else s
+
+abbrev pub sum_in : Rounding → Format → Float → Float → Rounded
+sum_in mode f x y =
+    rounding_in mode (sign_of_sum mode (is_sign_negative x) (is_sign_negative y) (num x * den y) (num y * den x)) f (exact_sum x y)
+
+abbrev pub add_in : Rounding → Format → ℕ → ℕ → Rounded
+add_in mode f a b =
+    let x = of_bits f a in
+    let y = of_bits f b in
+    either (float_is_finite x && float_is_finite y) (sum_in mode f x y) (to_bits f (add f x y)) (add_flags f a b)
+
+abbrev pub sub_in : Rounding → Format → ℕ → ℕ → Rounded
+sub_in mode f a b =
+    let x = of_bits f a in
+    let y = of_bits f b in
+    either (float_is_finite x && float_is_finite y) (sum_in mode f x (neg y)) (to_bits f (sub f x y)) (sub_flags f a b)

@@ -3,25 +3,52 @@
 ghost use Rattle.std.specs.Prelude.{◌≡◌};
 ghost use Rattle.std.specs.Float.{is_sign_negative};
 ghost use Rattle.rv_float_modes.specs.Operations as Operations;
-ghost use lib.Ieee.{binary64};
+ghost use lib.Ieee.{binary64, of_bits};
 
+use crate::finite::{Term, product, sum};
 use crate::rounded::Rounded;
-use crate::rounding::{DOUBLE, rounded_number};
-use rv_float_flags::{magnitude_d, mul_flags_d};
-use rv_floats::{Rounding, mul_d};
+use crate::rounding::DOUBLE;
+use rv_float_flags::{add_flags_d, magnitude_d, mul_flags_d};
+use rv_floats::{Rounding, add_d, mul_d, sign_negated_d};
 use std::num::f64_from_bits_with_nan;
+
+/// FADD.D.
+pub fn add_in_d(mode: Rounding, a: u64, b: u64) -> Rounded
+    ensures { result ≡ Operations.add_in mode binary64 a b }
+{
+    match (magnitude_d(a), magnitude_d(b)) {
+        (Some(p), Some(q)) => sum(
+            mode,
+            Term {
+                negative: is_negative_d(a),
+                size: p.raised(),
+            },
+            Term {
+                negative: is_negative_d(b),
+                size: q.raised(),
+            },
+            DOUBLE,
+        ),
+        _ => Rounded {
+            bits: add_d(a, b),
+            flags: add_flags_d(a, b),
+        },
+    }
+}
+
+/// FSUB.D.
+pub fn sub_in_d(mode: Rounding, a: u64, b: u64) -> Rounded
+    ensures { result ≡ Operations.sub_in mode binary64 a b }
+{
+    add_in_d(mode, a, sign_negated_d(b, b))
+}
 
 /// FMUL.D.
 pub fn mul_in_d(mode: Rounding, a: u64, b: u64) -> Rounded
     ensures { result ≡ Operations.mul_in mode binary64 a b }
 {
-    let (x, y) = (f64_from_bits_with_nan(a), f64_from_bits_with_nan(b));
-    let negative = is_negative_d(x) != is_negative_d(y);
     match (magnitude_d(a), magnitude_d(b)) {
-        (Some(p), Some(q)) => {
-            let product = p.times(q);
-            rounded_number(mode, negative, product.digits, product.place + 1948, DOUBLE)
-        }
+        (Some(p), Some(q)) => product(mode, is_negative_d(a) != is_negative_d(b), p, q, DOUBLE),
         _ => Rounded {
             bits: mul_d(a, b),
             flags: mul_flags_d(a, b),
@@ -29,8 +56,9 @@ pub fn mul_in_d(mode: Rounding, a: u64, b: u64) -> Rounded
     }
 }
 
-fn is_negative_d(x: f64) -> bool
-    ensures { result ≡ is_sign_negative x }
+fn is_negative_d(a: u64) -> bool
+    ensures { result ≡ is_sign_negative (of_bits binary64 a) }
 {
+    let x = f64_from_bits_with_nan(a);
     !x.is_nan() && x.is_sign_negative()
 }

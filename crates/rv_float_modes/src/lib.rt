@@ -5,15 +5,16 @@
 //!
 //! What callers may rely on:
 //!
-//! - [`mul_in_d`] is a product, with all that it raises.
+//! - [`add_in_d`] and its kin are the operations, with all that they raise.
 //!
 //! Source: The RISC-V Instruction Set Manual, Volume I: Unprivileged ISA, 20191213, chapters 11 and 12; IEEE 754-2008, clauses 4 and 7.
 #![tactic(auto)]
 
 mod double;
+mod finite;
 mod magnitude;
 mod rounded;
 mod rounding;
 
-pub use double::mul_in_d;
+pub use double::{add_in_d, mul_in_d, sub_in_d};
 pub use rounded::Rounded;

@@ -16,6 +16,7 @@ pub(crate) fn exactly(digits: u128, place: u32) -> Magnitude
     requires nonzero { 0 < digits }
     requires narrow { digits < 2 ^ 127 }
     requires high { 128 ≤ place }
+    ensures full { 2 ^ 126 ≤ result.digits }
     ensures wide { IsWide result }
     ensures value { result.digits * 2 ^ result.place ≡ digits * 2 ^ place }
     ensures low { result.place ≤ place }

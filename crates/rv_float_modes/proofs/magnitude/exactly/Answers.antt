@@ -12,6 +12,9 @@ returns-clause-wide c =
     let w = m.whole in
     record { wide = omega (arith, w, m.wide); narrow = omega (arith, w, m.narrow) }
 
+pub returns-clause-full : goal.returns-clause-full
+returns-clause-full c = let m = moved c.args.digits c.requires.nonzero c.requires.narrow in let w = m.whole in omega (arith, w, m.wide)
+
 pub returns-clause-value : goal.returns-clause-value
 returns-clause-value c =
     let s = count_leading_zeros 128 c.args.digits - 1 in

@@ -1,4 +1,6 @@
 pub mod Cuts
 pub mod Exactly
+pub mod Fused
+pub mod Quotients
 pub mod Roundings
 pub mod Sums

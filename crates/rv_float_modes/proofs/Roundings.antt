@@ -101,3 +101,11 @@ is_double = record { digits = refl; lowest = refl; hidden = refl; infinity = ref
 
 pub of_finite : (p q : Bool) (v w : Rounded) (bits : ℕ) (flags : Flags) → p ≡ true → q ≡ true → w ≡ v → w ≡ either (p && q) v bits flags
 of_finite p q v w bits flags e h k = k ∙ sym (ap (λ (z : Bool). either (z && q) v bits flags) e ∙ ap (λ (z : Bool). either z v bits flags) h)
+
+pub of_three : (p q r : Bool) (v w : Rounded) (bits : ℕ) (flags : Flags) → p ≡ true → q ≡ true → r ≡ true → w ≡ v → w ≡ either (p && q && r) v bits flags
+of_three p q r v w bits flags e h l k =
+    k
+    ∙ sym (ap (λ (z : Bool). either (z && q && r) v bits flags) e ∙ ap (λ (z : Bool). either (z && r) v bits flags) h ∙ ap (λ (z : Bool). either z v bits flags) l)
+
+pub divides : (b : Bool) (n : ℕ) → b ≡ true → 0 < n → (b && nat_lt 0 n) ≡ true
+divides b n h k = ap (λ (z : Bool). z && nat_lt 0 n) h ∙ lt-ltb 0 n k

@@ -222,7 +222,7 @@ sum_is mode f x y p q a b s t w h g ha hb hs ht k =
 
 -- ---- a difference, as a sum
 
-negated_finite : (y : Float) → float_is_finite (neg y) ≡ float_is_finite y
+pub negated_finite : (y : Float) → float_is_finite (neg y) ≡ float_is_finite y
 unfolding neg float_is_finite
 negated_finite nan = refl
 negated_finite (inf s) = refl

@@ -5,7 +5,13 @@ use Rattle.rv_float_modes.specs.declared.magnitude.Magnitude.{Magnitude}
 use Rattle.rv_float_modes.specs.declared.rounding.Shape.{Shape}
 use Rattle.rv_float_modes.specs.declared.rounding.Cut.{Cut}
 use Rattle.rv_float_modes.specs.Modes.{infinity, rest, step, truncated}
-use lib.Ieee.{Format, hid, low, prec, top}
+use Rattle.std.specs.Prelude.{false, MatchOption}
+use Rattle.std.specs.declared.option.Option.{Option}
+use Rattle.rv_float_flags.specs.Scaled.{IsMagnitude}
+use Rattle.rv_float_flags.specs.declared.scaled.Scaled.{Scaled}
+use Rattle.rv_float_modes.specs.Operations.{is_divisor}
+use lib.Ieee.Positive.{num}
+use lib.Ieee.{Float, Format, hid, low, prec, top}
 
 -- e is the magnitude r, as a multiple of 2 ^ -4096: whole multiples of 2 ^ place, and whether there is a rest
 pub record Encloses (r : Ratio) (e : Magnitude) : Type 0 where
@@ -48,3 +54,7 @@ pub record IsCut (f : Format) (r : Ratio) (c : Cut) : Type 0 where
   pub tie : (c.half && not c.more) ≡ (rest f r * 2 == step f r)
   pub above : (c.half && c.more) ≡ nat_lt (step f r) (rest f r * 2)
   pub inexact : (c.half || c.more) ≡ nat_lt 0 (rest f r)
+
+-- the magnitude of a divisor, which is finite and not zero, and none of another
+abbrev pub IsDivisorOf : Format → Float → Option Scaled → Type 0
+IsDivisorOf f y q = MatchOption q (is_divisor y ≡ false) (λ p. IsMagnitude f y p × (0 < num y))

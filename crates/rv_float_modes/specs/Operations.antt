@@ -1,17 +1,18 @@
 -- Operations in a rounding mode (IEEE 754-2008, sections 4.3, 5.4.1, 6.3 and 7; RISC-V Unprivileged ISA 20191213, sections 11.2, 11.6,
 -- 11.7, 12.4 and 12.5). Where an operand is an infinity or a NaN, or the divisor is zero, the result and the flags are the same in each
 -- mode.
-use Rattle.std.specs.Prelude.{ℕ, ◌*◌, Bool, true, false, ◌&&◌, nat_lt, to_bits, if◌then◌else◌}
-use Rattle.std.specs.Float.{float_is_finite, is_sign_negative}
+use Rattle.std.specs.Prelude.{ℕ, ◌*◌, ℤ, Bool, true, false, ◌&&◌, int_lt, nat_lt, pos, to_bits, if◌then◌else◌}
+use Rattle.std.specs.Float.{float_is_finite, is_sign_negative, round_to_format}
 use Rattle.rv_floats.specs.Fused.{multiply_add, multiply_subtract, negated_multiply_add, negated_multiply_subtract}
 use Rattle.rv_floats.specs.declared.rounding.Rounding.{Rounding}
 use Rattle.rv_floats.specs.declared.rounding.Rounding.TheVariants.{NearestEven, TowardZero, Down, Up, NearestAway}
-use Rattle.rv_float_flags.specs.Exact.{exact_fused, exact_product, exact_quotient, exact_sum}
+use Rattle.rv_float_flags.specs.Conversions.{exact_word, narrowing_flags}
+use Rattle.rv_float_flags.specs.Exact.{exact_fused, exact_product, exact_quotient, exact_sum, exact_value}
 use Rattle.rv_float_flags.specs.Operations.{add_flags, div_flags, mul_flags, multiply_add_flags, multiply_subtract_flags, negated_multiply_add_flags, negated_multiply_subtract_flags, sub_flags}
 use Rattle.rv_float_flags.specs.declared.flags.Flags.{Flags}
 use Rattle.rv_float_modes.specs.declared.rounded.Rounded.{Rounded}
 use Rattle.rv_float_modes.specs.Modes.{rounding_in}
-use lib.Ieee.{Float, Format, add, div, mul, neg, of_bits, sub, unlike}
+use lib.Ieee.{Float, Format, binary32, binary64, add, div, mul, neg, of_bits, sub, unlike}
 use lib.Ieee.Positive.{num, den}
 
 -- what rounding makes of finite operands, and what is there of others
@@ -58,3 +59,64 @@ sub_in mode f a b =
     let x = of_bits f a in
     let y = of_bits f b in
     either (float_is_finite x && float_is_finite y) (sum_in mode f x (neg y)) (to_bits f (sub f x y)) (sub_flags f a b)
+
+-- ---- FMADD, FMSUB, FNMSUB, FNMADD
+
+abbrev pub fused_in : Rounding → Format → Float → Float → Float → Rounded
+fused_in mode f x y z =
+    let product_negative = unlike (is_sign_negative x) (is_sign_negative y) in
+    let negative = sign_of_sum mode product_negative (is_sign_negative z) (num x * num y * den z) (num z * (den x * den y)) in
+    rounding_in mode negative f (exact_fused x y z)
+
+abbrev pub multiply_add_in : Rounding → Format → ℕ → ℕ → ℕ → Rounded
+multiply_add_in mode f a b c =
+    let x = of_bits f a in
+    let y = of_bits f b in
+    let z = of_bits f c in
+    either (float_is_finite x && float_is_finite y && float_is_finite z) (fused_in mode f x y z) (to_bits f (multiply_add f x y z)) (multiply_add_flags f a b c)
+
+abbrev pub multiply_subtract_in : Rounding → Format → ℕ → ℕ → ℕ → Rounded
+multiply_subtract_in mode f a b c =
+    let x = of_bits f a in
+    let y = of_bits f b in
+    let z = of_bits f c in
+    either (float_is_finite x && float_is_finite y && float_is_finite z) (fused_in mode f x y (neg z)) (to_bits f (multiply_subtract f x y z)) (multiply_subtract_flags f a b c)
+
+abbrev pub negated_multiply_subtract_in : Rounding → Format → ℕ → ℕ → ℕ → Rounded
+negated_multiply_subtract_in mode f a b c =
+    let x = of_bits f a in
+    let y = of_bits f b in
+    let z = of_bits f c in
+    either (float_is_finite x && float_is_finite y && float_is_finite z) (fused_in mode f (neg x) y z) (to_bits f (negated_multiply_subtract f x y z)) (negated_multiply_subtract_flags f a b c)
+
+abbrev pub negated_multiply_add_in : Rounding → Format → ℕ → ℕ → ℕ → Rounded
+negated_multiply_add_in mode f a b c =
+    let x = of_bits f a in
+    let y = of_bits f b in
+    let z = of_bits f c in
+    either (float_is_finite x && float_is_finite y && float_is_finite z) (fused_in mode f (neg x) y (neg z)) (to_bits f (negated_multiply_add f x y z)) (negated_multiply_add_flags f a b c)
+
+-- ---- FDIV
+
+abbrev pub quotient_in : Rounding → Format → Float → Float → Rounded
+quotient_in mode f x y = rounding_in mode (unlike (is_sign_negative x) (is_sign_negative y)) f (exact_quotient x y)
+
+-- finite, and not zero
+abbrev pub is_divisor : Float → Bool
+is_divisor y = float_is_finite y && nat_lt 0 (num y)
+
+abbrev pub div_in : Rounding → Format → ℕ → ℕ → Rounded
+div_in mode f a b =
+    let x = of_bits f a in
+    let y = of_bits f b in
+    either (float_is_finite x && is_divisor y) (quotient_in mode f x y) (to_bits f (div f x y)) (div_flags f a b)
+
+-- ---- FCVT.S.D, FCVT.S.W, FCVT.S.WU
+
+abbrev pub narrowed_in : Rounding → ℕ → Rounded
+narrowed_in mode a =
+    let x = of_bits binary64 a in
+    either (float_is_finite x) (rounding_in mode (is_sign_negative x) binary32 (exact_value x)) (to_bits binary32 (round_to_format binary32 x)) (narrowing_flags a)
+
+abbrev pub word_in : Rounding → ℤ → Rounded
+word_in mode n = rounding_in mode (int_lt n (pos 0)) binary32 (exact_word n)

@@ -5,11 +5,11 @@ ghost use Rattle.std.specs.Float.{is_sign_negative};
 ghost use Rattle.rv_float_modes.specs.Operations as Operations;
 ghost use lib.Ieee.{binary64, of_bits};
 
-use crate::finite::{Term, product, sum};
+use crate::finite::{Term, divisor, product, quotient, sum};
 use crate::rounded::Rounded;
 use crate::rounding::DOUBLE;
-use rv_float_flags::{add_flags_d, magnitude_d, mul_flags_d};
-use rv_floats::{Rounding, add_d, mul_d, sign_negated_d};
+use rv_float_flags::{add_flags_d, div_flags_d, magnitude_d, mul_flags_d, multiply_add_flags_d};
+use rv_floats::{Rounding, add_d, div_d, mul_d, multiply_add_d, sign_negated_d};
 use std::num::f64_from_bits_with_nan;
 
 /// FADD.D.
@@ -54,6 +54,64 @@ pub fn mul_in_d(mode: Rounding, a: u64, b: u64) -> Rounded
             flags: mul_flags_d(a, b),
         },
     }
+}
+
+/// FDIV.D.
+pub fn div_in_d(mode: Rounding, a: u64, b: u64) -> Rounded
+    ensures { result ≡ Operations.div_in mode binary64 a b }
+{
+    match (magnitude_d(a), divisor(magnitude_d(b))) {
+        (Some(p), Some(q)) => quotient(mode, is_negative_d(a) != is_negative_d(b), p, q, DOUBLE),
+        _ => Rounded {
+            bits: div_d(a, b),
+            flags: div_flags_d(a, b),
+        },
+    }
+}
+
+/// FMADD.D.
+pub fn multiply_add_in_d(mode: Rounding, a: u64, b: u64, c: u64) -> Rounded
+    ensures { result ≡ Operations.multiply_add_in mode binary64 a b c }
+{
+    match (magnitude_d(a), magnitude_d(b), magnitude_d(c)) {
+        (Some(p), Some(q), Some(r)) => sum(
+            mode,
+            Term {
+                negative: is_negative_d(a) != is_negative_d(b),
+                size: p.times(q),
+            },
+            Term {
+                negative: is_negative_d(c),
+                size: r.raised(),
+            },
+            DOUBLE,
+        ),
+        _ => Rounded {
+            bits: multiply_add_d(a, b, c),
+            flags: multiply_add_flags_d(a, b, c),
+        },
+    }
+}
+
+/// FMSUB.D.
+pub fn multiply_subtract_in_d(mode: Rounding, a: u64, b: u64, c: u64) -> Rounded
+    ensures { result ≡ Operations.multiply_subtract_in mode binary64 a b c }
+{
+    multiply_add_in_d(mode, a, b, sign_negated_d(c, c))
+}
+
+/// FNMSUB.D.
+pub fn negated_multiply_subtract_in_d(mode: Rounding, a: u64, b: u64, c: u64) -> Rounded
+    ensures { result ≡ Operations.negated_multiply_subtract_in mode binary64 a b c }
+{
+    multiply_add_in_d(mode, sign_negated_d(a, a), b, c)
+}
+
+/// FNMADD.D.
+pub fn negated_multiply_add_in_d(mode: Rounding, a: u64, b: u64, c: u64) -> Rounded
+    ensures { result ≡ Operations.negated_multiply_add_in mode binary64 a b c }
+{
+    multiply_add_in_d(mode, sign_negated_d(a, a), b, sign_negated_d(c, c))
 }
 
 fn is_negative_d(a: u64) -> bool

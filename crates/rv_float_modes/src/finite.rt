@@ -1,15 +1,15 @@
 //! Operations on finite operands, of either format.
 
-ghost use Rattle.std.specs.Prelude.{◌≡◌, ◌+◌, ◌*◌, ◌-◌, ◌^◌, ◌<◌, ◌≤◌};
-ghost use Rattle.std.specs.Float.{is_sign_negative};
-ghost use Rattle.rv_float_flags.specs.Exact.{combined, exact_product, Ratio};
-ghost use Rattle.rv_float_flags.specs.Scaled.{amount, IsFraction, IsMagnitude};
-ghost use Rattle.rv_float_modes.specs.Enclosed.{Encloses, IsFormat, IsShape, IsWide};
+ghost use Rattle.std.specs.Prelude.{◌≡◌, ◌+◌, ◌*◌, ◌-◌, ◌^◌, ◌<◌, ◌≤◌, IfSome};
+ghost use Rattle.rv_float_flags.specs.Exact.{combined, exact_product, exact_quotient, Ratio};
+ghost use Rattle.rv_float_flags.specs.Scaled.{amount, IsFraction, IsMagnitude, IsMagnitudeOf, IsNarrow};
+ghost use Rattle.rv_float_modes.specs.Enclosed.{Encloses, IsDivisorOf, IsFormat, IsShape, IsWide};
 ghost use Rattle.rv_float_modes.specs.Modes.{rounding_in};
 ghost use Rattle.rv_float_modes.specs.Operations as Operations;
 ghost use lib.Ieee.{Float, Format, unlike};
+ghost use lib.Ieee.Positive.{num};
 
-use crate::magnitude::Magnitude;
+use crate::magnitude::{Magnitude, exactly};
 use crate::rounded::Rounded;
 use crate::rounding::{Shape, rounded, rounded_number};
 use rv_float_flags::{Scaled, cut_at, is_below, times_power};
@@ -33,6 +33,62 @@ pub(crate) fn product(mode: Rounding, negative: bool, p: Scaled, q: Scaled, shap
 {
     let product = p.times(q);
     rounded_number(mode, negative, product.digits, product.place + 1948, shape)
+}
+
+/// The magnitude of a divisor, if it is not zero.
+pub(crate) fn divisor(q: Option<Scaled>) -> Option<Scaled>
+    requires narrow { IsNarrow q }
+    ensures value { (f : Format) (y : Float) → IsMagnitudeOf f y q → IsDivisorOf f y result }
+    ensures narrow { IsNarrow result }
+    ensures nonzero { IfSome result (λ q. 0 < q.digits) }
+{
+    match q {
+        Some(q) => if q.digits == 0 { None } else { Some(q) },
+        None => None,
+    }
+}
+
+/// A quotient.
+pub(crate) fn quotient(
+    mode: Rounding,
+    negative: bool,
+    p: Scaled,
+    q: Scaled,
+    shape: Shape,
+) -> Rounded
+    requires p_narrow { p.digits < 2 ^ 53 }
+    requires q_narrow { q.digits < 2 ^ 53 }
+    requires p_low { p.place < 2046 }
+    requires q_low { q.place < 2046 }
+    requires nonzero { 0 < q.digits }
+    requires format { IsFormat shape }
+    ensures { (f : Format) (x y : Float) → IsShape f shape → IsMagnitude f x p → IsMagnitude f y q → 0 < num y
+        → result ≡ rounding_in mode negative f (exact_quotient x y) }
+{
+    if p.digits == 0 {
+        rounded_number(mode, negative, 0, 128, shape)
+    } else {
+        rounded(mode, negative, divided(p, q), shape)
+    }
+}
+
+fn divided(p: Scaled, q: Scaled) -> Magnitude
+    requires p_nonzero { 0 < p.digits }
+    requires p_narrow { p.digits < 2 ^ 53 }
+    requires q_narrow { q.digits < 2 ^ 53 }
+    requires p_low { p.place < 2046 }
+    requires q_low { q.place < 2046 }
+    requires nonzero { 0 < q.digits }
+    ensures wide { IsWide result }
+    ensures low { result.place < 6499 }
+    ensures quotient { (r : Ratio) → IsFraction r (p.digits * 2 ^ (p.place + 2148)) (amount q) → Encloses r result }
+{
+    let dividend = exactly(p.digits, p.place + 4096);
+    Magnitude {
+        digits: dividend.digits / q.digits,
+        place: dividend.place - q.place,
+        goes_on: dividend.digits % q.digits != 0,
+    }
 }
 
 /// The sum of two multiples of 2^-2148.

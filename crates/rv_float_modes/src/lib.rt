@@ -16,5 +16,8 @@ mod magnitude;
 mod rounded;
 mod rounding;
 
-pub use double::{add_in_d, mul_in_d, sub_in_d};
+pub use double::{
+    add_in_d, div_in_d, mul_in_d, multiply_add_in_d, multiply_subtract_in_d,
+    negated_multiply_add_in_d, negated_multiply_subtract_in_d, sub_in_d,
+};
 pub use rounded::Rounded;

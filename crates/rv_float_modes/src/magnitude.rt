@@ -1,6 +1,6 @@
 //! Exact magnitudes that are not zero, as the code rounds them.
 
-ghost use Rattle.std.specs.Prelude.{◌≡◌, ◌*◌, ◌^◌, ◌<◌, ◌≤◌, false};
+ghost use Rattle.std.specs.Prelude.{◌≡◌, ◌+◌, ◌*◌, ◌^◌, ◌<◌, ◌≤◌, false};
 ghost use Rattle.rv_float_modes.specs.Enclosed.{IsWide};
 
 /// `(digits + rest) * 2^(place - 4096)`, with a rest below 1, which is there where it `goes_on`.
@@ -20,6 +20,7 @@ pub(crate) fn exactly(digits: u128, place: u32) -> Magnitude
     ensures wide { IsWide result }
     ensures value { result.digits * 2 ^ result.place ≡ digits * 2 ^ place }
     ensures low { result.place ≤ place }
+    ensures high { place ≤ result.place + 126 }
     ensures whole { result.goes_on ≡ false }
 {
     let shift = digits.leading_zeros() - 1;

@@ -20,3 +20,8 @@ returns-clause-value c =
     let s = count_leading_zeros 128 c.args.digits - 1 in
     let m = moved c.args.digits c.requires.nonzero c.requires.narrow in
     ap (λ (z : ℕ). z * 2 ^ (c.args.place - s)) m.whole ∙ moved_value c.args.digits s c.args.place (omega (arith, m.little, c.requires.high))
+
+pub returns-clause-high : goal.returns-clause-high
+returns-clause-high c =
+    let m = moved c.args.digits c.requires.nonzero c.requires.narrow in
+    omega (arith, m.little, c.requires.high)

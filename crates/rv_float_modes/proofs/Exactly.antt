@@ -160,3 +160,14 @@ number_of_fraction r n digits place h e =
 
     regroup : (d p v c : ℕ) → d * (p * v) * c ≡ d * p * v * c
     regroup d p v c = omega arith
+
+-- ---- whole numbers
+
+pub whole_number : (r : Ratio) (n m : ℕ) → r ≡ record { numerator = n; denominator = 1 } → m ≡ n → IsNumber r m 4096
+whole_number r n m e h =
+    let a : r.numerator ≡ m = ap (λ (z : Ratio). z.numerator) e ∙ sym h in
+    let b : r.denominator ≡ 1 = ap (λ (z : Ratio). z.denominator) e in
+    record {
+      nonzero = omega (arith, b);
+      value = ap (λ (z : ℕ). z * 2 ^ 4096) a ∙ (let k : m * 2 ^ 4096 ≡ m * 2 ^ 4096 * 1 = omega arith in k) ∙ ap (λ (z : ℕ). m * 2 ^ 4096 * z) (sym b);
+    }

@@ -87,31 +87,3 @@ quotient_wide D q h p l =
 
 pub quotient_narrow : (D q : ℕ) → D < 2 ^ 127 → D / q < 2 ^ 127
 quotient_narrow D q h = let a : D / q ≤ D = div-le_self D q in omega (arith, a, h)
-
--- ---- divisors
-
-pub a_divisor : (f : Format) (y : Float) (q : Scaled) → IsMagnitude f y q → (q.digits ≡ 0 → ⊥) → IsMagnitude f y q × (0 < num y)
-a_divisor f y q h k = (
-  h,
-  elim (eq-zero-or-pos (num y)) [
-    | inr p ↦ p
-    | inl z ↦
-        let a : amount q * den y ≡ 0 = sym h.value ∙ ap (λ (x : ℕ). x * 2 ^ 1074) z ∙ zero-mul (2 ^ 1074) in
-        let b : amount q ≡ 0 = no_numerator (amount q) 0 (den y) (den_pos y) a refl in
-        let c : q.digits ≡ 0 = no_numerator q.digits 0 (2 ^ q.place) (pow_pos q.place) b refl in
-        absurd (k c)
-  ],
-)
-
-pub no_divisor : (f : Format) (y : Float) (q : Scaled) → IsMagnitude f y q → q.digits ≡ 0 → is_divisor y ≡ false
-no_divisor f y q h z =
-    let a : num y * 2 ^ 1074 ≡ 0 = h.value ∙ ap (λ (x : ℕ). x * 2 ^ q.place * den y) z ∙ ap (λ (x : ℕ). x * den y) (zero-mul (2 ^ q.place)) ∙ zero-mul (den y) in
-    let b : num y ≡ 0 = no_numerator (num y) 0 (2 ^ 1074) (pow_pos 1074) a refl in
-    ap (λ (x : Bool). float_is_finite y && x) (le-ltb 0 (num y) (omega (arith, b))) ∙ and_false (float_is_finite y)
-  where
-    and_false : (b : Bool) → (b && false) ≡ false
-    and_false true = refl
-    and_false false = refl
-
-pub never_divisor : (y : Float) → float_is_finite y ≡ false → is_divisor y ≡ false
-never_divisor y h = ap (λ (x : Bool). x && nat_lt 0 (num y)) h

@@ -99,6 +99,9 @@ pub is_double : IsShape binary64 (record {
 })
 is_double = record { digits = refl; lowest = refl; hidden = refl; infinity = refl; sign = refl }
 
+pub is_single : IsShape binary32 (record { digits = 24; lowest = 3947; hidden = 8388608; infinity = 2139095040; sign = 2147483648 })
+is_single = record { digits = refl; lowest = refl; hidden = refl; infinity = refl; sign = refl }
+
 pub of_finite : (p q : Bool) (v w : Rounded) (bits : ℕ) (flags : Flags) → p ≡ true → q ≡ true → w ≡ v → w ≡ either (p && q) v bits flags
 of_finite p q v w bits flags e h k = k ∙ sym (ap (λ (z : Bool). either (z && q) v bits flags) e ∙ ap (λ (z : Bool). either z v bits flags) h)
 
@@ -109,3 +112,6 @@ of_three p q r v w bits flags e h l k =
 
 pub divides : (b : Bool) (n : ℕ) → b ≡ true → 0 < n → (b && nat_lt 0 n) ≡ true
 divides b n h k = ap (λ (z : Bool). z && nat_lt 0 n) h ∙ lt-ltb 0 n k
+
+pub of_one : (p : Bool) (v w : Rounded) (bits : ℕ) (flags : Flags) → p ≡ true → w ≡ v → w ≡ either p v bits flags
+of_one p v w bits flags e k = k ∙ sym (ap (λ (z : Bool). either z v bits flags) e)

@@ -114,7 +114,7 @@ pub fn negated_multiply_add_in_d(mode: Rounding, a: u64, b: u64, c: u64) -> Roun
     multiply_add_in_d(mode, sign_negated_d(a, a), b, sign_negated_d(c, c))
 }
 
-fn is_negative_d(a: u64) -> bool
+pub(crate) fn is_negative_d(a: u64) -> bool
     ensures { result ≡ is_sign_negative (of_bits binary64 a) }
 {
     let x = f64_from_bits_with_nan(a);

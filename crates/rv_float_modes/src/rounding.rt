@@ -32,6 +32,14 @@ pub(crate) const DOUBLE: Shape = Shape {
     sign: 0x8000_0000_0000_0000,
 };
 
+pub(crate) const SINGLE: Shape = Shape {
+    digits: 24,
+    lowest: 3947,
+    hidden: 0x80_0000,
+    infinity: 0x7f80_0000,
+    sign: 0x8000_0000,
+};
+
 /// A magnitude cut off: a pattern, and what is above its value.
 #[derive(Clone, Copy)]
 pub(crate) struct Cut {

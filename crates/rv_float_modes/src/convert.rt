@@ -1,0 +1,40 @@
+//! Conversions to singles. Those to doubles are exact.
+
+ghost use Rattle.std.specs.Prelude.{◌≡◌, pos};
+ghost use Rattle.rv_float_modes.specs.Operations as Operations;
+
+use crate::double::is_negative_d;
+use crate::rounded::Rounded;
+use crate::rounding::{SINGLE, rounded_number};
+use rv_float_flags::{d_to_s_flags, magnitude_d};
+use rv_floats::{Rounding, d_to_s};
+
+/// FCVT.S.D.
+pub fn d_to_s_in(mode: Rounding, a: u64) -> Rounded
+    ensures { result ≡ Operations.narrowed_in mode a }
+{
+    match magnitude_d(a) {
+        Some(p) => {
+            let p = p.raised();
+            rounded_number(mode, is_negative_d(a), p.digits, p.place + 1948, SINGLE)
+        }
+        None => Rounded {
+            bits: d_to_s(a) as u64,
+            flags: d_to_s_flags(a),
+        },
+    }
+}
+
+/// FCVT.S.W.
+pub fn word_to_s_in(mode: Rounding, word: i32) -> Rounded
+    ensures { result ≡ Operations.word_in mode word }
+{
+    rounded_number(mode, word < 0, word.unsigned_abs() as u128, 4096, SINGLE)
+}
+
+/// FCVT.S.WU.
+pub fn word_unsigned_to_s_in(mode: Rounding, word: u32) -> Rounded
+    ensures { result ≡ Operations.word_in mode (pos word) }
+{
+    rounded_number(mode, false, word as u128, 4096, SINGLE)
+}

@@ -2,5 +2,6 @@ pub mod Cuts
 pub mod Exactly
 pub mod Fused
 pub mod Quotients
+pub mod Roots
 pub mod Roundings
 pub mod Sums

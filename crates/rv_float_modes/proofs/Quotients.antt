@@ -8,7 +8,7 @@ use Rattle.rv_float_flags.specs.Exact.{Ratio}
 use Rattle.std.specs.Float.{float_is_finite}
 use Rattle.rv_float_flags.specs.Scaled.{amount, IsFraction, IsMagnitude}
 use Rattle.rv_float_flags.specs.declared.scaled.Scaled.{Scaled}
-use Rattle.rv_float_modes.specs.Operations.{is_divisor}
+use Rattle.rv_float_modes.specs.Operations.{is_nonzero}
 use lib.Ieee.{Float, Format}
 use lib.Ieee.Positive.{den, den_pos, num}
 use Rattle.rv_float_flags.proofs.Numbers.{power_split}

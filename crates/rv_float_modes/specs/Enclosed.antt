@@ -9,7 +9,7 @@ use Rattle.std.specs.Prelude.{false, MatchOption}
 use Rattle.std.specs.declared.option.Option.{Option}
 use Rattle.rv_float_flags.specs.Scaled.{IsMagnitude}
 use Rattle.rv_float_flags.specs.declared.scaled.Scaled.{Scaled}
-use Rattle.rv_float_modes.specs.Operations.{is_divisor}
+use Rattle.rv_float_modes.specs.Operations.{is_nonzero}
 use lib.Ieee.Positive.{num}
 use lib.Ieee.{Float, Format, hid, low, prec, top}
 
@@ -55,6 +55,6 @@ pub record IsCut (f : Format) (r : Ratio) (c : Cut) : Type 0 where
   pub above : (c.half && c.more) ≡ nat_lt (step f r) (rest f r * 2)
   pub inexact : (c.half || c.more) ≡ nat_lt 0 (rest f r)
 
--- the magnitude of a divisor, which is finite and not zero, and none of another
-abbrev pub IsDivisorOf : Format → Float → Option Scaled → Type 0
-IsDivisorOf f y q = MatchOption q (is_divisor y ≡ false) (λ p. IsMagnitude f y p × (0 < num y))
+-- the magnitude of a value that is finite and not zero, and none of another
+abbrev pub IsNonzeroOf : Format → Float → Option Scaled → Type 0
+IsNonzeroOf f y q = MatchOption q (is_nonzero y ≡ false) (λ p. IsMagnitude f y p × (0 < num y))

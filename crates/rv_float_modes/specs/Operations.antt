@@ -1,18 +1,18 @@
 -- Operations in a rounding mode (IEEE 754-2008, sections 4.3, 5.4.1, 6.3 and 7; RISC-V Unprivileged ISA 20191213, sections 11.2, 11.6,
 -- 11.7, 12.4 and 12.5). Where an operand is an infinity or a NaN, or the divisor is zero, the result and the flags are the same in each
 -- mode.
-use Rattle.std.specs.Prelude.{ℕ, ◌*◌, ℤ, Bool, true, false, ◌&&◌, int_lt, nat_lt, pos, to_bits, if◌then◌else◌}
+use Rattle.std.specs.Prelude.{ℕ, ◌*◌, ◌/◌, ◌^◌, ℤ, Bool, true, false, not, ◌&&◌, int_lt, nat_lt, pos, to_bits, if◌then◌else◌}
 use Rattle.std.specs.Float.{float_is_finite, is_sign_negative, round_to_format}
 use Rattle.rv_floats.specs.Fused.{multiply_add, multiply_subtract, negated_multiply_add, negated_multiply_subtract}
 use Rattle.rv_floats.specs.declared.rounding.Rounding.{Rounding}
 use Rattle.rv_floats.specs.declared.rounding.Rounding.TheVariants.{NearestEven, TowardZero, Down, Up, NearestAway}
 use Rattle.rv_float_flags.specs.Conversions.{exact_word, narrowing_flags}
-use Rattle.rv_float_flags.specs.Exact.{exact_fused, exact_product, exact_quotient, exact_sum, exact_value}
-use Rattle.rv_float_flags.specs.Operations.{add_flags, div_flags, mul_flags, multiply_add_flags, multiply_subtract_flags, negated_multiply_add_flags, negated_multiply_subtract_flags, sub_flags}
+use Rattle.rv_float_flags.specs.Exact.{Ratio, exact_fused, exact_product, exact_quotient, exact_sum, exact_value}
+use Rattle.rv_float_flags.specs.Operations.{add_flags, div_flags, mul_flags, multiply_add_flags, multiply_subtract_flags, negated_multiply_add_flags, negated_multiply_subtract_flags, sqrt_flags, sub_flags}
 use Rattle.rv_float_flags.specs.declared.flags.Flags.{Flags}
 use Rattle.rv_float_modes.specs.declared.rounded.Rounded.{Rounded}
 use Rattle.rv_float_modes.specs.Modes.{rounding_in}
-use lib.Ieee.{Float, Format, binary32, binary64, add, div, mul, neg, of_bits, sub, unlike}
+use lib.Ieee.{Float, Format, binary32, binary64, add, div, mul, neg, of_bits, root_twice, sqrt, sub, unlike}
 use lib.Ieee.Positive.{num, den}
 
 -- what rounding makes of finite operands, and what is there of others
@@ -102,14 +102,28 @@ abbrev pub quotient_in : Rounding → Format → Float → Float → Rounded
 quotient_in mode f x y = rounding_in mode (unlike (is_sign_negative x) (is_sign_negative y)) f (exact_quotient x y)
 
 -- finite, and not zero
-abbrev pub is_divisor : Float → Bool
-is_divisor y = float_is_finite y && nat_lt 0 (num y)
+abbrev pub is_nonzero : Float → Bool
+is_nonzero y = float_is_finite y && nat_lt 0 (num y)
 
 abbrev pub div_in : Rounding → Format → ℕ → ℕ → Rounded
 div_in mode f a b =
     let x = of_bits f a in
     let y = of_bits f b in
-    either (float_is_finite x && is_divisor y) (quotient_in mode f x y) (to_bits f (div f x y)) (div_flags f a b)
+    either (float_is_finite x && is_nonzero y) (quotient_in mode f x y) (to_bits f (div f x y)) (div_flags f a b)
+
+-- ---- FSQRT
+
+-- A root is no fraction. This one stands for it, as in `lib.Ieee.sqrt`: the root's whole multiples of 2 ^ -2271, and half of one more
+-- where the root goes on. Each value of a format, and what is halfway between two, is a whole number of such multiples, so that none
+-- lies between the root and this.
+abbrev pub exact_root : Float → Ratio
+exact_root x = record { numerator = root_twice (num x * 2 ^ 4542 / den x); denominator = 2 ^ 2272 }
+
+-- of what is above zero
+abbrev pub sqrt_in : Rounding → Format → ℕ → Rounded
+sqrt_in mode f a =
+    let x = of_bits f a in
+    either (is_nonzero x && not (is_sign_negative x)) (rounding_in mode false f (exact_root x)) (to_bits f (sqrt f x)) (sqrt_flags f a)
 
 -- ---- FCVT.S.D, FCVT.S.W, FCVT.S.WU
 

@@ -1,11 +1,12 @@
 //! Operations on finite operands, of either format.
 
-ghost use Rattle.std.specs.Prelude.{◌≡◌, ◌+◌, ◌*◌, ◌-◌, ◌^◌, ◌<◌, ◌≤◌, IfSome};
+ghost use Rattle.std.specs.Prelude.{◌≡◌, ◌+◌, ◌*◌, ◌-◌, ◌^◌, ◌<◌, ◌≤◌, IfSome, false};
 ghost use Rattle.rv_float_flags.specs.Exact.{combined, exact_product, exact_quotient, Ratio};
 ghost use Rattle.rv_float_flags.specs.Scaled.{amount, IsFraction, IsMagnitude, IsMagnitudeOf, IsNarrow};
-ghost use Rattle.rv_float_modes.specs.Enclosed.{Encloses, IsDivisorOf, IsFormat, IsShape, IsWide};
+ghost use Rattle.rv_float_modes.specs.Enclosed.{Encloses, IsNonzeroOf, IsFormat, IsShape, IsWide};
 ghost use Rattle.rv_float_modes.specs.Modes.{rounding_in};
 ghost use Rattle.rv_float_modes.specs.Operations as Operations;
+ghost use Rattle.rv_float_modes.specs.Operations.{exact_root};
 ghost use lib.Ieee.{Float, Format, unlike};
 ghost use lib.Ieee.Positive.{num};
 
@@ -35,10 +36,10 @@ pub(crate) fn product(mode: Rounding, negative: bool, p: Scaled, q: Scaled, shap
     rounded_number(mode, negative, product.digits, product.place + 1948, shape)
 }
 
-/// The magnitude of a divisor, if it is not zero.
-pub(crate) fn divisor(q: Option<Scaled>) -> Option<Scaled>
+/// The magnitude of what is finite, if it is not zero.
+pub(crate) fn nonzero(q: Option<Scaled>) -> Option<Scaled>
     requires narrow { IsNarrow q }
-    ensures value { (f : Format) (y : Float) → IsMagnitudeOf f y q → IsDivisorOf f y result }
+    ensures value { (f : Format) (y : Float) → IsMagnitudeOf f y q → IsNonzeroOf f y result }
     ensures narrow { IsNarrow result }
     ensures nonzero { IfSome result (λ q. 0 < q.digits) }
 {
@@ -88,6 +89,37 @@ fn divided(p: Scaled, q: Scaled) -> Magnitude
         digits: dividend.digits / q.digits,
         place: dividend.place - q.place,
         goes_on: dividend.digits % q.digits != 0,
+    }
+}
+
+/// The root of what is above zero.
+pub(crate) fn root(mode: Rounding, p: Scaled, shape: Shape) -> Rounded
+    requires nonzero { 0 < p.digits }
+    requires narrow { p.digits < 2 ^ 53 }
+    requires low { p.place < 2046 }
+    requires format { IsFormat shape }
+    ensures { (f : Format) (x : Float) → IsShape f shape → IsMagnitude f x p → result ≡ rounding_in mode false f (exact_root x) }
+{
+    rounded(mode, false, rooted(p), shape)
+}
+
+/// As many digits as have an even place are taken into the whole number whose root is looked for.
+fn rooted(p: Scaled) -> Magnitude
+    requires nonzero { 0 < p.digits }
+    requires narrow { p.digits < 2 ^ 53 }
+    requires low { p.place < 2046 }
+    ensures wide { IsWide result }
+    ensures low { result.place < 6499 }
+    ensures root { (f : Format) (x : Float) → IsMagnitude f x p → Encloses (exact_root x) result }
+{
+    let zeros = p.digits.leading_zeros();
+    let shift = zeros - (p.place + zeros) % 2;
+    let digits = p.digits << shift;
+    let root = digits.isqrt();
+    Magnitude {
+        digits: root,
+        place: (p.place + 7118 - shift) / 2,
+        goes_on: root * root != digits,
     }
 }
 

@@ -21,10 +21,10 @@ mod single;
 pub use convert::{d_to_s_in, word_to_s_in, word_unsigned_to_s_in};
 pub use double::{
     add_in_d, div_in_d, mul_in_d, multiply_add_in_d, multiply_subtract_in_d,
-    negated_multiply_add_in_d, negated_multiply_subtract_in_d, sub_in_d,
+    negated_multiply_add_in_d, negated_multiply_subtract_in_d, sqrt_in_d, sub_in_d,
 };
 pub use rounded::Rounded;
 pub use single::{
     add_in_s, div_in_s, mul_in_s, multiply_add_in_s, multiply_subtract_in_s,
-    negated_multiply_add_in_s, negated_multiply_subtract_in_s, sub_in_s,
+    negated_multiply_add_in_s, negated_multiply_subtract_in_s, sqrt_in_s, sub_in_s,
 };

@@ -1,5 +1,5 @@
 -- A magnitude cut off for a format: the digits that it drops, what it keeps, and how the rest compares with the half.
-use Rattle.std.proofs.Common.{◌≡◌, ℕ, suc, ◌+◌, ◌-◌, ◌*◌, ◌/◌, ◌%◌, ◌^◌, ◌<◌, ◌≤◌, Bool, true, false, cond, not, ◌&&◌, ◌||◌, nat_eq, nat_le, nat_lt, min, sym, ap, ◌∙◌, refl, arith, inl, inr}
+use Rattle.std.proofs.Common.{◌≡◌, ℕ, suc, ◌+◌, ◌-◌, ◌*◌, ◌/◌, ◌%◌, ◌^◌, ◌<◌, ◌≤◌, Bool, true, false, not, ◌&&◌, ◌||◌, nat_eq, nat_le, nat_lt, min, sym, ap, ◌∙◌, refl, arith, inl, inr}
 use Rattle.std.proofs.Math.Nat.{div-add-mod', div-div-eq-div-mul, div-eq_of_lt, div-lt_iff_lt-mul, eq-zero-or-pos, le-div_iff_mul-le, le_of_mul-le-mul_right, lt_of_mul-lt-mul_right, eq_of_mul-eq-mul_right, mod-eq_of_lt, mul-le-mul_right, mul-pos, pow-succ'}
 use Rattle.std.proofs.Math.Pow.{pow_mono}
 use Rattle.std.proofs.Math.Arith.{digits_div, digits_mod}
@@ -165,7 +165,7 @@ lower_off n c L a b h l =
     let e : 2 ^ (b + L) * c ≡ 2 ^ b * 2 ^ L * c = ap (λ (z : ℕ). z * c) (pow-add 2 b L) in
     le_of_mul-le-mul_right (let k : 2 ^ b * c * 2 ^ L ≤ n * 2 ^ L = omega (arith, l, m, e) in k) (pow_pos L)
 
-size_at_least : (w b : ℕ) → 2 ^ b ≤ w → b < size w
+pub size_at_least : (w b : ℕ) → 2 ^ b ≤ w → b < size w
 size_at_least w b h = elim (cases_lt b (size w)) [
   | inl l ↦ l
   | inr g ↦ let m : 2 ^ size w ≤ 2 ^ b = pow_mono g in let l : w < 2 ^ size w = size-lt w in absurd (omega (arith, m, l, h))

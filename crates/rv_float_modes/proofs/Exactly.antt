@@ -1,5 +1,5 @@
 -- Magnitudes that are whole numbers of digits at a place, zero among them.
-use Rattle.std.proofs.Common.{◌≡◌, ℕ, suc, ◌+◌, ◌-◌, ◌*◌, ◌/◌, ◌%◌, ◌^◌, ◌<◌, ◌≤◌, Bool, true, false, not, ◌&&◌, ◌||◌, if◌then◌else◌, nat_eq, nat_le, nat_lt, sym, ap, ◌∙◌, refl, arith, inl, inr}
+use Rattle.std.proofs.Common.{◌≡◌, ℕ, suc, ◌+◌, ◌-◌, ◌*◌, ◌/◌, ◌%◌, ◌^◌, ◌<◌, ◌≤◌, Bool, true, false, not, ◌&&◌, ◌||◌, if◌then◌else◌, nat_eq, nat_lt, sym, ap, ◌∙◌, refl, arith, inl, inr}
 use Rattle.std.proofs.Math.Nat.{div-add-mod', mod-eq_of_lt, mul-le-mul_right, mul-lt-mul_of_pos_right, mul-pos, zero-div, zero-mul}
 use Rattle.std.proofs.Math.Pow.{pow_mono}
 use Rattle.std.proofs.Math.Arith.{digits_div, digits_mod}
@@ -10,11 +10,11 @@ use Rattle.rv_floats.specs.declared.rounding.Rounding.TheVariants.{NearestEven, 
 use Rattle.rv_float_flags.specs.Exact.{Ratio}
 use Rattle.rv_float_flags.specs.Scaled.{IsFraction}
 use Rattle.rv_float_flags.proofs.Numbers.{power_split, same_lt}
-use Rattle.rv_float_modes.specs.Enclosed.{Encloses, IsNumber, IsWide}
+use Rattle.rv_float_modes.specs.Enclosed.{Encloses, IsNumber}
 use Rattle.rv_float_modes.specs.Modes.{dropped, goes_up, rest, step, truncated, twice, unbounded}
 use Rattle.rv_float_modes.specs.declared.magnitude.Magnitude.{Magnitude}
 use lib.Count.{count_leading_zeros}
-use lib.Ieee.{Format, hid, low, prec, size}
+use lib.Ieee.{Format, hid, low, size}
 use lib.Ieee.Digits.{size-le}
 
 -- ---- digits moved up as far as there is room for them below 2 ^ 127

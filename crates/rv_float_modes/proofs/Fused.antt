@@ -1,9 +1,9 @@
 -- The fused multiply-adds.
-use Rattle.std.proofs.Common.{◌≡◌, ℕ, ◌+◌, ◌*◌, ◌^◌, Bool, ◌&&◌, sym, ap, ◌∙◌, subst, refl, arith}
+use Rattle.std.proofs.Common.{◌≡◌, ℕ, ◌+◌, ◌*◌, ◌^◌, Bool, ◌&&◌, sym, ap, ◌∙◌, subst, arith}
 use Rattle.std.proofs.Math.Nat.{mul-pos}
 use Rattle.std.proofs.lemmas.Nat.{pow_pos}
 use Rattle.std.specs.Float.{float_is_finite, is_sign_negative}
-use Rattle.rv_floats.specs.Fused.{multiply_add, negated_multiply_add}
+use Rattle.rv_floats.specs.Fused.{multiply_add}
 use Rattle.rv_floats.specs.Signs.{sign_negated}
 use Rattle.rv_floats.specs.declared.rounding.Rounding.{Rounding}
 use Rattle.rv_float_flags.specs.Exact.{Ratio, combined, exact_fused}

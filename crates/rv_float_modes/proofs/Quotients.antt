@@ -1,16 +1,11 @@
 -- Quotients, as whole multiples and a rest.
-use Rattle.std.proofs.Common.{◌≡◌, ℕ, ◌+◌, ◌-◌, ◌*◌, ◌/◌, ◌%◌, ◌^◌, ◌<◌, ◌≤◌, Bool, true, false, not, ◌&&◌, nat_eq, nat_lt, sym, ap, ◌∙◌, subst, refl, arith, inl, inr}
-use Rattle.std.proofs.Math.Nat.{div-add-mod', div-le_self, eq-zero-or-pos, eq_of_mul-eq-mul_right, le-div_iff_mul-le, le_of_mul-le-mul_right, lt_of_mul-lt-mul_right, mul-le-mul_right, mul-lt-mul_of_pos_right, mul-pos, zero-mul}
+use Rattle.std.proofs.Common.{◌≡◌, ℕ, ◌+◌, ◌-◌, ◌*◌, ◌/◌, ◌%◌, ◌^◌, ◌<◌, ◌≤◌, not, nat_eq, nat_lt, sym, ap, ◌∙◌, refl, arith, inl, inr}
+use Rattle.std.proofs.Math.Nat.{div-add-mod', div-le_self, eq-zero-or-pos, eq_of_mul-eq-mul_right, le-div_iff_mul-le, le_of_mul-le-mul_right, lt_of_mul-lt-mul_right, mul-lt-mul_of_pos_right, mul-pos, zero-mul}
 use Rattle.std.proofs.Math.Arith.{digits_div, digits_mod}
 use Rattle.std.proofs.lemmas.Bool.{eq-eqb, le-ltb, lt-ltb, ne_eqb}
 use Rattle.std.proofs.lemmas.Nat.{mod_below, pow-add, pow_pos}
 use Rattle.rv_float_flags.specs.Exact.{Ratio}
-use Rattle.std.specs.Float.{float_is_finite}
-use Rattle.rv_float_flags.specs.Scaled.{amount, IsFraction, IsMagnitude}
-use Rattle.rv_float_flags.specs.declared.scaled.Scaled.{Scaled}
-use Rattle.rv_float_modes.specs.Operations.{is_nonzero}
-use lib.Ieee.{Float, Format}
-use lib.Ieee.Positive.{den, den_pos, num}
+use Rattle.rv_float_flags.specs.Scaled.{IsFraction}
 use Rattle.rv_float_flags.proofs.Numbers.{power_split}
 use Rattle.rv_float_modes.specs.Enclosed.{Encloses, IsNumber}
 use Rattle.rv_float_modes.specs.declared.magnitude.Magnitude.{Magnitude}

@@ -5,7 +5,7 @@ use Rattle.std.proofs.Math.Pow.{pow_mono}
 use Rattle.std.proofs.Math.Arith.{digits_div, digits_mod}
 use Rattle.std.proofs.lemmas.Bool.{cases_lt, eq-eqb, eqb-true, le-ltb, lt-ltb, ne_eqb, true≢false}
 use Rattle.std.proofs.lemmas.Nat.{leading_top, pow-add, pow_pos}
-use Rattle.rv_float_flags.specs.Scaled.{amount, IsMagnitude}
+use Rattle.rv_float_flags.specs.Scaled.{IsMagnitude}
 use Rattle.rv_float_flags.specs.declared.scaled.Scaled.{Scaled}
 use Rattle.rv_float_flags.proofs.Numbers.{lt_times, power_split}
 use Rattle.rv_float_modes.specs.Enclosed.{Encloses}

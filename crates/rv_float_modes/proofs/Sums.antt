@@ -1,6 +1,6 @@
 -- Sums of magnitudes, exact and far apart.
 use Rattle.std.proofs.Common.{◌≡◌, ℕ, suc, ◌+◌, ◌-◌, ◌*◌, ◌/◌, ◌%◌, ◌^◌, ◌<◌, ◌≤◌, Bool, true, false, ◌&&◌, if◌then◌else◌, nat_lt, sym, ap, ◌∙◌, subst, refl, arith, inl, inr}
-use Rattle.std.proofs.Math.Nat.{div-add-mod', eq-zero-or-pos, lt_of_mul-lt-mul_right, mod-eq_of_lt, mul-le-mul_left, mul-le-mul_right, mul-lt-mul_of_pos_right, mul-pos, zero-mul}
+use Rattle.std.proofs.Math.Nat.{div-add-mod', eq-zero-or-pos, mod-eq_of_lt, mul-le-mul_left, mul-le-mul_right, mul-lt-mul_of_pos_right, mul-pos, zero-mul}
 use Rattle.std.proofs.Math.Pow.{pow_mono}
 use Rattle.std.proofs.Math.Arith.{digits_div, digits_mod}
 use Rattle.std.proofs.lemmas.Bool.{cases_lt, le-ltb, lt-ltb, true≢false}
@@ -8,7 +8,7 @@ use Rattle.std.proofs.lemmas.Nat.{leading_top, mod_below, pow-add, pow_pos}
 use Rattle.std.specs.Int.{abs_diff}
 use Rattle.rv_float_flags.specs.Exact.{Ratio, combined, exact_sum}
 use Rattle.rv_float_flags.specs.Scaled.{amount, IsFraction, IsMagnitude}
-use Rattle.rv_float_flags.proofs.Numbers.{combined_sides, lt_times, power_split}
+use Rattle.rv_float_flags.proofs.Numbers.{lt_times, power_split}
 use Rattle.rv_float_flags.proofs.Numbers.{combined_times}
 use Rattle.rv_floats.specs.declared.rounding.Rounding.{Rounding}
 use Rattle.rv_float_modes.specs.Enclosed.{Encloses, IsNumber}
@@ -26,7 +26,6 @@ use Rattle.std.specs.Float.{float_is_finite, is_sign_negative}
 use Rattle.rv_float_modes.proofs.Exactly.{number_of_fraction}
 use lib.Ieee.{Float, Format, nan, inf, fin, add, neg, of_bits, sub, to_bits, unlike}
 use lib.Ieee.Positive.{den, den_pos, num}
-use Rattle.rv_float_modes.specs.declared.magnitude.Magnitude.{Magnitude}
 use lib.Count.{count_leading_zeros}
 
 -- ---- a multiple of 2 ^ -2148 that is d whole multiples of 2 ^ p and a rest

@@ -1,5 +1,5 @@
 -- The numbers by which the code rounds. The definitions of the results do not rest on these.
-use Rattle.std.specs.Prelude.{◌≡◌, ℕ, ◌+◌, ◌-◌, ◌*◌, ◌/◌, ◌%◌, ◌^◌, ◌<◌, ◌≤◌, ◌==◌, Bool, not, ◌&&◌, ◌||◌, nat_le, nat_lt}
+use Rattle.std.specs.Prelude.{◌≡◌, ℕ, ◌+◌, ◌*◌, ◌/◌, ◌%◌, ◌^◌, ◌<◌, ◌≤◌, ◌==◌, not, ◌&&◌, ◌||◌, nat_le, nat_lt}
 use Rattle.rv_float_flags.specs.Exact.{Ratio}
 use Rattle.rv_float_modes.specs.declared.magnitude.Magnitude.{Magnitude}
 use Rattle.rv_float_modes.specs.declared.rounding.Shape.{Shape}

@@ -1,4 +1,4 @@
-use Rattle.std.proofs.Common.{◌≡◌, ◌∙◌, sym, Bool, ap, refl}
+use Rattle.std.proofs.Common.{◌∙◌, Bool, ap, refl}
 use Rattle.rv_float_flags.specs.Exact.{exact_value}
 use Rattle.rv_float_flags.proofs.Fractions.{raised_amount, value_fraction}
 use Rattle.rv_float_modes.specs.Modes.{rounding_in}

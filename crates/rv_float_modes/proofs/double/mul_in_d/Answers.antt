@@ -1,4 +1,4 @@
-use Rattle.std.proofs.Common.{◌≡◌, ap, ◌∙◌, Bool}
+use Rattle.std.proofs.Common.{ap, ◌∙◌, Bool}
 use Rattle.rv_float_flags.specs.Exact.{exact_product}
 use Rattle.rv_float_flags.proofs.Negated.{same_unlike}
 use Rattle.rv_float_modes.specs.Modes.{rounding_in}

@@ -1,4 +1,4 @@
-use Rattle.std.proofs.Common.{not, ap, ◌∙◌}
+use Rattle.std.proofs.Common.{not, ap}
 use Rattle.rv_float_modes.proofs.Roundings.{is_double, divides, of_finite}
 use Rattle.rv_float_modes.proofs.double.sqrt_in_d.Goals as goal
 use lib.Ieee.{binary64, of_bits}

@@ -1,4 +1,4 @@
-use Rattle.std.proofs.Common.{◌≡◌, ◌+◌, ◌≤◌, arith}
+use Rattle.std.proofs.Common.{arith}
 use Rattle.rv_float_modes.proofs.Quotients.{divided_encloses, quotient_narrow, quotient_wide}
 use Rattle.rv_float_modes.proofs.finite.divided.Goals as goal
 

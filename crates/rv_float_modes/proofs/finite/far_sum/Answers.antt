@@ -1,6 +1,6 @@
-use Rattle.std.proofs.Common.{◌≡◌, ◌+◌, ◌*◌, ◌-◌, ◌%◌, ◌^◌, ◌<◌, ◌≤◌, ℕ, ap, sym, ◌∙◌, subst, arith}
+use Rattle.std.proofs.Common.{◌+◌, ◌*◌, ◌-◌, ◌^◌, ◌<◌, ℕ, ap, sym, ◌∙◌, subst, arith}
 use Rattle.rv_float_flags.specs.Scaled.{amount}
-use Rattle.rv_float_modes.specs.Enclosed.{Encloses, IsWide}
+use Rattle.rv_float_modes.specs.Enclosed.{Encloses}
 use Rattle.rv_float_modes.proofs.Sums.{far_less, far_minus, far_plus, raised}
 use Rattle.rv_float_modes.proofs.finite.far_sum.Goals as goal
 use Rattle.rv_float_modes.proofs.finite.far_sum.Goals.{then-not-opposite, else-not-opposite+then-goes_on, else-not-opposite+else-goes_on}

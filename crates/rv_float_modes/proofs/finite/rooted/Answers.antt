@@ -1,4 +1,4 @@
-use Rattle.std.proofs.Common.{◌≡◌, ◌+◌, ◌-◌, ◌*◌, ◌/◌, ◌%◌, ◌^◌, ◌≤◌, ◌<◌, ℕ, not, nat_eq, ap, sym, subst, arith}
+use Rattle.std.proofs.Common.{◌+◌, ◌-◌, ◌*◌, ◌/◌, ◌%◌, ◌^◌, ◌≤◌, ◌<◌, ℕ, not, nat_eq, sym, subst}
 use Rattle.rv_float_modes.specs.Enclosed.{Encloses}
 use Rattle.rv_float_modes.specs.Operations.{exact_root}
 use Rattle.rv_float_modes.proofs.Roots.{even, root_wide, rooted_encloses, root_narrow}

@@ -1,4 +1,4 @@
-use Rattle.std.proofs.Common.{◌≡◌, ◌*◌, ◌-◌, ◌%◌, ◌^◌, ◌<◌, ◌≤◌, ℕ, ap, ◌∙◌, arith}
+use Rattle.std.proofs.Common.{◌*◌, ◌-◌, ◌^◌, ℕ, ap, ◌∙◌, arith}
 use Rattle.rv_float_modes.proofs.Exactly.{moved, moved_value}
 use Rattle.rv_float_modes.proofs.magnitude.exactly.Goals as goal
 use lib.Count.{count_leading_zeros}

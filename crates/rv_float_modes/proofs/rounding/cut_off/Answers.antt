@@ -1,4 +1,4 @@
-use Rattle.std.proofs.Common.{◌≡◌, ◌*◌, ◌-◌, ◌+◌, ◌/◌, ◌^◌, ◌<◌, ◌≤◌, arith}
+use Rattle.std.proofs.Common.{◌/◌, ◌^◌, arith}
 use Rattle.rv_float_modes.proofs.Cuts.{above_place, cut_is, few_dropped, kept_small, pattern_narrow}
 use Rattle.rv_float_modes.proofs.rounding.cut_off.Goals as goal
 

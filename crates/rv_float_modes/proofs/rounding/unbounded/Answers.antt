@@ -1,4 +1,4 @@
-use Rattle.std.proofs.Common.{◌≡◌, ◌%◌, nat_eq, sym, ap, ◌∙◌}
+use Rattle.std.proofs.Common.{◌%◌, nat_eq, ◌∙◌}
 use Rattle.rv_float_modes.specs.Modes.{goes_up, rest, step, truncated}
 use Rattle.rv_float_modes.proofs.Roundings.{goes, stops}
 use Rattle.rv_float_modes.proofs.rounding.unbounded.Goals as goal

@@ -1,4 +1,3 @@
-use Rattle.std.proofs.Common.{ap, ◌∙◌}
 use Rattle.rv_float_flags.proofs.Negated.{same_unlike}
 use Rattle.rv_float_modes.proofs.Fused.{fused_is}
 use Rattle.rv_float_modes.proofs.Roundings.{is_single, of_three}

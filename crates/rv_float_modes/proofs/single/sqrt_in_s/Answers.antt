@@ -1,4 +1,4 @@
-use Rattle.std.proofs.Common.{not, ap, ◌∙◌}
+use Rattle.std.proofs.Common.{not, ap}
 use Rattle.rv_float_modes.proofs.Roundings.{is_single, divides, of_finite}
 use Rattle.rv_float_modes.proofs.single.sqrt_in_s.Goals as goal
 use lib.Ieee.{binary32, of_bits}

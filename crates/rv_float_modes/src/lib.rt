@@ -13,6 +13,7 @@
 mod convert;
 mod double;
 mod finite;
+pub mod laws;
 mod magnitude;
 mod rounded;
 mod rounding;

@@ -1,0 +1,5 @@
+use Rattle.rv_float_modes.proofs.Nearest.{nearest_even}
+use Rattle.rv_float_modes.proofs.laws.to_the_nearest_is_the_librarys.Goals as goal
+
+pub returns : goal.returns
+returns c f r = nearest_even f r

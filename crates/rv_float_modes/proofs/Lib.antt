@@ -6,3 +6,4 @@ pub mod Quotients
 pub mod Roots
 pub mod Roundings
 pub mod Sums
+pub mod Truncated

@@ -27,6 +27,11 @@ truncated f r = dropped f r * hid f + r.numerator * 2 ^ low f / step f r
 abbrev pub rest : Format → Ratio → ℕ
 rest f r = r.numerator * 2 ^ low f % step f r
 
+-- what a pattern of a magnitude stands for, as a multiple of the smallest positive value: the exponent's field, and the digits below
+-- the leading one, which a field of 0 does not have (section 3.4)
+abbrev pub size_of : Format → ℕ → ℕ
+size_of f p = if nat_lt p (hid f) then p else (hid f + p % hid f) * 2 ^ (p / hid f - 1)
+
 -- ---- the rounding modes
 
 -- whether a magnitude is rounded to the next pattern, by whether that pattern is odd, the rest and the step

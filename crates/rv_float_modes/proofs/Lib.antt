@@ -2,6 +2,7 @@ pub mod Cuts
 pub mod Exactly
 pub mod Fused
 pub mod Nearest
+pub mod NearestFlags
 pub mod Quotients
 pub mod Roots
 pub mod Roundings

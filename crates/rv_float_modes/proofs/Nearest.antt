@@ -1,20 +1,20 @@
 -- To the nearest, ties to even, a rounding here is the library's.
 use Rattle.std.proofs.Common.{◌≡◌, ℕ, suc, ◌+◌, ◌-◌, ◌*◌, ◌/◌, ◌%◌, ◌^◌, ◌<◌, ◌≤◌, Bool, true, false, cond, not, ◌&&◌, ◌||◌, if◌then◌else◌, nat_eq, nat_lt, sym, ap, ◌∙◌, subst, refl, arith, inl, inr}
 use Rattle.std.proofs.Math.Dec.{compare_is_eq, is_le}
-use Rattle.std.proofs.Math.Nat.{div-div-eq-div-mul, eq-zero-or-pos, le-div_iff_mul-le, le_of_eq, le_of_mul-le-mul_right, le_trans, lt_of_mul-lt-mul_right, mul-div_cancel, mul-le-mul_left, mul-le-mul_right, mul-lt-mul_of_pos_right, pow-succ', zero-add}
+use Rattle.std.proofs.Math.Nat.{div-div-eq-div-mul, eq-zero-or-pos, le-div_iff_mul-le, le_of_eq, le_of_mul-le-mul_right, le_trans, lt_of_mul-lt-mul_right, mul-div_cancel, mul-le-mul_right, mul-lt-mul_of_pos_right, pow-succ', zero-add}
 use Rattle.std.proofs.Math.Pow.{pow_mono}
 use Rattle.std.proofs.lemmas.Bool.{cases_lt, eq-eqb, le-ltb, lt-ltb, ne_eqb, true≢false}
 use Rattle.std.proofs.lemmas.Nat.{pow-add, pow_pos}
 use Rattle.rv_floats.specs.declared.rounding.Rounding.TheVariants.{NearestEven}
 use Rattle.rv_float_flags.specs.Exact.{Ratio, rounded}
-use Rattle.rv_float_modes.specs.Modes.{bounded, dropped, goes_up, infinity, rest, rounded_in, step, truncated, unbounded}
+use Rattle.rv_float_modes.specs.Modes.{bounded, dropped, infinity, rounded_in, step, unbounded}
 use Rattle.rv_float_modes.proofs.Cuts.{size_at_least}
 use Prim.Native.Nat.{compare, Ordering}
 use lib.Dec.{T, eqb→eq, leb→le, nleb→lt}
-use lib.Ieee.{Float, Format, nan, inf, fin, binary32, binary64, down, emax, hid, low, nearest, odd, ones, prec, size, to_bits, units, up}
+use lib.Ieee.{Float, Format, nan, inf, fin, binary32, binary64, down, emax, hid, low, nearest, odd, prec, size, to_bits, units, up}
 use lib.Ieee.Digits.{size-le, size_reaches}
 use lib.Ieee.Exact.{HasValue, odd_sign}
-use lib.Ieee.Fits.{core, down_pos, kept-lt, nearest-le, round_is}
+use lib.Ieee.Fits.{down_pos, kept-lt, nearest-le, round_is}
 use lib.Ieee.Nearest.{nearest-ge}
 
 -- ---- the nearest
@@ -41,7 +41,7 @@ to_even t q e = elim (eq-zero-or-pos (q % 2)) [
       ap (λ (x : Bool). if x then t + 1 else t) a ∙ (let y : t + 1 ≡ t + q % 2 = omega (arith, p) in y)
 ]
 
-nearest_is : (k h q a b : ℕ) → h % 2 ≡ 0
+pub nearest_is : (k h q a b : ℕ) → h % 2 ≡ 0
     → (if nat_lt b a || (nat_eq a b && nat_eq ((k * h + q) % 2) 1) then k * h + q + 1 else k * h + q) ≡ k * h + nearest q (compare a b)
 nearest_is k h q a b e = go (compare a b) (leb→le a b) (nleb→lt a b) (eqb→eq a b) (λ (x : a ≡ b). subst (λ (y : Bool). T y) (sym (eq-eqb a b x)) tt)
   where
@@ -98,7 +98,7 @@ by_value f (fin false m e) n h =
     ap (λ (z : ℕ). 0 + (size z - prec f) * hid f + z / 2 ^ (size z - prec f)) a
     ∙ ap (λ (z : ℕ). z + n / 2 ^ (size n - prec f)) (zero-add ((size n - prec f) * hid f))
 
-prec_pos : (f : Format) → 0 < prec f
+pub prec_pos : (f : Format) → 0 < prec f
 prec_pos binary32 = omega arith
 prec_pos binary64 = omega arith
 
@@ -115,7 +115,7 @@ finite_bits f q k h g =
 exponents : (a b : ℕ) → 2 ^ a < 2 ^ b → a < b
 exponents a b h = elim (cases_lt a b) [ inl l ↦ l | inr l ↦ let m : 2 ^ b ≤ 2 ^ a = pow_mono l in absurd (omega (arith, m, h)) ]
 
-in_range : (P E q k : ℕ) → 0 < P → 0 < E → q ≤ 2 ^ P → (0 < k → 2 ^ (P - 1) ≤ q) → q * 2 ^ k < 2 ^ (P - 1 + 2 * E) → k * 2 ^ (P - 1) + q < (2 * E + 1) * 2 ^ (P - 1)
+pub in_range : (P E q k : ℕ) → 0 < P → 0 < E → q ≤ 2 ^ P → (0 < k → 2 ^ (P - 1) ≤ q) → q * 2 ^ k < 2 ^ (P - 1 + 2 * E) → k * 2 ^ (P - 1) + q < (2 * E + 1) * 2 ^ (P - 1)
 in_range P E q k p e h g l =
     let H = 2 ^ (P - 1) in
     let hp : 0 < H = pow_pos (P - 1) in
@@ -139,7 +139,7 @@ in_range P E q k p e h g l =
           ]
     ]
 
-out_of_range : (P E q k : ℕ) → 0 < P → 0 < E → q ≤ 2 ^ P → (0 < k → 2 ^ (P - 1) ≤ q) → 2 ^ (P - 1 + 2 * E) ≤ q * 2 ^ k → (2 * E + 1) * 2 ^ (P - 1) ≤ k * 2 ^ (P - 1) + q
+pub out_of_range : (P E q k : ℕ) → 0 < P → 0 < E → q ≤ 2 ^ P → (0 < k → 2 ^ (P - 1) ≤ q) → 2 ^ (P - 1 + 2 * E) ≤ q * 2 ^ k → (2 * E + 1) * 2 ^ (P - 1) ≤ k * 2 ^ (P - 1) + q
 out_of_range P E q k p e h g l =
     let H = 2 ^ (P - 1) in
     let d : 2 ^ P ≡ 2 * H = doubled P p in
@@ -160,11 +160,11 @@ out_of_range P E q k p e h g l =
           omega (arith, i, j)
     ]
 
-emax_pos : (f : Format) → 0 < emax f
+pub emax_pos : (f : Format) → 0 < emax f
 emax_pos binary32 = omega arith
 emax_pos binary64 = omega arith
 
-top_exponent : (f : Format) → low f + suc (emax f) ≡ prec f - 1 + 2 * emax f
+pub top_exponent : (f : Format) → low f + suc (emax f) ≡ prec f - 1 + 2 * emax f
 top_exponent binary32 = refl
 top_exponent binary64 = refl
 
@@ -172,10 +172,10 @@ infinite_bits : (f : Format) → to_bits f (inf false) ≡ infinity f
 unfolding to_bits
 infinite_bits f = zero-add (infinity f)
 
-choose : (b : Bool) (x y : Float) → b ≡ true → cond b x y ≡ x
+pub choose : (b : Bool) (x y : Float) → b ≡ true → cond b x y ≡ x
 choose b x y h = ap (λ (z : Bool). cond z x y) h
 
-refuse : (b : Bool) (x y : Float) → b ≡ false → cond b x y ≡ y
+pub refuse : (b : Bool) (x y : Float) → b ≡ false → cond b x y ≡ y
 refuse b x y h = ap (λ (z : Bool). cond z x y) h
 
 inside : (b : Bool) (x y : ℕ) → b ≡ true → (if b then x else y) ≡ x
@@ -184,7 +184,7 @@ inside b x y h = ap (λ (z : Bool). if z then x else y) h
 outside : (b : Bool) (x y : ℕ) → b ≡ false → (if b then x else y) ≡ y
 outside b x y h = ap (λ (z : Bool). if z then x else y) h
 
-units_is : (f : Format) (q k : ℕ) → units f false q k ≡ cond (nat_lt (q * 2 ^ k) (2 ^ (low f + suc (emax f)))) (odd (suc (prec f)) false q k (low f)) (inf false)
+pub units_is : (f : Format) (q k : ℕ) → units f false q k ≡ cond (nat_lt (q * 2 ^ k) (2 ^ (low f + suc (emax f)))) (odd (suc (prec f)) false q k (low f)) (inf false)
 unfolding units
 units_is f q k = refl
 
@@ -208,7 +208,7 @@ units_bits f q k h g =
 
 -- ---- what is kept
 
-kept_at_most : (P n c k : ℕ) → k ≡ size (n / c) - P → nearest (n / (c * 2 ^ k)) (compare (n % (c * 2 ^ k) * 2) (c * 2 ^ k)) ≤ 2 ^ P
+pub kept_at_most : (P n c k : ℕ) → k ≡ size (n / c) - P → nearest (n / (c * 2 ^ k)) (compare (n % (c * 2 ^ k) * 2) (c * 2 ^ k)) ≤ 2 ^ P
 kept_at_most P n c k e =
     let u = c * 2 ^ k in
     let a : n / c / 2 ^ k < 2 ^ P = subst (λ (z : ℕ). n / c / 2 ^ z < 2 ^ P) (sym e) (kept-lt P (n / c)) in
@@ -216,7 +216,7 @@ kept_at_most P n c k e =
     let d : nearest (n / u) (compare (n % u * 2) u) ≤ suc (n / u) = nearest-le (n / u) (compare (n % u * 2) u) in
     omega (arith, a, b, d)
 
-kept_at_least : (P n c k : ℕ) → 0 < P → k ≡ size (n / c) - P → 0 < k → 2 ^ (P - 1) ≤ nearest (n / (c * 2 ^ k)) (compare (n % (c * 2 ^ k) * 2) (c * 2 ^ k))
+pub kept_at_least : (P n c k : ℕ) → 0 < P → k ≡ size (n / c) - P → 0 < k → 2 ^ (P - 1) ≤ nearest (n / (c * 2 ^ k)) (compare (n % (c * 2 ^ k) * 2) (c * 2 ^ k))
 kept_at_least P n c k p e h =
     let u = c * 2 ^ k in
     let a : 2 ^ (P - 1) * 2 ^ k ≤ n / c = le_trans (le_of_eq (sym (pow-add 2 (P - 1) k))) (size_reaches (n / c) (P - 1 + k) (omega (arith, e, h, p))) in
@@ -225,7 +225,7 @@ kept_at_least P n c k p e h =
     let i : n / u ≤ nearest (n / u) (compare (n % u * 2) u) = nearest-ge (n / u) (compare (n % u * 2) u) in
     omega (arith, b, d, i)
 
-hid_even : (f : Format) → hid f % 2 ≡ 0
+pub hid_even : (f : Format) → hid f % 2 ≡ 0
 hid_even binary32 = refl
 hid_even binary64 = refl
 

@@ -1,0 +1,5 @@
+use Rattle.rv_float_modes.proofs.NearestFlags.{same_flags}
+use Rattle.rv_float_modes.proofs.laws.to_the_nearest_the_flags_are_the_same.Goals as goal
+
+pub returns : goal.returns
+returns c f r h = same_flags f r h

@@ -197,9 +197,11 @@ def read_elf(content: bytes) -> Code:
 
 def read_text(emulator: list[str], path: str, content: bytes, folder: pathlib.Path) -> Code:
     """The code of a text of this path: it is assembled with a label at each line, and the words of these labels behind it. None of one that
-    would be too long for the assembler with these. A text that is taken with statements of floating point alone wants units for them."""
+    would be too long for the assembler with these. A text with statements of floating point wants units for them."""
+    unknown = Code()
     if len(content) + content.count(b"\n") * MARKS > MOST_TEXT:
-        return Code()
+        unknown.is_float = wants_units(emulator, content, folder)
+        return unknown
     lines = content.decode(errors="surrogateescape").split("\n")
     marked = folder / "marked.s"
     # One more is behind the last line, where the text ends.
@@ -209,9 +211,13 @@ def read_text(emulator: list[str], path: str, content: bytes, folder: pathlib.Pa
     marked.write_text(f"{text}\n.align 2\n__lines: {words}\n.word __lines\n", errors="surrogateescape")
     image = folder / "marked.elf"
     command = [*emulator, "asm", str(marked), str(image)]
-    is_float = not is_assembled(command)
-    if is_float and not is_assembled([*command, "--float"]):
-        return Code()
+    refused = refusal(command)
+    is_float = bool(refused) and wants_units(emulator, content, folder)
+    if is_float:
+        refused = refusal([*command, "--float"])
+    if refused:
+        unknown.is_float = is_float
+        return unknown
     code = read_elf(content_of(image, MOST_PROGRAM))
     code.is_float = is_float
     start, stored = code.segments[0]
@@ -226,9 +232,19 @@ def read_text(emulator: list[str], path: str, content: bytes, folder: pathlib.Pa
     return code
 
 
-def is_assembled(command: list[str]) -> bool:
-    """Whether the emulator assembles a text."""
-    return subprocess.run(command, capture_output=True, check=False).returncode == 0
+def wants_units(emulator: list[str], content: bytes, folder: pathlib.Path) -> bool:
+    """Whether a text has statements of floating point: it is taken with them alone, or refused for something else."""
+    text = folder / "text.s"
+    text.write_bytes(content)
+    command = [*emulator, "asm", str(text), str(folder / "text.elf")]
+    refused = refusal(command)
+    return bool(refused) and refusal([*command, "--float"]) != refused
+
+
+def refusal(command: list[str]) -> str:
+    """What the emulator says where it does not assemble a text."""
+    done = subprocess.run(command, stdout=subprocess.DEVNULL, stderr=subprocess.PIPE, check=False)
+    return done.stderr.decode(errors="replace") or "refused" if done.returncode else ""
 
 
 def parts_of(line: str) -> tuple[list[str], str]:

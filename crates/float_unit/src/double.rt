@@ -1,6 +1,6 @@
 //! The operations on doubles that instructions name.
 
-ghost use Rattle.std.specs.Prelude.{◌≡◌};
+ghost use Rattle.std.specs.Prelude.{◌≡◌, IfSome};
 ghost use Rattle.rv_float_flags.specs.Flags.{accrued};
 ghost use Rattle.rv_float_flags.specs.Operations.{quiet_flags};
 ghost use Rattle.float_unit.specs.Values as Values;
@@ -8,9 +8,10 @@ ghost use lib.Ieee.{binary64};
 
 use rv_float_flags::{
     Flags, accrued_add_flags_d, accrued_mul_flags_d, accrued_sub_flags_d, add_flags_d,
-    d_to_word_flags, d_to_word_unsigned_flags, div_flags_d, mul_flags_d, multiply_add_flags_d,
-    multiply_subtract_flags_d, negated_multiply_add_flags_d, negated_multiply_subtract_flags_d,
-    ordered_flags_d, quiet_flags_d, sub_flags_d,
+    add_unflagged_d, d_to_word_flags, d_to_word_unsigned_flags, div_flags_d, mul_flags_d,
+    mul_unflagged_d, multiply_add_flags_d, multiply_subtract_flags_d, negated_multiply_add_flags_d,
+    negated_multiply_subtract_flags_d, ordered_flags_d, quiet_flags_d, sub_flags_d,
+    sub_unflagged_d,
 };
 use rv_float_tables::{ArithmeticOp, CompareOp, FusedOp, MinMaxOp, SignOp, WordKind};
 use rv_floats::{
@@ -52,6 +53,20 @@ pub fn accrued_flags(op: ArithmeticOp, flags: Flags, a: u64, b: u64) -> Flags
         ArithmeticOp::Sub => accrued_sub_flags_d(flags, a, b),
         ArithmeticOp::Mul => accrued_mul_flags_d(flags, a, b),
         ArithmeticOp::Div => flags | div_flags_d(a, b),
+    }
+}
+
+/// What `arithmetic` gives, where all that it raises is there already, and that is found out at once.
+#[inline(always)]
+pub fn unflagged(op: ArithmeticOp, flags: Flags, a: u64, b: u64) -> Option<u64>
+    ensures value { IfSome result (λ z. z ≡ Values.arithmetic op binary64 a b) }
+    ensures flags { IfSome result (λ z. accrued flags (Values.arithmetic_flags op binary64 a b) ≡ flags) }
+{
+    match op {
+        ArithmeticOp::Add => add_unflagged_d(flags, a, b),
+        ArithmeticOp::Sub => sub_unflagged_d(flags, a, b),
+        ArithmeticOp::Mul => mul_unflagged_d(flags, a, b),
+        ArithmeticOp::Div => None,
     }
 }
 

@@ -120,6 +120,15 @@ impl FloatUnit {
         self.flags = flags;
     }
 
+    /// Writes a double that raised nothing new.
+    #[inline(always)]
+    pub(crate) fn write_double(&mut self, rd: u8, a: u64)
+        requires { rd < 32 }
+        ensures { self.new ≡ State.with_register self.old rd a }
+    {
+        self.registers[rd as usize] = a;
+    }
+
     /// The accrued exceptions.
     #[inline(always)]
     pub(crate) fn flags(&self) -> Flags

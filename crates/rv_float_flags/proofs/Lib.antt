@@ -1,3 +1,4 @@
+pub mod FiniteResults
 pub mod Fractions
 pub mod Limits
 pub mod Literals

@@ -18,10 +18,10 @@ use lib.Ieee.Positive.{den, num}
 
 -- ---- two values of one size
 
-abbrev SameSize : Float → Float → Type 0
+abbrev pub SameSize : Float → Float → Type 0
 SameSize x y = (num x ≡ num y) × (den x ≡ den y) × (float_is_finite x ≡ float_is_finite y)
 
-magnitude_of : (f : Format) (x y : Float) (p : Option Scaled) → SameSize x y → IsMagnitudeOf f x p → IsMagnitudeOf f y p
+pub magnitude_of : (f : Format) (x y : Float) (p : Option Scaled) → SameSize x y → IsMagnitudeOf f x p → IsMagnitudeOf f y p
 magnitude_of f x y None e h = sym e.2 ∙ h
 magnitude_of f x y (Some p) e h = record {
   finite = sym e.2 ∙ h.finite;

@@ -44,7 +44,7 @@ not_exactly x r h = ap (λ (b : Bool). b && nat_eq (num x * r.denominator) (r.nu
 
 -- ---- a result that is a multiple of the format's smallest value, and not too large
 
-exact_value : (x : Float) (a c : ℕ) → HasValue x false a c → float_is_finite x && nat_eq (num x * c) (a * den x) ≡ true
+pub exact_value : (x : Float) (a c : ℕ) → HasValue x false a c → float_is_finite x && nat_eq (num x * c) (a * den x) ≡ true
 unfolding float_is_finite
 exact_value nan a c h = absurd h
 exact_value (inf s) a c h = absurd h

@@ -1,5 +1,5 @@
 -- The numbers by which the code finds out whether a result is exact or tiny. The definitions of the flags do not rest on these.
-use Rattle.std.specs.Prelude.{◌≡◌, ℕ, ◌+◌, ◌-◌, ◌*◌, ◌^◌, ◌<◌, ◌≤◌, true, false, IfSome, MatchOption}
+use Rattle.std.specs.Prelude.{◌≡◌, ℕ, ◌+◌, ◌-◌, ◌*◌, ◌/◌, ◌%◌, ◌^◌, ◌<◌, ◌≤◌, true, false, IfSome, MatchOption}
 use Rattle.std.specs.declared.option.Option.{Option}
 use Rattle.std.specs.Float.{float_is_finite}
 use Rattle.rv_float_flags.specs.declared.scaled.Scaled.{Scaled}
@@ -36,3 +36,7 @@ pub record IsFraction (r : Ratio) (n m : ℕ) : Type 0 where
 pub record IsLimit (f : Format) (limit : Scaled) : Type 0 where
   pub digits : limit.digits ≡ 2 ^ (prec f + 1) - 1
   pub place : limit.place + low f + 2 ≡ 2148
+
+-- the exponent field of a double's pattern
+abbrev pub exponent : ℕ → ℕ
+exponent a = a % 2 ^ 63 / 2 ^ 52

@@ -9,6 +9,8 @@
 //! - [`add_flags_d`] to [`negated_multiply_add_flags_d`], and the same of singles, are the flags of these operations to the nearest, ties
 //!   to even.
 //! - [`accrued_add_flags_d`], [`accrued_sub_flags_d`] and [`accrued_mul_flags_d`] are the first three with flags that are there already.
+//! - [`add_unflagged_d`], [`sub_unflagged_d`] and [`mul_unflagged_d`] are the values of these three, where they raise nothing that is not there, and
+//!   a few comparisons find it out.
 //! - [`quiet_flags_d`] are those of FEQ, FMIN and FMAX, [`ordered_flags_d`] those of FLT and FLE.
 //! - [`d_to_word_flags`] and its kin are those of conversions. Sign injection, classes, moves and words to doubles raise nothing.
 //! - [`Flags`] accrue by `|`: what is set stays. Their word is that of fflags.
@@ -32,6 +34,7 @@ mod magnitude;
 mod rounding;
 mod scaled;
 mod single;
+mod unflagged;
 
 pub use accrued::{accrued_add_flags_d, accrued_mul_flags_d, accrued_sub_flags_d};
 pub use compare::{ordered_flags_d, ordered_flags_s, quiet_flags_d, quiet_flags_s};
@@ -50,3 +53,4 @@ pub use single::{
     add_flags_s, div_flags_s, mul_flags_s, multiply_add_flags_s, multiply_subtract_flags_s,
     negated_multiply_add_flags_s, negated_multiply_subtract_flags_s, sqrt_flags_s, sub_flags_s,
 };
+pub use unflagged::{add_unflagged_d, mul_unflagged_d, sub_unflagged_d};

@@ -1,0 +1,255 @@
+-- What a sum or a product of finite doubles raises beside NX, where it is finite and not tiny.
+use Rattle.std.proofs.Common.{◌≡◌, ℕ, suc, ◌+◌, ◌-◌, ◌*◌, ◌/◌, ◌%◌, ◌^◌, ◌<◌, ◌≤◌, Bool, true, false, not, ◌&&◌, ◌||◌, nat_lt, ◌⊎◌, sym, ap, ◌∙◌, refl, arith, inl, inr}
+use Rattle.std.proofs.Math.Nat.{eq_of_mul-eq-mul_right, eq-zero-or-pos, mul-one}
+use Rattle.std.proofs.Math.Pow.{pow_mono}
+use Rattle.std.proofs.lemmas.Nat.{mul-le, mul-lt, pow-add, pow_pos}
+use Rattle.std.proofs.lemmas.Bool.{cases_lt, ltb-true}
+use Rattle.std.specs.Float.{float_is_finite, is_sign_negative}
+use Rattle.std.specs.Prelude.{Some}
+use Rattle.rv_float_flags.specs.Exact.{combined, is_inexact, is_tiny, rounded, Ratio}
+use Rattle.rv_float_flags.specs.Flags.{accrued, invalid, overflow_if, rounding_flags}
+use Rattle.rv_float_flags.specs.Operations.{add_flags, mul_flags, product_flags, sub_flags, sum_flags}
+use Rattle.rv_float_flags.specs.Scaled.{amount, exponent, IsFraction, IsLimit, IsMagnitude}
+use Rattle.rv_float_flags.specs.declared.flags.Flags.{Flags}
+use Rattle.rv_float_flags.specs.declared.scaled.Scaled.{Scaled}
+use Rattle.rv_float_flags.proofs.Magnitudes.{normal, subnormal}
+use Rattle.rv_float_flags.proofs.Numbers.{combined_times}
+use Rattle.rv_float_flags.proofs.Operations.{none_signals, of_product_so, of_sum_so}
+use Rattle.rv_float_flags.proofs.Roundings.{coarse_none, exact_value, no_and, overflow, raised_beside, square, two_coarse, underflow}
+use Rattle.rv_float_flags.proofs.Results.{magnitude_of, SameSize}
+use lib.Ieee.Exact.{round_exact}
+use lib.Ieee.{Float, Format, nan, inf, fin, add, binary64, mul, neg, of_bits, sub, to_bits, unlike}
+
+-- ---- a double that is finite, by its pattern
+
+-- its magnitude, at the place of its exponent
+pub record Finite (a : ℕ) : Type 0 where
+  pub scaled : Scaled
+  pub magnitude : IsMagnitude binary64 (of_bits binary64 a) scaled
+  pub place : scaled.place ≡ exponent a - 1
+  pub rest : scaled.digits % 134217728 ≡ a % 134217728
+
+pub finite : (a : ℕ) → a % 9223372036854775808 < 9218868437227405312 → Finite a
+finite a h = elim (eq-zero-or-pos (exponent a)) [
+  | inl z ↦ record {
+    scaled = record { digits = a % 4503599627370496; place = 0 };
+    magnitude = subnormal binary64 a 0 _ z refl refl refl (omega arith) (omega arith);
+    place = omega (arith, z);
+    rest = omega arith;
+  }
+  | inr p ↦
+      let x = exponent a - 1 in
+      let e : exponent a ≡ suc x = omega (arith, p) in
+      let x_small : x < 2046 = omega (arith, h) in
+      record {
+        scaled = record { digits = 4503599627370496 + a % 4503599627370496; place = x };
+        magnitude = normal binary64 a x 0 _ e (λ ones. absurd (omega (arith, ones, x_small))) refl refl (omega arith) (omega arith) (omega (arith, x_small));
+        place = refl;
+        rest = omega arith;
+      }
+]
+
+pub finite_so : (a : ℕ) → nat_lt (a % 9223372036854775808) 9218868437227405312 ≡ true → Finite a
+finite_so a h = finite a (ltb-true (a % 9223372036854775808) 9218868437227405312 h)
+
+-- less than 2 ^ 1023
+pub record Moderate (a : ℕ) : Type 0 where
+  pub finite : Finite a
+  pub most : finite.scaled.place ≤ 2044
+
+pub moderate : (a : ℕ) → nat_lt (a % 9223372036854775808) 9214364837600034816 ≡ true → Moderate a
+moderate a h =
+    let l : a % 9223372036854775808 < 9214364837600034816 = ltb-true (a % 9223372036854775808) 9214364837600034816 h in
+    let f = finite a (omega (arith, l)) in
+    record { finite = f; most = omega (arith, l, f.place) }
+
+-- the last 27 of the 53 digits of both are zeros
+pub record AreShort (a b : ℕ) : Type 0 where
+  pub first : a % 134217728 ≡ 0
+  pub second : b % 134217728 ≡ 0
+
+-- and they lie close together
+pub record IsSumShort (a b : ℕ) : Type 0 where
+  pub short : AreShort a b
+  pub near : exponent a ≤ exponent b + 26
+  pub far : exponent b ≤ exponent a + 26
+
+-- ---- a rounding that is neither infinite nor tiny, beside flags that have NX
+
+or_false : (b : Bool) → (b || false) ≡ b
+or_false true = refl
+or_false false = refl
+
+nothing : (g : Flags) → accrued g (overflow_if false) ≡ g
+nothing g = rw (or_false g.nv, or_false g.dz, or_false g.of, or_false g.uf, or_false g.nx) refl
+
+beside : (g : Flags) (f : Format) (r : Ratio) (p : Scaled) → g.nx ≡ true → IsMagnitude f (rounded f r) p → is_tiny f r && is_inexact f r ≡ false → g ≡ accrued g (rounding_flags f r)
+beside g f r p there finite tiny = sym (nothing g) ∙ raised_beside g false _ _ _ there (overflow f r (Some p) false refl finite) tiny
+
+-- of terms that are multiples of the smallest value
+coarse : (f : Format) (r : Ratio) (l : Scaled) (o : Bool) (a i b j : ℕ) → IsLimit f l → l.place + 2 ≤ i → l.place + 2 ≤ j → IsFraction r (combined o (a * 2 ^ i) (b * 2 ^ j)) 1
+    → is_tiny f r && is_inexact f r ≡ false
+coarse f r l o a i b j limit h k fraction =
+    let n = combined o (a * 2 ^ i) (b * 2 ^ j) in
+    let p = l.place + 2 in
+    underflow f r l n 1 limit fraction
+    ∙ ap (λ (x : ℕ). is_inexact f r && nat_lt n x) (mul-one (amount l))
+    ∙ coarse_none f r l n (combined o (a * 2 ^ (i - p)) (b * 2 ^ (j - p))) limit fraction (two_coarse o a i b j p h k)
+
+-- ---- a rounding that is exact
+
+exact_beside : (g : Flags) (o t x : Bool) → false ≡ o → x ≡ false → accrued g (overflow_if false) ≡ accrued g (record { nv = false; dz = false; of = o; uf = t && x; nx = x })
+exact_beside g o t x overflows exact = rw (sym overflows, exact, no_and t) refl
+
+exact : (g : Flags) (f : Format) (r : Ratio) (p : Scaled) → IsMagnitude f (rounded f r) p → is_inexact f r ≡ false → g ≡ accrued g (rounding_flags f r)
+exact g f r p finite same = sym (nothing g) ∙ exact_beside g _ (is_tiny f r) _ (overflow f r (Some p) false refl finite) same
+
+-- where the exact result has 53 digits
+exact_at : (r : Ratio) (w j n : ℕ) → IsFraction r n 1 → w * 2 ^ j * 2 ^ 1074 ≡ n → w < 2 ^ 53 → w * 2 ^ j < 2 ^ 2098 → is_inexact binary64 r ≡ false
+exact_at r w j n fraction e small fine =
+    let a : r.numerator * (2 ^ 1074 * 2 ^ 1074) * 1 ≡ n * r.denominator = ap (λ (z : ℕ). r.numerator * z * 1) (sym square) ∙ fraction.value in
+    let b : r.numerator * 2 ^ 1074 * 2 ^ 1074 ≡ w * 2 ^ j * r.denominator * 2 ^ 1074 = omega (arith, a, ap (λ (z : ℕ). z * r.denominator) e) in
+    let c : r.numerator * 2 ^ 1074 ≡ w * 2 ^ j * r.denominator = eq_of_mul-eq-mul_right (2 ^ 1074) (pow_pos 1074) _ _ b in
+    ap not (exact_value (rounded binary64 r) r.numerator r.denominator (round_exact binary64 false r.numerator r.denominator w j fraction.nonzero small fine c))
+
+-- of a double whose last 27 digits are zeros, the others
+abbrev first_26 : ℕ → ℕ
+first_26 d = d / 134217728
+
+halves : (d r : ℕ) → d < 2 ^ 53 → d % 134217728 ≡ r → r ≡ 0 → (d ≡ first_26 d * 134217728) × (first_26 d < 2 ^ 26)
+halves d r h e z = (omega (arith, e, z), omega (arith, h))
+
+short_product : (r : Ratio) (d i e j : ℕ) → d < 2 ^ 53 → e < 2 ^ 53 → d % 134217728 ≡ 0 → e % 134217728 ≡ 0 → 1074 ≤ i + j → i + j ≤ 3064
+    → IsFraction r (d * e * 2 ^ (i + j) + 0 * 2 ^ 2148) 1 → is_inexact binary64 r ≡ false
+short_product r d i e j hd he zd ze low high fraction =
+    let u = halves d 0 hd zd refl in
+    let v = halves e 0 he ze refl in
+    let w = first_26 d * first_26 e in
+    let k = i + j - 1020 in
+    let small : w < 2 ^ 26 * 2 ^ 26 = mul-lt (first_26 d) (first_26 e) (2 ^ 26) (2 ^ 26) u.1 v.1 in
+    let places : k + 1074 ≡ 54 + (i + j) = omega (arith, low) in
+    let powers : 2 ^ k * 2 ^ 1074 ≡ 2 ^ 54 * 2 ^ (i + j) = sym (pow-add 2 k 1074) ∙ ap (λ (z : ℕ). 2 ^ z) places ∙ pow-add 2 54 (i + j) in
+    let digits : d * e ≡ w * 2 ^ 54 = ap (λ (z : ℕ). z * e) u.0 ∙ ap (λ (z : ℕ). first_26 d * 134217728 * z) v.0 ∙ omega arith in
+    let value : w * 2 ^ k * 2 ^ 1074 ≡ d * e * 2 ^ (i + j) + 0 * 2 ^ 2148 = omega (arith, ap (λ (z : ℕ). w * z) powers, ap (λ (z : ℕ). z * 2 ^ (i + j)) digits) in
+    let below : k ≤ 2044 = omega (arith, high) in
+    let top : 2 ^ k ≤ 2 ^ 2044 = pow_mono below in
+    let fine : w * 2 ^ k ≤ 2 ^ 52 * 2 ^ 2044 = mul-le w (2 ^ k) (2 ^ 52) (2 ^ 2044) (omega (arith, small)) top in
+    exact_at r w k _ fraction value (omega (arith, small)) (omega (arith, fine))
+
+combined_most : (o : Bool) (a b : ℕ) → combined o a b ≤ a + b
+combined_most true a b = omega arith
+combined_most false a b = omega arith
+
+-- a term of a sum, from the lower place of the two on
+short_term : (d i m : ℕ) → d < 2 ^ 26 → i - m ≤ 26 → d * 2 ^ (i - m) ≤ (2 ^ 26 - 1) * 2 ^ 26
+short_term d i m h l = mul-le d (2 ^ (i - m)) (2 ^ 26 - 1) (2 ^ 26) (omega (arith, h)) (pow_mono l)
+
+term : (d i : ℕ) → d < 2 ^ 53 → i ≤ 2044 → d * 2 ^ i ≤ (2 ^ 53 - 1) * 2 ^ 2044
+term d i h l = mul-le d (2 ^ i) (2 ^ 53 - 1) (2 ^ 2044) (omega (arith, h)) (pow_mono l)
+
+short_sum_from : (r : Ratio) (o : Bool) (d i e j m : ℕ) → d < 2 ^ 53 → e < 2 ^ 53 → d % 134217728 ≡ 0 → e % 134217728 ≡ 0 → m ≤ i → m ≤ j → i - m ≤ 26 → j - m ≤ 26
+    → i ≤ 2044 → j ≤ 2044 → IsFraction r (combined o (d * 2 ^ (i + 1074)) (e * 2 ^ (j + 1074))) 1 → is_inexact binary64 r ≡ false
+short_sum_from r o d i e j m hd he zd ze mi mj si sj hi hj fraction =
+    let u = halves d 0 hd zd refl in
+    let v = halves e 0 he ze refl in
+    let w = combined o (first_26 d * 2 ^ (i - m)) (first_26 e * 2 ^ (j - m)) in
+    let small = combined_most o (first_26 d * 2 ^ (i - m)) (first_26 e * 2 ^ (j - m)) in
+    let su = short_term (first_26 d) i m u.1 si in
+    let sv = short_term (first_26 e) j m v.1 sj in
+    let a : w * 2 ^ m ≡ combined o (first_26 d * 2 ^ i) (first_26 e * 2 ^ j) = two_coarse o (first_26 d) i (first_26 e) j m mi mj in
+    let b : combined o (first_26 d * 2 ^ i * 134217728) (first_26 e * 2 ^ j * 134217728) ≡ combined o (first_26 d * 2 ^ i) (first_26 e * 2 ^ j) * 134217728 =
+    combined_times o (first_26 d * 2 ^ i) (first_26 e * 2 ^ j) 134217728
+    in
+    let c : combined o (first_26 d * 2 ^ i * 134217728) (first_26 e * 2 ^ j * 134217728) ≡ combined o (d * 2 ^ i) (e * 2 ^ j) =
+    ap (λ (x : ℕ). combined o x (first_26 e * 2 ^ j * 134217728)) (let k : first_26 d * 2 ^ i * 134217728 ≡ d * 2 ^ i = omega (arith, ap (λ (z : ℕ). z * 2 ^ i) u.0) in k)
+    ∙ ap (λ (x : ℕ). combined o (d * 2 ^ i) x) (let k : first_26 e * 2 ^ j * 134217728 ≡ e * 2 ^ j = omega (arith, ap (λ (z : ℕ). z * 2 ^ j) v.0) in k)
+    in
+    let power : 2 ^ (m + 27) ≡ 2 ^ m * 134217728 = pow-add 2 m 27 in
+    let value : w * 2 ^ (m + 27) ≡ combined o (d * 2 ^ i) (e * 2 ^ j) = ap (λ (x : ℕ). w * x) power ∙ omega (arith, ap (λ (x : ℕ). x * 134217728) a, b, c) in
+    let most = combined_most o (d * 2 ^ i) (e * 2 ^ j) in
+    let md = term d i hd hi in
+    let me = term e j he hj in
+    let raised : combined o (d * 2 ^ i) (e * 2 ^ j) * 2 ^ 1074 ≡ combined o (d * 2 ^ (i + 1074)) (e * 2 ^ (j + 1074)) =
+    sym (combined_times o (d * 2 ^ i) (e * 2 ^ j) (2 ^ 1074))
+    ∙ ap (λ (x : ℕ). combined o x (e * 2 ^ j * 2 ^ 1074)) (raised_by d i)
+    ∙ ap (λ (x : ℕ). combined o (d * 2 ^ (i + 1074)) x) (raised_by e j)
+    in
+    exact_at r w (m + 27) _ fraction (ap (λ (x : ℕ). x * 2 ^ 1074) value ∙ raised) (omega (arith, small, su, sv)) (omega (arith, value, most, md, me))
+  where
+    raised_by : (d i : ℕ) → d * 2 ^ i * 2 ^ 1074 ≡ d * 2 ^ (i + 1074)
+    raised_by d i = let p : 2 ^ (i + 1074) ≡ 2 ^ i * 2 ^ 1074 = pow-add 2 i 1074 in omega (arith, ap (λ (x : ℕ). d * x) p)
+
+short_sum : (r : Ratio) (o : Bool) (d i e j : ℕ) → d < 2 ^ 53 → e < 2 ^ 53 → d % 134217728 ≡ 0 → e % 134217728 ≡ 0 → i ≤ j + 26 → j ≤ i + 26
+    → i ≤ 2044 → j ≤ 2044 → IsFraction r (combined o (d * 2 ^ (i + 1074)) (e * 2 ^ (j + 1074))) 1 → is_inexact binary64 r ≡ false
+short_sum r o d i e j hd he zd ze ij ji hi hj fraction = elim (cases_lt i j) [
+  | inl l ↦ short_sum_from r o d i e j i hd he zd ze (omega arith) (omega (arith, l)) (omega arith) (omega (arith, ji)) hi hj fraction
+  | inr l ↦ short_sum_from r o d i e j j hd he zd ze (omega (arith, l)) (omega arith) (omega (arith, ij)) (omega arith) hi hj fraction
+]
+
+abbrev limit : Scaled
+limit = record { digits = 18014398509481983; place = 1072 }
+
+sum_of : (g : Flags) (x y : Float) (a b z : ℕ) (p : Moderate a) (q : Moderate b) → (g.nx ≡ true) ⊎ IsSumShort a b
+    → IsMagnitude binary64 x p.finite.scaled → IsMagnitude binary64 y q.finite.scaled → Finite z → z ≡ to_bits binary64 (add binary64 x y)
+    → g ≡ accrued g (sum_flags binary64 x y)
+sum_of g x y a b z p q why hx hy f is =
+    let o = unlike (is_sign_negative x) (is_sign_negative y) in
+    let d = p.finite.scaled.digits in
+    let i = p.finite.scaled.place in
+    let e = q.finite.scaled.digits in
+    let j = q.finite.scaled.place in
+    of_sum_so (accrued g) binary64 x y p.finite.scaled q.finite.scaled (record { digits = d; place = i + 1074 }) (record { digits = e; place = j + 1074 }) o z (Some f.scaled) g
+    hx hy refl refl refl is f.magnitude
+    (λ r fraction result. elim why [
+      | inl there ↦
+          beside g binary64 r f.scaled there result
+          (coarse binary64 r limit o d (i + 1074) e (j + 1074) (record { digits = refl; place = refl }) (omega arith) (omega arith) fraction)
+      | inr h ↦
+          exact g binary64 r f.scaled result
+          (short_sum r o d i e j hx.narrow hy.narrow (p.finite.rest ∙ h.short.first) (q.finite.rest ∙ h.short.second) (omega (arith, h.near, p.finite.place, q.finite.place))
+          (omega (arith, h.far, p.finite.place, q.finite.place)) p.most q.most fraction)
+    ])
+
+pub sum : (g : Flags) (a b z : ℕ) → Moderate a → Moderate b → Finite z → (g.nx ≡ true) ⊎ IsSumShort a b
+    → z ≡ to_bits binary64 (add binary64 (of_bits binary64 a) (of_bits binary64 b)) → accrued g (add_flags binary64 a b) ≡ g
+sum g a b z x y f why is =
+    sym (sum_of g (of_bits binary64 a) (of_bits binary64 b) a b z x y why x.finite.magnitude y.finite.magnitude f is
+    ∙ ap (accrued g) (none_signals binary64 a b (sum_flags binary64 (of_bits binary64 a) (of_bits binary64 b)) invalid x.finite.magnitude.finite y.finite.magnitude.finite))
+
+negated : (x : Float) → SameSize x (neg x)
+unfolding neg float_is_finite
+negated nan = (refl, refl, refl)
+negated (inf s) = (refl, refl, refl)
+negated (fin s m e) = (refl, refl, refl)
+
+sub_is : (f : Format) (x y : Float) → sub f x y ≡ add f x (neg y)
+unfolding sub
+sub_is f x y = refl
+
+pub difference : (g : Flags) (a b z : ℕ) → Moderate a → Moderate b → Finite z → (g.nx ≡ true) ⊎ IsSumShort a b
+    → z ≡ to_bits binary64 (sub binary64 (of_bits binary64 a) (of_bits binary64 b)) → accrued g (sub_flags binary64 a b) ≡ g
+difference g a b z x y f why is =
+    let y_negated = magnitude_of binary64 (of_bits binary64 b) (neg (of_bits binary64 b)) (Some y.finite.scaled) (negated (of_bits binary64 b)) y.finite.magnitude in
+    sym (sum_of g (of_bits binary64 a) (neg (of_bits binary64 b)) a b z x y why x.finite.magnitude y_negated f
+    (is ∙ ap (to_bits binary64) (sub_is binary64 (of_bits binary64 a) (of_bits binary64 b)))
+    ∙ ap (accrued g) (none_signals binary64 a b (sum_flags binary64 (of_bits binary64 a) (neg (of_bits binary64 b))) invalid x.finite.magnitude.finite y.finite.magnitude.finite))
+
+pub product : (g : Flags) (a b z : ℕ) → Finite a → Finite b → Finite z → 1076 ≤ exponent a + exponent b → exponent a + exponent b ≤ 3066
+    → (g.nx ≡ true) ⊎ AreShort a b → z ≡ to_bits binary64 (mul binary64 (of_bits binary64 a) (of_bits binary64 b)) → accrued g (mul_flags binary64 a b) ≡ g
+product g a b z x y f large little why is =
+    let d = x.scaled.digits in
+    let i = x.scaled.place in
+    let e = y.scaled.digits in
+    let j = y.scaled.place in
+    sym (of_product_so (accrued g) binary64 (of_bits binary64 a) (of_bits binary64 b) x.scaled y.scaled (record { digits = d * e; place = i + j }) z (Some f.scaled) g
+    x.magnitude y.magnitude refl is f.magnitude
+    (λ r fraction result. elim why [
+      | inl there ↦
+          beside g binary64 r f.scaled there result
+          (coarse binary64 r limit false (d * e) (i + j) 0 2148 (record { digits = refl; place = refl }) (omega (arith, large, x.place, y.place)) (omega arith) fraction)
+      | inr h ↦
+          exact g binary64 r f.scaled result
+          (short_product r d i e j x.magnitude.narrow y.magnitude.narrow (x.rest ∙ h.first) (y.rest ∙ h.second) (omega (arith, large, x.place, y.place))
+          (omega (arith, little, x.place, y.place)) fraction)
+    ])
+    ∙ ap (accrued g) (none_signals binary64 a b (product_flags binary64 (of_bits binary64 a) (of_bits binary64 b)) invalid x.magnitude.finite y.magnitude.finite))

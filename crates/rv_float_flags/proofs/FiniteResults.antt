@@ -1,12 +1,12 @@
 -- What a sum or a product of finite doubles raises beside NX, where it is finite and not tiny.
-use Rattle.std.proofs.Common.{◌≡◌, ℕ, suc, ◌+◌, ◌-◌, ◌*◌, ◌/◌, ◌%◌, ◌^◌, ◌<◌, ◌≤◌, Bool, true, false, not, ◌&&◌, ◌||◌, nat_lt, ◌⊎◌, sym, ap, ◌∙◌, refl, arith, inl, inr}
+use Rattle.std.proofs.Common.{◌≡◌, ℕ, suc, ◌+◌, ◌-◌, ◌*◌, ◌/◌, ◌%◌, ◌^◌, ◌<◌, ◌≤◌, Bool, true, false, not, ◌&&◌, ◌||◌, nat_lt, ◌⊎◌, sym, subst, ap, ◌∙◌, refl, arith, inl, inr}
 use Rattle.std.proofs.Math.Nat.{eq_of_mul-eq-mul_right, eq-zero-or-pos, mul-one}
 use Rattle.std.proofs.Math.Pow.{pow_mono}
 use Rattle.std.proofs.lemmas.Nat.{mul-le, mul-lt, pow-add, pow_pos}
-use Rattle.std.proofs.lemmas.Bool.{cases_lt, ltb-true}
-use Rattle.std.specs.Float.{float_is_finite, is_sign_negative}
+use Rattle.std.proofs.lemmas.Bool.{cases_lt, ltb-true, ne_eqb, true≢false}
+use Rattle.std.specs.Float.{float_is_finite, float_is_infinite, is_sign_negative}
 use Rattle.std.specs.Prelude.{Some}
-use Rattle.rv_float_flags.specs.Exact.{combined, is_inexact, is_tiny, rounded, Ratio}
+use Rattle.rv_float_flags.specs.Exact.{combined, exact_product, exact_sum, is_inexact, is_tiny, rounded, Ratio}
 use Rattle.rv_float_flags.specs.Flags.{accrued, invalid, overflow_if, rounding_flags}
 use Rattle.rv_float_flags.specs.Operations.{add_flags, mul_flags, product_flags, sub_flags, sum_flags}
 use Rattle.rv_float_flags.specs.Scaled.{amount, exponent, IsFraction, IsLimit, IsMagnitude}
@@ -15,10 +15,11 @@ use Rattle.rv_float_flags.specs.declared.scaled.Scaled.{Scaled}
 use Rattle.rv_float_flags.proofs.Magnitudes.{normal, subnormal}
 use Rattle.rv_float_flags.proofs.Numbers.{combined_times}
 use Rattle.rv_float_flags.proofs.Operations.{none_signals, of_product_so, of_sum_so}
-use Rattle.rv_float_flags.proofs.Roundings.{coarse_none, exact_value, no_and, overflow, raised_beside, square, two_coarse, underflow}
-use Rattle.rv_float_flags.proofs.Results.{magnitude_of, SameSize}
+use Rattle.rv_float_flags.proofs.Roundings.{coarse_none, either, exact_value, no_and, overflow, raised_beside, square, two_coarse, underflow}
+use Rattle.rv_float_flags.proofs.Results.{add_rounds, magnitude_of, mul_rounds, SameSize}
+use lib.Dec.{T, eqb}
 use lib.Ieee.Exact.{round_exact}
-use lib.Ieee.{Float, Format, nan, inf, fin, add, binary64, mul, neg, of_bits, sub, to_bits, unlike}
+use lib.Ieee.{Float, Format, nan, inf, fin, add, binary64, is_nan, mul, nan_bits, neg, of_bits, round, sub, to_bits, unlike}
 
 -- ---- a double that is finite, by its pattern
 
@@ -253,3 +254,36 @@ product g a b z x y f large little why is =
           (omega (arith, little, x.place, y.place)) fraction)
     ])
     ∙ ap (accrued g) (none_signals binary64 a b (product_flags binary64 (of_bits binary64 a) (of_bits binary64 b)) invalid x.magnitude.finite y.magnitude.finite))
+
+-- ---- no NaN
+
+pub pattern_no_nan : (a : ℕ) → a % 9223372036854775808 < 9218868437227405312 → T (not (nan_bits binary64 a))
+unfolding nan_bits
+pattern_no_nan a h =
+    let other : eqb (a % 9223372036854775808 / 4503599627370496) 2047 ≡ false = ne_eqb (a % 9223372036854775808 / 4503599627370496) 2047 (λ e. absurd (omega (arith, e, h))) in
+    subst (λ (b : Bool). T (not (b && not (eqb (a % 4503599627370496) 0)))) (sym other) tt
+
+finite_no_nan : (x : Float) → float_is_infinite x ≡ not (float_is_finite x) → T (not (is_nan x))
+unfolding is_nan float_is_finite float_is_infinite
+finite_no_nan nan h = absurd (true≢false (sym h))
+finite_no_nan (inf s) h = tt
+finite_no_nan (fin s m e) h = tt
+
+rounded_no_nan : (f : Format) (x : Float) (r : Ratio) → (u : Bool) × (x ≡ round f u r.numerator r.denominator) → T (not (is_nan x))
+rounded_no_nan f x r is = subst (λ (y : Float). T (not (is_nan y))) (sym is.1) (finite_no_nan _ (either f is.0 r.numerator r.denominator))
+
+pub sum_no_nan : (x y : Float) → float_is_finite x ≡ true → float_is_finite y ≡ true → T (not (is_nan (add binary64 x y)))
+sum_no_nan x y h g = rounded_no_nan binary64 (add binary64 x y) (exact_sum x y) (add_rounds binary64 x y h g)
+
+pub product_no_nan : (x y : Float) → float_is_finite x ≡ true → float_is_finite y ≡ true → T (not (is_nan (mul binary64 x y)))
+product_no_nan x y h g = rounded_no_nan binary64 (mul binary64 x y) (exact_product x y) (mul_rounds binary64 x y h g)
+
+negated_finite : (x : Float) → float_is_finite x ≡ true → float_is_finite (neg x) ≡ true
+unfolding neg float_is_finite
+negated_finite nan h = h
+negated_finite (inf s) h = h
+negated_finite (fin s m e) h = refl
+
+pub difference_no_nan : (x y : Float) → float_is_finite x ≡ true → float_is_finite y ≡ true → T (not (is_nan (sub binary64 x y)))
+difference_no_nan x y h g =
+    subst (λ (z : Float). T (not (is_nan z))) (sym (sub_is binary64 x y)) (sum_no_nan x (neg y) h (negated_finite y g))

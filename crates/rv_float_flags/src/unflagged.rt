@@ -1,6 +1,6 @@
 //! Sums and products of doubles that raise no flag but those that are there, as far as a few comparisons find it out.
 
-ghost use Rattle.std.specs.Prelude.{◌≡◌, ◌+◌, ◌%◌, ◌^◌, ◌≤◌, nat_lt, IfSome, IsTrue};
+ghost use Rattle.std.specs.Prelude.{◌≡◌, ◌+◌, ◌%◌, ◌^◌, ◌<◌, ◌≤◌, nat_lt, IfSome, IsTrue};
 ghost use Rattle.rv_float_flags.specs.Scaled.{exponent};
 ghost use Rattle.rv_float_flags.specs.Flags.{accrued};
 ghost use Rattle.rv_float_flags.specs.Operations as Operations;
@@ -8,7 +8,6 @@ ghost use lib.Ieee as Ieee;
 ghost use lib.Ieee.{binary64, of_bits, to_bits};
 
 use crate::flags::Flags;
-use rv_floats::{add_d, mul_d, sub_d};
 
 /// FADD.D, where all that it raises is there, and that is found out at once.
 // For speed: a sum of finite doubles that is finite raises nothing but NX, and not even that where it has few digits.
@@ -18,7 +17,7 @@ pub fn add_unflagged_d(flags: Flags, a: u64, b: u64) -> Option<u64>
     ensures flags { IfSome result (λ z. accrued flags (Operations.add_flags binary64 a b) ≡ flags) }
 {
     if is_moderate(a) && is_moderate(b) {
-        let sum = add_d(a, b);
+        let sum = finite_sum(a, b);
         if is_finite(sum) && (flags.nx || is_sum_short(a, b)) {
             return Some(sum);
         }
@@ -33,7 +32,7 @@ pub fn sub_unflagged_d(flags: Flags, a: u64, b: u64) -> Option<u64>
     ensures flags { IfSome result (λ z. accrued flags (Operations.sub_flags binary64 a b) ≡ flags) }
 {
     if is_moderate(a) && is_moderate(b) {
-        let difference = sub_d(a, b);
+        let difference = finite_difference(a, b);
         if is_finite(difference) && (flags.nx || is_sum_short(a, b)) {
             return Some(difference);
         }
@@ -49,12 +48,43 @@ pub fn mul_unflagged_d(flags: Flags, a: u64, b: u64) -> Option<u64>
     ensures flags { IfSome result (λ z. accrued flags (Operations.mul_flags binary64 a b) ≡ flags) }
 {
     if is_finite(a) && is_finite(b) && is_product_moderate(a, b) {
-        let product = mul_d(a, b);
+        let product = finite_product(a, b);
         if is_finite(product) && (flags.nx || are_short(a, b)) {
             return Some(product);
         }
     }
     None
+}
+
+/// The sum of two doubles that are finite.
+// For speed: nothing asks whether one is a NaN.
+#[inline(always)]
+fn finite_sum(a: u64, b: u64) -> u64
+    requires first { a % 2 ^ 63 < 0x7ff0_0000_0000_0000 }
+    requires second { b % 2 ^ 63 < 0x7ff0_0000_0000_0000 }
+    ensures { result ≡ to_bits binary64 (Ieee.add binary64 (of_bits binary64 a) (of_bits binary64 b)) }
+{
+    (f64::from_bits(a) + f64::from_bits(b)).to_bits()
+}
+
+/// The difference.
+#[inline(always)]
+fn finite_difference(a: u64, b: u64) -> u64
+    requires first { a % 2 ^ 63 < 0x7ff0_0000_0000_0000 }
+    requires second { b % 2 ^ 63 < 0x7ff0_0000_0000_0000 }
+    ensures { result ≡ to_bits binary64 (Ieee.sub binary64 (of_bits binary64 a) (of_bits binary64 b)) }
+{
+    (f64::from_bits(a) - f64::from_bits(b)).to_bits()
+}
+
+/// The product.
+#[inline(always)]
+fn finite_product(a: u64, b: u64) -> u64
+    requires first { a % 2 ^ 63 < 0x7ff0_0000_0000_0000 }
+    requires second { b % 2 ^ 63 < 0x7ff0_0000_0000_0000 }
+    ensures { result ≡ to_bits binary64 (Ieee.mul binary64 (of_bits binary64 a) (of_bits binary64 b)) }
+{
+    (f64::from_bits(a) * f64::from_bits(b)).to_bits()
 }
 
 /// Whether a double is finite.

@@ -12,4 +12,4 @@ returns-then-is_sum_short-clause-flags c =
           let t = sym w.value-is ∙ c.if-is_sum_short.true in
           inr (record { short = record { first = w.is_sum_short.ensures.first t; second = w.is_sum_short.ensures.second t }; near = w.is_sum_short.ensures.near t; far = w.is_sum_short.ensures.far t })
     ])
-    c.add_d-sum.ensures
+    c.finite_sum-sum.ensures

@@ -13,4 +13,4 @@ returns-then-are_short-clause-flags c =
           let t = sym w.value-is ∙ c.if-are_short.true in
           inr (record { first = w.are_short.ensures.first t; second = w.are_short.ensures.second t })
     ])
-    c.mul_d-product.ensures
+    c.finite_product-product.ensures

@@ -1,9 +1,9 @@
 -- What a sum or a product of finite doubles raises beside NX, where it is finite and not tiny.
-use Rattle.std.proofs.Common.{◌≡◌, ℕ, suc, ◌+◌, ◌-◌, ◌*◌, ◌/◌, ◌%◌, ◌^◌, ◌<◌, ◌≤◌, Bool, true, false, not, ◌&&◌, ◌||◌, nat_lt, ◌⊎◌, sym, subst, ap, ◌∙◌, refl, arith, inl, inr}
-use Rattle.std.proofs.Math.Nat.{eq_of_mul-eq-mul_right, eq-zero-or-pos, mul-one}
+use Rattle.std.proofs.Common.{◌≡◌, ℕ, suc, ◌+◌, ◌-◌, ◌*◌, ◌/◌, ◌%◌, ◌^◌, ◌<◌, ◌≤◌, Bool, true, false, cond, not, ◌&&◌, ◌||◌, nat_lt, ◌⊎◌, sym, subst, ap, ◌∙◌, refl, arith, inl, inr}
+use Rattle.std.proofs.Math.Nat.{div-div-eq-div-mul, div-mul-le_self, eq_of_mul-eq-mul_right, eq-zero-or-pos, lt_of_mul-lt-mul_right, mul-le-mul_right, mul-lt-mul_of_pos_right, mul-one}
 use Rattle.std.proofs.Math.Pow.{pow_mono}
 use Rattle.std.proofs.lemmas.Nat.{mul-le, mul-lt, pow-add, pow_pos}
-use Rattle.std.proofs.lemmas.Bool.{cases_lt, ltb-true, ne_eqb, true≢false}
+use Rattle.std.proofs.lemmas.Bool.{cases_lt, lt-ltb, ltb-true, ne_eqb, true≢false}
 use Rattle.std.specs.Float.{float_is_finite, float_is_infinite, is_sign_negative}
 use Rattle.std.specs.Prelude.{Some}
 use Rattle.rv_float_flags.specs.Exact.{combined, exact_product, exact_sum, is_inexact, is_tiny, rounded, Ratio}
@@ -12,14 +12,20 @@ use Rattle.rv_float_flags.specs.Operations.{add_flags, mul_flags, product_flags,
 use Rattle.rv_float_flags.specs.Scaled.{amount, exponent, IsFraction, IsLimit, IsMagnitude}
 use Rattle.rv_float_flags.specs.declared.flags.Flags.{Flags}
 use Rattle.rv_float_flags.specs.declared.scaled.Scaled.{Scaled}
-use Rattle.rv_float_flags.proofs.Magnitudes.{normal, subnormal}
+use Rattle.rv_float_flags.proofs.Magnitudes.{no_magnitude, normal, odd-finite, subnormal}
+use Rattle.rv_float_flags.proofs.Fractions.{product_fraction, sum_fraction}
 use Rattle.rv_float_flags.proofs.Numbers.{combined_times}
 use Rattle.rv_float_flags.proofs.Operations.{none_signals, of_product_so, of_sum_so}
-use Rattle.rv_float_flags.proofs.Roundings.{coarse_none, either, exact_value, no_and, overflow, raised_beside, square, two_coarse, underflow}
-use Rattle.rv_float_flags.proofs.Results.{add_rounds, magnitude_of, mul_rounds, SameSize}
+use Rattle.rv_float_flags.proofs.Roundings.{bound_at, coarse_none, either, exact_value, no_and, overflow, raised_beside, square, two_coarse, underflow}
+use Rattle.rv_float_flags.proofs.Results.{add_rounds, either_round, magnitude_of, mul_rounds, SameSize}
+use Rattle.std.proofs.Common.{lt_of_le_of_lt}
 use lib.Dec.{T, eqb}
+use Prim.Native.Nat.{compare}
+use lib.Ieee.Bits.{of_bits-to_bits}
+use lib.Ieee.Digits.{size-le}
 use lib.Ieee.Exact.{round_exact}
-use lib.Ieee.{Float, Format, nan, inf, fin, add, binary64, is_nan, mul, nan_bits, neg, of_bits, round, sub, to_bits, unlike}
+use lib.Ieee.Fits.{nearest-le, round-fits, round_is}
+use lib.Ieee.{Float, Format, nan, inf, fin, add, binary64, emax, fits, is_nan, low, mul, nan_bits, nearest, neg, odd, of_bits, prec, round, size, sub, to_bits, units, unlike}
 
 -- ---- a double that is finite, by its pattern
 
@@ -53,14 +59,14 @@ finite a h = elim (eq-zero-or-pos (exponent a)) [
 pub finite_so : (a : ℕ) → nat_lt (a % 9223372036854775808) 9218868437227405312 ≡ true → Finite a
 finite_so a h = finite a (ltb-true (a % 9223372036854775808) 9218868437227405312 h)
 
--- less than 2 ^ 1023
+-- less than 2 ^ 1022
 pub record Moderate (a : ℕ) : Type 0 where
   pub finite : Finite a
-  pub most : finite.scaled.place ≤ 2044
+  pub most : finite.scaled.place ≤ 2043
 
-pub moderate : (a : ℕ) → nat_lt (a % 9223372036854775808) 9214364837600034816 ≡ true → Moderate a
+pub moderate : (a : ℕ) → nat_lt (a % 9223372036854775808) 9209861237972664320 ≡ true → Moderate a
 moderate a h =
-    let l : a % 9223372036854775808 < 9214364837600034816 = ltb-true (a % 9223372036854775808) 9214364837600034816 h in
+    let l : a % 9223372036854775808 < 9209861237972664320 = ltb-true (a % 9223372036854775808) 9209861237972664320 h in
     let f = finite a (omega (arith, l)) in
     record { finite = f; most = omega (arith, l, f.place) }
 
@@ -113,6 +119,55 @@ exact_at r w j n fraction e small fine =
     let c : r.numerator * 2 ^ 1074 ≡ w * 2 ^ j * r.denominator = eq_of_mul-eq-mul_right (2 ^ 1074) (pow_pos 1074) _ _ b in
     ap not (exact_value (rounded binary64 r) r.numerator r.denominator (round_exact binary64 false r.numerator r.denominator w j fraction.nonzero small fine c))
 
+-- ---- a rounding that is finite
+
+finite_units : (f : Format) (s : Bool) (q k : ℕ) → q * 2 ^ k < 2 ^ (low f + suc (emax f)) → float_is_finite (units f s q k) ≡ true
+unfolding units
+finite_units f s q k h =
+    ap (λ (b : Bool). float_is_finite (cond b (odd (suc (prec f)) s q k (low f)) (inf s))) (lt-ltb (q * 2 ^ k) (2 ^ (low f + suc (emax f))) h)
+    ∙ odd-finite (suc (prec f)) s q k (low f)
+
+-- less than 2 ^ 1023
+finite_below : (r : Ratio) → 0 < r.denominator → r.numerator * 2 ^ 1074 < 2 ^ 2097 * r.denominator → float_is_finite (rounded binary64 r) ≡ true
+finite_below r p h =
+    let n = r.numerator * 2 ^ 1074 in
+    let w = n / r.denominator in
+    let k = size w - 53 in
+    let u = r.denominator * 2 ^ k in
+    let q = nearest (n / u) (compare (n % u * 2) u) in
+    let a : w < 2 ^ 2097 = lt_of_mul-lt-mul_right r.denominator (lt_of_le_of_lt (div-mul-le_self n r.denominator) h) in
+    let b : size w ≤ 2097 = size-le w 2097 a in
+    let below : k ≤ 2044 = omega (arith, b) in
+    let c : 2 ^ k ≤ 2 ^ 2044 = pow_mono below in
+    let d : q ≤ suc (n / u) = nearest-le (n / u) (compare (n % u * 2) u) in
+    let e : n / u ≡ w / 2 ^ k = sym (div-div-eq-div-mul n r.denominator (2 ^ k)) in
+    let g : w / 2 ^ k * 2 ^ k ≤ w = div-mul-le_self w (2 ^ k) in
+    let i : q * 2 ^ k ≤ suc (w / 2 ^ k) * 2 ^ k = mul-le-mul_right (2 ^ k) (omega (arith, d, e)) in
+    let j : q * 2 ^ k < 2 ^ 2098 = omega (arith, i, g, a, c) in
+    subst (λ (x : Float). float_is_finite x ≡ true) (sym (round_is binary64 false r.numerator r.denominator)) (finite_units binary64 false q k j)
+
+finite_fraction : (r : Ratio) (n : ℕ) → IsFraction r n 1 → n < 2 ^ 3171 → float_is_finite (rounded binary64 r) ≡ true
+finite_fraction r n fraction h =
+    let a : r.numerator * (2 ^ 1074 * 2 ^ 1074) * 1 ≡ n * r.denominator = ap (λ (z : ℕ). r.numerator * z * 1) (sym square) ∙ fraction.value in
+    let b : n * r.denominator < 2 ^ 3171 * r.denominator = mul-lt-mul_of_pos_right h fraction.nonzero in
+    let c : r.numerator * 2 ^ 1074 * 2 ^ 1074 < 2 ^ 2097 * r.denominator * 2 ^ 1074 = omega (arith, a, b) in
+    finite_below r fraction.nonzero (lt_of_mul-lt-mul_right (2 ^ 1074) c)
+
+not_finite : (a : ℕ) → 9218868437227405312 ≤ a % 9223372036854775808 → float_is_finite (of_bits binary64 a) ≡ false
+not_finite a l = no_magnitude binary64 a 2046 (omega (arith, l)) refl
+
+finite_pattern : (a : ℕ) → float_is_finite (of_bits binary64 a) ≡ true → Finite a
+finite_pattern a h = elim (cases_lt (a % 9223372036854775808) 9218868437227405312) [
+  | inl l ↦ finite a l
+  | inr l ↦ absurd (true≢false (sym h ∙ not_finite a l))
+]
+
+finite_result : (z : ℕ) (v : Float) (r : Ratio) (u : Bool) → z ≡ to_bits binary64 v → v ≡ round binary64 u r.numerator r.denominator → float_is_finite (rounded binary64 r) ≡ true → Finite z
+finite_result z v r u is rounds h =
+    let same = either_round binary64 u false r.numerator r.denominator in
+    let fit : T (fits binary64 v) = subst (λ (x : Float). T (fits binary64 x)) (sym rounds) (round-fits binary64 u r.numerator r.denominator) in
+    finite_pattern z (ap (λ (x : ℕ). float_is_finite (of_bits binary64 x)) is ∙ ap float_is_finite (of_bits-to_bits binary64 v fit) ∙ ap float_is_finite rounds ∙ same.2 ∙ h)
+
 -- of a double whose last 27 digits are zeros, the others
 abbrev first_26 : ℕ → ℕ
 first_26 d = d / 134217728
@@ -148,6 +203,9 @@ short_term d i m h l = mul-le d (2 ^ (i - m)) (2 ^ 26 - 1) (2 ^ 26) (omega (arit
 term : (d i : ℕ) → d < 2 ^ 53 → i ≤ 2044 → d * 2 ^ i ≤ (2 ^ 53 - 1) * 2 ^ 2044
 term d i h l = mul-le d (2 ^ i) (2 ^ 53 - 1) (2 ^ 2044) (omega (arith, h)) (pow_mono l)
 
+raised_by : (d i : ℕ) → d * 2 ^ i * 2 ^ 1074 ≡ d * 2 ^ (i + 1074)
+raised_by d i = let p : 2 ^ (i + 1074) ≡ 2 ^ i * 2 ^ 1074 = pow-add 2 i 1074 in omega (arith, ap (λ (x : ℕ). d * x) p)
+
 short_sum_from : (r : Ratio) (o : Bool) (d i e j m : ℕ) → d < 2 ^ 53 → e < 2 ^ 53 → d % 134217728 ≡ 0 → e % 134217728 ≡ 0 → m ≤ i → m ≤ j → i - m ≤ 26 → j - m ≤ 26
     → i ≤ 2044 → j ≤ 2044 → IsFraction r (combined o (d * 2 ^ (i + 1074)) (e * 2 ^ (j + 1074))) 1 → is_inexact binary64 r ≡ false
 short_sum_from r o d i e j m hd he zd ze mi mj si sj hi hj fraction =
@@ -176,9 +234,6 @@ short_sum_from r o d i e j m hd he zd ze mi mj si sj hi hj fraction =
     ∙ ap (λ (x : ℕ). combined o (d * 2 ^ (i + 1074)) x) (raised_by e j)
     in
     exact_at r w (m + 27) _ fraction (ap (λ (x : ℕ). x * 2 ^ 1074) value ∙ raised) (omega (arith, small, su, sv)) (omega (arith, value, most, md, me))
-  where
-    raised_by : (d i : ℕ) → d * 2 ^ i * 2 ^ 1074 ≡ d * 2 ^ (i + 1074)
-    raised_by d i = let p : 2 ^ (i + 1074) ≡ 2 ^ i * 2 ^ 1074 = pow-add 2 i 1074 in omega (arith, ap (λ (x : ℕ). d * x) p)
 
 short_sum : (r : Ratio) (o : Bool) (d i e j : ℕ) → d < 2 ^ 53 → e < 2 ^ 53 → d % 134217728 ≡ 0 → e % 134217728 ≡ 0 → i ≤ j + 26 → j ≤ i + 26
     → i ≤ 2044 → j ≤ 2044 → IsFraction r (combined o (d * 2 ^ (i + 1074)) (e * 2 ^ (j + 1074))) 1 → is_inexact binary64 r ≡ false
@@ -190,15 +245,30 @@ short_sum r o d i e j hd he zd ze ij ji hi hj fraction = elim (cases_lt i j) [
 abbrev limit : Scaled
 limit = record { digits = 18014398509481983; place = 1072 }
 
+term_below : (d i l : ℕ) → d < 2 ^ 53 → i ≤ l → d * 2 ^ i ≤ (2 ^ 53 - 1) * 2 ^ l
+term_below d i l h k = mul-le d (2 ^ i) (2 ^ 53 - 1) (2 ^ l) (omega (arith, h)) (pow_mono k)
+
 sum_of : (g : Flags) (x y : Float) (a b z : ℕ) (p : Moderate a) (q : Moderate b) → (g.nx ≡ true) ⊎ IsSumShort a b
-    → IsMagnitude binary64 x p.finite.scaled → IsMagnitude binary64 y q.finite.scaled → Finite z → z ≡ to_bits binary64 (add binary64 x y)
+    → IsMagnitude binary64 x p.finite.scaled → IsMagnitude binary64 y q.finite.scaled → z ≡ to_bits binary64 (add binary64 x y)
     → g ≡ accrued g (sum_flags binary64 x y)
-sum_of g x y a b z p q why hx hy f is =
+sum_of g x y a b z p q why hx hy is =
     let o = unlike (is_sign_negative x) (is_sign_negative y) in
     let d = p.finite.scaled.digits in
     let i = p.finite.scaled.place in
     let e = q.finite.scaled.digits in
     let j = q.finite.scaled.place in
+    let rounds = add_rounds binary64 x y hx.finite hy.finite in
+    let fraction : IsFraction (exact_sum x y) (combined o (d * 2 ^ (i + 1074)) (e * 2 ^ (j + 1074))) 1 =
+    subst (λ (n : ℕ). IsFraction (exact_sum x y) n 1)
+    (ap (λ (n : ℕ). combined o n (e * 2 ^ j * 2 ^ 1074)) (raised_by d i) ∙ ap (λ (n : ℕ). combined o (d * 2 ^ (i + 1074)) n) (raised_by e j))
+    (sum_fraction binary64 o x y p.finite.scaled q.finite.scaled hx hy)
+    in
+    let most = combined_most o (d * 2 ^ (i + 1074)) (e * 2 ^ (j + 1074)) in
+    let di : i + 1074 ≤ 3117 = omega (arith, p.most) in
+    let ej : j + 1074 ≤ 3117 = omega (arith, q.most) in
+    let md = term_below d (i + 1074) 3117 hx.narrow di in
+    let me = term_below e (j + 1074) 3117 hy.narrow ej in
+    let f : Finite z = finite_result z (add binary64 x y) (exact_sum x y) rounds.0 is rounds.1 (finite_fraction (exact_sum x y) _ fraction (omega (arith, most, md, me))) in
     of_sum_so (accrued g) binary64 x y p.finite.scaled q.finite.scaled (record { digits = d; place = i + 1074 }) (record { digits = e; place = j + 1074 }) o z (Some f.scaled) g
     hx hy refl refl refl is f.magnitude
     (λ r fraction result. elim why [
@@ -208,13 +278,13 @@ sum_of g x y a b z p q why hx hy f is =
       | inr h ↦
           exact g binary64 r f.scaled result
           (short_sum r o d i e j hx.narrow hy.narrow (p.finite.rest ∙ h.short.first) (q.finite.rest ∙ h.short.second) (omega (arith, h.near, p.finite.place, q.finite.place))
-          (omega (arith, h.far, p.finite.place, q.finite.place)) p.most q.most fraction)
+            (omega (arith, h.far, p.finite.place, q.finite.place)) (omega (arith, p.most)) (omega (arith, q.most)) fraction)
     ])
 
-pub sum : (g : Flags) (a b z : ℕ) → Moderate a → Moderate b → Finite z → (g.nx ≡ true) ⊎ IsSumShort a b
+pub sum : (g : Flags) (a b z : ℕ) → Moderate a → Moderate b → (g.nx ≡ true) ⊎ IsSumShort a b
     → z ≡ to_bits binary64 (add binary64 (of_bits binary64 a) (of_bits binary64 b)) → accrued g (add_flags binary64 a b) ≡ g
-sum g a b z x y f why is =
-    sym (sum_of g (of_bits binary64 a) (of_bits binary64 b) a b z x y why x.finite.magnitude y.finite.magnitude f is
+sum g a b z x y why is =
+    sym (sum_of g (of_bits binary64 a) (of_bits binary64 b) a b z x y why x.finite.magnitude y.finite.magnitude is
     ∙ ap (accrued g) (none_signals binary64 a b (sum_flags binary64 (of_bits binary64 a) (of_bits binary64 b)) invalid x.finite.magnitude.finite y.finite.magnitude.finite))
 
 negated : (x : Float) → SameSize x (neg x)
@@ -227,21 +297,31 @@ sub_is : (f : Format) (x y : Float) → sub f x y ≡ add f x (neg y)
 unfolding sub
 sub_is f x y = refl
 
-pub difference : (g : Flags) (a b z : ℕ) → Moderate a → Moderate b → Finite z → (g.nx ≡ true) ⊎ IsSumShort a b
+pub difference : (g : Flags) (a b z : ℕ) → Moderate a → Moderate b → (g.nx ≡ true) ⊎ IsSumShort a b
     → z ≡ to_bits binary64 (sub binary64 (of_bits binary64 a) (of_bits binary64 b)) → accrued g (sub_flags binary64 a b) ≡ g
-difference g a b z x y f why is =
+difference g a b z x y why is =
     let y_negated = magnitude_of binary64 (of_bits binary64 b) (neg (of_bits binary64 b)) (Some y.finite.scaled) (negated (of_bits binary64 b)) y.finite.magnitude in
-    sym (sum_of g (of_bits binary64 a) (neg (of_bits binary64 b)) a b z x y why x.finite.magnitude y_negated f
+    sym (sum_of g (of_bits binary64 a) (neg (of_bits binary64 b)) a b z x y why x.finite.magnitude y_negated
     (is ∙ ap (to_bits binary64) (sub_is binary64 (of_bits binary64 a) (of_bits binary64 b)))
     ∙ ap (accrued g) (none_signals binary64 a b (sum_flags binary64 (of_bits binary64 a) (neg (of_bits binary64 b))) invalid x.finite.magnitude.finite y.finite.magnitude.finite))
 
-pub product : (g : Flags) (a b z : ℕ) → Finite a → Finite b → Finite z → 1076 ≤ exponent a + exponent b → exponent a + exponent b ≤ 3066
+pub product : (g : Flags) (a b z : ℕ) → Finite a → Finite b → 1076 ≤ exponent a + exponent b → exponent a + exponent b ≤ 3066
     → (g.nx ≡ true) ⊎ AreShort a b → z ≡ to_bits binary64 (mul binary64 (of_bits binary64 a) (of_bits binary64 b)) → accrued g (mul_flags binary64 a b) ≡ g
-product g a b z x y f large little why is =
+product g a b z x y large little why is =
     let d = x.scaled.digits in
     let i = x.scaled.place in
     let e = y.scaled.digits in
     let j = y.scaled.place in
+    let rounds = mul_rounds binary64 (of_bits binary64 a) (of_bits binary64 b) x.magnitude.finite y.magnitude.finite in
+    let most : d * e ≤ (2 ^ 53 - 1) * (2 ^ 53 - 1) = mul-le d e (2 ^ 53 - 1) (2 ^ 53 - 1) (omega (arith, x.magnitude.narrow)) (omega (arith, y.magnitude.narrow)) in
+    let places : i + j ≤ 3064 = omega (arith, little, x.place, y.place) in
+    let top : d * e * 2 ^ (i + j) ≤ (2 ^ 53 - 1) * (2 ^ 53 - 1) * 2 ^ 3064 = mul-le (d * e) (2 ^ (i + j)) ((2 ^ 53 - 1) * (2 ^ 53 - 1)) (2 ^ 3064) most (pow_mono places) in
+    let value : d * 2 ^ i * (e * 2 ^ j) ≡ d * e * 2 ^ (i + j) = bound_at d i e j in
+    let f : Finite z =
+    finite_result z (mul binary64 (of_bits binary64 a) (of_bits binary64 b)) (exact_product (of_bits binary64 a) (of_bits binary64 b)) rounds.0 is rounds.1
+    (finite_fraction (exact_product (of_bits binary64 a) (of_bits binary64 b)) _
+      (product_fraction binary64 (of_bits binary64 a) (of_bits binary64 b) x.scaled y.scaled (d * e * 2 ^ (i + j)) x.magnitude y.magnitude (sym value)) (omega (arith, top)))
+    in
     sym (of_product_so (accrued g) binary64 (of_bits binary64 a) (of_bits binary64 b) x.scaled y.scaled (record { digits = d * e; place = i + j }) z (Some f.scaled) g
     x.magnitude y.magnitude refl is f.magnitude
     (λ r fraction result. elim why [

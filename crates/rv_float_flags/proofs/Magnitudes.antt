@@ -12,7 +12,7 @@ use lib.Ieee.Positive.{num, den}
 
 -- ---- the value of digits at a place
 
-odd-finite : (d : ℕ) (s : Bool) (q k l : ℕ) → float_is_finite (odd d s q k l) ≡ true
+pub odd-finite : (d : ℕ) (s : Bool) (q k l : ℕ) → float_is_finite (odd d s q k l) ≡ true
 unfolding odd float_is_finite
 odd-finite d s zero k l = refl
 odd-finite d s (suc q) k l = refl

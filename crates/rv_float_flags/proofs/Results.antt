@@ -44,7 +44,7 @@ either_units f s t q k = either_odd (nat_lt (q * 2 ^ k) (2 ^ (low f + suc (emax 
 either_core : (f : Format) (s t : Bool) (n c k : ℕ) → SameSize (core f s n c k) (core f t n c k)
 either_core f s t n c k = either_units f s t (nearest (n / (c * 2 ^ k)) (compare (n % (c * 2 ^ k) * 2) (c * 2 ^ k))) k
 
-either_round : (f : Format) (s t : Bool) (a c : ℕ) → SameSize (round f s a c) (round f t a c)
+pub either_round : (f : Format) (s t : Bool) (a c : ℕ) → SameSize (round f s a c) (round f t a c)
 either_round f s t a c =
     let n = a * 2 ^ low f in
     let k = size (n / c) - prec f in

@@ -10,19 +10,17 @@ ghost use lib.Ieee.{binary64, of_bits, to_bits};
 use crate::flags::Flags;
 
 /// FADD.D, where all that it raises is there, and that is found out at once.
-// For speed: a sum of finite doubles that is finite raises nothing but NX, and not even that where it has few digits.
+// For speed: a finite sum of finite doubles raises nothing but NX, and not even that where it has few digits.
 #[inline(always)]
 pub fn add_unflagged_d(flags: Flags, a: u64, b: u64) -> Option<u64>
     ensures value { IfSome result (λ z. z ≡ to_bits binary64 (Ieee.add binary64 (of_bits binary64 a) (of_bits binary64 b))) }
     ensures flags { IfSome result (λ z. accrued flags (Operations.add_flags binary64 a b) ≡ flags) }
 {
-    if is_moderate(a) && is_moderate(b) {
-        let sum = finite_sum(a, b);
-        if is_finite(sum) && (flags.nx || is_sum_short(a, b)) {
-            return Some(sum);
-        }
+    if is_moderate(a) && is_moderate(b) && (flags.nx || is_sum_short(a, b)) {
+        Some(finite_sum(a, b))
+    } else {
+        None
     }
-    None
 }
 
 /// FSUB.D.
@@ -31,29 +29,29 @@ pub fn sub_unflagged_d(flags: Flags, a: u64, b: u64) -> Option<u64>
     ensures value { IfSome result (λ z. z ≡ to_bits binary64 (Ieee.sub binary64 (of_bits binary64 a) (of_bits binary64 b))) }
     ensures flags { IfSome result (λ z. accrued flags (Operations.sub_flags binary64 a b) ≡ flags) }
 {
-    if is_moderate(a) && is_moderate(b) {
-        let difference = finite_difference(a, b);
-        if is_finite(difference) && (flags.nx || is_sum_short(a, b)) {
-            return Some(difference);
-        }
+    if is_moderate(a) && is_moderate(b) && (flags.nx || is_sum_short(a, b)) {
+        Some(finite_difference(a, b))
+    } else {
+        None
     }
-    None
 }
 
 /// FMUL.D.
-// For speed: where the exponents add up to so much, a product is not tiny.
+// For speed: by its exponents a product is neither tiny nor too large.
 #[inline(always)]
 pub fn mul_unflagged_d(flags: Flags, a: u64, b: u64) -> Option<u64>
     ensures value { IfSome result (λ z. z ≡ to_bits binary64 (Ieee.mul binary64 (of_bits binary64 a) (of_bits binary64 b))) }
     ensures flags { IfSome result (λ z. accrued flags (Operations.mul_flags binary64 a b) ≡ flags) }
 {
-    if is_finite(a) && is_finite(b) && is_product_moderate(a, b) {
-        let product = finite_product(a, b);
-        if is_finite(product) && (flags.nx || are_short(a, b)) {
-            return Some(product);
-        }
+    if is_finite(a)
+        && is_finite(b)
+        && is_product_moderate(a, b)
+        && (flags.nx || are_short(a, b))
+    {
+        Some(finite_product(a, b))
+    } else {
+        None
     }
-    None
 }
 
 /// The sum of two doubles that are finite.
@@ -95,15 +93,15 @@ fn is_finite(a: u64) -> bool
     a % 0x8000_0000_0000_0000 < 0x7ff0_0000_0000_0000
 }
 
-/// Whether it is less than 2^1023 in size, so that no sum of two such is more than the largest finite value.
+/// Whether it is less than 2^1022 in size, so that a sum of two such is finite.
 #[inline(always)]
 fn is_moderate(a: u64) -> bool
-    ensures { result ≡ nat_lt (a % 2 ^ 63) 0x7fe0_0000_0000_0000 }
+    ensures { result ≡ nat_lt (a % 2 ^ 63) 0x7fd0_0000_0000_0000 }
 {
-    a % 0x8000_0000_0000_0000 < 0x7fe0_0000_0000_0000
+    a % 0x8000_0000_0000_0000 < 0x7fd0_0000_0000_0000
 }
 
-/// Whether a product is neither tiny nor too large, by the exponents.
+/// Whether a product of two such is neither tiny nor infinite, by the exponents.
 #[inline(always)]
 fn is_product_moderate(a: u64, b: u64) -> bool
     ensures least { IsTrue result → 1076 ≤ exponent a + exponent b }

@@ -5,7 +5,7 @@ use Rattle.rv_float_flags.proofs.unflagged.mul_unflagged_d.Goals.{then-flags, el
 
 pub returns-then-are_short-clause-flags : goal.returns-then-are_short-clause-flags
 returns-then-are_short-clause-flags c =
-    product c.args.flags c.args.a c.args.b _ (finite_so c.args.a (sym c.if-is_finite.ensures)) (finite_so c.args.b (sym c.if-is_finite-2.ensures)) (finite_so _ (sym c.if-is_finite-3.ensures)) (c.if-is_product_moderate.ensures.least refl)
+    product c.args.flags c.args.a c.args.b _ (finite_so c.args.a (sym c.if-is_finite.ensures)) (finite_so c.args.b (sym c.if-is_finite-2.ensures)) (c.if-is_product_moderate.ensures.least refl)
     (c.if-is_product_moderate.ensures.most refl)
     (elim c.if-flags.branch [
       | then-flags w ↦ inl w.if-flags.true
@@ -13,4 +13,4 @@ returns-then-are_short-clause-flags c =
           let t = sym w.value-is ∙ c.if-are_short.true in
           inr (record { first = w.are_short.ensures.first t; second = w.are_short.ensures.second t })
     ])
-    c.finite_product-product.ensures
+    c.finite_product.ensures

@@ -12,7 +12,7 @@ use Rattle.machine_core.specs.Turn.{lowest}
 use Rattle.machine_core.specs.Events.{is_enabled, after, event as event_of}
 use Rattle.machine_core.specs.Walk.{next_event, walked}
 use Rattle.bsp_debug.specs.declared.command.Command.{Command}
-use Rattle.bsp_debug.specs.declared.command.Command.TheVariants.{Step, Return, Phase, Turn, Go, Regs, Fregs, Bytes, Queue, Costs}
+use Rattle.bsp_debug.specs.declared.command.Command.TheVariants.{Step, Run, Return, Phase, Turn, Go, Regs, Fregs, Bytes, Queue, Costs}
 use Rattle.bsp_debug.specs.declared.point.Point.{Point}
 use Rattle.bsp_debug.specs.declared.point.Point.TheVariants.{Address, Superstep}
 use Rattle.bsp_debug.specs.Points.{is_set}
@@ -69,6 +69,7 @@ mapped-no_costs f (Some v) each rows e = each v rows cc
 -- what is answered with costs
 pub costs_are : (points : List Point) (m : MachineState) (c : Command) (events : List Event) (rows : List CostRow) → Makes points m c events (costs rows) → (events ≡ []) × (rows ≡ m.ledger)
 costs_are points m (Step rank n) events rows makes = absurd cc
+costs_are points m (Run rank n) events rows makes = absurd cc
 costs_are points m (Return rank addr sp) events rows makes = absurd cc
 costs_are points m Phase events rows makes = absurd cc
 costs_are points m Turn events rows makes = absurd (turned-no_costs (is_enabled m event.Turn) (after m events).outcome rows (sym makes.1))

@@ -2,7 +2,7 @@
 use Rattle.std.proofs.Common.{◌≡◌, ℕ, Bool, true, false, List, [], ◌∷◌, Option, Some, None, cond, option_map}
 use Rattle.std.specs.Prelude.{bytes_eq, codes}
 use Rattle.std.specs.Option.{option_and_then, option_map_or, option_or}
-use Rattle.bsp_debug.specs.declared.command.Command.TheVariants.{Step}
+use Rattle.bsp_debug.specs.declared.command.Command.TheVariants.{Step, Run}
 use Rattle.debug_lines.specs.declared.form.Form.{Form}
 use Rattle.debug_lines.specs.declared.topic.Topic.{Topic}
 use Rattle.debug_lines.specs.declared.line.Line.{Line}
@@ -113,11 +113,19 @@ framed_two-no_quit true costs wide e = mapped-no_quit OutputFrom (λ n is. cc) w
 framed_two-no_quit false true wide e = mapped-no_quit CostsFrom (λ n is. cc) wide e
 framed_two-no_quit false false wide e = cc
 
+framed_three-no_quit : (go : Bool) (rank count : Option ℕ)
+    → or_unknown (cond go (option_and_then (λ r. option_map (λ n. Command (Run r n)) count) rank) None) ≡ Quit → ⊥
+framed_three-no_quit true None count e = cc
+framed_three-no_quit true (Some r) None e = cc
+framed_three-no_quit true (Some r) (Some n) e = cc
+framed_three-no_quit false rank count e = cc
+
 framed-no_quit : (ws : List (List ℕ)) → or_unknown (framed_of_words ws) ≡ Quit → ⊥
 framed-no_quit [] e = cc
 framed-no_quit (word ∷ []) e = framed_one-no_quit (bytes_eq word (codes "nodes")) e
 framed-no_quit (word ∷ a ∷ []) e = framed_two-no_quit (bytes_eq word (codes "output")) (bytes_eq word (codes "costs")) (number_in 64 a) e
-framed-no_quit (word ∷ a ∷ b ∷ more) e = cc
+framed-no_quit (word ∷ a ∷ b ∷ []) e = framed_three-no_quit (bytes_eq word (codes "go")) (number_in 32 a) (number_in 64 b) e
+framed-no_quit (word ∷ a ∷ b ∷ c ∷ more) e = cc
 
 or-plain : (known more : Option Line) → (or_unknown more ≡ Quit → ⊥) → or_unknown (option_or known more) ≡ Quit → or_unknown known ≡ Quit
 or-plain (Some l) more never quits = quits

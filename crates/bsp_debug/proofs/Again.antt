@@ -1,5 +1,5 @@
 -- A command that was refused memory, given again.
-use Rattle.std.proofs.Common.{◌≡◌, ℕ, zero, suc, ◌+◌, ◌-◌, ◌<◌, ◌≤◌, inl, inr, Bool, true, false, List, [], ◌∷◌, ◌++◌, length, replicate, Some, None, refl, sym, ap, ap₂, ◌∙◌, subst, arith}
+use Rattle.std.proofs.Common.{◌≡◌, ℕ, zero, suc, ◌+◌, ◌-◌, ◌<◌, ◌≤◌, inl, inr, Bool, true, false, List, [], ◌∷◌, ◌++◌, length, replicate, Option, Some, None, refl, sym, ap, ap₂, ◌∙◌, subst, arith}
 use Rattle.std.specs.Option.{option_and_then}
 use Rattle.std.proofs.lemmas.Bool.{cases_order}
 use Rattle.std.proofs.lemmas.List.{length-replicate}
@@ -14,13 +14,13 @@ use Rattle.machine_core.proofs.Resume.{phases-after}
 use Rattle.machine_core.proofs.Steps.{after-nil}
 use Rattle.machine_core.proofs.Walks.{walked-add}
 use Rattle.bsp_debug.specs.declared.command.Command.{Command}
-use Rattle.bsp_debug.specs.declared.command.Command.TheVariants.{Step, Return, Phase, Turn, Go, Regs, Fregs, Bytes, Queue, Costs}
+use Rattle.bsp_debug.specs.declared.command.Command.TheVariants.{Step, Run, Return, Phase, Turn, Go, Regs, Fregs, Bytes, Queue, Costs}
 use Rattle.bsp_debug.specs.declared.point.Point.{Point}
 use Rattle.bsp_debug.specs.Debugger.{steps_at, IsWithinPhases, MakesPhases, Makes, MakesPart, rest_of}
 use Rattle.bsp_debug.specs.Reply.{Answer, moved}
 use Rattle.bsp_debug.specs.Returns.{has_arrived, HasReturned, IsReturning}
 use Rattle.bsp_debug.specs.Stops.{stop_at, stop_after, Goes, IsOnTheWay}
-use Rattle.bsp_debug.specs.Trace.{after_steps}
+use Rattle.bsp_debug.specs.Trace.{after_steps, point_at, RunsOn, RunsToPoint, RunsOnTo}
 use Rattle.bsp_debug.proofs.Counts.{after_steps-zero, after_steps-suc, steps_at-zero, steps_at-disabled, steps_at-suc}
 use Rattle.bsp_debug.proofs.Entries.{after-append}
 use Rattle.bsp_debug.proofs.Phases.{MakeNoTurn-append}
@@ -50,6 +50,48 @@ steps_at-rest (suc k) (suc n) m rank most = by (λ x most'. steps_at-rest k n x 
 after_steps-add : (j k : ℕ) (m : MachineState) (rank : ℕ) → after_steps (after_steps m rank j) rank k ≡ after_steps m rank (j + k)
 after_steps-add j k m rank =
     sym (after-append m (replicate j (event.Step rank)) (replicate k (event.Step rank))) ∙ ap (after m) (replicate-add j k (event.Step rank))
+
+-- a run that goes on up to a point
+run-again : (points : List Point) (m : MachineState) (rank n j k : ℕ) → RunsOnTo points m rank n j
+    → RunsToPoint points (after_steps m rank j) rank (n - j) k → RunsToPoint points m rank n (j + k)
+run-again points m rank n j k part rest = record {
+  on = record {
+    runs = λ i below. elim (cases_order i j) [
+      | inl same ↦ ap enabled_at same ∙ part.runs
+      | inr other ↦ elim other [
+        | inl before ↦ part.on.runs i before
+        | inr past ↦ ap (λ (x : MachineState). is_enabled x (event.Step rank)) (there i past) ∙ rest.on.runs (i - j) (omega (arith, below, past))
+      ]
+    ];
+    passes = λ i some below. elim (cases_order i j) [
+      | inl same ↦ ap point_there same ∙ part.passes (omega (arith, some, same))
+      | inr other ↦ elim other [
+        | inl before ↦ part.on.passes i some before
+        | inr past ↦ ap (λ (x : MachineState). point_at points x rank) (there i past) ∙ rest.on.passes (i - j) (omega (arith, past)) (omega (arith, below, past))
+      ]
+    ];
+  };
+  few = omega (arith, part.few, rest.few);
+  some = λ enabled may. elim (cases_order 0 j) [
+    | inl none ↦ omega (arith, rest.some part.runs (omega (arith, none, may)))
+    | inr other ↦ elim other [
+      | inl some ↦ omega (arith, some)
+      | inr below ↦ absurd (omega (arith, below))
+    ]
+  ];
+  arrived = λ enabled short none. rest.arrived (ap (λ (x : MachineState). is_enabled x (event.Step rank)) (after_steps-add j k m rank) ∙ enabled)
+      (omega (arith, short)) (ap (λ (x : MachineState). point_at points x rank) (after_steps-add j k m rank) ∙ none);
+} where
+  enabled_at : ℕ → Bool
+  enabled_at i = is_enabled (after_steps m rank i) (event.Step rank)
+
+  point_there : ℕ → Option Point
+  point_there i = point_at points (after_steps m rank i) rank
+
+  there : (i : ℕ) → j < i → after_steps m rank i ≡ after_steps (after_steps m rank j) rank (i - j)
+  there i past =
+      let split : i ≡ j + (i - j) = omega (arith, past) in
+      ap (λ n. after_steps m rank n) split ∙ sym (after_steps-add j (i - j) m rank)
 
 -- a run that goes on to where a function returns
 return-again : (points : List Point) (m : MachineState) (rank addr sp j k : ℕ) → IsReturning points m rank addr sp j
@@ -141,6 +183,12 @@ again points m (Step rank n) part rest reply sound some made =
     made.0 ∙ ap₂ (λ (x : MachineState) (k : ℕ). replicate (steps_at x rank (n - k)) (event.Step rank)) (ap (after m) some.2) long in
     let sum = steps_at-rest some.0 n m rank some.1 in
     (moved (length (part ++ rest)), (ap₂ (λ xs ys. xs ++ ys) some.2 more ∙ replicate-add some.0 (steps_at (after_steps m rank some.0) rank (n - some.0)) (event.Step rank) ∙ ap (λ k. replicate k (event.Step rank)) sum, refl))
+again points m (Run rank n) part rest reply sound (j, is, part_way) (((k, rest_is, ran), told)) =
+    let there : after m part ≡ after_steps m rank j = ap (after m) is in
+    let long : length part ≡ j = ap length is ∙ length-replicate j (event.Step rank) in
+    let whole = run-again points m rank n j k part_way
+    (subst (λ (l : ℕ). RunsToPoint points (after_steps m rank j) rank (n - l) k) long (subst (λ (x : MachineState). RunsToPoint points x rank (n - length part) k) there ran)) in
+    (moved (length (part ++ rest)), (((j + k, ap₂ (λ xs ys. xs ++ ys) is rest_is ∙ replicate-add j k (event.Step rank), whole), refl)))
 again points m (Return rank addr sp) part rest reply sound (j, is, part_way) (((k, rest_is, returned), told)) =
     let there : after m part ≡ after_steps m rank j = ap (after m) is in
     let whole = return-again points m rank addr sp j k part_way (subst (λ (x : MachineState). HasReturned points x rank addr sp k) there returned) in

@@ -8,8 +8,8 @@ use Rattle.bsp_debug.specs.declared.made.Made.{Made}
 use Rattle.bsp_debug.specs.declared.point.Point.{Point}
 use Rattle.bsp_debug.specs.Returns.{has_arrived, GoesOn, HasReturned, IsReturning}
 use Rattle.bsp_debug.specs.Trace.{Traced, IsTrace, with_steps, after_steps, stepped, EndsBelow}
-use Rattle.bsp_debug.proofs.Counts.{ticks_at, after_steps-zero, steps_at-all}
-use Rattle.bsp_debug.proofs.Traces.{count-is, trace-is, whole-is}
+use Rattle.bsp_debug.proofs.Counts.{ticks_at}
+use Rattle.bsp_debug.proofs.Traces.{counts-all, whole-is}
 
 module _ (points : List Point) (m : MachineState) (rank addr sp : ℕ) where
   pub GoesOn-none : GoesOn points m rank addr sp 0
@@ -37,14 +37,10 @@ module _ (points : List Point) (m : MachineState) (rank addr sp : ℕ) where
 -- what is taken down of such a run
 module _ (t now : Traced) (same : t ≡ now) (rank : ℕ) (new : MachineState) (made : List Made) (count : ℕ)
     (counted : count ≡ ticks_at new rank - ticks_at t.machine rank) (noted : made ≡ with_steps t.made rank count) where
-  pub counts-all : (k : ℕ) → new ≡ after_steps t.machine rank k → ((j : ℕ) → j < k → is_enabled (after_steps t.machine rank j) (Step rank) ≡ true) → count ≡ k
-  counts-all k is enabled =
-      count-is t now same rank new made count counted noted k is ∙ rw (← same) (steps_at-all k t.machine rank enabled)
-
   pub returned-is : (points : List Point) (addr sp : ℕ) → (k : ℕ) × (new ≡ after_steps t.machine rank k) × HasReturned points t.machine rank addr sp k
       → HasReturned points now.machine rank addr sp count × (record { start = t.start; machine = new; made = made } ≡ stepped rank count now)
   returned-is points addr sp (k, is, returned) =
-      let all = counts-all k is returned.on.runs in
+      let all = counts-all t now same rank new made count counted noted k is returned.on.runs in
       let whole = whole-is t now same rank new made count counted noted k is returned.on.runs in
       (rw all (rw (← same) returned), rw all whole)
 

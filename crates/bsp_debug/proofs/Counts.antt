@@ -120,6 +120,22 @@ steps_at-all (suc n) m rank enabled =
     steps_at-suc m rank n first
     ∙ ap suc (steps_at-all n (event m (Step rank)) rank (λ j below. sym (ap (λ (x : MachineState). is_enabled x (Step rank)) (after_steps-suc m rank j)) ∙ enabled (suc j) (omega (arith, below))))
 
+-- where it makes fewer than it is asked for, it has stopped
+pub steps_at-short : (n : ℕ) (m : MachineState) (rank : ℕ) → steps_at m rank n < n → is_enabled (after_steps m rank (steps_at m rank n)) (Step rank) ≡ false
+steps_at-short zero m rank short = absurd (omega (arith, short))
+steps_at-short (suc n) m rank short = by (λ x fewer. steps_at-short n x rank fewer) (is_enabled m (Step rank)) refl
+  where
+    by : ((x : MachineState) → steps_at x rank n < n → is_enabled (after_steps x rank (steps_at x rank n)) (Step rank) ≡ false)
+        → (enabled : Bool) → is_enabled m (Step rank) ≡ enabled → is_enabled (after_steps m rank (steps_at m rank (suc n))) (Step rank) ≡ false
+    by later false is =
+        ap (λ k. is_enabled (after_steps m rank k) (Step rank)) (steps_at-disabled m rank (suc n) is)
+        ∙ ap (λ (x : MachineState). is_enabled x (Step rank)) (after_steps-zero m rank) ∙ is
+    by later true is =
+        let next = event m (Step rank) in
+        let one = steps_at-suc m rank n is in
+        ap (λ k. is_enabled (after_steps m rank k) (Step rank)) one ∙ ap (λ (x : MachineState). is_enabled x (Step rank)) (after_steps-suc m rank (steps_at next rank n))
+        ∙ later next (omega (arith, one, short))
+
 -- the ticks tell how many it made
 pub ticks_at-steps : (n : ℕ) (m : MachineState) (rank : ℕ) → ticks_at (after_steps m rank n) rank - ticks_at m rank ≡ steps_at m rank n
 ticks_at-steps n m rank = ap (λ (x : MachineState). ticks_at x rank - ticks_at m rank) (after-often n m rank) ∙ by (slice_get m.nodes rank) refl

@@ -113,47 +113,59 @@ module _ (points : List Point) (t : Traced) (rank : ℕ) (trace : IsTrace t) (so
         ]
       ]
 
-  module _ (new : Traced) (r : RunsToPoint points rank t.machine new.machine) (is : new ≡ stepped rank r.count t) where
-    machine-is : new.machine ≡ after_steps t.machine rank r.count
-    machine-is = r.is
+  -- where it still runs, its limit lets it go on
+  within-limit : (count : ℕ) → RunsOn points t.machine rank count → is_enabled (after_steps t.machine rank count) (Step rank) ≡ true → count < t.machine.settings.limit
+  within-limit count on enabled =
+      let limit = t.machine.settings.limit in
+      elim (cases_order count limit) [
+        | inl same ↦ absurd (false≢true (sym (stopped-after t.machine rank sound) ∙ ap (λ k. is_enabled (after_steps t.machine rank k) (Step rank)) (sym same) ∙ enabled))
+        | inr other ↦ elim other [
+          | inl before ↦ before
+          | inr past ↦ absurd (false≢true (sym (stopped-after t.machine rank sound) ∙ on.runs limit past))
+        ]
+      ]
 
-    off-none : point_at points new.machine rank ≡ None → is_enabled new.machine (Step rank) ≡ false
-    off-none none = by (is_enabled new.machine (Step rank)) refl
+  module _ (new : Traced) (most count : ℕ) (all : most ≡ t.machine.settings.limit) (r : RunsToPoint points t.machine rank most count) (is : new ≡ stepped rank count t) where
+    machine-is : new.machine ≡ after_steps t.machine rank count
+    machine-is = ap (λ (x : Traced). x.machine) is
+
+    off-none : point_at points new.machine rank ≡ None → is_enabled (after_steps t.machine rank count) (Step rank) ≡ false
+    off-none none = by (is_enabled (after_steps t.machine rank count) (Step rank)) refl
       where
-        by : (enabled : Bool) → is_enabled new.machine (Step rank) ≡ enabled → is_enabled new.machine (Step rank) ≡ false
+        by : (enabled : Bool) → is_enabled (after_steps t.machine rank count) (Step rank) ≡ enabled → is_enabled (after_steps t.machine rank count) (Step rank) ≡ false
         by false off = off
-        by true on = absurd (r.arrived on none)
+        by true on = absurd (r.arrived on (omega (arith, all, within-limit count r.on on)) (ap (λ (x : MachineState). point_at points x rank) (sym machine-is) ∙ none))
 
     pub node-whole : point_at points new.machine rank ≡ None → new.machine ≡ after_steps t.machine rank t.machine.settings.limit
-    node-whole none = r.is ∙ stops-at r.count r.on (ap (λ (x : MachineState). is_enabled x (Step rank)) (sym r.is) ∙ off-none none)
+    node-whole none = machine-is ∙ stops-at count r.on (off-none none)
 
     pub node-order : EndsBelow rank t.made → EndsBelow (rank + 1) new.made
-    node-order ends = rw is (EndsBelow-steps rank r.count t.made ends)
+    node-order ends = rw is (EndsBelow-steps rank count t.made ends)
 
     pub node-gone : (E : Type 0) (o : Option Point) → o ≡ point_at points new.machine rank → IsGoing points t
         → (is_enabled t.machine (Step rank) ≡ true → IsWay points t.start t.machine (events_of t.made)) → HasGone {E = E} points new (Ok o)
-    node-gone E o found going way = by r.count refl
+    node-gone E o found going way = by count refl
       where
-        still : r.count ≡ 0 → new ≡ t
+        still : count ≡ 0 → new ≡ t
         still none = is ∙ ap (λ k. stepped rank k t) none ∙ ap (λ (x : MachineState). record t { machine = x }) (after_steps-zero t.machine rank)
 
-        none-here : r.count ≡ 0 → point_at points new.machine rank ≡ None
+        none-here : count ≡ 0 → point_at points new.machine rank ≡ None
         none-here none = point_at-stopped points new.machine rank (off (is_enabled new.machine (Step rank)) refl)
           where
             off : (enabled : Bool) → is_enabled new.machine (Step rank) ≡ enabled → is_enabled new.machine (Step rank) ≡ false
             off false is_off = is_off
-            off true is_on = absurd (let some = r.some (ap (λ (x : Traced). is_enabled x.machine (Step rank)) (sym (still none)) ∙ is_on) in omega (arith, some, none))
+            off true is_on = absurd (let some = r.some (ap (λ (x : Traced). is_enabled x.machine (Step rank)) (sym (still none)) ∙ is_on) (omega (arith, all, sound.settings.ticks)) in omega (arith, some, none))
 
         gone : (p : Option Point) → o ≡ p → IsBeforeAddress points new → HasGone {E = E} points new (Ok p)
         gone None none last = inr last
         gone (Some p) some last =
             let at : point_at points new.machine rank ≡ Some p = sym found ∙ some in
             let on = point_at-enabled points new.machine rank p at in
-            let sound_new : IsSoundMachine new.machine = rw machine-is (sound-steps r.count) in
-            let below_new : HaveStoppedBelow rank new.machine = rw machine-is (below-steps r.count) in
+            let sound_new : IsSoundMachine new.machine = rw machine-is (sound-steps count) in
+            let below_new : HaveStoppedBelow rank new.machine = rw machine-is (below-steps count) in
             IsGoing-stop points new (stopped p) (inr last) last.some (address_stop-at points new.machine rank sound_new below_new on ∙ ap (option_map stopped) at)
 
-        by : (k : ℕ) → r.count ≡ k → HasGone {E = E} points new (Ok o)
+        by : (k : ℕ) → count ≡ k → HasGone {E = E} points new (Ok o)
         by zero none = rw (found ∙ none-here none) (rw (still none) going)
         by (suc c) some =
             let enabled : is_enabled t.machine (Step rank) ≡ true = sym (ap (λ (x : MachineState). is_enabled x (Step rank)) (after_steps-zero t.machine rank)) ∙ r.on.runs 0 (omega (arith, some)) in
@@ -161,30 +173,30 @@ module _ (points : List Point) (t : Traced) (rank : ℕ) (trace : IsTrace t) (so
             gone o refl (rw (is ∙ ap (λ k. stepped rank k t) some) last)
 
   -- where memory was refused
-  pub node-refused : (new : Traced) (r : RunsOnTo points rank t.machine new.machine) → new ≡ stepped rank r.count t
+  pub node-refused : (new : Traced) (most count : ℕ) → RunsOnTo points t.machine rank most count → new ≡ stepped rank count t
       → (is_enabled t.machine (Step rank) ≡ true → IsWay points t.start t.machine (events_of t.made)) → IsOnTheWay points new.start (events_of new.made)
-  node-refused new r is way =
+  node-refused new most count r is way =
       let m = t.machine in
-      let runs : (j : ℕ) → j ≤ r.count → is_enabled (after_steps m rank j) (Step rank) ≡ true =
-      (λ j within. elim (cases_order j r.count) [
-        | inl same ↦ ap (λ k. is_enabled (after_steps m rank k) (Step rank)) same ∙ ap (λ (x : MachineState). is_enabled x (Step rank)) (sym r.is) ∙ r.runs
+      let runs : (j : ℕ) → j ≤ count → is_enabled (after_steps m rank j) (Step rank) ≡ true =
+      (λ j within. elim (cases_order j count) [
+        | inl same ↦ ap (λ k. is_enabled (after_steps m rank k) (Step rank)) same ∙ r.runs
         | inr other ↦ elim other [
           | inl before ↦ r.on.runs j before
           | inr past ↦ absurd (omega (arith, within, past))
         ]
       ]) in
-      let passes : (j : ℕ) → 0 < j → j ≤ r.count → point_at points (after_steps m rank j) rank ≡ None =
-      (λ j some within. elim (cases_order j r.count) [
-        | inl same ↦ ap (λ k. point_at points (after_steps m rank k) rank) same ∙ ap (λ (x : MachineState). point_at points x rank) (sym r.is) ∙ r.passes (omega (arith, some, same))
+      let passes : (j : ℕ) → 0 < j → j ≤ count → point_at points (after_steps m rank j) rank ≡ None =
+      (λ j some within. elim (cases_order j count) [
+        | inl same ↦ ap (λ k. point_at points (after_steps m rank k) rank) same ∙ r.passes (omega (arith, some, same))
         | inr other ↦ elim other [
           | inl before ↦ r.on.passes j some before
           | inr past ↦ absurd (omega (arith, within, past))
         ]
       ]) in
       let first : is_enabled m (Step rank) ≡ true = sym (ap (λ (x : MachineState). is_enabled x (Step rank)) (after_steps-zero m rank)) ∙ runs 0 (omega arith) in
-      let on_way = IsWay-steps points t.start rank r.count m (events_of t.made) sound open_yet below runs passes (way first) in
-      let part = IsWay-part points t.start (after_steps m rank r.count) (events_of t.made ++ replicate r.count (Step rank)) on_way in
-      rw is (rw (events_of-steps t.made rank r.count) part)
+      let on_way = IsWay-steps points t.start rank count m (events_of t.made) sound open_yet below runs passes (way first) in
+      let part = IsWay-part points t.start (after_steps m rank count) (events_of t.made ++ replicate count (Step rank)) on_way in
+      rw is (rw (events_of-steps t.made rank count) part)
 
 -- where the turn stops
 module _ (points : List Point) (m : MachineState) where

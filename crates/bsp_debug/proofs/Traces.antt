@@ -8,16 +8,14 @@ use Rattle.node_core.specs.Node.{NodeState}
 use Rattle.machine_core.specs.declared.event.Event.TheVariants.{Step}
 use Rattle.machine_core.specs.Machine.{MachineState}
 use Rattle.machine_core.specs.Events.{runs, is_enabled, event, MayRefuseEvent}
-use Rattle.machine_core.specs.Sound.{IsSoundMachine}
 use Rattle.machine_core.proofs.Phased.{enabled_from}
-use Rattle.machine_core.proofs.Walks.{stopped-after}
 use Rattle.bsp_debug.specs.declared.made.Made.{Made}
 use Rattle.bsp_debug.specs.declared.point.Point.{Point}
 use Rattle.bsp_debug.specs.declared.point.Point.TheVariants.{Address}
 use Rattle.bsp_debug.specs.Debugger.{steps_at}
 use Rattle.bsp_debug.specs.Points.{is_set}
 use Rattle.bsp_debug.specs.Trace.{Traced, IsTrace, with_steps, after_steps, stepped, EndsBelow, point_at, RunsOn, RunsToPoint, RunsOnTo}
-use Rattle.bsp_debug.proofs.Counts.{ticks_at, after_steps-zero, after_steps-suc, steps_at-suc, after_steps-made, enabled-before, steps_at-le, steps_at-all, ticks_at-steps}
+use Rattle.bsp_debug.proofs.Counts.{ticks_at, after_steps-zero, after_steps-suc, steps_at-suc, after_steps-made, enabled-before, steps_at-le, steps_at-most, steps_at-all, steps_at-short, ticks_at-steps}
 use Rattle.bsp_debug.proofs.Entries.{IsTrace-steps}
 
 -- the last of k + 1 steps
@@ -69,38 +67,43 @@ point_at-none m rank = by (slice_get m.nodes rank)
     by None = refl
     by (Some n) = test (runs n) (Address rank n.hart.pc)
 
-some_step : (m : MachineState) (rank : ℕ) → IsSoundMachine m → is_enabled m (Step rank) ≡ true → 0 < steps_at m rank m.settings.limit
-some_step m rank sound enabled = by m.settings.limit sound.settings.ticks
-  where
-    by : (n : ℕ) → 0 < n → 0 < steps_at m rank n
-    by zero some = absurd (omega (arith, some))
-    by (suc n) some = omega (arith, steps_at-suc m rank n enabled)
+some_step : (n : ℕ) (m : MachineState) (rank : ℕ) → 0 < n → is_enabled m (Step rank) ≡ true → 0 < steps_at m rank n
+some_step zero m rank some enabled = absurd (omega (arith, some))
+some_step (suc n) m rank some enabled = omega (arith, steps_at-suc m rank n enabled)
 
 -- a node that ran by itself
-module _ (points : List Point) (m new : MachineState) (rank : ℕ) (none : points ≡ []) where
+module _ (points : List Point) (m new : MachineState) (rank most : ℕ) (none : points ≡ []) where
   alone : (n : ℕ) → RunsOn points m rank (steps_at m rank n)
   alone n = record {
     runs = λ j below. enabled-before n m rank j below;
     passes = λ j some below. rw none (point_at-none (after_steps m rank j) rank);
   }
 
-  pub alone-ok : IsSoundMachine m → new ≡ after_steps m rank m.settings.limit → RunsToPoint points rank m new
-  alone-ok sound made = record {
-    count = steps_at m rank m.settings.limit;
-    is = made ∙ after_steps-made m.settings.limit m rank;
-    on = alone m.settings.limit;
-    some = some_step m rank sound;
-    arrived = λ enabled. absurd (false≢true (sym (ap (λ (x : MachineState). is_enabled x (Step rank)) made ∙ stopped-after m rank sound) ∙ enabled));
-  }
+  pub alone-ok : new ≡ after_steps m rank most → (count : ℕ) × (new ≡ after_steps m rank count) × RunsToPoint points m rank most count
+  alone-ok made = (
+    steps_at m rank most,
+    made ∙ after_steps-made most m rank,
+    record {
+      on = alone most;
+      few = steps_at-most most m rank;
+      some = λ enabled may. some_step most m rank may enabled;
+      arrived = λ enabled short. absurd (false≢true (sym (steps_at-short most m rank short) ∙ enabled));
+    },
+  )
 
-  pub alone-err : (k : ℕ) → new ≡ after_steps m rank k → MayRefuseEvent new (Step rank) → RunsOnTo points rank m new
-  alone-err k made may = record {
-    count = steps_at m rank k;
-    is = made ∙ after_steps-made k m rank;
-    on = alone k;
-    runs = enabled_from new rank may;
-    passes = λ some. rw none (point_at-none new rank);
-  }
+  pub alone-err : (k : ℕ) → k < most → new ≡ after_steps m rank k → MayRefuseEvent new (Step rank)
+      → (count : ℕ) × (new ≡ after_steps m rank count) × RunsOnTo points m rank most count
+  alone-err k below made may =
+      let is : new ≡ after_steps m rank (steps_at m rank k) = made ∙ after_steps-made k m rank in (
+        steps_at m rank k,
+        is,
+        record {
+          on = alone k;
+          few = omega (arith, below, steps_at-most k m rank);
+          runs = ap (λ (x : MachineState). is_enabled x (Step rank)) (sym is) ∙ enabled_from new rank may;
+          passes = λ some. rw none (point_at-none (after_steps m rank (steps_at m rank k)) rank);
+        },
+      )
 
 -- what is taken down of a run
 module _ (t now : Traced) (same : t ≡ now) (rank : ℕ) (new : MachineState) (made : List Made) (count : ℕ)
@@ -131,22 +134,20 @@ module _ (t now : Traced) (same : t ≡ now) (rank : ℕ) (new : MachineState) (
       let all : steps_at now.machine rank k ≡ k = rw (← same) (steps_at-all k t.machine rank enabled) in
       stepped-is k is ∙ ap (λ n. stepped rank n now) all
 
-  pub to_point-is : (points : List Point) → RunsToPoint points rank t.machine new
-      → (r : RunsToPoint points rank now.machine new) × (record { start = t.start; machine = new; made = made } ≡ stepped rank r.count now)
-  to_point-is points r =
-      let is = whole-is r.count r.is r.on.runs in
-      rw (← same) (r, rw (← same) at is)
+  -- how many these are
+  pub counts-all : (k : ℕ) → new ≡ after_steps t.machine rank k → ((j : ℕ) → j < k → is_enabled (after_steps t.machine rank j) (Step rank) ≡ true) → count ≡ k
+  counts-all k is enabled = count-is k is ∙ rw (← same) (steps_at-all k t.machine rank enabled)
 
-  pub on_to-is : (points : List Point) → RunsOnTo points rank t.machine new
-      → (r : RunsOnTo points rank now.machine new) × (record { start = t.start; machine = new; made = made } ≡ stepped rank r.count now)
-  on_to-is points r =
-      let is = whole-is r.count r.is r.on.runs in
-      rw (← same) (r, rw (← same) at is)
+  pub to_point-is : (points : List Point) (most : ℕ) → (k : ℕ) × (new ≡ after_steps t.machine rank k) × RunsToPoint points t.machine rank most k
+      → RunsToPoint points now.machine rank most count × (record { start = t.start; machine = new; made = made } ≡ stepped rank count now)
+  to_point-is points most (k, is, r) =
+      let all = counts-all k is r.on.runs in
+      let whole = whole-is k is r.on.runs in
+      (rw all (rw (← same) r), rw all whole)
 
-  pub ran-is : {T E : Type 0} (points : List Point) (r : Result T E) → OnOk r (RunsToPoint points rank t.machine new) → OnErr r (RunsOnTo points rank t.machine new)
-      → IsTrace t → EndsBelow rank now.made → IsTrace (record { start = t.start; machine = new; made = made })
-  ran-is points (Ok x) ok err trace ends = trace-is ok.count ok.is trace ends
-  ran-is points (Err e) ok err trace ends = trace-is err.count err.is trace ends
+  pub on_to-is : (points : List Point) (most : ℕ) → (k : ℕ) × (new ≡ after_steps t.machine rank k) × RunsOnTo points t.machine rank most k
+      → (k : ℕ) × RunsOnTo points now.machine rank most k × (record { start = t.start; machine = new; made = made } ≡ stepped rank k now)
+  on_to-is points most (k, is, r) = (k, rw (← same) r, whole-is k is r.on.runs)
 
 -- both of what is known of a refusal
 pub both : {T E : Type 0} (P Q : Type 0) (r : Result T E) → OnErr r P → OnErr r Q → OnErr r (P × Q)

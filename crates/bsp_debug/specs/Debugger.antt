@@ -15,7 +15,7 @@ use Rattle.machine_core.specs.Turn.{with_phases}
 use Rattle.machine_core.specs.Events.{is_enabled, after, MakeNoTurn}
 use Rattle.machine_core.specs.Walk.{walk}
 use Rattle.bsp_debug.specs.declared.command.Command.{Command}
-use Rattle.bsp_debug.specs.declared.command.Command.TheVariants.{Step, Return, Phase, Turn, Go, Regs, Fregs, Bytes, Queue, Costs}
+use Rattle.bsp_debug.specs.declared.command.Command.TheVariants.{Step, Run, Return, Phase, Turn, Go, Regs, Fregs, Bytes, Queue, Costs}
 use Rattle.bsp_debug.specs.declared.error.DebugError.{DebugError}
 use Rattle.bsp_debug.specs.declared.error.DebugError.TheVariants.{BadRank, BadRange, NoFloatUnit, TooMany, NoSuchBreak, Over}
 use Rattle.bsp_debug.specs.declared.made.Made.{Made}
@@ -25,6 +25,7 @@ use Rattle.bsp_debug.specs.Points.{is_set, most_points}
 use Rattle.bsp_debug.specs.Reply.{Answer, moved, turned, finished, registers, floats, bytes, queue, costs}
 use Rattle.bsp_debug.specs.Returns.{HasReturned, IsReturning}
 use Rattle.bsp_debug.specs.Stops.{Goes, IsOnTheWay}
+use Rattle.bsp_debug.specs.Trace.{RunsToPoint, RunsOnTo}
 
 pub record DebuggerState : Type 0 where
   -- the machine as it was when the debugger was made of it
@@ -71,6 +72,7 @@ range_fault m rank addr len =
 -- to make events, and the machine has its outcome
 abbrev pub command_fault : MachineState → Command → Option DebugError
 command_fault m (Step rank n) = option_or (refused_unless (has_rank m rank) BadRank) (refused_unless (is_none m.outcome) Over)
+command_fault m (Run rank n) = option_or (refused_unless (has_rank m rank) BadRank) (refused_unless (is_none m.outcome) Over)
 command_fault m (Return rank addr sp) = option_or (refused_unless (has_rank m rank) BadRank) (refused_unless (is_none m.outcome) Over)
 command_fault m Phase = refused_unless (is_none m.outcome) Over
 command_fault m Turn = refused_unless (is_none m.outcome) Over
@@ -122,6 +124,8 @@ floats_of rank u = floats rank (csr_value Fcsr u) (float_registers u)
 -- what a command makes of a machine's events, and what it answers
 abbrev pub Makes : List Point → MachineState → Command → List Event → Answer → Type 0
 Makes points m (Step rank n) events reply = (events ≡ replicate (steps_at m rank n) (event.Step rank)) × (reply ≡ moved (length events))
+Makes points m (Run rank n) events reply =
+    ((count : ℕ) × (events ≡ replicate count (event.Step rank)) × RunsToPoint points m rank n count) × (reply ≡ moved (length events))
 Makes points m (Return rank addr sp) events reply =
     ((count : ℕ) × (events ≡ replicate count (event.Step rank)) × HasReturned points m rank addr sp count) × (reply ≡ moved (length events))
 Makes points m Phase events reply = MakesPhases m events × (reply ≡ moved (length events))
@@ -140,6 +144,7 @@ Makes points m Costs events reply = (events ≡ []) × (reply ≡ costs m.ledger
 -- is not enabled has no events of which one could be missing). `Regs` and `Fregs` ask for no memory
 abbrev pub MakesPart : List Point → MachineState → Command → List Event → Type 0
 MakesPart points m (Step rank n) events = (k : ℕ) × (k ≤ steps_at m rank n) × (events ≡ replicate k (event.Step rank))
+MakesPart points m (Run rank n) events = (count : ℕ) × (events ≡ replicate count (event.Step rank)) × RunsOnTo points m rank n count
 MakesPart points m (Return rank addr sp) events =
     (count : ℕ) × (events ≡ replicate count (event.Step rank)) × IsReturning points m rank addr sp count
 MakesPart points m Phase events = IsWithinPhases m events
@@ -151,9 +156,10 @@ MakesPart points m (Bytes rank addr len) events = events ≡ []
 MakesPart points m (Queue rank) events = events ≡ []
 MakesPart points m Costs events = events ≡ []
 
--- the command that is left where it was refused memory after some events: of `Step` as many steps less, of any other the whole
+-- the command that is left where it was refused memory after some events: of `Step` and `Run` as many steps less, of any other the whole
 abbrev pub rest_of : Command → List Event → Command
 rest_of (Step rank n) made = Step rank (n - length made)
+rest_of (Run rank n) made = Run rank (n - length made)
 rest_of (Return rank addr sp) made = Return rank addr sp
 rest_of Phase made = Phase
 rest_of Turn made = Turn

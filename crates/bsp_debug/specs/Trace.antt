@@ -1,5 +1,5 @@
 -- A machine whose events are taken down, and runs of one node up to a point.
-use Rattle.std.specs.Prelude.{◌≡◌, ◌≢◌, ℕ, ◌<◌, ◌==◌, ◌&&◌, true, List, [], ◌∷◌, ◌++◌, replicate, slice_get, if◌then◌else◌, Option, Some, None}
+use Rattle.std.specs.Prelude.{◌≡◌, ◌≢◌, ℕ, ◌<◌, ◌≤◌, ◌==◌, ◌&&◌, true, List, [], ◌∷◌, ◌++◌, replicate, slice_get, if◌then◌else◌, Option, Some, None}
 use Rattle.std.specs.Option.{option_and_then}
 use Rattle.node_core.specs.Node.{NodeState}
 use Rattle.machine_core.specs.declared.event.Event.TheVariants.{Step, Turn}
@@ -62,18 +62,17 @@ pub record RunsOn (points : List Point) (m : MachineState) (rank count : ℕ) : 
   pub runs : (j : ℕ) → j < count → is_enabled (after_steps m rank j) (Step rank) ≡ true
   pub passes : (j : ℕ) → 0 < j → j < count → point_at points (after_steps m rank j) rank ≡ None
 
--- it has run until it stopped or stood at a point, after a step at least if it ran at all
-pub record RunsToPoint (points : List Point) (rank : ℕ) (old new : MachineState) : Type 0 where
-  pub count : ℕ
-  pub is : new ≡ after_steps old rank count
-  pub on : RunsOn points old rank count
-  pub some : is_enabled old (Step rank) ≡ true → 0 < count
-  pub arrived : is_enabled new (Step rank) ≡ true → point_at points new rank ≢ None
+-- after so many of at most `most` steps it has stopped or stands at a point, or these were all of them; and they are one at least if it ran
+-- and might make one
+pub record RunsToPoint (points : List Point) (m : MachineState) (rank most count : ℕ) : Type 0 where
+  pub on : RunsOn points m rank count
+  pub few : count ≤ most
+  pub some : is_enabled m (Step rank) ≡ true → 0 < most → 0 < count
+  pub arrived : is_enabled (after_steps m rank count) (Step rank) ≡ true → count < most → point_at points (after_steps m rank count) rank ≢ None
 
--- it has run, and may run on
-pub record RunsOnTo (points : List Point) (rank : ℕ) (old new : MachineState) : Type 0 where
-  pub count : ℕ
-  pub is : new ≡ after_steps old rank count
-  pub on : RunsOn points old rank count
-  pub runs : is_enabled new (Step rank) ≡ true
-  pub passes : 0 < count → point_at points new rank ≡ None
+-- it runs after so many of them, and stands at no point, but perhaps where it began
+pub record RunsOnTo (points : List Point) (m : MachineState) (rank most count : ℕ) : Type 0 where
+  pub on : RunsOn points m rank count
+  pub few : count ≤ most
+  pub runs : is_enabled (after_steps m rank count) (Step rank) ≡ true
+  pub passes : 0 < count → point_at points (after_steps m rank count) rank ≡ None

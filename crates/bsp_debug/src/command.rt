@@ -5,6 +5,9 @@
 pub enum Command {
     /// At most `count` steps of the node of a rank, while it runs. Points are not looked at.
     Step { rank: u32, count: u64 },
+    /// At most `count` steps of the node of a rank, while it runs, up to a point. A point at which it stands before the first of them does
+    /// not count.
+    Run { rank: u32, count: u64 },
     /// Steps of the node of a rank, one at least if it runs, until it stops, or stands at the address `addr` with a stack pointer that is
     /// `sp` or above, or at a point. [`Debugger::over`](crate::Debugger::over) says of a call to where it returns.
     Return { rank: u32, addr: u32, sp: u32 },

@@ -145,7 +145,7 @@ impl<A: Allocator + Copy> Debugger<A> {
     /// The first that applies of [`DebugError::BadRank`], [`DebugError::BadRange`], [`DebugError::NoFloatUnit`] and [`DebugError::Over`], at
     /// which no event was made; then [`DebugError::NoMemory`], after some first of the command's events, of [`Command::Return`], [`Command::Turn`]
     /// and [`Command::Go`] not all of them. The command given again goes on from there: it leaves what it would have left,
-    /// [`Command::Step`] with as many steps less as were made.
+    /// [`Command::Step`] and [`Command::Run`] with as many steps less as were made.
     pub fn command(&mut self, command: Command) -> Result<Reply<A>, DebugError>
         ensures machine { self.new.machine ≡ after self.old.machine (events_of self.new.last) }
         ensures few { AreFew self.new.last }
@@ -231,6 +231,7 @@ impl<A: Allocator + Copy> Debugger<A> {
     {
         match command {
             Command::Step { rank, .. } => self.check_rank(rank).and(self.check_open()),
+            Command::Run { rank, .. } => self.check_rank(rank).and(self.check_open()),
             Command::Return { rank, .. } => self.check_rank(rank).and(self.check_open()),
             Command::Phase | Command::Turn | Command::Go => self.check_open(),
             Command::Regs { rank } | Command::Queue { rank } => self.check_rank(rank),
@@ -377,6 +378,9 @@ fn reply_to<A: Allocator + Copy>(
 {
     match command {
         Command::Step { rank, count } => Ok(Reply::Moved(trace.steps(rank, count)?)),
+        Command::Run { rank, count } => {
+            Ok(Reply::Moved(trace.run_to_point(rank, count, points)?))
+        }
         Command::Return { rank, addr, sp } => {
             Ok(Reply::Moved(trace.run_to_return(rank, addr, sp, points)?))
         }

@@ -119,7 +119,8 @@ impl<A: Allocator + Copy> Trace<A> {
                 return Ok(Some(point));
             }
         }
-        self.run_to_point(rank, points)?;
+        let limit = self.machine().settings().limit;
+        self.run_to_point(rank, limit, points)?;
         Ok(point_of(self.machine(), rank, points))
     }
 

@@ -15,8 +15,8 @@ ghost use Rattle.bsp_debug.specs.Reached.{IsReached};
 ghost use Rattle.bsp_debug.specs.Reply.{Answer};
 ghost use Rattle.bsp_debug.specs.Stops.{Goes};
 
-/// A command that was refused memory goes on: given again, `Step` with as many steps less as were made, it makes together with what
-/// it made before just what it would have made at once.
+/// A command that was refused memory goes on: given again, `Step` and `Run` with as many steps less as were made, it makes together with
+/// what it made before just what it would have made at once.
 pub fn a_refused_command_goes_on()
     ensures { (points : List Point) (m : MachineState) (command : Command) (part rest : List Event) (reply : Answer)
         → IsSoundMachine m → MakesPart points m command part

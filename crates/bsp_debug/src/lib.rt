@@ -10,9 +10,9 @@
 //!
 //! - After a command the machine is what the events that [`Debugger::events_of_last`] reports lead to. They are reported whole and in
 //!   order, those of one rank in a row as one entry.
-//! - `Step`, `Return`, `Phase` and `Turn` make just the events of which they speak. Those of `Go` are the first events of the machine's walk up
-//!   to the first that leads to a stop, one event at least: its outcome, or else a superstep with a point, or else a next step with
-//!   a point. They are determined ([`laws::go_has_one_way`]).
+//! - `Step`, `Run`, `Return`, `Phase` and `Turn` make just the events of which they speak. Those of `Go` are the first events of the
+//!   machine's walk up to the first that leads to a stop, one event at least: its outcome, or else a superstep with a point, or else a
+//!   next step with a point. They are determined ([`laws::go_has_one_way`]).
 //! - What [`Debugger::keep`] kept under a number, [`Debugger::back`] brings back whole: all of the machine, and nothing else, so that
 //!   points stay. A number is that of one state; [`Debugger::forget`] gives it to no other.
 //! - At all times the machine, and each state that is kept, is one to which events lead from the machine with which the debugger began

@@ -8,7 +8,7 @@ ghost use Rattle.machine_core.specs.Events.{after, event as event_of, is_enabled
 ghost use Rattle.bsp_debug.specs.declared.made.Made.TheVariants.{Turn as turn_made};
 ghost use Rattle.bsp_debug.specs.Debugger.{steps_at};
 ghost use Rattle.bsp_debug.specs.Returns.{HasReturned, IsReturning};
-ghost use Rattle.bsp_debug.specs.Trace.{IsTrace, with_steps, stepped, turned, EndsBelow, point_at, RunsToPoint, RunsOnTo};
+ghost use Rattle.bsp_debug.specs.Trace.{IsTrace, after_steps, with_steps, stepped, turned, EndsBelow, point_at, RunsToPoint, RunsOnTo};
 
 use crate::made::Made;
 use crate::point::Point;
@@ -96,28 +96,35 @@ impl<A: Allocator + Copy> Trace<A> {
         Ok(count)
     }
 
-    /// Runs the node of a rank until it stops or, after a step at least, stands at a point.
+    /// Runs the node of a rank, by at most `most` steps, until it stops or, after a step at least, stands at a point. Answers how many
+    /// steps it made.
     ///
     /// # Errors
     /// Where memory is refused. The steps before that stand, and are taken down.
-    pub fn run_to_point(&mut self, rank: u32, points: &Points<A>) -> Result<(), AllocError>
+    pub fn run_to_point(
+        &mut self,
+        rank: u32,
+        most: u64,
+        points: &Points<A>,
+    ) -> Result<u64, AllocError>
         requires { EndsBelow rank self.old.made }
         ensures trace { IsTrace self.new }
-        ensures ok { OnOk result ((r : RunsToPoint points.now rank self.old.machine self.new.machine)
-            × (self.new ≡ stepped rank r.count self.old)) }
-        ensures err { OnErr result ((r : RunsOnTo points.now rank self.old.machine self.new.machine)
-            × (self.new ≡ stepped rank r.count self.old)) }
+        ensures ok { IfOk result (λ count. RunsToPoint points.now self.old.machine rank most count
+            × (self.new ≡ stepped rank count self.old)) }
+        ensures err { OnErr result ((count : ℕ) × RunsOnTo points.now self.old.machine rank most count
+            × (self.new ≡ stepped rank count self.old)) }
     {
         // A node that does not run asks for no room, so that `Go` is not refused where it is to stop at the next one.
         if !runs(&self.machine, rank) {
-            return Ok(());
+            return Ok(0);
         }
         self.made.reserve(1)?;
         let before = ticks_of(&self.machine, rank);
-        let ran = run_node_to_point(&mut self.machine, rank, points);
+        let ran = run_node_to_point(&mut self.machine, rank, most, points);
         let count = ticks_of(&self.machine, rank).saturating_sub(before);
         note_steps(&mut self.made, rank, count);
-        ran
+        ran?;
+        Ok(count)
     }
 
     /// Runs the node of a rank until it stops or, after a step at least, stands behind a call or at a point. Answers how many steps it
@@ -227,21 +234,23 @@ fn note_steps<A: Allocator>(made: &mut Vec<Made, A>, rank: u32, count: u64)
     }
 }
 
-/// Runs the node of a rank until it stops or, after a step at least, stands at a point.
+/// Runs the node of a rank, by at most `most` steps, until it stops or, after a step at least, stands at a point.
 fn run_node_to_point<A: Allocator + Copy>(
     machine: &mut Machine<A>,
     rank: u32,
+    most: u64,
     points: &Points<A>,
 ) -> Result<(), AllocError>
-    ensures ok { OnOk result (RunsToPoint points.now rank machine.old machine.new) }
-    ensures err { OnErr result (RunsOnTo points.now rank machine.old machine.new) }
+    ensures ok { OnOk result ((count : ℕ) × (machine.new ≡ after_steps machine.old rank count)
+        × RunsToPoint points.now machine.old rank most count) }
+    ensures err { OnErr result ((count : ℕ) × (machine.new ≡ after_steps machine.old rank count)
+        × RunsOnTo points.now machine.old rank most count) }
 {
-    let limit = machine.settings().limit;
     // Without points a node runs by itself, at the full speed of its hot path.
     if points.is_empty() {
-        return machine.run_node(rank, limit);
+        return machine.run_node(rank, most);
     }
-    for _made in 0..limit {
+    for _made in 0..most {
         if !machine.apply(Event::Step(rank))? {
             break;
         }

@@ -75,6 +75,7 @@ With --framed a line comes before each reply: `done N`, or `refused N` if the li
 the reply has. And there are still more lines:
   nodes                show how many ranks there are, and the other settings
   output FROM          show what was written, from byte FROM on
+  go RANK N            make N steps of this rank, or fewer if it stops or comes to a point of its own
   costs FROM           show the costs from superstep FROM on, and the total of all
 Numbers are decimal, or hexadecimal as in 0x1f. All lines together may have 1048576 bytes. Where IMAGE is -, there are
 no lines.

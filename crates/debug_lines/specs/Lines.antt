@@ -2,7 +2,7 @@
 use Rattle.std.specs.Prelude.{ℕ, ◌&&◌, Bool, true, false, if◌then◌else◌, List, [], ◌∷◌, bytes_eq, codes, Option, Some, None, option_map}
 use Rattle.std.specs.Option.{option_and_then, option_map_or, option_or}
 use Rattle.bsp_debug.specs.declared.command.Command.{Command as Asked}
-use Rattle.bsp_debug.specs.declared.command.Command.TheVariants.{Step, Phase, Turn, Go, Regs, Fregs, Bytes, Queue, Costs}
+use Rattle.bsp_debug.specs.declared.command.Command.TheVariants.{Step, Run, Phase, Turn, Go, Regs, Fregs, Bytes, Queue, Costs}
 use Rattle.bsp_debug.specs.declared.point.Point.{Point}
 use Rattle.bsp_debug.specs.declared.point.Point.TheVariants.{Address, Superstep}
 use Rattle.debug_lines.specs.declared.form.Form.{Form}
@@ -173,12 +173,21 @@ framed_of_two word number =
     if bytes_eq word (codes "output") then option_map OutputFrom (number_in 64 number) else
     (if bytes_eq word (codes "costs") then option_map CostsFrom (number_in 64 number) else None)
 
+-- `RANK COUNT` behind `go`
+abbrev pub go_of : (rank count : List ℕ) → Option Line
+go_of rank count = option_and_then (λ r. option_map (λ n. Command (Run r n)) (number_in 64 count)) (number_in 32 rank)
+
+-- a line of three: `go RANK COUNT`
+abbrev pub framed_of_three : (word rank count : List ℕ) → Option Line
+framed_of_three word rank count = if bytes_eq word (codes "go") then go_of rank count else None
+
 -- a line of these words that only framed sessions have; none for words of no such line
 abbrev pub framed_of_words : List (List ℕ) → Option Line
 framed_of_words [] = None
 framed_of_words (word ∷ []) = framed_of_one word
 framed_of_words (word ∷ a ∷ []) = framed_of_two word a
-framed_of_words (word ∷ a ∷ b ∷ more) = None
+framed_of_words (word ∷ a ∷ b ∷ []) = framed_of_three word a b
+framed_of_words (word ∷ a ∷ b ∷ c ∷ more) = None
 
 -- what a line of a framed session asks for: that of a dialogue, or else what only framed ones have
 unfoldable pub framed_line_of : List ℕ → Line

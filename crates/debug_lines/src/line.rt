@@ -4,7 +4,7 @@ ghost use Rattle.std.specs.Prelude.{◌≡◌};
 ghost use Rattle.debug_lines.specs.Lines.{line_of, line_of_words, line_of_one, command_of_one, line_of_two, line_of_three, line_of_four, point_of, step_of, bytes_of};
 ghost use Rattle.debug_lines.specs.Lines.{asks_help, dialogue_line_of, dialogue_of_words, dialogue_of_one, dialogue_of_two, dialogue_of_four, is_one, mistake_of};
 ghost use Rattle.debug_lines.specs.Lines.{form_named, help_line_of, rank_line_of, shown_of, state_line_of};
-ghost use Rattle.debug_lines.specs.Lines.{framed_line_of, framed_of_words, framed_of_one, framed_of_two};
+ghost use Rattle.debug_lines.specs.Lines.{framed_line_of, framed_of_words, framed_of_one, framed_of_two, framed_of_three, go_of};
 ghost use Rattle.debug_lines.specs.Words.{words};
 
 use crate::form::Form;
@@ -21,7 +21,7 @@ pub enum Line {
     /// To take a point away: `clear RANK ADDR` or `clear superstep K`.
     Clear(Point),
     /// A command of the debugger: `step RANK COUNT`, `phase`, `turn`, `go`, `regs RANK`, `fregs RANK`, `bytes RANK ADDR LEN`,
-    /// `queue RANK` or `costs`.
+    /// `queue RANK` or `costs`; and `go RANK COUNT`, which only framed sessions have.
     Command(Command),
     /// What the nodes wrote: `output`.
     Output,
@@ -286,12 +286,15 @@ fn framed_line(line: &[u8]) -> Option<Line>
     let Some((word, rest)) = split_word(line) else {
         return None;
     };
-    let Some((number, rest)) = split_word(rest) else {
+    let Some((first, rest)) = split_word(rest) else {
         return framed_of_one(word);
+    };
+    let Some((second, rest)) = split_word(rest) else {
+        return framed_of_two(word, first);
     };
     match split_word(rest) {
         Some(_) => None,
-        None => framed_of_two(word, number),
+        None => framed_of_three(word, first, second),
     }
 }
 
@@ -317,6 +320,26 @@ fn framed_of_two(word: &[u8], number: &[u8]) -> Option<Line>
     } else {
         None
     }
+}
+
+/// A line of three words that only framed sessions have.
+fn framed_of_three(word: &[u8], rank: &[u8], count: &[u8]) -> Option<Line>
+    ensures { result ≡ framed_of_three word.now rank.now count.now }
+{
+    if word == b"go".as_slice() {
+        go_of(rank, count)
+    } else {
+        None
+    }
+}
+
+/// A command to go on by one rank, by its words behind the first.
+fn go_of(rank: &[u8], count: &[u8]) -> Option<Line>
+    ensures { result ≡ go_of rank.now count.now }
+{
+    let rank = u32_of(rank)?;
+    let count = u64_of(count)?;
+    Some(Line::Command(Command::Run { rank, count }))
 }
 
 /// What a line asks for, if its words are those of a line of a script.

@@ -286,6 +286,10 @@ costs 5
 kept
 back 0
 where 1
+break 1 0x20
+go 1 5
+go 1 5
+go 2 5
 forget 0
 back 0
 
@@ -328,6 +332,14 @@ done 1
 ok
 done 1
 rank 1 pc 00000038 superstep 1 state running
+done 1
+ok
+done 1
+moved 3
+done 1
+moved 5
+refused 1
+refused: BadRank
 done 1
 ok
 refused 1
@@ -415,7 +427,7 @@ static ROWS: [Row; 10] = [
         name: "debug_framed",
         kind: Frames,
         format: Format::Raw,
-        requests: 212,
+        requests: 227,
     },
 ];
 

@@ -12,7 +12,7 @@ Help tells how the lines are spelled and what they do: all of them, or those wit
   break RANK ADDR, or break superstep K: sets a point, at which go stops
   clear RANK ADDR, or clear superstep K: takes a point away
   points: the points that are set
-  go: goes on to a point or to the outcome
+  go, or with --framed go RANK COUNT: goes on to a point or to the outcome; a rank alone, by COUNT steps at most
   step, or step RANK [COUNT]: the next instruction of all; COUNT of a rank, or one
   over RANK: an instruction of a rank, with all of a function that it calls
   phase: every rank goes on until it stops by itself

@@ -243,9 +243,9 @@ class Session:
         return bytes.fromhex(" ".join(self.ask(f"bytes {rank} {addr} {count}").accepted()))
 
     def _forget(self, lines: Sequence[str]) -> None:
-        """Drops the blocks of memory that these lines may change: a step changes that of its rank alone."""
+        """Drops the blocks of memory that these lines may change: steps of a rank change that of this one alone."""
         for line in lines:
-            rank = line.split(" ", 2)[1] if line.startswith("step ") else ""
+            rank = line.split(" ", 2)[1] if line.startswith(("step ", "go ")) else ""
             if rank.isdecimal():
                 self._blocks.pop(int(rank), None)
             elif not line.startswith(SHOWING):

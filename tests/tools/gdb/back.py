@@ -7,7 +7,7 @@ import pathlib
 import random
 import re
 import tempfile
-from typing import Callable, Iterator, List, NamedTuple, Optional, Sequence, Set, Tuple
+from typing import Callable, Iterable, Iterator, List, NamedTuple, Optional, Sequence, Set, Tuple
 
 from bsptools.debug import arrivals, halts, history, kept, machine, monitor, runner
 from sessions import SHOW_REGISTERS, Bench, expect, in_order, registers_in
@@ -262,8 +262,13 @@ class Counting(machine.Machine):
         Counting.made += moved
         return moved
 
-    def limited(self, limit: int) -> machine.Machine:
-        other = super().limited(limit)
+    def run_to(self, points: Iterable[arrivals.Point], rank: int, count: int, must_break_off: arrivals.Asked = arrivals.never) -> int:
+        moved = super().run_to(points, rank, count, must_break_off)
+        Counting.made += moved
+        return moved
+
+    def started(self) -> machine.Machine:
+        other = super().started()
         other.__class__ = Counting
         return other
 
@@ -309,14 +314,14 @@ mark:   .word 0
 
 
 class Noting(machine.Machine):
-    """A machine that notes which others, with a limit of their own, are begun at the start of the run."""
+    """A machine that notes how many others are begun at the start of the run."""
 
-    limits: List[int] = []
+    begun = 0
 
-    def limited(self, limit: int) -> machine.Machine:
-        other = super().limited(limit)
+    def started(self) -> machine.Machine:
+        other = super().started()
         other.__class__ = Noting
-        Noting.limits += [limit] if limit != self.limit else []
+        Noting.begun += 1
         return other
 
 
@@ -335,12 +340,67 @@ def back_in_a_superstep_that_has_just_begun(bench: Bench) -> None:
                 run.step(rank, count)
             there.supersteps = set()
             there.breakpoints = {8}
+            begun = Noting.begun
             told = [monitor.Monitor(there, None).answer(it, 0).decode() for it in ("sent", "wrote 1 mark")]
             expect(told[0] == "superstep 30: 0 requests so far\n" and "a store by rank 1 in superstep 29: count, many.s:6" in told[1], told)
             stops = [(there.go_back(None, 0), run.superstep) for _ in range(4)]
             found = [(superstep, it.rank) for it, superstep in stops if isinstance(it, halts.Stop) and it.is_breakpoint]
             expect(found == [(30, 1), (30, 0), (29, 1), (29, 0)], stops)
-            expect(not Noting.limits, Noting.limits)
+            expect(Noting.begun == begun, Noting.begun)
+        finally:
+            run.close()
+
+
+# Ranks that come to `early` three times, and then count for ever, past `late` each 200,000 instructions.
+FAR_BACK = """\
+        li a7, 4
+        ecall
+        li s0, 3
+early:  addi s0, s0, -1
+        bnez s0, early
+outer:  li s1, 100000
+        add s1, s1, s0
+inner:  addi s1, s1, -1
+        bnez s1, inner
+late:   addi s0, s0, 1
+        j outer
+"""
+EARLY, INNER, LATE = 12, 32, 40
+# In the second superstep, how many instructions a rank has made there the last times before 2,000,000.
+LAST_LATE, LAST_INNER, THIRD_EARLY = 1800122, 1800120, 5
+
+
+@case
+def back_far_in_a_rank_that_runs(bench: Bench) -> None:
+    """A breakpoint is found however far it lies back in a rank that would go on for ever: as gdb shows it, and by the number of
+    instructions; also in a rank below which another one would go on for ever."""
+    source, program = bench.folder / "far_back.s", bench.folder / "far_back.elf"
+    source.write_text(FAR_BACK)
+    bench.run("asm", str(source), str(program))
+    commands = ["monitor superstep 1", "continue", "monitor delete", "thread 2", "set scheduler-locking on", "break late", *["continue"] * 2]
+    commands += ["delete", "break early", "reverse-continue", SHOW_REGISTERS, *["reverse-continue", "print (int)$fp"] * 2]
+    text = bench.gdb(str(source), commands, "--nodes", "2", "--memory", "1M")
+    in_order(text, *['Thread 2 "rank 1, superstep 1" hit Breakpoint 1, '] * 2, 'Thread 2 "rank 1, superstep 1" hit Breakpoint 2, ')
+    in_order(text, *["hit Breakpoint 2, "] * 2, "$1 = 2", "hit Breakpoint 2, ", "$2 = 3")
+    lines = ["break superstep 1", "go", f"step 1 {THIRD_EARLY}"]
+    expect(registers_in(text, 2) == bench.registers_told(str(program), lines, 2), text)
+
+    with bench.machines:
+        run = machine.Machine([bench.bspemu, "debug", str(program), "--format", "elf", "--nodes", "2", "--limit", "1000000000"])
+        there = runner.Runner(run, lambda text: None, lambda: False, supersteps={1})
+        try:
+            there.go(0)
+            there.supersteps = set()
+            begin = run.place().ticks
+            for rank, count in enumerate((2000000, 1000000)):
+                run.step(rank, count)
+            ways: List[Tuple[Set[int], int, int]] = [({EARLY}, 1, THIRD_EARLY), ({EARLY, LATE}, 1, THIRD_EARLY - 2), ({EARLY, LATE}, 1, THIRD_EARLY - 4)]
+            ways += [({EARLY, LATE}, 0, LAST_LATE), ({INNER}, 0, LAST_INNER), ({INNER}, 0, LAST_INNER - 2), ({EARLY}, 0, THIRD_EARLY)]
+            for breakpoints, rank, count in ways:
+                there.breakpoints = breakpoints
+                halt, node = there.go_back(None, 1), run.node(rank)
+                expect(halt == halts.Stop(rank, 5, is_breakpoint=True) and node.pc in breakpoints, (halt, node))
+                expect(node.ticks == begin[rank] + count, (count, node, begin))
         finally:
             run.close()
 

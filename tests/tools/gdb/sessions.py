@@ -83,6 +83,10 @@ class Bench:
             told.append([int(value, 16) for value in values])
         return told
 
+    def run(self, *words: str) -> None:
+        """Has the emulator do what these words say."""
+        subprocess.run([self.bspemu, *words], timeout=SECONDS, check=True)
+
     def report(self, program: str, *options: str) -> subprocess.CompletedProcess[str]:
         words = [self.bspemu, "run", program, "--report", *options]
         return subprocess.run(words, capture_output=True, text=True, timeout=SECONDS, check=False)

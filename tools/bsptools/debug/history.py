@@ -8,19 +8,18 @@ where the superstep began; then to the end of the superstep before that, and thr
 from __future__ import annotations
 
 import contextlib
-from typing import Callable, FrozenSet, Iterator, List, NamedTuple, Optional, Sequence, Tuple, Union
+from itertools import islice
+from typing import Callable, FrozenSet, Iterator, List, NamedTuple, Optional, Sequence, Tuple
 
-from ..debugger import ALL, MOST_BATCH, Node, Shown
+from ..debugger import ALL, Node
 from .arrivals import Asked, AtRank, Interrupted, Place, Point
 from .machine import MOST_BREAKPOINTS, Machine
 
 # Of how many instructions it is kept what they change: of few at first, and of more where it goes back over all of these.
 LEAST_RECORDED, MORE_RECORDED, MOST_RECORDED = 16, 8, 4096
-# How many times in a superstep a rank is stopped at breakpoints before the last time is looked for from the superstep's end: in so many
+# How many times a rank is stopped at breakpoints, one after another, before the last time is looked for from the end on: in so many
 # instructions first, and then in more.
 MOST_STOPS, WINDOW, WIDER = 32, 4096, 16
-# Of how many instructions at the most each is looked at, for a rank that may go on for ever behind them.
-MOST_WALKED = 1 << 14
 # The rank, in the order of history, of the beginning of a superstep itself.
 BEGIN = -1
 
@@ -50,8 +49,6 @@ class History:
         self._machine = machine
         self._must_break_off = must_break_off
         self._recorded = LEAST_RECORDED
-        # The machine with a limit that a search goes through again and again.
-        self._limited: Optional[Machine] = None
 
     def step_back(self, rank: int) -> bool:
         """A rank goes an instruction back. Where it has made none in this superstep, all go back over the turn, and then this rank.
@@ -105,17 +102,8 @@ class History:
             ticks = ends[: hit.rank] + (hit.ticks,) + (0,) * (self._machine.ranks - hit.rank - 1)
         return Place(hit.superstep, ticks, False)
 
-    def _at(self, place: Place, limit: Optional[int] = None) -> Machine:
-        if limit is None:
-            return self._machine.at(place, self._must_break_off)
-        if self._limited is None:
-            self._limited = self._machine.limited(limit)
-        return self._limited.at(place, self._must_break_off)
-
-    def _close_limited(self) -> None:
-        if self._limited is not None:
-            self._limited.close()
-        self._limited = None
+    def _at(self, place: Place) -> Machine:
+        return self._machine.at(place, self._must_break_off)
 
     def _begin_of(self, superstep: int) -> Tuple[int, ...]:
         return self._machine.begin_of(superstep, self._must_break_off)
@@ -142,30 +130,38 @@ class History:
         """The last hit of the ranks that have moved in the superstep that has begun."""
         free = self._machine.first_running
         for rank in reversed([it for it in moved if it >= free and goal.addresses and goal.rank in (None, it)]):
-            hit = self._last_of_running(goal, place, begin, rank)
+            # Where it stands it may go on for ever, or one below it may.
+            hit = self._last_of_rank(goal, place, rank, begin[rank], place.ticks[rank])
             if hit is not None:
                 return hit
         # These, and all below them, stop by themselves where they stand.
         return self._last_in(place.superstep, goal, [it for it in moved if it < free], place.ticks)
 
-    def _last_of_running(self, goal: Goal, place: Place, begin: Sequence[int], rank: int) -> Optional[Hit]:
-        """The same of a rank that may go on for ever behind where it stands, or has such a one below it."""
-        start, width = place.ticks[rank], WINDOW
-        while begin[rank] < start and place.ticks[rank] - start < MOST_WALKED:
-            end, start = start, max(begin[rank], start - width)
+    def _last_of_rank(self, goal: Goal, place: Place, rank: int, start: int, end: int) -> Optional[Hit]:
+        """The last hit of a rank in the superstep of a place, from so many of its instructions on, and before so many: looked for from the
+        end on."""
+        width = WINDOW
+        while start < end:
+            first = max(start, end - width)
+            ticks = self._last_ticks(goal, place, rank, first, end)
+            if ticks is not None:
+                return Hit(place.superstep, rank, ticks)
+            end, width = first, WIDER * width
+        return None
+
+    def _last_ticks(self, goal: Goal, place: Place, rank: int, start: int, end: int) -> Optional[int]:
+        """The same, by one hit after another. Where there are many, they are looked for in the second half of what is left first."""
+        while start < end:
             with contextlib.closing(self._at(place._replace(ticks=_with(place.ticks, rank, start)))) as machine:
-                found = walked(machine, rank, end - start, goal, self._must_break_off)
-            if found:
-                return Hit(place.superstep, rank, found[-1].ticks)
-            width *= WIDER
-        if start == begin[rank]:
-            return None
-        # No rank has come further than this.
-        limit = min(self._machine.limit, max(*begin, *place.ticks) + 1)
-        try:
-            return self._last_in(place.superstep, goal, [rank], _with(place.ticks, rank, start), limit)
-        finally:
-            self._close_limited()
+                ticks = [node.ticks for node in islice(hits_of(machine, rank, end, goal, self._must_break_off), MOST_STOPS)]
+            if len(ticks) < MOST_STOPS:
+                return ticks[-1] if ticks else None
+            middle = (ticks[-1] + 1 + end) // 2
+            later = self._last_ticks(goal, place, rank, middle, end)
+            if later is not None:
+                return later
+            start, end = ticks[-1], middle
+        return None
 
     def _last_superstep(self, first: int, end: int, goal: Goal) -> Optional[int]:
         """The last superstep from a first one on, and before an end, in which a rank was at a breakpoint."""
@@ -192,21 +188,19 @@ class History:
                 scout.skip_superstep()
         return found
 
-    def _last_in(
-        self, superstep: int, goal: Goal, ranks: Sequence[int], ends: Sequence[int], limit: Optional[int] = None
-    ) -> Optional[Hit]:
+    def _last_in(self, superstep: int, goal: Goal, ranks: Sequence[int], ends: Sequence[int]) -> Optional[Hit]:
         """The last hit of these ranks in a superstep, before each has made so many instructions."""
         for group in reversed(self._groups(goal, ranks)):
-            hit = self._last_of(superstep, goal, group, ends, limit)
+            hit = self._last_of(superstep, goal, group, ends)
             if hit is not None:
                 return hit
         return None
 
-    def _last_of(self, superstep: int, goal: Goal, ranks: Sequence[int], ends: Sequence[int], limit: Optional[int]) -> Optional[Hit]:
+    def _last_of(self, superstep: int, goal: Goal, ranks: Sequence[int], ends: Sequence[int]) -> Optional[Hit]:
         """The same for ranks that have room for their points."""
         found: Optional[Hit] = None
         stops = end = 0
-        with self._scout(self._start_of(superstep), ranks, goal, limit) as scout:
+        with self._scout(self._start_of(superstep), ranks, goal, is_in_superstep=True) as scout:
             hit = scout.next(superstep + 1)
             while hit is not None:
                 if hit.ticks >= ends[hit.rank]:
@@ -217,22 +211,9 @@ class History:
                     if stops == MOST_STOPS:
                         end = min(ends[hit.rank], scout.skip_rank(hit.rank))
                 hit = scout.next(superstep + 1)
-        return self._latest(found, goal, end, limit) if found is not None and stops == MOST_STOPS else found
-
-    def _latest(self, hit: Hit, goal: Goal, end: int, limit: Optional[int]) -> Hit:
-        """The last hit of this one's rank and superstep before so many instructions: this one, or one behind it."""
-        latest: Optional[Hit] = None
-        width = WINDOW
-        while latest is None:
-            start = max(hit.ticks, end - width)
-            place = self._start_of(hit.superstep)
-            with self._scout(place._replace(ticks=_with(place.ticks, hit.rank, start)), [hit.rank], goal, limit) as scout:
-                following = scout.next(hit.superstep + 1)
-                while following is not None and following.ticks < end:
-                    latest = following
-                    following = scout.next(hit.superstep + 1)
-            end, width = start, WIDER * width
-        return latest
+        if found is None or stops < MOST_STOPS:
+            return found
+        return self._last_of_rank(goal, self._start_of(superstep), found.rank, found.ticks, end)
 
     def _start_of(self, superstep: int) -> Place:
         return Place(superstep, (0,) * self._machine.ranks, False)
@@ -244,10 +225,8 @@ class History:
         return [looked_at[first : first + size] for first in range(0, len(looked_at) if goal.addresses else 0, size)]
 
     @contextlib.contextmanager
-    def _scout(
-        self, place: Place, ranks: Sequence[int], goal: Goal, limit: Optional[int] = None, is_in_superstep: bool = True
-    ) -> Iterator[Scout]:
-        machine = self._at(place, limit)
+    def _scout(self, place: Place, ranks: Sequence[int], goal: Goal, is_in_superstep: bool) -> Iterator[Scout]:
+        machine = self._at(place)
         try:
             yield Scout(machine, ranks, goal, self._must_break_off, is_in_superstep)
         finally:
@@ -312,21 +291,17 @@ class Scout:
         return running.rank if running and running.rank in self._ranks and running.pc in self._goal.addresses else None
 
 
-def walked(machine: Machine, rank: int, count: int, goal: Goal, must_break_off: Asked) -> List[Node]:
-    """A rank makes so many instructions one by one. The node before each of those where it stands at what is looked for."""
-    found: List[Node] = []
-    before: Union[Node, Shown] = machine.node(rank)
-    while count > 0:
+def hits_of(machine: Machine, rank: int, end: int, goal: Goal, must_break_off: Asked) -> Iterator[Node]:
+    """A rank goes on until it has made so many instructions. The node before each of these where it stands at what is looked for."""
+    points = [(rank, addr) for addr in goal.addresses]
+    node = machine.node(rank)
+    while node.ticks < end and node.runs:
         if must_break_off():
             raise Interrupted
-        trail = machine.trail(rank, min(count, MOST_BATCH // 2))
-        for it in (before, *trail[:-1]):
-            if it.pc in goal.addresses:
-                node = it if isinstance(it, Node) else it.node
-                found += [node] if goal.accepts(node) else []
-        before = trail[-1]
-        count -= len(trail)
-    return found
+        if node.pc in goal.addresses and goal.accepts(node):
+            yield node
+        machine.run_to(points, rank, end - node.ticks, must_break_off)
+        node = machine.node(rank)
 
 
 def _with(ticks: Tuple[int, ...], rank: int, count: int) -> Tuple[int, ...]:

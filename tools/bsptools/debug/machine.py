@@ -48,7 +48,7 @@ class Machine(Process):
         # The state that comes back then, where the process is that of another machine, and the rank that goes on by itself.
         self._mark: Optional[int] = None
         self._stepping: Optional[int] = None
-        self.spare = Spare(self._started)
+        self.spare = Spare(self.started)
 
     def close(self) -> None:
         """Ends the process, and that of the spare machine; or gives it back, where it was lent."""
@@ -86,26 +86,24 @@ class Machine(Process):
         self._make_room()
         return self._place()
 
-    def at(self, place: Place, must_break_off: Asked = never, limit: Optional[int] = None) -> Machine:
-        """Another machine, with the same program and input, that stands at this place. It may have another limit of instructions.
+    def at(self, place: Place, must_break_off: Asked = never) -> Machine:
+        """Another machine, with the same program and input, that stands at this place.
 
         It may have this one's process. So nothing is asked of this one before the other is closed, or this one has become it.
         """
-        if limit is not None:
-            return self._brought(self.limited(limit), place, must_break_off)
         with contextlib.suppress(Refused):
             # A process may have ended since.
             other = self.spare.take(self._full(place), self._nearest_kept(place), must_break_off) or self._lent(place)
             if other is not None:
                 other._give_back = other._give_back or self.spare.give
                 return self._brought(other, place, must_break_off)
-        other = self._started()
+        other = self.started()
         other._give_back = self.spare.give
         return self._brought(other, place, must_break_off)
 
-    def limited(self, limit: int) -> Machine:
-        """Another machine, with another limit of instructions, at the start of the run, which it keeps."""
-        other = Machine(_limited(self.command, limit))
+    def started(self) -> Machine:
+        """Another machine, at the start of the run, which it keeps."""
+        other = Machine(self.command)
         other._begins = self._begins
         other.keep()
         return other
@@ -135,7 +133,7 @@ class Machine(Process):
             return
         # Where it stood, it goes on as the spare one.
         old._give_back, old._trace, old._nodes, old._superstep, old._is_at_begin = None, None, {}, None, False
-        old.spare = Spare(old._started)
+        old.spare = Spare(old.started)
         if self.spare.is_wanted and not old.is_lost and old.keeps and old.outcome is None:
             self.spare.give(old)
         else:
@@ -148,10 +146,6 @@ class Machine(Process):
             self._note_begin(superstep, other.place().ticks)
             other.close()
         return self._begins[superstep]
-
-    def _started(self) -> Machine:
-        """Another machine, at the start of the run, which it keeps."""
-        return self.limited(self.limit)
 
     def _brought(self, other: Machine, place: Place, must_break_off: Asked) -> Machine:
         """Another machine, from where it stands, or from a state that it has kept, to a place."""
@@ -181,7 +175,7 @@ class Machine(Process):
             return None
         number: int = marked
         other = copy.copy(self)
-        other.spare, other._mark, other._trace = Spare(self._started), number, None
+        other.spare, other._mark, other._trace = Spare(self.started), number, None
         # Where this one has gone back without its process, the process stands elsewhere.
         other._nodes = dict(self._nodes) if self._trace is None else {}
 
@@ -365,11 +359,3 @@ class Machine(Process):
         of what is asked for at once."""
         if self.is_used_up:
             self.restart_at(self._place())
-
-
-def _limited(command: List[str], limit: int) -> List[str]:
-    """The command that starts the debugger, with this limit of instructions."""
-    if "--limit" not in command:
-        return [*command, "--limit", str(limit)]
-    place = command.index("--limit") + 1
-    return [*command[:place], str(limit), *command[place + 1 :]]

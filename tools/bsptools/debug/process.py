@@ -117,10 +117,14 @@ class Process(abc.ABC):
         """Steps of a rank, fewer if it stops by itself. Answers how many were made."""
         self.settle(must_break_off)
         self._make_room()
-        self._is_at_begin = False
-        moved = self._ask(f"step {rank} {count}", must_break_off).accepted()[0]
-        self._nodes.pop(rank, None)
-        return int(moved.split()[1])
+        return self._moved(f"step {rank} {count}", rank, must_break_off)
+
+    def run_to(self, points: Iterable[Point], rank: int, count: int, must_break_off: Asked = never) -> int:
+        """The same, and to the first of these points that the rank comes to."""
+        self.settle(must_break_off)
+        self._make_room()
+        self._set_points(frozenset(points))
+        return self._moved(f"go {rank} {count}", rank, must_break_off)
 
     def trail(self, rank: int, count: int) -> List[Shown]:
         """A rank makes so many instructions one by one. The node after each."""
@@ -199,6 +203,13 @@ class Process(abc.ABC):
             self._superstep = None
         else:
             self._nodes = {it.rank: it for it in self._nodes.values() if it.rank > rank or not it.runs}
+
+    def _moved(self, line: str, rank: int, must_break_off: Asked) -> int:
+        """How many steps of a rank a line makes."""
+        self._is_at_begin = False
+        moved = self._ask(line, must_break_off).accepted()[0]
+        self._nodes.pop(rank, None)
+        return int(moved.split()[1])
 
     # How it is asked.
 

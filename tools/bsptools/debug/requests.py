@@ -10,7 +10,7 @@ from ..refusals import Refused
 from ..run.calls import CHANGES, FUNCTIONS, GETS, NAMES, PUTS, REQUESTS, Areas, Call
 from ..run.program import Code
 from .arrivals import Asked, Place
-from .history import MOST_WALKED, Goal, Scout, walked
+from .history import Goal, Scout, hits_of
 from .machine import MOST_BREAKPOINTS, Machine
 from .names import STACK, Names
 
@@ -55,40 +55,25 @@ class Requests:
         if superstep < self._place.superstep or self._place.is_over:
             return self.within(superstep, superstep + 1, (*REQUESTS, *CHANGES))
         begin = self._machine.begin_of(superstep, self._must_break_off)
-        made = [now - before for now, before in zip(self._place.ticks, begin)]
-        if sum(made) <= MOST_WALKED:
-            return [it for rank, count in enumerate(made) if count > 0 for it in self._walked(rank, count)]
-        # A rank may go on for ever behind where it stands. None has come further than this.
-        limit = min(self._machine.limit, max(*begin, *self._place.ticks) + 1)
-        return self.within(superstep, superstep + 1, (*REQUESTS, *CHANGES), self._place.ticks, limit)
+        return [it for rank, ticks in enumerate(self._place.ticks) if ticks > begin[rank] for it in self._so_far(rank, begin[rank])]
 
-    def within(
-        self, first: int, end: int, numbers: Sequence[int], ends: Optional[Sequence[int]] = None, limit: Optional[int] = None
-    ) -> List[Made]:
-        """The calls of these numbers in the supersteps from one up to before another, by their supersteps and ranks; of each rank those
-        before it has made so many instructions."""
+    def within(self, first: int, end: int, numbers: Sequence[int]) -> List[Made]:
+        """The calls of these numbers in the supersteps from one up to before another, by their supersteps and ranks."""
         found: List[Made] = []
         goal = self._goal(numbers)
         for ranks in self._groups(goal.addresses):
             start = Place(first, (0,) * self._machine.ranks, False)
-            with contextlib.closing(self._machine.at(start, self._must_break_off, limit)) as machine:
-                found += self._made(machine, end, Scout(machine, ranks, goal, self._must_break_off), ends)
+            with contextlib.closing(self._machine.at(start, self._must_break_off)) as machine:
+                found += self._made(machine, end, Scout(machine, ranks, goal, self._must_break_off))
         return sorted(found, key=lambda it: (it.superstep, it.rank, it.node.ticks))
 
-    def _walked(self, rank: int, count: int) -> List[Made]:
-        """The requests and registrations of the last instructions of a rank, so many, before the place."""
-        ticks = self._place.ticks
-        start = self._place._replace(ticks=(*ticks[:rank], ticks[rank] - count, *ticks[rank + 1 :]))
+    def _so_far(self, rank: int, begin: int) -> List[Made]:
+        """The requests and registrations of a rank in the superstep of the place, up to there: it may go on for ever behind that."""
+        ticks, goal = self._place.ticks, self._goal((*REQUESTS, *CHANGES))
+        start = self._place._replace(ticks=(*ticks[:rank], begin, *ticks[rank + 1 :]))
         with contextlib.closing(self._machine.at(start, self._must_break_off)) as machine:
-            found = walked(machine, rank, count, self._goal((*REQUESTS, *CHANGES)), self._must_break_off)
-            last = machine.node(rank)
-        made: List[Made] = []
-        # Once more, for their stacks.
-        with contextlib.closing(self._machine.at(start, self._must_break_off)) as machine:
-            for node in (it for it in found if not _has_failed(it, last)):
-                machine.step(rank, node.ticks - machine.node(rank).ticks)
-                made.append(Made(start.superstep, Call(node._replace(stack=machine.memory(rank, node.x[2], STACK)), 0)))
-        return made
+            made = [_made_at(machine, node, start.superstep) for node in hits_of(machine, rank, ticks[rank], goal, self._must_break_off)]
+            return _without_fault(made, {rank: machine.node(rank)})
 
     def _goal(self, numbers: Sequence[int]) -> Goal:
         """What is looked for where these calls are."""
@@ -110,19 +95,23 @@ class Requests:
         size = max(1, MOST_BREAKPOINTS // max(1, len(addresses)))
         return [ranks[first : first + size] for first in range(0, len(ranks), size)] if addresses else []
 
-    def _made(self, machine: Machine, end: int, scout: Scout, ends: Optional[Sequence[int]]) -> List[Made]:
+    def _made(self, machine: Machine, end: int, scout: Scout) -> List[Made]:
         found: List[Made] = []
         hit = scout.next(end)
         while hit is not None:
-            node = machine.node(hit.rank)
-            if ends is not None and node.ticks >= ends[hit.rank]:
-                scout.skip_rank(hit.rank)
-            else:
-                found.append(Made(hit.superstep, Call(node._replace(stack=machine.memory(hit.rank, node.x[2], STACK)), 0)))
+            found.append(_made_at(machine, machine.node(hit.rank), hit.superstep))
             hit = scout.next(end)
-        # A call that had a fault has asked for nothing.
-        nodes = machine.nodes()
-        return [it for it in found if not _has_failed(it.node, nodes[it.rank])]
+        return _without_fault(found, {node.rank: node for node in machine.nodes()})
+
+
+def _made_at(machine: Machine, node: Node, superstep: int) -> Made:
+    """The call before which a node stands."""
+    return Made(superstep, Call(node._replace(stack=machine.memory(node.rank, node.x[2], STACK)), 0))
+
+
+def _without_fault(made: Sequence[Made], nodes: Dict[int, Node]) -> List[Made]:
+    """Those that have asked for something: a call that had a fault has not. Behind all of them the ranks are these nodes."""
+    return [it for it in made if not _has_failed(it.node, nodes[it.rank])]
 
 
 def _has_failed(node: Node, last: Node) -> bool:

@@ -132,10 +132,10 @@ abbrev pub kept_lines : List (Option MachineState) → List ℕ
 kept_lines kept = flat_map kept_line (enumerate_from 0 kept)
 
 -- memory of a node from an address on, in a form that shows so many words, characters or codes, or as many as there are up to the
--- memory's end; if the address lies in it
-abbrev pub memory_or_refusal : (form : Form) → (addr count : ℕ) → (memory : List ℕ) → List ℕ
-memory_or_refusal form addr count memory =
-    if nat_lt addr (length memory) then shown_text form addr count (bytes_at memory addr (shown_len form count (length memory - addr)))
+-- memory's end; if the address lies in it. Instructions of floating point have their names where the node has a unit for them
+abbrev pub memory_or_refusal : (form : Form) → (float : Bool) → (addr count : ℕ) → (memory : List ℕ) → List ℕ
+memory_or_refusal form float addr count memory =
+    if nat_lt addr (length memory) then shown_text form float addr count (bytes_at memory addr (shown_len form count (length memory - addr)))
     else verdict_text (Refused BadRange)
 
 -- what is told of the node of a rank, if there is one
@@ -144,7 +144,7 @@ of_node_or_refusal told m rank = option_map_or told (slice_get m.nodes rank) (ve
 
 abbrev pub shown_or_refusal : MachineState → Form → (rank addr count : ℕ) → List ℕ
 shown_or_refusal m form rank addr count =
-    of_node_or_refusal (λ (n : NodeState). memory_or_refusal form addr count n.hart.memory) m rank
+    of_node_or_refusal (λ (n : NodeState). memory_or_refusal form (is_some n.hart.unit) addr count n.hart.memory) m rank
 
 -- whether there is a node of the rank whose memory has the address
 abbrev pub has_address : MachineState → (rank addr : ℕ) → Bool

@@ -321,7 +321,8 @@ fn points_set<A: Allocator + Copy>(
     Ok(done(text.into_bytes()))
 }
 
-/// The memory of the node of a rank in a form, if there is such a node, and its memory has the address.
+/// The memory of the node of a rank in a form, if there is such a node, and its memory has the address. What the node can execute has its
+/// name.
 fn memory_shown<A: Allocator + Copy>(
     alloc: A,
     machine: &Machine<A>,
@@ -343,7 +344,7 @@ fn memory_shown<A: Allocator + Copy>(
     let len = shown_len(form, count, memory.size() - addr);
     let mut bytes = Vec::new(alloc);
     memory.append_range(addr, len, &mut bytes)?;
-    let text = shown_text(alloc, form, addr, count, bytes)?;
+    let text = shown_text(alloc, form, node.unit().is_some(), addr, count, bytes)?;
     Ok(done(text.into_bytes()))
 }
 

@@ -5,7 +5,7 @@ use Rattle.std.specs.List.{enumerate_from, flat_map, prefix_len, range_with_len}
 use Rattle.node_memory.specs.Bytes.{word_at}
 use Rattle.bsp_slots.specs.declared.area.Area.{Area}
 use Rattle.bsp_requests.specs.Request.{Asked, asks_put, asks_get, asks_send}
-use Rattle.rv_listing.specs.Listing.{ended_text, listing_lines}
+use Rattle.rv_listing.specs.Listing.{ended_line, listing_lines}
 use Rattle.rv_listing.specs.Numerals.{two_digits, eight_digits}
 use Rattle.bsp_debug.specs.declared.point.Point.{Point}
 use Rattle.debug_lines.specs.declared.form.Form.{Form}
@@ -67,15 +67,16 @@ is_of_text b = not (b == 0)
 abbrev pub text_line : List ℕ → List ℕ
 text_line bs = codes "\"" ++ flat_map character (take (prefix_len is_of_text bs) bs) ++ codes "\"\n"
 
--- the first lines of the listing of bytes from an address on, so many of them
-abbrev pub code_lines : (addr count : ℕ) → List ℕ → List ℕ
-code_lines addr count bs = flat_map ended_text (take count (listing_lines addr bs))
+-- the first lines of the listing of bytes from an address on, so many of them, in which instructions of floating point have their names, or
+-- are data
+abbrev pub code_lines : (float : Bool) → (addr count : ℕ) → List ℕ → List ℕ
+code_lines float addr count bs = flat_map (ended_line float) (take count (listing_lines addr bs))
 
 -- bytes from an address on in a form that shows so many words, characters or codes
-abbrev pub shown_text : Form → (addr count : ℕ) → List ℕ → List ℕ
-shown_text Words addr count bs = word_lines addr bs
-shown_text Text addr count bs = text_line bs
-shown_text Codes addr count bs = code_lines addr count bs
+abbrev pub shown_text : Form → (float : Bool) → (addr count : ℕ) → List ℕ → List ℕ
+shown_text Words float addr count bs = word_lines addr bs
+shown_text Text float addr count bs = text_line bs
+shown_text Codes float addr count bs = code_lines float addr count bs
 
 -- ---- what a node has registered, and what it has asked for
 

@@ -3,7 +3,7 @@
 ghost use Rattle.std.specs.Prelude.{◌≡◌, ◌+◌, ◌*◌, ◌/◌, ◌≤◌, ◌<◌, ◌^◌, ◌++◌, [], length, slice_get, take, IfOk, string_bytes};
 ghost use Rattle.std.specs.List.{flat_map, prefix_len};
 ghost use Rattle.std.specs.Option.{option_map_or};
-ghost use Rattle.rv_listing.specs.Listing.{ended_text};
+ghost use Rattle.rv_listing.specs.Listing.{ended_line};
 ghost use Rattle.node_memory.specs.Bytes.{word_at};
 ghost use Rattle.bsp_requests.specs.Request.{asked as asked_of};
 ghost use Rattle.debug_lines.specs.Shown.{area_line, area_lines, asked_text, character, code_lines, is_of_text, point_line, point_lines, put_text, get_text, send_text, request_line, request_lines};
@@ -17,7 +17,7 @@ use bsp_requests::{Get, Request, Requests};
 use bsp_slots::{Area, Slots};
 use list_vec::ListVec;
 use node_memory::Segment;
-use rv_listing::{EightDigits, Lines};
+use rv_listing::{EightDigits, Lines, ShownLine};
 use std::alloc::{AllocError, Allocator};
 
 /// Points, a line for each. It is an error only where memory is refused.
@@ -63,21 +63,23 @@ fn unit_of(form: Form) -> u64
     }
 }
 
-/// Bytes from the address `addr` on, as so many words, characters or codes. It is an error only where memory is refused.
+/// Bytes from the address `addr` on, as so many words, characters or codes. Where `float` says so, instructions of floating point have
+/// their names among codes; else they are data. It is an error only where memory is refused.
 pub fn shown_text<A: Allocator, B: Allocator>(
     alloc: B,
     form: Form,
+    float: bool,
     addr: u32,
     count: u32,
     bytes: Vec<u8, A>,
 ) -> Result<String<B>, AllocError>
     requires { addr + length bytes.items < 2 ^ 32 }
-    ensures { IfOk result (λ text. string_bytes text ≡ shown_text form addr count bytes.items) }
+    ensures { IfOk result (λ text. string_bytes text ≡ shown_text form float addr count bytes.items) }
 {
     match form {
         Form::Words => word_lines(alloc, addr, bytes.as_slice()),
         Form::Text => text_line(alloc, bytes.as_slice()),
-        Form::Codes => code_lines(alloc, addr, count, bytes),
+        Form::Codes => code_lines(alloc, float, addr, count, bytes),
     }
 }
 
@@ -169,35 +171,37 @@ fn add_characters<B: Allocator>(text: &mut String<B>, bytes: &[u8]) -> Result<()
 /// The first lines of the listing of bytes from an address on.
 fn code_lines<A: Allocator, B: Allocator>(
     alloc: B,
+    float: bool,
     addr: u32,
     count: u32,
     bytes: Vec<u8, A>,
 ) -> Result<String<B>, AllocError>
     requires { addr + length bytes.items < 2 ^ 32 }
-    ensures { IfOk result (λ text. string_bytes text ≡ code_lines addr count bytes.items) }
+    ensures { IfOk result (λ text. string_bytes text ≡ code_lines float addr count bytes.items) }
 {
     let size = bytes.len() as u32;
     let bytes = ListVec::from_vec(bytes);
     let segment = Segment { addr, bytes, size };
     let mut text = String::new(alloc);
-    add_codes(&mut text, Lines::new(&segment), count)?;
+    add_codes(&mut text, float, Lines::new(&segment), count)?;
     Ok(text)
 }
 
 /// Adds the first lines of a listing to a text.
 fn add_codes<B: Allocator>(
     text: &mut String<B>,
+    float: bool,
     mut lines: Lines<'_>,
     count: u32,
 ) -> Result<(), AllocError>
     ensures { IfOk result (λ _. string_bytes text.new
-        ≡ string_bytes text.old ++ flat_map ended_text (take count lines.entry)) }
+        ≡ string_bytes text.old ++ flat_map (ended_line float) (take count lines.entry)) }
 {
     for _told in 0..count {
         let Some(line) = lines.next() else {
             return Ok(());
         };
-        writeln!(text, "{line}")?;
+        writeln!(text, "{}", ShownLine { line, float })?;
     }
     Ok(())
 }

@@ -32,6 +32,7 @@
     turn                 end the superstep, if no rank is running
     go                   run on to the next point, or to the end
     regs RANK            show where this rank is, its ticks, its state and its registers
+    fregs RANK           show the fcsr of this rank and its registers of floating point, with --float
     bytes RANK ADDR LEN  show LEN bytes of the memory of this rank
     queue RANK           show the messages that wait in the queue of this rank
     costs                show the costs of the supersteps so far, and their total
@@ -55,8 +56,8 @@
   With --framed a line comes before each reply: `done N`, or `refused N` if the line is refused, where N is how many lines
   the reply has. And there are still more lines:
     nodes                show how many ranks there are, and the other settings
-    output FROM          show what was written, from byte FROM on
     go RANK N            make N steps of this rank, or fewer if it stops or comes to a point of its own
+    output FROM          show what was written, from byte FROM on
     costs FROM           show the costs from superstep FROM on, and the total of all
   Numbers are decimal, or hexadecimal as in 0x1f. All lines together may have 1048576 bytes. Where IMAGE is -, there are
   no lines.
@@ -65,6 +66,7 @@
     BadCommand   the line is none of these, or a number in it is too great
     BadRank      there is no such rank
     BadRange     not all of these bytes lie in the memory
+    NoFloatUnit  the nodes have no registers of floating point: --float gives them these
     TooMany      1024 other points are set
     NoSuchBreak  the point is not set
     NoSuchKept   no state is kept under this number

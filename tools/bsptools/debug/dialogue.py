@@ -15,7 +15,7 @@ from .machine import RESERVE, Machine
 from .names import STACK, Names
 from .process import POLL
 from .telling import BY_CTRL_C, Teller
-from .words import REGISTERS
+from .words import FLOATS, REGISTERS
 
 # How many bytes, words and instructions are shown, if it is not said, of how many at the most, and of how many bytes a text.
 DEFAULTS = {"bytes": 16, "words": 8, "list": 8, "wrote": 4}
@@ -38,6 +38,7 @@ NOTHING = {
 }
 
 _ADDRESS = re.compile(r"\b(pc|at|into) ([0-9a-f]{8})\b")
+_NUMBER = re.compile(r"[0-9]{1,99}|0[xX][0-9a-fA-F]{1,99}")
 _REGISTER = re.compile(r"\$(\w+)(?:\+([0-9]+|0x[0-9a-fA-F]+))?")
 
 
@@ -105,6 +106,7 @@ class Dialogue:
             "RANK": lambda: [str(rank) for rank in range(self._ranks)],
             "ADDR": lambda: [*self.names.all(), "$pc", *(f"${name}" for name in REGISTERS)],
             "LINE": lambda: VERBS,
+            "NAME": lambda: FLOATS,
         }
         found = [operands[it]() if it in operands else [it] if it.islower() else [] for it in following(words)]
         return sorted({word for part in found for word in part})
@@ -129,7 +131,7 @@ class Dialogue:
         self._is_kept = self._is_kept or asked.verb == "keep"
         for line in reply.lines or [NOTHING[asked.verb]] * (asked.verb in NOTHING):
             _tell(self._with_names(line))
-        if asked.verb in ("go", "turn") and reply.lines[0] != "not turned" and reply.lines[0] != "turned":
+        if asked.verb in ("go", "turn") and not asked.operands and reply.lines[0] not in ("turned", "not turned"):
             self._tell_outcome(reply.lines[0])
         elif asked.verb == "back":
             self._is_told = False
@@ -205,7 +207,7 @@ class Dialogue:
 
     def _named(self, text: str) -> int:
         address = self.names.address(text)
-        if address is None and text.isascii() and text.isdigit():
+        if address is None and _NUMBER.fullmatch(text):
             raise Refused(f"{text} is too great: addresses are below {1 << 32:#x}")
         if address is None:
             nameless = "" if self.names.all() else ", which has none"
@@ -223,7 +225,13 @@ class Dialogue:
         reply = self._session.ask(f"fregs {rank}")
         if not reply.is_done:
             raise Refused("refused: NoFloatUnit: the program was not compiled for one, as bspcc -march=rv32imfdc does")
-        yield from showing.floats(rank, floats_of(reply.lines))
+        name = "".join(asked.words)
+        rows = showing.floats(rank, floats_of(reply.lines))
+        known = dict(zip(("fcsr", *FLOATS), rows))
+        known.update((f"f{at}", known[it]) for at, it in enumerate(FLOATS))
+        if name and name not in known:
+            raise Refused(f"{printable(name)} is no register: they are fcsr, ft0, fa0, fs0 and so on, as fregs shows them, or f0 to f31")
+        yield from [known[name]] if name else rows
 
     def _memory(self, rank: int, addr: int, count: int) -> bytes:
         """Bytes of a rank; those that come before the memory's end."""

@@ -2,6 +2,7 @@
 
 from __future__ import annotations
 
+import difflib
 import re
 from typing import Callable, Dict, List, NamedTuple, Optional, Sequence
 
@@ -15,6 +16,7 @@ LINES = {
     "clear superstep K": "takes the point away",
     "points": "the points that are set",
     "go": "goes on to a point or to the outcome",
+    "go RANK COUNT": "so many instructions of a rank at the most, and up to a point of its own",
     "step RANK [COUNT]": "so many instructions of a rank, or one",
     "step": "the next instruction of all: that of the lowest rank that runs",
     "over RANK": "an instruction of a rank, with all of a function that it calls",
@@ -22,7 +24,7 @@ LINES = {
     "turn": "ends the superstep, if no rank runs any more",
     "where [RANK]": "where the ranks are, or one",
     "regs RANK": "the registers of a rank",
-    "fregs RANK": "the registers of floating point of a rank, and fcsr",
+    "fregs RANK [NAME]": "the registers of floating point of a rank, and fcsr; or one, as fa0 or f10",
     "list RANK [ADDR] [N]": "N instructions, or 8, of a rank's memory, from ADDR or from where it stands",
     "bytes RANK ADDR [N]": "N bytes, or 16",
     "words RANK ADDR [N]": "N words, or 8",
@@ -50,6 +52,31 @@ OPERANDS = (
 VERBS = sorted({usage.split()[0] for usage in LINES})
 # Words that other debuggers have for some of them.
 ALSO = {"exit": "quit", "q": "quit", "?": "help"}
+# Words that gdb has for what other lines do here.
+IN_GDB = {
+    "b": "break",
+    "backtrace": "where",
+    "bt": "where",
+    "c": "go",
+    "continue": "go",
+    "d": "clear",
+    "delete": "clear",
+    "disassemble": "list",
+    "h": "help",
+    "info": "where, regs or points",
+    "l": "list",
+    "n": "over",
+    "next": "over",
+    "p": "words or text",
+    "print": "words or text",
+    "r": "go",
+    "run": "go",
+    "s": "step",
+    "si": "step",
+    "stepi": "step",
+    "thread": "where, and each line is told the rank",
+    "x": "bytes, words, text or list",
+}
 MOST = (1 << 64) - 1
 
 _NUMBER = re.compile(r"[0-9]{1,99}|0[xX][0-9a-fA-F]{1,99}")
@@ -85,7 +112,7 @@ def parsed(text: str, ranks: int, address: Reader) -> Asked:
     verb = ALSO.get(verb, verb)
     usages = [usage for usage in LINES if usage.split()[0] == verb]
     if not usages:
-        raise Refused(f"refused: BadCommand: there is no line {printable(verb)}; help tells the lines")
+        raise Refused(f"refused: BadCommand: there is no line {printable(verb)}{_meant(verb)}; help tells the lines")
     # Where the word behind the verb is that of a line, it is that line.
     usages = [usage for usage in usages if usage.split()[1:2] == words[:1]] or usages
     refusals: List[Mismatch] = []
@@ -103,6 +130,14 @@ def parsed(text: str, ranks: int, address: Reader) -> Asked:
     raise Refused(f"refused: BadCommand: {told[0] + '; ' if told else ''}the line is {accepted}")
 
 
+def _meant(verb: str) -> str:
+    """What says which line is meant by a word that none begins with, if that is known."""
+    if verb in IN_GDB:
+        return f"; what gdb does by that is done by {IN_GDB[verb]}"
+    near = difflib.get_close_matches(verb.lower(), VERBS, 1)
+    return f"; {near[0]} may be meant" if near else ""
+
+
 def _matched(usage: Sequence[str], words: Sequence[str], ranks: int, address: Reader) -> tuple[Dict[str, int], List[str]]:
     """The operands that words give a line. What they cannot be is refused; with no text where a word of the line is another one."""
     operands: Dict[str, int] = {}
@@ -115,7 +150,7 @@ def _matched(usage: Sequence[str], words: Sequence[str], ranks: int, address: Re
                 continue
             raise Mismatch(f"{name} is missing" if count and name.isupper() else "", count)
         word = rest.pop(0)
-        if name == "LINE":
+        if name in ("LINE", "NAME"):
             small.append(word)
         elif name.islower():
             if word != name:
@@ -170,7 +205,7 @@ def _may_be(name: str, word: str) -> bool:
     """Whether a word may stand where a line has this one, or this operand."""
     if name.islower():
         return name == word
-    return name in ("ADDR", "LINE") or word[0].isdigit()
+    return name in ("ADDR", "LINE", "NAME") or word[0].isdigit()
 
 
 def help_of(verb: str) -> List[str]:

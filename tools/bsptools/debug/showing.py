@@ -16,7 +16,7 @@ WORDS, BYTES = 4, 16
 BOX = 0xFFFFFFFF
 FLAGS, ROUNDING = ("NX", "UF", "OF", "DZ", "NV"), ("rne", "rtz", "rdn", "rup", "rmm")
 
-_REGISTER = re.compile(r"\bx([0-9]|[12][0-9]|3[01])\b")
+_REGISTER = re.compile(r"\b([xf])([0-9]|[12][0-9]|3[01])\b")
 _TARGET = re.compile(r"0x[0-9a-f]{8}$")
 
 
@@ -80,4 +80,4 @@ def _operand(names: Names, addr: int, operand: str) -> str:
     """An operand, of which a target is told from address 0 on."""
     if _TARGET.fullmatch(operand):
         return behind(names, (int(operand, 16) + addr) % (1 << 32))
-    return _REGISTER.sub(lambda found: REGISTERS[int(found[1])], operand)
+    return _REGISTER.sub(lambda found: (REGISTERS if found[1] == "x" else FLOATS)[int(found[2])], operand)

@@ -2,12 +2,11 @@
 
 from __future__ import annotations
 
-import contextlib
 import time
 from dataclasses import dataclass, field
 from typing import Callable, Iterable, List, Optional, Sequence, Set
 
-from ..debugger import ALL, Node
+from ..debugger import Node
 from ..refusals import Refused
 from . import words
 from .arrivals import Arrival, AtRank, AtSuperstep, BrokenOff, Interrupted, Over, Place, Point
@@ -91,7 +90,7 @@ class Runner:
             if nodes[rank].runs and self.watches.of(rank):
                 halt = self._follow(rank)
             elif nodes[rank].runs and any(node.runs for node in nodes[:rank]):
-                halt = self._run_alone(nodes, rank)
+                halt = self._run_alone(rank)
             else:
                 halt = self._go_watching(rank)
             if halt is not None:
@@ -284,32 +283,17 @@ class Runner:
             if arrival not in guards or self._stops_at(self.machine.node(guards[0].rank)):
                 return arrival
 
-    def _run_alone(self, nodes: List[Node], rank: int) -> Optional[Halt]:
-        """A rank runs by itself to a breakpoint or to where it stops, though lower ones have not done so.
-
-        The debugger's `go` begins with the lowest rank. So another machine at the same place tells how far it is: there `go` takes the
-        lower ranks first, past all points, and as ranks do not meet before the turn, this one makes the same steps there as here.
-        """
-        try:
-            count = self._count_alone(nodes, rank)
-        except Interrupted:
-            return self._look_on(rank)
-        made = 0
-        while made < count and self.machine.node(rank).runs:
-            made += self.machine.step(rank, min(FAR, count - made))
+    def _run_alone(self, rank: int) -> Optional[Halt]:
+        """A rank runs by itself to a breakpoint or to where it stops, though lower ones have not done so, and may never do."""
+        points = self._points([rank])
+        while self.machine.node(rank).runs:
+            self.machine.run_to(points, rank, FAR)
+            node = self.machine.node(rank)
+            if node.runs and self._stops_at(node):
+                return self._stop_before(node)
             if self.is_interrupted():
                 return Stop(rank, words.INTERRUPTED)
-        return self._stop_before(self.machine.node(rank)) if count != ALL else self._stop_at(rank)
-
-    def _count_alone(self, nodes: List[Node], rank: int) -> int:
-        """How many instructions a rank makes up to a breakpoint; all, where it meets none."""
-        with contextlib.closing(self.machine.at(self.machine.place(), self._must_break_off)) as scout:
-            while isinstance(scout.advance(self._points([rank]) + [scout.superstep + 1], self._must_break_off), AtRank):
-                if self._stops_at(scout.node(rank)):
-                    return scout.node(rank).ticks - nodes[rank].ticks
-                if self._must_break_off():
-                    raise Interrupted
-        return ALL
+        return self._stop_at(rank)
 
     def _go_singly(self, count: int, current: int) -> Optional[Halt]:
         """Goes on for so many supersteps, one by one."""

@@ -21,7 +21,7 @@ COMPILED = {
     "-l": "link with this library, as -lm",
     "-W": "warn of this, as -Wall",
     "-f": "compile so, as -fopenmp",
-    "-m": "compile for this, as -march=rv32im",
+    "-m": "compile for this, as -march=rv32imc",
     "-std": "take this standard, as -std=c99",
 }
 KINDS = ("elf", "asm", "raw", "c")
@@ -96,6 +96,8 @@ class Parser(argparse.ArgumentParser):
             default=limits.MEMORY, metavar="BYTES", help="of a node, 16M by default")  # fmt: skip
         self.add_number("--stack", what="the room of the stack in bytes", least=limits.LEAST_STACK, most=limits.MOST_STACK,
             metavar="BYTES", help="of a .c program, 1M by default")  # fmt: skip
+        self.add_argument("--float", action="store_true", help="nodes have units of floating point, as they have anyway for what says that it"
+            " wants them: a program of bspcc, or a text with such statements")  # fmt: skip
 
     def add_prices(self) -> None:
         """g and l, where each is one number."""

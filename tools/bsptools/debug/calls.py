@@ -6,10 +6,10 @@ from typing import Dict, FrozenSet, List, NamedTuple, Optional, Sequence
 
 from ..debugger import Node
 from ..refusals import Refused, printable
+from ..run.accesses import A0, A7
 from ..run.calls import ALSO, NAMES, REQUESTS
 from .names import Names
 from .requests import sites
-from .trace import A0, A7
 
 # The numbers of calls by the names that BSPlib has for them.
 NUMBERS: Dict[str, int] = {

@@ -224,7 +224,7 @@ class Dialogue:
         rank = asked.operands["RANK"]
         reply = self._session.ask(f"fregs {rank}")
         if not reply.is_done:
-            raise Refused("refused: NoFloatUnit: the program was not compiled for one, as bspcc -march=rv32imfdc does")
+            raise Refused("refused: NoFloatUnit: the program does not say that it wants one; bspgdb --float gives it to nodes")
         name = "".join(asked.words)
         rows = showing.floats(rank, floats_of(reply.lines))
         known = dict(zip(("fcsr", *FLOATS), rows))

@@ -16,11 +16,12 @@ from typing import Callable, Dict, Iterable, List, Optional, Sequence, Tuple
 from ..debugger import Floats, Session, floats_of
 from ..limits import MOST_POINTS
 from ..refusals import Refused
+from ..run.accesses import changes_floats, stored
 from .arrivals import Arrival, Asked, AtSuperstep, BrokenOff, Interrupted, Over, Place, Point, never
 from .kept import Kept, State
 from .process import Process
 from .spare import PIECE, Spare
-from .trace import Moment, Trace, changes_floats, stored
+from .trace import Moment, Trace
 
 # How many addresses may have breakpoints: beside these a superstep and a rank are points of the bridge's own.
 MOST_BREAKPOINTS = MOST_POINTS - 2

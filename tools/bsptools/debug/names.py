@@ -56,6 +56,7 @@ class Names:
             # What lists code is the emulator that runs it.
             os.environ["BSPEMU"] = self._command[0]
             self._code = self._read().know_names()
+            self._code.is_float |= "--float" in self._command
             self._labels = _labels(self._code)
             self._symbols = _symbols(self._code, self._labels)
         return self._code

@@ -8,12 +8,12 @@ from typing import Callable, Dict, List, Optional, Sequence, Set, Tuple
 
 from ..debugger import Node
 from ..refusals import Refused, counted, tell
+from ..run.accesses import A7, ECALL
 from ..run.calls import GETS, NAMES, spelled
 from .arrivals import Asked, Interrupted, Place
 from .machine import Machine
 from .names import STACK, Names
 from .requests import Made, Requests, called
-from .trace import A7, ECALL
 from .writers import Found, Own, Search, Writer
 
 # Of how many bytes the writers are told at once, how many of them by their lines, and how many requests of a superstep.

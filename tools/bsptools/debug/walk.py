@@ -5,10 +5,10 @@ from __future__ import annotations
 from typing import Dict, Iterator, List, NamedTuple, Optional, Sequence, Set, Tuple, Union
 
 from ..debugger import MOST_BATCH, Node, Shown
+from ..run.accesses import A0, A7, ECALL, NOTHING, Stored, stored
 from ..run.calls import GETTAG, MOVE, TAGSIZE
 from .arrivals import Asked, Interrupted
 from .machine import Machine
-from .trace import A0, A7, ECALL, NOTHING, Stored, stored
 
 QSIZE, READ = 13, 18
 A1 = 11

@@ -6,12 +6,12 @@ import contextlib
 from typing import Callable, Dict, List, NamedTuple, Optional, Sequence, Tuple, Union
 
 from ..debugger import ALL, BATCH, Node, Shown
+from ..run.accesses import ECALL, Stored, loaded, stores_floats, value_of
 from .arrivals import Asked, Place, never
 from .history import Hit
 from .machine import Machine
 from .names import Names
 from .requests import Made
-from .trace import ECALL, Stored, loaded, stores_floats, value_of
 from .walk import Step, Walk
 from .writers import Own, Search
 

@@ -101,6 +101,7 @@ def prepared(
         code = Code(segments=[(0, memoryview(content))], need=len(content))
     else:
         code = read_elf(content)
+    code.is_float |= options.float
     sizes.expect_room(code, options)
     given = given_input(options, content, tool)
     is_typed = options.input is None and bool(given)
@@ -187,7 +188,7 @@ def words_of(job: Job, parser: Parser) -> list[str]:
         words += [name, str(value)] if value != parser.get_default(name.strip("-")) else []
     words += [it for name in options.file for it in ("--file", name)]
     words += [it for name in options.files for it in ("--files", name)]
-    words += [*(["--check"] if options.check else []), *(options.compiled or [])]
+    words += [*(["--float"] if options.float else []), *(["--check"] if options.check else []), *(options.compiled or [])]
     return [*words, options.program, *options.sources[1:], *options.args]
 
 

@@ -78,7 +78,7 @@ class Code:
         self.names: dict[str, int] = {}
         self.lines: list[tuple[int, int]] = []
         self.text, self.content = "", content
-        # Whether the program wants nodes with units of floating point.
+        # Whether the nodes have units of floating point.
         self.is_float = False
         self.debug: elf.Debug | None = None
         # What was found out of functions and addresses already.
@@ -114,12 +114,12 @@ class Code:
         than a function has the first are listed."""
         end = min(end, start + MOST_OF_A_FUNCTION)
         stored = next((content[start - at : end - at] for at, content in self.segments if at <= start < at + len(content)), b"")
-        return {start + place: Statement(name, operands, start + end, start) for place, end, name, operands in listing(stored)}
+        return {start + place: Statement(name, operands, start + end, start) for place, end, name, operands in listing(stored, self.is_float)}
 
     def statements_at(self, addresses: Iterable[int]) -> dict[int, Statement]:
         """The instructions of the image at these addresses, as the emulator lists them one behind another."""
         stored = {address: code for address in addresses if (code := self.stored(address))}
-        listed = listing(b"".join(stored.values()))
+        listed = listing(b"".join(stored.values()), self.is_float)
         return {
             address: Statement(name, operands, address + end - place, address - place)
             for address, (place, end, name, operands) in zip(stored, listed)
@@ -183,6 +183,11 @@ def listing(stored: bytes, is_float: bool = False) -> Iterator[tuple[int, int, s
         place, stored_as, name, *operands = line.split("#")[0].replace(",", " ").split()
         at = int(place[:-1], 16)
         yield at, at + len(stored_as) // 2, name, operands
+
+
+def float_name(code: bytes) -> str:
+    """The name that code has where there are units of floating point; nothing where it has none."""
+    return next((name for _, _, name, _ in listing(code, is_float=True) if not name.startswith(".")), "")
 
 
 def read_elf(content: bytes) -> Code:

@@ -6,6 +6,7 @@ from collections.abc import Iterator
 from typing import TYPE_CHECKING, NamedTuple
 
 from ..debugger import BATCH, Node, Session, node_of
+from .accesses import loaded
 from .calls import GETS, PUTS, SEND, WRITE, Call
 from .partings import read_by
 from .places import place
@@ -18,8 +19,6 @@ if TYPE_CHECKING:
 MOST_BEHIND, MOST_LOOKED_AT, LEAST_LOOKED_AT = 5_000, 60_000, 500
 # Calls at which a run stops, and lines that are left to a session for what follows.
 MOST_SITES, RESERVE = 1000, 1 << 18
-# The opcode of loads, and how many bytes they load by their funct3.
-LOAD, SIZES = 0x03, (1, 2, 4, 0, 1, 2, 0, 0)
 
 
 class Target(NamedTuple):
@@ -28,19 +27,6 @@ class Target(NamedTuple):
     start: int
     end: int
     call: Call
-
-
-def loaded(code: bytes, x: tuple[int, ...]) -> tuple[int, int]:
-    """Address and number of the bytes that an instruction loads with these registers: 0 of all others."""
-    word = int.from_bytes(code, "little")
-    if len(code) == 4 and word & 0x7F == LOAD:
-        offset = (word >> 20) - ((word >> 31) << 12)
-        return (x[word >> 15 & 31] + offset) & 0xFFFFFFFF, SIZES[word >> 12 & 7]
-    if len(code) == 2 and word >> 13 == 2 and word & 3 == 0:  # c.lw
-        return (x[8 + (word >> 7 & 7)] + (word >> 7 & 0x38) + (word >> 4 & 4) + (word << 1 & 0x40)) & 0xFFFFFFFF, 4
-    if len(code) == 2 and word >> 13 == 2 and word & 3 == 2:  # c.lwsp
-        return (x[2] + (word >> 7 & 0x20) + (word >> 2 & 0x1C) + (word << 4 & 0xC0)) & 0xFFFFFFFF, 4
-    return 0, 0
 
 
 def read_at(code: Code, node: Node) -> tuple[int, int]:

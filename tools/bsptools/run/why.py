@@ -4,12 +4,12 @@ from __future__ import annotations
 
 import re
 
-from ..debugger import Node, Session, node_of, signed
+from ..debugger import Node, Session, floats_of, node_of, signed
 from ..limits import MOST_AREAS, MOST_BYTES, MOST_REQUESTS, MOST_STACK, MOST_TAG, MOST_TICKS
 from ..refusals import counted
 from .calls import CHANGES, GETS, POP, PUSH, PUTS, REQUESTS, SEND, TAGSIZE, WRITE, Call, Tracer, spelled
 from .places import place, written
-from .program import ECALL, Code
+from .program import ECALL, Code, float_name
 from .replays import Replays, bytes_of
 from .report import Report
 from .sizes import spelled as spelled_size
@@ -22,6 +22,9 @@ MOST_LOOKS = 8
 MOST_TOLD = 3
 # What NULL points to, over and over, in a program of bspcc, and how far from it an address is that was made of it.
 NULL_WORD, NEAR = 0xE5A6D39B, 1 << 16
+# Where an instruction of floating point has its rounding mode, which is that in frm where all of these bits are set, and those modes that
+# there are not.
+MODE, DYNAMIC, RESERVED = 12, 7, (5, 6)
 
 
 class Why:
@@ -194,7 +197,23 @@ class Why:
         unit = "word" if len(content) == 4 else "halfword"
         if content and content != stored:
             return [f"the code was overwritten: the {unit} at {node.pc:#x} is 0x{content[::-1].hex()}"]
-        return [f"the {unit} at {node.pc:#x} is no instruction that a node has"]
+        return [f"the {unit} at {node.pc:#x} is {self.no_instruction(node, content)}"]
+
+    def no_instruction(self, node: Node, content: bytes) -> str:
+        """What code is that a node does not have."""
+        name, mode = float_instruction(content)
+        if not name:
+            return "no instruction that a node has"
+        if not self.code.is_float:
+            without = "" if self.code.lines else ", or compile by bspcc -march=rv32imc, which does without"
+            return f"{name}, of floating point, for which nodes have no units: give --float{without}"
+        where = f"the rounding mode {mode}" if mode in RESERVED else f"the rounding mode of frm, which is {self.frm(node)}"
+        return f"{name} in {where}: the modes are 0 to 4"
+
+    def frm(self, node: Node) -> int:
+        """The rounding mode that a node has in frm; 0 where it has no unit of floating point."""
+        reply = self.session.ask(f"fregs {node.rank}")
+        return floats_of(reply.lines).frm if reply.is_done else 0
 
     # Registrations.
 
@@ -312,3 +331,12 @@ class Why:
 def is_of_null(address: int) -> bool:
     """Whether an address is near to what NULL points to, and so most likely made of it."""
     return abs(address - NULL_WORD) < NEAR
+
+
+def float_instruction(content: bytes) -> tuple[str, int]:
+    """The name of an instruction of floating point, and where it has a rounding mode, its bits; also of one with a mode that there is not. No
+    name of any other code."""
+    word = int.from_bytes(content, "little")
+    mode = word >> MODE & DYNAMIC
+    is_reserved = len(content) == 4 and mode in RESERVED
+    return float_name(content) or is_reserved and float_name((word | DYNAMIC << MODE).to_bytes(4, "little")) or "", mode

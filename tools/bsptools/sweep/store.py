@@ -80,7 +80,7 @@ class Store:
         """
         options, image = self.options, str(run.program.image)
         words = ["--nodes", str(run.nodes), "--memory", str(options.memory), "--limit", str(options.limit)]
-        words += ["--format", run.program.kind]
+        words += ["--format", run.program.kind, *(["--float"] if options.float else [])]
         programs, given = [self.emulator, image], [*filter(None, [run.given]), *options.file]
         rests = [*programs, *given]
         digests = [self.digest_of(it, MOST_PROGRAM) for it in programs] + [self.digest_of(it, MOST_INPUT) for it in given]

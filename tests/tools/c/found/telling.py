@@ -50,15 +50,15 @@ WRITTEN = {
 }
 # A program that cannot fit, one that wants more than is said, and one with a deep stack.
 # A pointer and a function that are read through NULL, which nobody but the compiler knows.
-THROUGH_NULL = "#include <stdio.h>\nstruct it { int a[4]; struct it *next; } *volatile none;\n"
+THROUGH_NULL = "#include <stdio.h>\nstruct it { NUMBER a[4]; struct it *next; } *volatile none;\n"
 THROUGH_NULL += "int main(int argc, char **argv)\n{\n    if (argc == 1)\n        return none->next->a[1];\n"
 THROUGH_NULL += '    return fputs("x", fopen("absent", "r"));\n}\n'
 # A quotient in a rounding mode that nodes do not have.
 UPWARD = "#include <fenv.h>\nvolatile double x = 1, y = 3;\nint main(void)\n{\n    fesetround(FE_UPWARD);\n    return x / y > 1;\n}\n"
-# A get whose target is read early in one superstep of many.
-OFTEN = "#include <bsp.h>\n#include <stdio.h>\nint main(void)\n{\n    int k, x = 1, y = 0;\n    bsp_begin(bsp_nprocs());\n"
+# A get whose target, a number of some type, is read early in one superstep of many.
+OFTEN = "#include <bsp.h>\n#include <stdio.h>\nint main(void)\n{\n    TYPE x = 1, y = 0; int k;\n    bsp_begin(bsp_nprocs());\n"
 OFTEN += "    bsp_push_reg(&x, sizeof x);\n    bsp_sync();\n    for (k = 0; k < 50; k++) {\n        bsp_get(0, &x, 0, &y, sizeof y);\n"
-OFTEN += '        if (k == 40)\n            printf("%d\\n", y);\n        bsp_sync();\n    }\n    bsp_end();\n    return 0;\n}\n'
+OFTEN += '        if (k == 40)\n            printf("%d\\n", (int)y);\n        bsp_sync();\n    }\n    bsp_end();\n    return 0;\n}\n'
 ARRAYS = "#include <bsp.h>\ndouble table[SIZE], other[500];\nint main(void)\n{\n    bsp_begin(1);\n    bsp_end();\n    return table[1] != other[2];\n}\n"
 STACK = "int main(void)\n{\n    volatile char bytes[400000];\n    bytes[0] = 0;\n    return bytes[0];\n}\n"
 
@@ -98,12 +98,14 @@ class Telling:
             self.expect(f"told {number}", done, done.returncode, *case.said.split(" .. "), *([f"silent.c:{line}"] if case.has_line else []))
         self.expect("no argument", self.run(image), 2, "atoi is given NULL", "bsprun PROGRAM 100", "silent.c:")
         (self.folder / "often.c").write_text(OFTEN)
-        done = self.run("-n", "2", "--warn", "often.c")
-        self.expect("a get among many", done, 0, "read in superstep 41, before bsp_sync, by rank 0 at main, often.c:12; the get is that of rank 0 at main")
+        said = "read in superstep 41, before bsp_sync, by rank 0 at main, often.c:12; the get is that of rank 0 at main"
+        for kind in "int", "float", "double":
+            self.expect(f"a get of {kind} among many", self.run("-n", "2", "--warn", f"-DTYPE={kind}", "often.c"), 0, said)
         (self.folder / "through.c").write_text(THROUGH_NULL)
-        done = self.run("through.c")
-        self.expect("a pointer that is read through NULL", done, 2, "main, through.c:6", "the pointer was read through NULL")
-        done = self.run("through.c", "x")
+        for kind in "int", "double":
+            done = self.run(f"-DNUMBER={kind}", "through.c")
+            self.expect(f"the {kind} of a pointer that is read through NULL", done, 2, "main, through.c:6", "the pointer was read through NULL")
+        done = self.run("-DNUMBER=int", "through.c", "x")
         self.expect("a function that is read through NULL", done, 2, "through.c:7", "called by a pointer that was read through NULL")
         (self.folder / "upward.c").write_text(UPWARD)
         done = self.run("-march=rv32imfdc", "upward.c", "-lm")

@@ -16,14 +16,14 @@ import tempfile
 import threading
 import time
 from dataclasses import dataclass
-from typing import Callable, Iterable, List, Optional, Sequence, Tuple
+from typing import Callable, Iterable, List, Optional, Sequence, Tuple, Union
 
 REPO = pathlib.Path(__file__).resolve().parents[2]
 sys.path.append(str(REPO / "tools"))
 
 import lanes  # noqa: E402
 
-from bsptools import packages  # noqa: E402
+from bsptools import elf, packages  # noqa: E402
 
 # Only what hangs takes so long, also on a busy machine.
 SECONDS = 600
@@ -45,6 +45,12 @@ def tracked() -> List[str]:
             below[:] = sorted(set(below) - MADE)
             names += [str((pathlib.Path(folder) / it).relative_to(REPO)) for it in files]
     return [it for it in names if it and (REPO / it).is_file()]
+
+
+def units(program: Union[str, pathlib.Path]) -> List[str]:
+    """The option of the emulator for nodes with units of floating point, where a program was compiled for these."""
+    content = pathlib.Path(program).read_bytes()
+    return ["--float"] if content.startswith(b"\x7fELF") and elf.wants_floats(content) else []
 
 
 def on_path(name: str) -> bool:

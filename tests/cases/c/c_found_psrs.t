@@ -1,7 +1,7 @@
   $ cat > numbers.txt <<'END'
   > 4 5 3 9 -1 12 8 8 0 44 2 7 31 6 10 1 99 17
   > END
-  $ bspemu run "$REPO"/tests/tools/c/found/psrs.elf --nodes 4 --report --input numbers.txt --ledger 1
+  $ bspemu run "$REPO"/tests/tools/c/found/psrs.elf --float --nodes 4 --report --input numbers.txt --ledger 1
   -1
   0
   1

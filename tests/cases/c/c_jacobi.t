@@ -1,4 +1,4 @@
-  $ bspemu run examples/c/jacobi.elf --nodes 4 --report --ledger 1
+  $ bspemu run examples/c/jacobi.elf --float --nodes 4 --report --ledger 1
   cell 0: 82380/1000
   cell 1: 66362/1000
   cell 2: 50344/1000
@@ -24,26 +24,26 @@
   cell 22: 0/1000
   cell 23: 0/1000
   superstep 0: w 468 h 0 turned
-  superstep 1: w 125 h 16 turned
-  superstep 2: w 1541 h 16 turned
-  superstep 3: w 1642 h 16 turned
-  superstep 4: w 1765 h 16 turned
-  superstep 5: w 1901 h 16 turned
-  superstep 6: w 2037 h 16 turned
-  superstep 7: w 2147 h 16 turned
-  superstep 8: w 2169 h 16 turned
-  superstep 9: w 2204 h 16 turned
-  superstep 10: w 2217 h 16 turned
-  superstep 11: w 2204 h 16 turned
-  superstep 12: w 2204 h 16 turned
-  superstep 13: w 2217 h 16 turned
-  superstep 14: w 2230 h 16 turned
-  superstep 15: w 2217 h 16 turned
-  superstep 16: w 2217 h 16 turned
-  superstep 17: w 2230 h 16 turned
-  superstep 18: w 2217 h 16 turned
-  superstep 19: w 2215 h 16 turned
-  superstep 20: w 2217 h 16 turned
-  superstep 21: w 10602 h 0 last
-  total 51306
+  superstep 1: w 117 h 16 turned
+  superstep 2: w 481 h 16 turned
+  superstep 3: w 481 h 16 turned
+  superstep 4: w 481 h 16 turned
+  superstep 5: w 481 h 16 turned
+  superstep 6: w 481 h 16 turned
+  superstep 7: w 481 h 16 turned
+  superstep 8: w 481 h 16 turned
+  superstep 9: w 481 h 16 turned
+  superstep 10: w 481 h 16 turned
+  superstep 11: w 481 h 16 turned
+  superstep 12: w 481 h 16 turned
+  superstep 13: w 481 h 16 turned
+  superstep 14: w 481 h 16 turned
+  superstep 15: w 481 h 16 turned
+  superstep 16: w 481 h 16 turned
+  superstep 17: w 481 h 16 turned
+  superstep 18: w 481 h 16 turned
+  superstep 19: w 481 h 16 turned
+  superstep 20: w 481 h 16 turned
+  superstep 21: w 7043 h 0 last
+  total 17087
   ended

@@ -1,4 +1,4 @@
-  $ bspemu run examples/c/letters.elf --nodes 4 --report --input examples/c/lines.txt --ledger 1
+  $ bspemu run examples/c/letters.elf --float --nodes 4 --report --input examples/c/lines.txt --ledger 1
   a: 23, from 4 ranks
   b: 1, from 1 ranks
   c: 8, from 4 ranks

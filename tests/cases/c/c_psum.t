@@ -1,4 +1,4 @@
-  $ bspemu run examples/c/psum.elf --nodes 4 --report --ledger 1
+  $ bspemu run examples/c/psum.elf --float --nodes 4 --report --ledger 1
   rank 0: 0 1 3 6 10 15 21 28
   rank 1: 36 45 45 46 48 51 55 60
   rank 2: 66 73 81 90 90 91 93 96

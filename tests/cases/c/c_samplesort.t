@@ -1,4 +1,4 @@
-  $ bspemu run examples/c/samplesort.elf --nodes 4 --report --input examples/c/numbers.txt --ledger 1
+  $ bspemu run examples/c/samplesort.elf --float --nodes 4 --report --input examples/c/numbers.txt --ledger 1
   -997
   -988
   -973

@@ -1,2 +1,2 @@
-  $ bspemu run examples/c/wrong_total.elf --nodes 4
+  $ bspemu run examples/c/wrong_total.elf --float --nodes 4
   the total is 673059850

@@ -8,7 +8,7 @@ import time
 from typing import Callable, Dict, List, Tuple
 
 from bsptools.debug import arrivals, dialogue, machine, names, telling, writers
-from checks import REPO
+from checks import REPO, units
 from sessions import Bench, expect, in_order
 from terminals import Terminal
 
@@ -113,7 +113,7 @@ def of_this_rank(bench: Bench) -> None:
 @case
 def floats(bench: Bench) -> None:
     """A program for registers of floating point: gdb takes it, and shows what each rank has in these, forwards and back."""
-    program = bench.build("tests/tools/gdb/floats.c", "-march=rv32imfdc", "-O2")
+    program = bench.build("tests/tools/gdb/floats.c", "-O2")
     commands = ["watch total", "continue", "continue", "print total", "monitor wrote total", "reverse-continue"]
     text = bench.gdb(program, [*commands, "delete", "continue"])
     wrote = "a store by rank 0 in superstep 0: main, floats.c:14, pc 0x"
@@ -129,7 +129,7 @@ def floats(bench: Bench) -> None:
     expect("Writing to registers is not allowed" in text, text)
     # What the debugger says of the same state: `plus` is called for the second time, and has made its sum.
     addr = int(re.findall(r"0x[0-9a-f]+", bench.gdb(program, ["info address plus"]))[-1], 16)
-    told_there = bench.debug(program, [f"break 0 {addr}", "go", "go", "step 0 1", "fregs 0"], "--nodes", "2", "--float", "--clock")
+    told_there = bench.debug(program, [f"break 0 {addr}", "go", "go", "step 0 1", "fregs 0"], "--nodes", "2", "--clock")
     in_order("\n".join(told_there), "rank 0 fcsr 00000000 frm 0 flags -", "f10=3ff8000000000000 f11=3ff0000000000000")
 
 
@@ -149,7 +149,7 @@ def who_wrote_in_assembly(bench: Bench) -> None:
 def who_wrote_by_pieces(bench: Bench) -> None:
     """In pieces of any size the same is found, wherever the run stands."""
     program = bench.build(SOURCE, "-DREST=50")
-    command = [bench.bspemu, "debug", program, "--format", "elf", "--nodes", "3"]
+    command = [bench.bspemu, "debug", program, *units(program), "--format", "elf", "--nodes", "3"]
     addr = int(re.findall(r"0x[0-9a-f]+", bench.gdb(program, ["info address first"]))[-1], 16)
     with bench.machines:
         kept = writers.PIECE, writers.MOST_PIECE
@@ -172,7 +172,7 @@ def who_wrote_by_pieces(bench: Bench) -> None:
 def who_wrote_by_changes(bench: Bench) -> None:
     """No byte was written last before it changed last, as a look at the memory after each instruction and each turn tells."""
     program = bench.build(SOURCE, "-DREST=50")
-    command = [bench.bspemu, "debug", program, "--format", "elf", "--nodes", "3"]
+    command = [bench.bspemu, "debug", program, *units(program), "--format", "elf", "--nodes", "3"]
     addr = int(re.findall(r"0x[0-9a-f]+", bench.gdb(program, ["info address first"]))[-1], 16) - 32
     changed: Dict[int, Tuple[int, float]] = {}
     run = machine.Machine(command)
@@ -219,7 +219,7 @@ def who_wrote_is_bounded(bench: Bench) -> None:
 def who_wrote_goes_on(bench: Bench) -> None:
     """The lines that lead to where a search was given up, as the dialogue has them: behind many supersteps, and in the midst of one."""
     program = bench.build(SOURCE, "-DREST=50")
-    command = [bench.bspemu, "debug", program, "--format", "elf", "--nodes", "3"]
+    command = [bench.bspemu, "debug", program, *units(program), "--format", "elf", "--nodes", "3"]
     known = names.Names(command)
     addr = known.address("first") or 0
     with bench.machines:

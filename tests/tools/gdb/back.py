@@ -10,6 +10,7 @@ import tempfile
 from typing import Callable, Iterable, Iterator, List, NamedTuple, Optional, Sequence, Set, Tuple
 
 from bsptools.debug import arrivals, halts, history, kept, machine, monitor, runner
+from checks import units
 from sessions import SHOW_REGISTERS, Bench, expect, in_order, registers_in
 
 NO_MORE = "No more reverse-execution history."
@@ -213,7 +214,7 @@ def _one_less(ticks: Tuple[int, ...], rank: int) -> Tuple[int, ...]:
 def back_in_any_order(bench: Bench) -> None:
     """However a run goes on and back, it stands where it says, and there it is as a new one is: registers and memory."""
     program = bench.build("tests/tools/gdb/rounds.c")
-    command = [bench.bspemu, "debug", program, "--nodes", "3", "--memory", "262144"]
+    command = [bench.bspemu, "debug", program, *units(program), "--nodes", "3", "--memory", "262144"]
     addresses = [bench.address(program, place) for place in ["note", "bsp_sync", "rounds.c:44", "*bsp_sync+134"]]
     past = Past(command, addresses)
     # So that few stops are many.

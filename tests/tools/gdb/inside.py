@@ -10,6 +10,7 @@ from typing import Callable, Dict, List, NamedTuple, Optional, Sequence, Set, Tu
 from back import NO_MORE
 from bsptools.debug.arrivals import Place
 from bsptools.debugger import Node, Reply, Session, node_of
+from checks import units
 from sessions import SHOW_REGISTERS, Bench, expect, in_order, registers_in
 
 PROGRAM = "tests/tools/gdb/rounds.c"
@@ -246,7 +247,7 @@ def back_inside(bench: Bench) -> None:
     text = bench.gdb(program, [f"output/x (int)&{name}" for name in ("seen", "received.numbers[1]", "mine.numbers[2]", "received.from")])
     words = [int(it, 16) for it in re.findall(r"(?<=\(gdb\) )0x[0-9a-f]+", text)]
     watched = [(rank, addr) for rank in range(RANKS) for addr in words]
-    plain = Plain([bench.bspemu, "debug", program, "--nodes", str(RANKS), "--memory", str(1 << 24)], watched)
+    plain = Plain([bench.bspemu, "debug", program, *units(program), "--nodes", str(RANKS), "--memory", str(1 << 24)], watched)
     for seed in SEEDS:
         check(bench, program, plain, Script(seed, plain, addresses, watched))
 

@@ -10,7 +10,7 @@ import threading
 from typing import Dict, List, Sequence
 
 import forked
-from checks import GDB, REPO, SECONDS
+from checks import GDB, REPO, SECONDS, units
 
 REGISTERS = "ra sp gp tp t0 t1 t2 fp s1 a0 a1 a2 a3 a4 a5 a6 a7 s2 s3 s4 s5 s6 s7 s8 s9 s10 s11 t3 t4 t5 t6 pc".split()
 # Has gdb show the registers of all ranks.
@@ -70,7 +70,7 @@ class Bench:
     def debug(self, program: str, commands: Sequence[str], *options: str) -> List[str]:
         """What the debugger answers to these lines."""
         text = "".join(command + "\n" for command in commands)
-        words = [self.bspemu, "debug", program, *options]
+        words = [self.bspemu, "debug", program, *units(program), *options]
         done = subprocess.run(words, input=text, capture_output=True, text=True, timeout=SECONDS, check=True)
         return done.stdout.splitlines()
 
@@ -88,7 +88,7 @@ class Bench:
         subprocess.run([self.bspemu, *words], timeout=SECONDS, check=True)
 
     def report(self, program: str, *options: str) -> subprocess.CompletedProcess[str]:
-        words = [self.bspemu, "run", program, "--report", *options]
+        words = [self.bspemu, "run", program, "--report", *units(program), *options]
         return subprocess.run(words, capture_output=True, text=True, timeout=SECONDS, check=False)
 
     @functools.lru_cache(maxsize=None)

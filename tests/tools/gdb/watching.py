@@ -8,6 +8,7 @@ from typing import Callable, List, Tuple
 from back import SOON_INTERRUPTED
 from bsptools.debug import halts, machine, runner, watches
 from bsptools.debug.machine import MOST_BREAKPOINTS
+from checks import units
 from sessions import Bench, expect, in_order
 
 PROGRAM = "tests/tools/gdb/rounds.c"
@@ -132,7 +133,7 @@ def watch_by_changes(bench: Bench) -> None:
     """As gdb goes from one stop to the next, it sees all changes of some bytes, and no other, forwards and backwards: those that a look after
     each instruction and each turn tells."""
     program = bench.build(PROGRAM)
-    command = [bench.bspemu, "debug", program, "--format", "elf", "--nodes", "3"]
+    command = [bench.bspemu, "debug", program, *units(program), "--format", "elf", "--nodes", "3"]
     for place, rank in (("received.numbers[1]", 1), ("mine.numbers[2]", 2), ("seen", 0)):
         text = bench.gdb(program, [f"output/x (int)&{place}"])
         addr = int(re.findall(r"0x[0-9a-f]+(?=\(gdb\))", text)[-1], 16)

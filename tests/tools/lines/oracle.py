@@ -75,7 +75,7 @@ class Run:
         self.start_of, self.place_of = start_of, place_of
         self.steps: Dict[Key, int] = {}
         self.inside: Dict[Tuple[int, int], Dict[Hashable, int]] = {}
-        machine = reports.Machine(nodes=nodes, limit=LIMIT)
+        machine = reports.Machine(nodes=nodes, limit=LIMIT, floats=elf.wants_floats(content))
         segments = [images.Segment(address, bytes(stored), end - address) for address, stored, end in elf.segments(content)]
         memory = machines.laid(segments, machine.memory)
         self.entry = elf.entry(content)

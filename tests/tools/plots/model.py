@@ -46,8 +46,9 @@ class Run:
         kind = kind_of(path, content)
         emulator = [os.environ.get("BSPEMU") or str(REPO / "bspemu")]
         given = ["--input", options.input] if options.input else []
-        words = [str(path), "--format", kind, "--nodes", str(options.nodes), "--limit", str(options.limit), *given]
         code = read_text(emulator, path.name, content, folder) if kind == "asm" else read_elf(content).know_names()
+        units = ["--float"] if code.is_float else []
+        words = [str(path), "--format", kind, "--nodes", str(options.nodes), "--limit", str(options.limit), *given, *units]
         self.nodes = options.nodes
         self.replays = Replays([*emulator, "debug", *words], MEMORY)
         self.trace = Tracer(code, self.replays)

@@ -233,7 +233,7 @@ def forms(check: Check) -> None:
 def first_report(check: Check) -> pathlib.Path:
     """A report by the first version of the ledger, of which h counts all bytes."""
     path = check.folder / "first.txt"
-    words = [os.environ["BSPEMU"], "run", str(REPO / "examples/c/inner.elf"), "--nodes", "4", "--report", "--ledger", "1"]
+    words = [os.environ["BSPEMU"], "run", str(REPO / "examples/c/inner.elf"), "--float", "--nodes", "4", "--report", "--ledger", "1"]
     path.write_bytes(subprocess.run(words, stdin=subprocess.DEVNULL, stdout=subprocess.PIPE, check=True, timeout=SECONDS).stdout)
     return path
 

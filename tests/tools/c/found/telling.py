@@ -108,7 +108,7 @@ class Telling:
         done = self.run("-DNUMBER=int", "through.c", "x")
         self.expect("a function that is read through NULL", done, 2, "through.c:7", "called by a pointer that was read through NULL")
         (self.folder / "upward.c").write_text(UPWARD)
-        done = self.run("-march=rv32imfdc", "upward.c", "-lm")
+        done = self.run("upward.c", "-lm")
         self.expect("a rounding mode that nodes do not have", done, 2, "main, upward.c:6", "a mode is set, as by fesetround")
         self.expect("nothing to warn of", self.run("-n", "2", "--warn", image, "0"), 0, NOT_FOUND)
 

@@ -1,0 +1,48 @@
+Wants: riscv64-unknown-elf-gcc riscv64-unknown-elf-ld
+
+Of the instructions and the ABI each says the other one. In the flags of the file that is made 4 stands for doubles in registers of floating point, and
+1 for compressed instructions.
+
+  $ printf 'double half(double x) { return x / 2; }\nint main(void) { return half(0) != 0; }\n' > main.c
+  $ flags() { bspcc --small "$@" -o main.elf main.c && od -An -td1 -j36 -N1 main.elf; }
+  $ flags
+      5
+  $ flags -march=rv32imfdc
+      5
+  $ flags -mabi=ilp32d
+      5
+  $ flags -march=rv32imfdc_zicsr
+      5
+  $ flags -march=rv32imfd -mabi=ilp32d
+      4
+  $ flags -march=rv32gc
+      5
+  $ flags -march=rv32imc
+      1
+  $ flags -mabi=ilp32
+      1
+  $ flags -march=rv32im -mabi=ilp32
+      0
+
+What does not go together is refused, and so are objects of another ABI and instructions for which GCC has no libraries.
+
+  $ flags -march=rv32imc -mabi=ilp32d
+  bspcc: -march=rv32imc goes with -mabi=ilp32, and not with -mabi=ilp32d: leave one of the two out (stderr)
+  [1]
+  $ flags -march=rv32imfdc -mabi=ilp32
+  bspcc: -march=rv32imfdc goes with -mabi=ilp32d, and not with -mabi=ilp32: leave one of the two out (stderr)
+  [1]
+  $ flags -march=rv32imc_zifencei
+  bspcc: GCC has no libraries for -march=rv32imc_zifencei: give rv32imfdc, or rv32imc for nodes without units of floating point (stderr)
+  [1]
+  $ bspcc --small -march=rv32imc -c -o main.o main.c
+  $ bspcc --small -o main.elf main.o
+  bspcc: main.o was compiled with -mabi=ilp32, and is linked with -mabi=ilp32d: give the same to both (stderr)
+  [1]
+  $ bspcc --small -mabi=ilp32 -o main.elf main.o
+
+What is of another machine is left out.
+
+  $ flags -march=rv64gc -mabi=lp64d
+      5
+  bspcc: left out, since nodes have no use for it: -march=rv64gc -mabi=lp64d (stderr)

@@ -134,6 +134,15 @@ def floats(bench: Bench) -> None:
 
 
 @case
+def doubles(bench: Bench) -> None:
+    """Variables that are doubles have their numbers, in memory and in registers of both kinds, as operands and as what a function returns."""
+    commands = ["break plus", "continue", "continue", "info args", "print a * b", "finish", "print total", "next", "print total + 0.25", "ptype total"]
+    for options in ["-O0"], ["-O2"], ["-O2", "-march=rv32imc"]:
+        text = bench.gdb(bench.build("tests/tools/gdb/floats.c", *options), commands, "-n", "2")
+        in_order(text, "plus (a=0.5, b=", "a = 0.5\nb = 1\n", "$1 = 0.5", "Value returned is $2 = 1.5", "$3 = 0.5", "$4 = 1.75", "type = volatile double")
+
+
+@case
 def who_wrote_in_assembly(bench: Bench) -> None:
     """What was read, in a text, whose labels and lines are told; and a rank that has failed."""
     source, given = bench.folder / "reads.s", bench.folder / "given"

@@ -32,9 +32,9 @@ fn quadrant_0(half: u32) -> Option<FloatInstr>
 {
     match halfword::funct3(half) {
         1 => Some(load(half, Format::Double, halfword::double_offset(half))),
-        3 => Some(load(half, Format::Single, halfword::single_offset(half))),
+        3 => Some(load(half, Format::Single, halfword::word_offset(half))),
         5 => Some(store(half, Format::Double, halfword::double_offset(half))),
-        7 => Some(store(half, Format::Single, halfword::single_offset(half))),
+        7 => Some(store(half, Format::Single, halfword::word_offset(half))),
         _ => None,
     }
 }
@@ -47,9 +47,9 @@ fn quadrant_2(half: u32) -> Option<FloatInstr>
 {
     match halfword::funct3(half) {
         1 => Some(load_sp(half, Format::Double, halfword::fldsp_offset(half))),
-        3 => Some(load_sp(half, Format::Single, halfword::flwsp_offset(half))),
+        3 => Some(load_sp(half, Format::Single, halfword::lwsp_offset(half))),
         5 => Some(store_sp(half, Format::Double, halfword::fsdsp_offset(half))),
-        7 => Some(store_sp(half, Format::Single, halfword::fswsp_offset(half))),
+        7 => Some(store_sp(half, Format::Single, halfword::swsp_offset(half))),
         _ => None,
     }
 }

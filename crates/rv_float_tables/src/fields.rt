@@ -1,63 +1,16 @@
-//! The bit fields of a word, as the manual cuts them.
+//! The bit fields of a word that those of whole numbers have not, and what their values stand for.
 
-ghost use Rattle.std.specs.Prelude.{◌≡◌, ◌+◌, ◌^◌, ◌<◌, ◌≤◌};
-ghost use Rattle.rv_tables.specs.Fields as Fields;
+ghost use Rattle.std.specs.Prelude.{◌≡◌};
 ghost use Rattle.rv_float_tables.specs.Fields.{funct5, fmt, rm, csr, uimm, rs3, format_of, format_code, rounding_of, rounding_code, csr_of, csr_number};
 
 use crate::instr::{FloatCsr, Format, RoundingField};
-
-/// The bits of a word from `high` down to `low`, as a number.
-#[inline]
-pub fn bits(word: u32, high: u32, low: u32) -> u32
-    requires ordered { low ≤ high }
-    requires narrow { high < low + 31 }
-    requires within { high < 32 }
-    ensures { result ≡ Fields.bits word high low }
-{
-    let width = high - low + 1;
-    word >> low & ((1 << width) - 1)
-}
-
-#[inline]
-pub fn opcode(word: u32) -> u32
-    ensures { result ≡ Fields.opcode word }
-{
-    word & 0x7F
-}
-
-#[inline]
-pub fn funct3(word: u32) -> u32
-    ensures { result ≡ Fields.funct3 word }
-{
-    bits(word, 14, 12)
-}
+pub use rv_tables::fields::{bits, funct3, i_immediate, opcode, rd, rs1, rs2, s_immediate};
 
 #[inline]
 pub fn funct5(word: u32) -> u32
     ensures { result ≡ funct5 word }
 {
     bits(word, 31, 27)
-}
-
-#[inline]
-pub fn rd(word: u32) -> u8
-    ensures { result ≡ Fields.rd word }
-{
-    bits(word, 11, 7) as u8
-}
-
-#[inline]
-pub fn rs1(word: u32) -> u8
-    ensures { result ≡ Fields.rs1 word }
-{
-    bits(word, 19, 15) as u8
-}
-
-#[inline]
-pub fn rs2(word: u32) -> u8
-    ensures { result ≡ Fields.rs2 word }
-{
-    bits(word, 24, 20) as u8
 }
 
 #[inline]
@@ -72,22 +25,6 @@ pub fn uimm(word: u32) -> u8
     ensures { result ≡ uimm word }
 {
     bits(word, 19, 15) as u8
-}
-
-// The sign of each immediate is bit 31 of its word: an arithmetic shift to the right fills the bits above with it.
-
-#[inline]
-pub fn i_immediate(word: u32) -> i32
-    ensures { result ≡ Fields.i_immediate word }
-{
-    word.cast_signed() >> 20
-}
-
-#[inline]
-pub fn s_immediate(word: u32) -> i32
-    ensures { result ≡ Fields.s_immediate word }
-{
-    (word.cast_signed() >> 25) * 0x20 + bits(word, 11, 7) as i32
 }
 
 /// The format of an operation, or none where it is one that neither F nor D has.

@@ -14,6 +14,7 @@
 //!   reserved code. What it answers is an instruction that `encode` takes.
 //! - A [`Code`] is what stands in memory for one instruction: a halfword or a word, as its low bits tell. It has a length in bytes
 //!   and at most one instruction, by the two above.
+//! - [`fields`] and [`halfword`] cut a word and a halfword as the manual does, for tables of further extensions too.
 //! - [`reg_number`] and [`mnemonic`] know the names of the manual, and no others.
 //! - [`laws`] has what holds of all words: each spells at most one instruction, which is the one that is decoded. And of all
 //!   halfwords: each is of at most one compressed row.
@@ -26,8 +27,8 @@ mod code;
 mod compressed;
 mod decoder;
 mod encoder;
-mod fields;
-mod halfword;
+pub mod fields;
+pub mod halfword;
 mod instr;
 pub mod laws;
 mod mnemonics;

@@ -17,7 +17,7 @@ use Rattle.rv_float_tables.specs.declared.instr.WordKind.TheVariants.{Signed, Un
 use Rattle.rv_float_tables.specs.declared.instr.CsrOp.TheVariants.{Write, Set, Clear}
 use Rattle.rv_float_tables.specs.declared.instr.FloatCsr.{FloatCsr}
 use Rattle.rv_float_tables.specs.declared.instr.FloatCsr.TheVariants.{Fflags, Frm, Fcsr}
-use Rattle.rv_float_tables.specs.Mnemonics.{mnemonic_of, of_format}
+use Rattle.rv_float_tables.specs.Mnemonics.{float_mnemonic_of, of_format}
 use Rattle.asm_syntax.specs.declared.float_form.FloatForm.{FloatForm}
 use Rattle.asm_syntax.specs.declared.float_form.FloatForm.TheVariants.{Row, Move, Negate, Absolute, Greater, GreaterOrEqual, ReadFloatCsr, WriteFloatCsr, WriteFloatCsrImmediate, ReadCsr, ChangeCsr, ChangeCsrImmediate}
 use Rattle.asm_syntax.specs.declared.float_form.RowForm.{RowForm}
@@ -79,7 +79,7 @@ left_out form = record { rd = 0; rs1 = 0; rs2 = 0; rs3 = 0; imm = pos 0; csr = o
 
 -- the mnemonic of a statement. None is called `fscsri`, whose five bits would not fill `fcsr`
 abbrev pub float_mnemonic : FloatForm → List ℕ
-float_mnemonic (Row r) = mnemonic_of (row_instruction r (left_out (Row r)))
+float_mnemonic (Row r) = float_mnemonic_of (row_instruction r (left_out (Row r)))
 float_mnemonic (Move format) = of_format (codes "fmv") format
 float_mnemonic (Negate format) = of_format (codes "fneg") format
 float_mnemonic (Absolute format) = of_format (codes "fabs") format

@@ -28,13 +28,13 @@ use Rattle.rv_float_tables.specs.declared.instr.CsrOp.TheVariants.{Write, Set, C
 use Rattle.rv_float_tables.specs.declared.instr.FloatCsr.{FloatCsr}
 use Rattle.rv_float_tables.specs.declared.instr.FloatCsr.TheVariants.{Fflags, Frm, Fcsr}
 use Rattle.rv_float_tables.specs.Fields.{format_code, rounding_code, csr_number}
-use Rattle.rv_float_tables.specs.Mnemonics.{row_named, load_mnemonic, store_mnemonic, fused_mnemonic, arithmetic_mnemonic, sign_mnemonic, min_max_mnemonic, compare_mnemonic, to_word_mnemonic, from_word_mnemonic, to_format_mnemonic, csr_mnemonic}
+use Rattle.rv_float_tables.specs.Mnemonics.{float_row_named, load_mnemonic, store_mnemonic, fused_mnemonic, arithmetic_mnemonic, sign_mnemonic, min_max_mnemonic, compare_mnemonic, to_word_mnemonic, from_word_mnemonic, to_format_mnemonic, csr_mnemonic}
 use Rattle.rv_float_tables.specs.Operands.{IsEncodable}
-use Rattle.rv_float_tables.specs.Rows.{encodings, instruction_of, load_row, store_row, fused_row, arithmetic_row, sign_row, min_max_row, compare_row, to_word_row, from_word_row, to_format_row, move_to_integer_row, move_from_integer_row, csr_row, csr_immediate_row}
+use Rattle.rv_float_tables.specs.Rows.{float_encodings, float_instruction_of, load_row, store_row, fused_row, arithmetic_row, sign_row, min_max_row, compare_row, to_word_row, from_word_row, to_format_row, move_to_integer_row, move_from_integer_row, csr_row, csr_immediate_row}
 use Rattle.rv_float_tables.specs.Words.{IsIWord, IsSWord, IsRWord, IsR4Word}
 use Rattle.rv_float_tables.proofs.OnlyWords.{only_load, only_store, only_fused, only_arithmetic, only_square_root, only_to_word, only_from_word, only_to_format, only_sign, only_min_max, only_compare, only_class, only_move_to_integer, only_move_from_integer, only_csr, only_csr_immediate}
 use Rattle.rv_float_tables.proofs.RowNames as row
-use Rattle.rv_float_tables.proofs.RowReads.{IsEncodable-instruction_of}
+use Rattle.rv_float_tables.proofs.RowReads.{IsEncodable-float_instruction_of}
 
 -- a word that is the only one with a property
 pub record OnlyWord (P : ℕ → Type 0) : Type 0 where
@@ -150,82 +150,82 @@ record RowCode (bound : ℕ) (IsRow : ℕ → Type 0) : Type 0 where
   fits : code < bound
   named : IsRow code
 
-fused_code : (op : FusedOp) → RowCode (2 ^ 7) (λ n. (format : Format) → row_named (fused_mnemonic op format) ≡ Some (fused_row (format_code format) n op format))
+fused_code : (op : FusedOp) → RowCode (2 ^ 7) (λ n. (format : Format) → float_row_named (fused_mnemonic op format) ≡ Some (fused_row (format_code format) n op format))
 fused_code Madd = record { code = 0x43; fits = omega arith; named = row.fmadd }
 fused_code Msub = record { code = 0x47; fits = omega arith; named = row.fmsub }
 fused_code Nmsub = record { code = 0x4B; fits = omega arith; named = row.fnmsub }
 fused_code Nmadd = record { code = 0x4F; fits = omega arith; named = row.fnmadd }
 
-arithmetic_code : (op : ArithmeticOp) → RowCode 4 (λ n. (format : Format) → row_named (arithmetic_mnemonic op format) ≡ Some (arithmetic_row (n * 4 + format_code format) 0x53 op format))
+arithmetic_code : (op : ArithmeticOp) → RowCode 4 (λ n. (format : Format) → float_row_named (arithmetic_mnemonic op format) ≡ Some (arithmetic_row (n * 4 + format_code format) 0x53 op format))
 arithmetic_code Add = record { code = 0; fits = omega arith; named = row.fadd }
 arithmetic_code Sub = record { code = 1; fits = omega arith; named = row.fsub }
 arithmetic_code Mul = record { code = 2; fits = omega arith; named = row.fmul }
 arithmetic_code Div = record { code = 3; fits = omega arith; named = row.fdiv }
 
-sign_code : (op : SignOp) → RowCode (2 ^ 3) (λ n. (format : Format) → row_named (sign_mnemonic op format) ≡ Some (sign_row (0x10 + format_code format) n 0x53 op format))
+sign_code : (op : SignOp) → RowCode (2 ^ 3) (λ n. (format : Format) → float_row_named (sign_mnemonic op format) ≡ Some (sign_row (0x10 + format_code format) n 0x53 op format))
 sign_code Sgnj = record { code = 0; fits = omega arith; named = row.fsgnj }
 sign_code Sgnjn = record { code = 1; fits = omega arith; named = row.fsgnjn }
 sign_code Sgnjx = record { code = 2; fits = omega arith; named = row.fsgnjx }
 
-min_max_code : (op : MinMaxOp) → RowCode (2 ^ 3) (λ n. (format : Format) → row_named (min_max_mnemonic op format) ≡ Some (min_max_row (0x14 + format_code format) n 0x53 op format))
+min_max_code : (op : MinMaxOp) → RowCode (2 ^ 3) (λ n. (format : Format) → float_row_named (min_max_mnemonic op format) ≡ Some (min_max_row (0x14 + format_code format) n 0x53 op format))
 min_max_code Min = record { code = 0; fits = omega arith; named = row.fmin }
 min_max_code Max = record { code = 1; fits = omega arith; named = row.fmax }
 
-compare_code : (op : CompareOp) → RowCode (2 ^ 3) (λ n. (format : Format) → row_named (compare_mnemonic op format) ≡ Some (compare_row (0x50 + format_code format) n 0x53 op format))
+compare_code : (op : CompareOp) → RowCode (2 ^ 3) (λ n. (format : Format) → float_row_named (compare_mnemonic op format) ≡ Some (compare_row (0x50 + format_code format) n 0x53 op format))
 compare_code Feq = record { code = 2; fits = omega arith; named = row.feq }
 compare_code Flt = record { code = 1; fits = omega arith; named = row.flt }
 compare_code Fle = record { code = 0; fits = omega arith; named = row.fle }
 
-to_word_code : (kind : WordKind) → RowCode (2 ^ 5) (λ n. (format : Format) → row_named (to_word_mnemonic kind format) ≡ Some (to_word_row (0x60 + format_code format) n 0x53 kind format))
+to_word_code : (kind : WordKind) → RowCode (2 ^ 5) (λ n. (format : Format) → float_row_named (to_word_mnemonic kind format) ≡ Some (to_word_row (0x60 + format_code format) n 0x53 kind format))
 to_word_code Signed = record { code = 0; fits = omega arith; named = row.fcvt_w }
 to_word_code Unsigned = record { code = 1; fits = omega arith; named = row.fcvt_wu }
 
-from_word_code : (kind : WordKind) → RowCode (2 ^ 5) (λ n. (format : Format) → row_named (from_word_mnemonic kind format) ≡ Some (from_word_row (0x68 + format_code format) n 0x53 kind format))
+from_word_code : (kind : WordKind) → RowCode (2 ^ 5) (λ n. (format : Format) → float_row_named (from_word_mnemonic kind format) ≡ Some (from_word_row (0x68 + format_code format) n 0x53 kind format))
 from_word_code Signed = record { code = 0; fits = omega arith; named = row.fcvt_from_w }
 from_word_code Unsigned = record { code = 1; fits = omega arith; named = row.fcvt_from_wu }
 
-load_code : (format : Format) → RowCode (2 ^ 3) (λ n. row_named (load_mnemonic format) ≡ Some (load_row n 0x07 format))
-unfolding row_named encodings
+load_code : (format : Format) → RowCode (2 ^ 3) (λ n. float_row_named (load_mnemonic format) ≡ Some (load_row n 0x07 format))
+unfolding float_row_named float_encodings
 load_code Single = record { code = 2; fits = omega arith; named = refl }
 load_code Double = record { code = 3; fits = omega arith; named = refl }
 
-store_code : (format : Format) → RowCode (2 ^ 3) (λ n. row_named (store_mnemonic format) ≡ Some (store_row n 0x27 format))
-unfolding row_named encodings
+store_code : (format : Format) → RowCode (2 ^ 3) (λ n. float_row_named (store_mnemonic format) ≡ Some (store_row n 0x27 format))
+unfolding float_row_named float_encodings
 store_code Single = record { code = 2; fits = omega arith; named = refl }
 store_code Double = record { code = 3; fits = omega arith; named = refl }
 
-other_code : (format : Format) → RowCode (2 ^ 5) (λ n. row_named (to_format_mnemonic format) ≡ Some (to_format_row (0x20 + format_code format) n 0x53 format))
-unfolding row_named encodings
+other_code : (format : Format) → RowCode (2 ^ 5) (λ n. float_row_named (to_format_mnemonic format) ≡ Some (to_format_row (0x20 + format_code format) n 0x53 format))
+unfolding float_row_named float_encodings
 other_code Single = record { code = 1; fits = omega arith; named = refl }
 other_code Double = record { code = 0; fits = omega arith; named = refl }
 
-csr_code : (op : CsrOp) → RowCode (2 ^ 3) (λ n. row_named (csr_mnemonic op) ≡ Some (csr_row n 0x73 op))
-unfolding row_named encodings
+csr_code : (op : CsrOp) → RowCode (2 ^ 3) (λ n. float_row_named (csr_mnemonic op) ≡ Some (csr_row n 0x73 op))
+unfolding float_row_named float_encodings
 csr_code Write = record { code = 1; fits = omega arith; named = refl }
 csr_code Set = record { code = 2; fits = omega arith; named = refl }
 csr_code Clear = record { code = 3; fits = omega arith; named = refl }
 
-csr_immediate_code : (op : CsrOp) → RowCode (2 ^ 3) (λ n. row_named (csr_mnemonic op ++ codes "i") ≡ Some (csr_immediate_row n 0x73 op))
-unfolding row_named encodings
+csr_immediate_code : (op : CsrOp) → RowCode (2 ^ 3) (λ n. float_row_named (csr_mnemonic op ++ codes "i") ≡ Some (csr_immediate_row n 0x73 op))
+unfolding float_row_named float_encodings
 csr_immediate_code Write = record { code = 5; fits = omega arith; named = refl }
 csr_immediate_code Set = record { code = 6; fits = omega arith; named = refl }
 csr_immediate_code Clear = record { code = 7; fits = omega arith; named = refl }
 
-move_to_integer : row_named (codes "fmv.x.w") ≡ Some (move_to_integer_row 0x70 0 0 0x53)
-unfolding row_named encodings
+move_to_integer : float_row_named (codes "fmv.x.w") ≡ Some (move_to_integer_row 0x70 0 0 0x53)
+unfolding float_row_named float_encodings
 move_to_integer = refl
 
-move_from_integer : row_named (codes "fmv.w.x") ≡ Some (move_from_integer_row 0x78 0 0 0x53)
-unfolding row_named encodings
+move_from_integer : float_row_named (codes "fmv.w.x") ≡ Some (move_from_integer_row 0x78 0 0 0x53)
+unfolding float_row_named float_encodings
 move_from_integer = refl
 
 -- ---- instructions
 
 -- a word that is the only one of a form's format is the only one of the instruction
-of_format : (P : ℕ → Type 0) (i : FloatInstr) → OnlyWord P → ((result : ℕ) → IsOnlyWord P (Some result) → IsOnlyWord (λ w. instruction_of w ≡ Some i) (Some result)) → OnlyWord (λ w. instruction_of w ≡ Some i)
+of_format : (P : ℕ → Type 0) (i : FloatInstr) → OnlyWord P → ((result : ℕ) → IsOnlyWord P (Some result) → IsOnlyWord (λ w. float_instruction_of w ≡ Some i) (Some result)) → OnlyWord (λ w. float_instruction_of w ≡ Some i)
 of_format P i f spells = record { word = f.word; fits = f.fits; only = spells f.word f.only }
 
-pub the_word : (i : FloatInstr) → IsEncodable i → OnlyWord (λ w. instruction_of w ≡ Some i)
+pub the_word : (i : FloatInstr) → IsEncodable i → OnlyWord (λ w. float_instruction_of w ≡ Some i)
 the_word (Load format d a imm) h =
     let r = load_code format in
     of_format _ _ (i_format 0x07 r.code d a imm (omega arith) r.fits h.0 h.1 h.2) (λ w. only_load r.code d a imm format (Some w) r.named)
@@ -285,9 +285,9 @@ the_word (CsrImmediate op csr d imm) h =
     of_format _ _ (r_format 0x73 d r.code imm (csr_number csr) 0 (omega arith) h.0 r.fits h.1 (csr_fits csr) (omega arith))
     (λ w. only_csr_immediate r.code d imm csr op (Some w) r.named)
 
-pub one_float_word : (i : FloatInstr) (v w : ℕ) → v < 2 ^ 32 → w < 2 ^ 32 → instruction_of v ≡ Some i → instruction_of w ≡ Some i → v ≡ w
+pub one_float_word : (i : FloatInstr) (v w : ℕ) → v < 2 ^ 32 → w < 2 ^ 32 → float_instruction_of v ≡ Some i → float_instruction_of w ≡ Some i → v ≡ w
 one_float_word i v w v_in w_in h k =
-    let only = the_word i (IsEncodable-instruction_of v i h) in
+    let only = the_word i (IsEncodable-float_instruction_of v i h) in
     some_injective (only.only.1 v v_in h) ∙ sym (some_injective (only.only.1 w w_in k))
   where
     some_injective : {x y : ℕ} → Some x ≡ Some y → y ≡ x

@@ -13,7 +13,7 @@ use Rattle.rv_tables.specs.declared.instr.PlainOp.TheVariants.{Fence, FenceI}
 use Rattle.rv_tables.specs.Fields.{bits, sign_extended}
 use Rattle.rv_tables.specs.Rows.{instruction_of}
 use Rattle.rv_float_tables.specs.declared.instr.FloatInstr.{FloatInstr}
-use Rattle.rv_float_tables.specs.Rows.{instruction_of as float_instruction_of}
+use Rattle.rv_float_tables.specs.Rows.{float_instruction_of}
 use Rattle.asm_syntax.specs.Operands.{Target}
 use Rattle.asm_syntax.specs.Statements.{Statement, instruction, float_instruction, branch, jump_and_link, load_immediate, load_address, words, halves, bytes, ascii, space, align, entry}
 use Rattle.rv_asm.specs.Symbols.{Symbols}

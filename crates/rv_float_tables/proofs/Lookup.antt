@@ -1,15 +1,16 @@
 -- A row is met by five fields of a word: a lookup by these computes where they are known.
 use Rattle.std.proofs.Common.{◌≡◌, ℕ, ◌+◌, ◌*◌, ◌^◌, Bool, ◌&&◌, cond, refl, ap, arith, eqb, bit_and, Option, inl, inr, true}
 use Rattle.std.specs.List.{find}
-use Rattle.std.specs.Option.{option_and_then}
+use Rattle.std.specs.Option.{option_map, option_flatten}
 use Rattle.std.proofs.lemmas.Bool.{cases_eq, eqb-true, ne_eqb, and_parts}
 use Rattle.std.proofs.lemmas.Bool.Decides.{nat_tests}
 use Rattle.rv_tables.specs.Fields.{opcode, funct3, funct7, rs2}
+use Rattle.rv_tables.specs.Tables.{meets}
 use Rattle.rv_tables.proofs.Finds.{find-agree}
 use Rattle.rv_tables.proofs.Masks.{under_707F, under_FE00707F}
 use Rattle.rv_float_tables.specs.declared.instr.FloatInstr.{FloatInstr}
 use Rattle.rv_float_tables.specs.Fields.{funct5, fmt}
-use Rattle.rv_float_tables.specs.Rows.{encodings, meets, instruction_of}
+use Rattle.rv_float_tables.specs.Rows.{FloatEncoding, float_encodings, float_instruction_of}
 use Rattle.rv_float_tables.proofs.Masks.{under_600007F, under_FE00007F, under_FFF0007F, under_FFF0707F}
 
 -- the fields of a value, each at its place
@@ -88,12 +89,12 @@ agrees-met w m v k =
 -- the instruction of a word, looked up by these fields
 unfoldable pub instruction_at : (w opcode funct3 funct5 fmt rs2 : ℕ) → Option FloatInstr
 instruction_at w op f3 f5 f r2 =
-    option_and_then (λ e. e.read w) (find (λ e. agrees op f3 f5 f r2 e.row.mask e.row.value) encodings)
+    option_flatten (option_map (λ e. e.read w) (find (λ e. agrees op f3 f5 f r2 e.row.mask e.row.value) float_encodings))
 
-pub instruction_of-fields : (w : ℕ) → instruction_of w ≡ instruction_at w (opcode w) (funct3 w) (funct5 w) (fmt w) (rs2 w)
-unfolding instruction_of instruction_at encodings
-instruction_of-fields w =
-    ap (option_and_then (λ e. e.read w)) (find-agree (meets w) _ (λ e. known e.row.mask e.row.value) encodings (λ e k. agrees-met w e.row.mask e.row.value k) refl)
+pub float_instruction_of-fields : (w : ℕ) → float_instruction_of w ≡ instruction_at w (opcode w) (funct3 w) (funct5 w) (fmt w) (rs2 w)
+unfolding float_instruction_of instruction_at float_encodings
+float_instruction_of-fields w =
+    ap (λ (found : Option FloatEncoding). option_flatten (option_map (λ (e : FloatEncoding). e.read w) found)) (find-agree (meets w) _ (λ e. known e.row.mask e.row.value) float_encodings (λ e k. agrees-met w e.row.mask e.row.value k) refl)
 
-pub at_fields : (w op f3 f5 f r2 : ℕ) → opcode w ≡ op → funct3 w ≡ f3 → funct5 w ≡ f5 → fmt w ≡ f → rs2 w ≡ r2 → instruction_of w ≡ instruction_at w op f3 f5 f r2
-at_fields w op f3 f5 f r2 e_op e_f3 e_f5 e_f e_r2 = rw (← e_op, ← e_f3, ← e_f5, ← e_f, ← e_r2) (instruction_of-fields w)
+pub at_fields : (w op f3 f5 f r2 : ℕ) → opcode w ≡ op → funct3 w ≡ f3 → funct5 w ≡ f5 → fmt w ≡ f → rs2 w ≡ r2 → float_instruction_of w ≡ instruction_at w op f3 f5 f r2
+at_fields w op f3 f5 f r2 e_op e_f3 e_f5 e_f e_r2 = rw (← e_op, ← e_f3, ← e_f5, ← e_f, ← e_r2) (float_instruction_of-fields w)

@@ -3,11 +3,11 @@ use Rattle.std.proofs.Common.{◌≡◌, ℕ, List, Option, Some, None, refl, sy
 use Rattle.std.specs.Prelude.{IfSome}
 use Rattle.std.specs.List.{All}
 use Rattle.std.specs.Option.{option_map}
-use Rattle.std.proofs.lemmas.Int.{ints}
 use Rattle.std.proofs.lemmas.List.Elements.{All-from_recursion, All-contains}
 use Rattle.std.proofs.lemmas.Option.{same_Some}
 use Rattle.rv_tables.specs.Fields.{rd, rs1, rs2, i_immediate, s_immediate}
-use Rattle.rv_tables.specs.Operands.{IsImmediate}
+use Rattle.rv_tables.proofs.Pairs.{◌⨾◌}
+use Rattle.rv_tables.proofs.RowReads.{IsImmediate-i_immediate, IsImmediate-s_immediate}
 use Rattle.rv_float_tables.specs.declared.instr.FloatInstr.{FloatInstr}
 use Rattle.rv_float_tables.specs.declared.instr.FloatInstr.TheVariants.{Load, Store, Fused, Arithmetic, SquareRoot, Sign, MinMax, Compare, Class, ToWord, FromWord, ToFormat, MoveToInteger, MoveFromInteger, Csr, CsrImmediate}
 use Rattle.rv_float_tables.specs.declared.instr.Format.{Format}
@@ -29,24 +29,18 @@ use Rattle.rv_float_tables.specs.declared.instr.CsrOp.{CsrOp}
 use Rattle.rv_float_tables.specs.declared.instr.CsrOp.TheVariants.{Write, Set, Clear}
 use Rattle.rv_float_tables.specs.declared.instr.FloatCsr.{FloatCsr}
 use Rattle.rv_float_tables.specs.Fields.{rs3, rm, csr, uimm, rounding_of, csr_of}
-use Rattle.rv_float_tables.specs.Mnemonics.{mnemonic_of, sample}
+use Rattle.rv_float_tables.specs.Mnemonics.{float_mnemonic_of, sample}
 use Rattle.rv_float_tables.specs.Operands.{IsEncodable}
-use Rattle.rv_float_tables.specs.Rows.{encodings, Spells, instruction_of, rounded, on_csr, load_of, store_of, fused_of, arithmetic_of, square_root_of, sign_of, min_max_of, compare_of, class_of, to_word_of, from_word_of, to_format_of, move_to_integer_of, move_from_integer_of, csr_instruction_of, csr_immediate_of}
+use Rattle.rv_float_tables.specs.Rows.{float_encodings, Spells, float_instruction_of, rounded, on_csr, load_of, store_of, fused_of, arithmetic_of, square_root_of, sign_of, min_max_of, compare_of, class_of, to_word_of, from_word_of, to_format_of, move_to_integer_of, move_from_integer_of, csr_instruction_of, csr_immediate_of}
 use Rattle.rv_float_tables.proofs.Spelling.{Spells-from_instruction}
-
-IsImmediate-i_immediate : (w : ℕ) → IsImmediate (i_immediate w)
-IsImmediate-i_immediate w = grind (arith, ints)
-
-IsImmediate-s_immediate : (w : ℕ) → IsImmediate (s_immediate w)
-IsImmediate-s_immediate w = grind (arith, ints)
 
 -- the operands of an instruction are in range, and it has this mnemonic
 abbrev Suits : Option (List ℕ) → FloatInstr → Type 0
-Suits name i = IsEncodable i × (name ≡ Some (mnemonic_of i))
+Suits name i = IsEncodable i × (name ≡ Some (float_mnemonic_of i))
 
 -- whatever the word, what is read off it suits the mnemonic of what is read off another one
 abbrev ReadsAlike : (ℕ → Option FloatInstr) → Type 0
-ReadsAlike read = (w : ℕ) (i : FloatInstr) → read w ≡ Some i → Suits (option_map mnemonic_of (read sample)) i
+ReadsAlike read = (w : ℕ) (i : FloatInstr) → read w ≡ Some i → Suits (option_map float_mnemonic_of (read sample)) i
 
 -- what is read off each word
 plainly : (name : Option (List ℕ)) (i j : FloatInstr) → Some j ≡ Some i → Suits name j → Suits name i
@@ -119,15 +113,10 @@ on_register op w i e = with_csr _ w (λ c. Csr op c (rd w) (rs1 w)) i e (λ c. (
 on_immediate : (op : CsrOp) → ReadsAlike (csr_immediate_of op)
 on_immediate op w i e = with_csr _ w (λ c. CsrImmediate op c (rd w) (uimm w)) i e (λ c. ((omega arith, omega arith), refl))
 
-infixr 5 ◌⨾◌
--- a pair, written without parentheses
-◌⨾◌ : {P Q : Type 0} → P → Q → P × Q
-p ⨾ q = (p, q)
-
 -- row by row, in the order of the listing
-each_row : All (λ e. ReadsAlike e.read) encodings
-unfolding encodings
-each_row = All-from_recursion (λ e. ReadsAlike e.read) encodings
+each_row : All (λ e. ReadsAlike e.read) float_encodings
+unfolding float_encodings
+each_row = All-from_recursion (λ e. ReadsAlike e.read) float_encodings
     (on_register Write ⨾ on_register Set ⨾ on_register Clear ⨾ on_immediate Write ⨾ on_immediate Set ⨾ on_immediate Clear
     ⨾ load Single ⨾ store Single
     ⨾ fused Madd Single ⨾ fused Msub Single ⨾ fused Nmsub Single ⨾ fused Nmadd Single
@@ -145,12 +134,12 @@ each_row = All-from_recursion (λ e. ReadsAlike e.read) encodings
     ⨾ to_word Signed Double ⨾ to_word Unsigned Double ⨾ from_word Signed Double ⨾ from_word Unsigned Double ⨾ tt)
 
 -- what a word spells has operands in range, and the mnemonic of the row
-pub Suits-spelled : (w : ℕ) (i : FloatInstr) (s : Spells w i) → Suits (option_map mnemonic_of (s.encoding.read sample)) i
-Suits-spelled w i s = All-contains (λ f. ReadsAlike f.read) encodings s.encoding each_row s.listed w i s.operands
+pub Suits-spelled : (w : ℕ) (i : FloatInstr) (s : Spells w i) → Suits (option_map float_mnemonic_of (s.encoding.read sample)) i
+Suits-spelled w i s = All-contains (λ f. ReadsAlike f.read) float_encodings s.encoding each_row s.listed w i s.operands
 
-pub IsEncodable-instruction_of : (w : ℕ) (i : FloatInstr) → instruction_of w ≡ Some i → IsEncodable i
-IsEncodable-instruction_of w i h = (Suits-spelled w i (Spells-from_instruction w i h)).0
+pub IsEncodable-float_instruction_of : (w : ℕ) (i : FloatInstr) → float_instruction_of w ≡ Some i → IsEncodable i
+IsEncodable-float_instruction_of w i h = (Suits-spelled w i (Spells-from_instruction w i h)).0
 
-pub IfSome-instruction_of : (w : ℕ) (r : Option FloatInstr) → r ≡ instruction_of w → IfSome r IsEncodable
-IfSome-instruction_of w None e = tt
-IfSome-instruction_of w (Some i) e = IsEncodable-instruction_of w i (sym e)
+pub IfSome-float_instruction_of : (w : ℕ) (r : Option FloatInstr) → r ≡ float_instruction_of w → IfSome r IsEncodable
+IfSome-float_instruction_of w None e = tt
+IfSome-float_instruction_of w (Some i) e = IsEncodable-float_instruction_of w i (sym e)

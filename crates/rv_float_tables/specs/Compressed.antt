@@ -1,23 +1,13 @@
 -- The rows of RV32C with floating point (RISC-V Unprivileged ISA 20191213, section 16.8 "RVC Instruction Set Listings"), and the
 -- instruction that a halfword expands to. These rows reserve no code and have no hints: f0 is a register as any other.
-use Rattle.std.specs.Prelude.{◌≡◌, ℕ, ◌==◌, Bool, ◌&&◌, List, [], ◌∷◌, find, Option, Contains, IsTrue, pos}
-use Rattle.std.specs.Option.{option_map}
-use Rattle.rv_tables.specs.Halfwords.{quadrant, funct3, rd, rs2, rs1_prime, rs2_prime, Part, immediate, word_layout, lwsp_layout, swsp_layout}
+use Rattle.std.specs.Prelude.{ℕ, List, [], ◌∷◌, Option, pos}
+use Rattle.rv_tables.specs.CompressedTables.{CompressedRow, c_row, ExpandsBy, expansion_by}
+use Rattle.rv_tables.specs.Halfwords.{rd, rs2, rs1_prime, rs2_prime, word_layout, lwsp_layout, swsp_layout}
 use Rattle.rv_float_tables.specs.declared.instr.FloatInstr.{FloatInstr}
 use Rattle.rv_float_tables.specs.declared.instr.FloatInstr.TheVariants.{Load, Store}
 use Rattle.rv_float_tables.specs.declared.instr.Format.{Format}
 use Rattle.rv_float_tables.specs.declared.instr.Format.TheVariants.{Single, Double}
 use Rattle.rv_float_tables.specs.Halfwords.{double_layout, fldsp_layout, fsdsp_layout}
-
-pub record CompressedRow : Type 0 where
-  pub quadrant : ℕ
-  pub funct3 : ℕ
-  pub layout : List Part
-  -- the instruction of a halfword, and of the immediate in it
-  pub expand : ℕ → ℕ → FloatInstr
-
-abbrev pub c_row : (quadrant funct3 : ℕ) → List Part → (ℕ → ℕ → FloatInstr) → CompressedRow
-c_row quadrant funct3 layout expand = record { quadrant = quadrant; funct3 = funct3; layout = layout; expand = expand }
 
 -- a load and a store through one of x8 to x15, of one of f8 to f15
 abbrev pub c_load : Format → ℕ → ℕ → FloatInstr
@@ -34,37 +24,22 @@ abbrev pub c_store_sp : Format → ℕ → ℕ → FloatInstr
 c_store_sp format h imm = Store format 2 (rs2 h) (pos imm)
 
 -- in the order of the listings: C.FLD, C.FLW, C.FSD, C.FSW; C.FLDSP, C.FLWSP, C.FSDSP, C.FSWSP
-unfoldable pub compressed_rows : List CompressedRow
-compressed_rows =
-    c_row 0 0b001 double_layout (c_load Double)
-    ∷ c_row 0 0b011 word_layout (c_load Single)
-    ∷ c_row 0 0b101 double_layout (c_store Double)
-    ∷ c_row 0 0b111 word_layout (c_store Single)
-    ∷ c_row 2 0b001 fldsp_layout (c_load_sp Double)
-    ∷ c_row 2 0b011 lwsp_layout (c_load_sp Single)
-    ∷ c_row 2 0b101 fsdsp_layout (c_store_sp Double)
-    ∷ c_row 2 0b111 swsp_layout (c_store_sp Single)
+unfoldable pub float_compressed_rows : List (CompressedRow FloatInstr)
+float_compressed_rows =
+    c_row 0 0b001 [] double_layout (c_load Double)
+    ∷ c_row 0 0b011 [] word_layout (c_load Single)
+    ∷ c_row 0 0b101 [] double_layout (c_store Double)
+    ∷ c_row 0 0b111 [] word_layout (c_store Single)
+    ∷ c_row 2 0b001 [] fldsp_layout (c_load_sp Double)
+    ∷ c_row 2 0b011 [] lwsp_layout (c_load_sp Single)
+    ∷ c_row 2 0b101 [] fsdsp_layout (c_store_sp Double)
+    ∷ c_row 2 0b111 [] swsp_layout (c_store_sp Single)
     ∷ []
 
--- the test whether a halfword meets a row
-abbrev pub meets : ℕ → CompressedRow → Bool
-meets h r = (quadrant h == r.quadrant) && (funct3 h == r.funct3)
-
--- no halfword meets both rows
-abbrev pub AreDisjoint : CompressedRow → CompressedRow → Type 0
-AreDisjoint r s = (h : ℕ) → IsTrue (meets h r) → IsTrue (meets h s) → ⊥
-
--- a row's instruction of a halfword
-abbrev pub expanded : ℕ → CompressedRow → FloatInstr
-expanded h r = r.expand h (immediate h r.layout)
-
 -- a halfword expands to an instruction: it meets a row, and the instruction is the row's
-pub record Expands (h : ℕ) (i : FloatInstr) : Type 0 where
-  pub row : CompressedRow
-  pub listed : Contains compressed_rows row
-  pub met : IsTrue (meets h row)
-  pub instruction : expanded h row ≡ i
+abbrev pub Expands : ℕ → FloatInstr → Type 0
+Expands h i = ExpandsBy float_compressed_rows h i
 
 -- the instruction that a halfword expands to: that of the row that it meets, or none
-unfoldable pub expansion_of : ℕ → Option FloatInstr
-expansion_of h = option_map (expanded h) (find (meets h) compressed_rows)
+unfoldable pub float_expansion_of : ℕ → Option FloatInstr
+float_expansion_of h = expansion_by float_compressed_rows h

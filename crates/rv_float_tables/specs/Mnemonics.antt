@@ -25,7 +25,7 @@ use Rattle.rv_float_tables.specs.declared.instr.CsrOp.{CsrOp}
 use Rattle.rv_float_tables.specs.declared.instr.CsrOp.TheVariants.{Write, Set, Clear}
 use Rattle.rv_float_tables.specs.declared.instr.FloatCsr.{FloatCsr}
 use Rattle.rv_float_tables.specs.declared.instr.FloatCsr.TheVariants.{Fflags, Frm, Fcsr}
-use Rattle.rv_float_tables.specs.Rows.{Encoding, encodings}
+use Rattle.rv_float_tables.specs.Rows.{FloatEncoding, float_encodings}
 
 -- a name with what tells the format
 abbrev pub of_format : List ℕ → Format → List ℕ
@@ -83,35 +83,35 @@ csr_mnemonic Write = codes "csrrw"
 csr_mnemonic Set = codes "csrrs"
 csr_mnemonic Clear = codes "csrrc"
 
-abbrev pub mnemonic_of : FloatInstr → List ℕ
-mnemonic_of (Load format rd rs1 imm) = load_mnemonic format
-mnemonic_of (Store format rs1 rs2 imm) = store_mnemonic format
-mnemonic_of (Fused op format rd rs1 rs2 rs3 rm) = fused_mnemonic op format
-mnemonic_of (Arithmetic op format rd rs1 rs2 rm) = arithmetic_mnemonic op format
-mnemonic_of (SquareRoot format rd rs1 rm) = of_format (codes "fsqrt") format
-mnemonic_of (Sign op format rd rs1 rs2) = sign_mnemonic op format
-mnemonic_of (MinMax op format rd rs1 rs2) = min_max_mnemonic op format
-mnemonic_of (Compare op format rd rs1 rs2) = compare_mnemonic op format
-mnemonic_of (Class format rd rs1) = of_format (codes "fclass") format
-mnemonic_of (ToWord kind format rd rs1 rm) = to_word_mnemonic kind format
-mnemonic_of (FromWord kind format rd rs1 rm) = from_word_mnemonic kind format
-mnemonic_of (ToFormat format rd rs1 rm) = to_format_mnemonic format
-mnemonic_of (MoveToInteger rd rs1) = codes "fmv.x.w"
-mnemonic_of (MoveFromInteger rd rs1) = codes "fmv.w.x"
-mnemonic_of (Csr op csr rd rs1) = csr_mnemonic op
-mnemonic_of (CsrImmediate op csr rd imm) = csr_mnemonic op ++ codes "i"
+abbrev pub float_mnemonic_of : FloatInstr → List ℕ
+float_mnemonic_of (Load format rd rs1 imm) = load_mnemonic format
+float_mnemonic_of (Store format rs1 rs2 imm) = store_mnemonic format
+float_mnemonic_of (Fused op format rd rs1 rs2 rs3 rm) = fused_mnemonic op format
+float_mnemonic_of (Arithmetic op format rd rs1 rs2 rm) = arithmetic_mnemonic op format
+float_mnemonic_of (SquareRoot format rd rs1 rm) = of_format (codes "fsqrt") format
+float_mnemonic_of (Sign op format rd rs1 rs2) = sign_mnemonic op format
+float_mnemonic_of (MinMax op format rd rs1 rs2) = min_max_mnemonic op format
+float_mnemonic_of (Compare op format rd rs1 rs2) = compare_mnemonic op format
+float_mnemonic_of (Class format rd rs1) = of_format (codes "fclass") format
+float_mnemonic_of (ToWord kind format rd rs1 rm) = to_word_mnemonic kind format
+float_mnemonic_of (FromWord kind format rd rs1 rm) = from_word_mnemonic kind format
+float_mnemonic_of (ToFormat format rd rs1 rm) = to_format_mnemonic format
+float_mnemonic_of (MoveToInteger rd rs1) = codes "fmv.x.w"
+float_mnemonic_of (MoveFromInteger rd rs1) = codes "fmv.w.x"
+float_mnemonic_of (Csr op csr rd rs1) = csr_mnemonic op
+float_mnemonic_of (CsrImmediate op csr rd imm) = csr_mnemonic op ++ codes "i"
 
 -- a word of a row on `fcsr`, rounding to nearest
 abbrev pub sample : ℕ
 sample = 3 * 2 ^ 20
 
 -- the test whether a row has a mnemonic, which is the same whatever word it reads
-abbrev pub has_mnemonic : List ℕ → Encoding → Bool
-has_mnemonic name e = option_map_or (λ i. bytes_eq (mnemonic_of i) name) (e.read sample) false
+abbrev pub has_mnemonic : List ℕ → FloatEncoding → Bool
+has_mnemonic name e = option_map_or (λ i. bytes_eq (float_mnemonic_of i) name) (e.read sample) false
 
 -- the row that has a mnemonic
-unfoldable pub row_named : List ℕ → Option Encoding
-row_named name = find (has_mnemonic name) encodings
+unfoldable pub float_row_named : List ℕ → Option FloatEncoding
+float_row_named name = find (has_mnemonic name) float_encodings
 
 -- each name with its rounding mode
 unfoldable pub rounding_names : List (List ℕ × RoundingField)

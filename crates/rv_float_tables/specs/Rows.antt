@@ -3,13 +3,12 @@
 --
 -- Of the rows of Zicsr a word is an instruction where its CSR is one of floating point, and of those with a rounding mode where
 -- that is none of the reserved ones.
-use Rattle.std.specs.Prelude.{◌≡◌, ℕ, ◌+◌, ◌-◌, ◌*◌, ◌^◌, ◌==◌, Bool, List, [], ◌∷◌, find, Option, Some, None, bit_and, Contains}
-use Rattle.std.specs.Option.{option_map, option_and_then}
+use Rattle.std.specs.Prelude.{ℕ, ◌+◌, ◌*◌, ◌^◌, List, [], ◌∷◌, Option, Some, None}
+use Rattle.std.specs.Option.{option_map, option_flatten}
 use Rattle.rv_float_tables.specs.declared.instr.FloatInstr.{FloatInstr}
 use Rattle.rv_float_tables.specs.declared.instr.FloatInstr.TheVariants.{Load, Store, Fused, Arithmetic, SquareRoot, Sign, MinMax, Compare, Class, ToWord, FromWord, ToFormat, MoveToInteger, MoveFromInteger, Csr, CsrImmediate}
 use Rattle.rv_float_tables.specs.declared.instr.FloatForm.{FloatForm}
 use Rattle.rv_float_tables.specs.declared.instr.FloatForm.TheVariants as form
-use Rattle.rv_float_tables.specs.declared.instr.FloatRow.{FloatRow}
 use Rattle.rv_float_tables.specs.declared.instr.Format.{Format}
 use Rattle.rv_float_tables.specs.declared.instr.Format.TheVariants.{Single, Double}
 use Rattle.rv_float_tables.specs.declared.instr.RoundingField.{RoundingField}
@@ -28,13 +27,14 @@ use Rattle.rv_float_tables.specs.declared.instr.WordKind.TheVariants.{Signed, Un
 use Rattle.rv_float_tables.specs.declared.instr.CsrOp.{CsrOp}
 use Rattle.rv_float_tables.specs.declared.instr.CsrOp.TheVariants.{Write, Set, Clear}
 use Rattle.rv_float_tables.specs.declared.instr.FloatCsr.{FloatCsr}
+use Rattle.rv_tables.specs.declared.instr.Row.{Row}
 use Rattle.rv_tables.specs.Fields.{rd, rs1, rs2, i_immediate, s_immediate}
+use Rattle.rv_tables.specs.Tables.{ones, RowEncoding, Reads, read_off}
 use Rattle.rv_float_tables.specs.Fields.{rs3, rm, csr, uimm, rounding_of, csr_of}
 
 -- a row, and the instruction of a word that meets it, or none where a field of the word is at a value that the row does not have
-pub record Encoding : Type 0 where
-  pub row : FloatRow
-  pub read : ℕ → Option FloatInstr
+abbrev pub FloatEncoding : Type 0
+FloatEncoding = RowEncoding FloatForm (Option FloatInstr)
 
 -- ---- what the forms read
 
@@ -96,90 +96,86 @@ csr_immediate_of op w = on_csr w (λ register. CsrImmediate op register (rd w) (
 
 -- ---- rows by the fields that they fix, from bit 31 down
 
--- ones in the bits from `high` down to `low`
-abbrev ones : (high low : ℕ) → ℕ
-ones high low = (2 ^ (high - low + 1) - 1) * 2 ^ low
-
 -- the opcode in bits 6 to 0, funct3 in 14 to 12
-abbrev pub by_funct3 : (funct3 opcode : ℕ) → FloatForm → FloatRow
+abbrev pub by_funct3 : (funct3 opcode : ℕ) → FloatForm → Row FloatForm
 by_funct3 f3 opc form = record { mask = ones 14 12 + ones 6 0; value = f3 * 2 ^ 12 + opc; form = form }
 
 -- the format in 26 to 25
-abbrev pub by_fmt : (fmt opcode : ℕ) → FloatForm → FloatRow
+abbrev pub by_fmt : (fmt opcode : ℕ) → FloatForm → Row FloatForm
 by_fmt f opc form = record { mask = ones 26 25 + ones 6 0; value = f * 2 ^ 25 + opc; form = form }
 
 -- funct7 in 31 to 25, whose two lowest bits are the format
-abbrev pub by_funct7 : (funct7 opcode : ℕ) → FloatForm → FloatRow
+abbrev pub by_funct7 : (funct7 opcode : ℕ) → FloatForm → Row FloatForm
 by_funct7 f7 opc form = record { mask = ones 31 25 + ones 6 0; value = f7 * 2 ^ 25 + opc; form = form }
 
-abbrev pub by_funct7_funct3 : (funct7 funct3 opcode : ℕ) → FloatForm → FloatRow
+abbrev pub by_funct7_funct3 : (funct7 funct3 opcode : ℕ) → FloatForm → Row FloatForm
 by_funct7_funct3 f7 f3 opc form =
     record { mask = ones 31 25 + ones 14 12 + ones 6 0; value = f7 * 2 ^ 25 + f3 * 2 ^ 12 + opc; form = form }
 
 -- what stands where rs2 does, in 24 to 20
-abbrev pub by_funct7_rs2 : (funct7 rs2 opcode : ℕ) → FloatForm → FloatRow
+abbrev pub by_funct7_rs2 : (funct7 rs2 opcode : ℕ) → FloatForm → Row FloatForm
 by_funct7_rs2 f7 r2 opc form =
     record { mask = ones 31 25 + ones 24 20 + ones 6 0; value = f7 * 2 ^ 25 + r2 * 2 ^ 20 + opc; form = form }
 
-abbrev pub by_funct7_rs2_funct3 : (funct7 rs2 funct3 opcode : ℕ) → FloatForm → FloatRow
+abbrev pub by_funct7_rs2_funct3 : (funct7 rs2 funct3 opcode : ℕ) → FloatForm → Row FloatForm
 by_funct7_rs2_funct3 f7 r2 f3 opc form = record {
   mask = ones 31 25 + ones 24 20 + ones 14 12 + ones 6 0;
   value = f7 * 2 ^ 25 + r2 * 2 ^ 20 + f3 * 2 ^ 12 + opc;
   form = form;
 }
 
-abbrev pub load_row : (funct3 opcode : ℕ) → Format → Encoding
+abbrev pub load_row : (funct3 opcode : ℕ) → Format → FloatEncoding
 load_row f3 opc format = record { row = by_funct3 f3 opc form.Load; read = load_of format }
 
-abbrev pub store_row : (funct3 opcode : ℕ) → Format → Encoding
+abbrev pub store_row : (funct3 opcode : ℕ) → Format → FloatEncoding
 store_row f3 opc format = record { row = by_funct3 f3 opc form.Store; read = store_of format }
 
-abbrev pub fused_row : (fmt opcode : ℕ) → FusedOp → Format → Encoding
+abbrev pub fused_row : (fmt opcode : ℕ) → FusedOp → Format → FloatEncoding
 fused_row f opc op format = record { row = by_fmt f opc form.Fused; read = fused_of op format }
 
-abbrev pub arithmetic_row : (funct7 opcode : ℕ) → ArithmeticOp → Format → Encoding
+abbrev pub arithmetic_row : (funct7 opcode : ℕ) → ArithmeticOp → Format → FloatEncoding
 arithmetic_row f7 opc op format = record { row = by_funct7 f7 opc form.Arithmetic; read = arithmetic_of op format }
 
-abbrev pub square_root_row : (funct7 rs2 opcode : ℕ) → Format → Encoding
+abbrev pub square_root_row : (funct7 rs2 opcode : ℕ) → Format → FloatEncoding
 square_root_row f7 r2 opc format = record { row = by_funct7_rs2 f7 r2 opc form.SquareRoot; read = square_root_of format }
 
-abbrev pub sign_row : (funct7 funct3 opcode : ℕ) → SignOp → Format → Encoding
+abbrev pub sign_row : (funct7 funct3 opcode : ℕ) → SignOp → Format → FloatEncoding
 sign_row f7 f3 opc op format = record { row = by_funct7_funct3 f7 f3 opc form.Sign; read = sign_of op format }
 
-abbrev pub min_max_row : (funct7 funct3 opcode : ℕ) → MinMaxOp → Format → Encoding
+abbrev pub min_max_row : (funct7 funct3 opcode : ℕ) → MinMaxOp → Format → FloatEncoding
 min_max_row f7 f3 opc op format = record { row = by_funct7_funct3 f7 f3 opc form.MinMax; read = min_max_of op format }
 
-abbrev pub compare_row : (funct7 funct3 opcode : ℕ) → CompareOp → Format → Encoding
+abbrev pub compare_row : (funct7 funct3 opcode : ℕ) → CompareOp → Format → FloatEncoding
 compare_row f7 f3 opc op format = record { row = by_funct7_funct3 f7 f3 opc form.Compare; read = compare_of op format }
 
-abbrev pub class_row : (funct7 rs2 funct3 opcode : ℕ) → Format → Encoding
+abbrev pub class_row : (funct7 rs2 funct3 opcode : ℕ) → Format → FloatEncoding
 class_row f7 r2 f3 opc format = record { row = by_funct7_rs2_funct3 f7 r2 f3 opc form.Class; read = class_of format }
 
-abbrev pub to_word_row : (funct7 rs2 opcode : ℕ) → WordKind → Format → Encoding
+abbrev pub to_word_row : (funct7 rs2 opcode : ℕ) → WordKind → Format → FloatEncoding
 to_word_row f7 r2 opc kind format = record { row = by_funct7_rs2 f7 r2 opc form.ToWord; read = to_word_of kind format }
 
-abbrev pub from_word_row : (funct7 rs2 opcode : ℕ) → WordKind → Format → Encoding
+abbrev pub from_word_row : (funct7 rs2 opcode : ℕ) → WordKind → Format → FloatEncoding
 from_word_row f7 r2 opc kind format = record { row = by_funct7_rs2 f7 r2 opc form.FromWord; read = from_word_of kind format }
 
-abbrev pub to_format_row : (funct7 rs2 opcode : ℕ) → Format → Encoding
+abbrev pub to_format_row : (funct7 rs2 opcode : ℕ) → Format → FloatEncoding
 to_format_row f7 r2 opc format = record { row = by_funct7_rs2 f7 r2 opc form.ToFormat; read = to_format_of format }
 
-abbrev pub move_to_integer_row : (funct7 rs2 funct3 opcode : ℕ) → Encoding
+abbrev pub move_to_integer_row : (funct7 rs2 funct3 opcode : ℕ) → FloatEncoding
 move_to_integer_row f7 r2 f3 opc = record { row = by_funct7_rs2_funct3 f7 r2 f3 opc form.MoveToInteger; read = move_to_integer_of }
 
-abbrev pub move_from_integer_row : (funct7 rs2 funct3 opcode : ℕ) → Encoding
+abbrev pub move_from_integer_row : (funct7 rs2 funct3 opcode : ℕ) → FloatEncoding
 move_from_integer_row f7 r2 f3 opc =
     record { row = by_funct7_rs2_funct3 f7 r2 f3 opc form.MoveFromInteger; read = move_from_integer_of }
 
-abbrev pub csr_row : (funct3 opcode : ℕ) → CsrOp → Encoding
+abbrev pub csr_row : (funct3 opcode : ℕ) → CsrOp → FloatEncoding
 csr_row f3 opc op = record { row = by_funct3 f3 opc form.Csr; read = csr_instruction_of op }
 
-abbrev pub csr_immediate_row : (funct3 opcode : ℕ) → CsrOp → Encoding
+abbrev pub csr_immediate_row : (funct3 opcode : ℕ) → CsrOp → FloatEncoding
 csr_immediate_row f3 opc op = record { row = by_funct3 f3 opc form.CsrImmediate; read = csr_immediate_of op }
 
 -- the 58 rows with the fields of the listings, in their order: Zicsr, RV32F, RV32D
-unfoldable pub encodings : List Encoding
-encodings =
+unfoldable pub float_encodings : List FloatEncoding
+float_encodings =
     csr_row 0b001 0b1110011 Write
     ∷ csr_row 0b010 0b1110011 Set
     ∷ csr_row 0b011 0b1110011 Clear
@@ -240,32 +236,14 @@ encodings =
     ∷ from_word_row 0b1101001 0b00001 0b1010011 Unsigned Double
     ∷ []
 
--- a word meets a row where it has the row's value under the row's mask
-abbrev pub MeetsRow : ℕ → FloatRow → Type 0
-MeetsRow w row = bit_and w row.mask ≡ row.value
-
--- no word meets both rows
-abbrev pub IsDisjoint : FloatRow → FloatRow → Type 0
-IsDisjoint a b = (w : ℕ) → MeetsRow w a → MeetsRow w b → ⊥
-
--- the test whether a word meets the row of an encoding
-abbrev pub meets : ℕ → Encoding → Bool
-meets w e = bit_and w e.row.mask == e.row.value
-
 -- a word spells an instruction: it meets a row, which reads it off the word's fields
-pub record Spells (w : ℕ) (i : FloatInstr) : Type 0 where
-  pub encoding : Encoding
-  pub listed : Contains encodings encoding
-  pub met : MeetsRow w encoding.row
-  pub operands : encoding.read w ≡ Some i
+abbrev pub Spells : ℕ → FloatInstr → Type 0
+Spells w i = Reads float_encodings w (Some i)
 
 -- a word meets a row, with a field at a value that the row does not have
-pub record IsReserved (w : ℕ) : Type 0 where
-  pub encoding : Encoding
-  pub listed : Contains encodings encoding
-  pub met : MeetsRow w encoding.row
-  pub none : encoding.read w ≡ None
+abbrev pub IsReserved : ℕ → Type 0
+IsReserved w = Reads float_encodings w None
 
 -- the instruction of a word: the one that the row reads that it meets, or none
-unfoldable pub instruction_of : ℕ → Option FloatInstr
-instruction_of w = option_and_then (λ e. e.read w) (find (meets w) encodings)
+unfoldable pub float_instruction_of : ℕ → Option FloatInstr
+float_instruction_of w = option_flatten (read_off float_encodings w)

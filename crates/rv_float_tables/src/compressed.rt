@@ -2,7 +2,7 @@
 
 ghost use Rattle.std.specs.Prelude.{◌≡◌, IfSome};
 ghost use Rattle.rv_tables.specs.Halfwords as Halfwords;
-ghost use Rattle.rv_float_tables.specs.Compressed.{expansion_of};
+ghost use Rattle.rv_float_tables.specs.Compressed.{float_expansion_of};
 ghost use Rattle.rv_float_tables.specs.Operands.{IsEncodable};
 
 use crate::halfword;
@@ -13,7 +13,7 @@ use crate::instr::{FloatInstr, Format};
 /// By matches on the quadrant and on funct3.
 #[tactic(auto, using(crate::proofs::CompressedRows::no_quadrant))]
 pub fn decode16(half: u16) -> Option<FloatInstr>
-    ensures value { result ≡ expansion_of half }
+    ensures value { result ≡ float_expansion_of half }
     ensures encodable { IfSome result IsEncodable }
 {
     let half = u32::from(half);
@@ -28,7 +28,7 @@ pub fn decode16(half: u16) -> Option<FloatInstr>
 #[tactic(auto, using(crate::proofs::CompressedRows::quadrant_0))]
 fn quadrant_0(half: u32) -> Option<FloatInstr>
     requires { Halfwords.quadrant half ≡ 0 }
-    ensures { result ≡ expansion_of half }
+    ensures { result ≡ float_expansion_of half }
 {
     match halfword::funct3(half) {
         1 => Some(load(half, Format::Double, halfword::double_offset(half))),
@@ -43,7 +43,7 @@ fn quadrant_0(half: u32) -> Option<FloatInstr>
 #[tactic(auto, using(crate::proofs::CompressedRows::quadrant_2))]
 fn quadrant_2(half: u32) -> Option<FloatInstr>
     requires { Halfwords.quadrant half ≡ 2 }
-    ensures { result ≡ expansion_of half }
+    ensures { result ≡ float_expansion_of half }
 {
     match halfword::funct3(half) {
         1 => Some(load_sp(half, Format::Double, halfword::fldsp_offset(half))),

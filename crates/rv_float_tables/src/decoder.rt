@@ -5,7 +5,7 @@ ghost use Rattle.std.specs.Option.{option_and_then};
 ghost use Rattle.rv_tables.specs.Fields as Fields;
 ghost use Rattle.rv_float_tables.specs.Fields.{funct5, fmt, format_of};
 ghost use Rattle.rv_float_tables.specs.Operands.{IsEncodable};
-ghost use Rattle.rv_float_tables.specs.Rows.{instruction_of, fused_of, arithmetic_of, square_root_of, to_word_of, from_word_of, to_format_of, csr_instruction_of, csr_immediate_of};
+ghost use Rattle.rv_float_tables.specs.Rows.{float_instruction_of, fused_of, arithmetic_of, square_root_of, to_word_of, from_word_of, to_format_of, csr_instruction_of, csr_immediate_of};
 
 use crate::fields;
 use crate::instr::{
@@ -18,7 +18,7 @@ use crate::instr::{
 /// By matches on the opcode, and on the fields that it asks for.
 #[tactic(auto, using(crate::proofs::NoRow::opcodes))]
 pub fn decode(word: u32) -> Option<FloatInstr>
-    ensures value { result ≡ instruction_of word }
+    ensures value { result ≡ float_instruction_of word }
     ensures encodable { IfSome result IsEncodable }
 {
     match fields::opcode(word) {
@@ -37,7 +37,7 @@ pub fn decode(word: u32) -> Option<FloatInstr>
 #[tactic(auto, using(crate::proofs::NoRow::loads))]
 fn load(word: u32) -> Option<FloatInstr>
     requires { Fields.opcode word ≡ 0x07 }
-    ensures { result ≡ instruction_of word }
+    ensures { result ≡ float_instruction_of word }
 {
     let format = match fields::funct3(word) {
         2 => Format::Single,
@@ -55,7 +55,7 @@ fn load(word: u32) -> Option<FloatInstr>
 #[tactic(auto, using(crate::proofs::NoRow::stores))]
 fn store(word: u32) -> Option<FloatInstr>
     requires { Fields.opcode word ≡ 0x27 }
-    ensures { result ≡ instruction_of word }
+    ensures { result ≡ float_instruction_of word }
 {
     let format = match fields::funct3(word) {
         2 => Format::Single,
@@ -95,7 +95,7 @@ fn read_fused(word: u32, op: FusedOp) -> Option<FloatInstr>
 #[tactic(auto, using(crate::proofs::NoRow::operations))]
 fn operation(word: u32) -> Option<FloatInstr>
     requires { Fields.opcode word ≡ 0x53 }
-    ensures { result ≡ instruction_of word }
+    ensures { result ≡ float_instruction_of word }
 {
     let Some(format) = fields::format(word) else {
         return None;
@@ -140,7 +140,7 @@ fn sign(word: u32, format: Format) -> Option<FloatInstr>
     requires opcode { Fields.opcode word ≡ 0x53 }
     requires funct5 { funct5 word ≡ 0x04 }
     requires format { format_of (fmt word) ≡ Some format }
-    ensures { result ≡ instruction_of word }
+    ensures { result ≡ float_instruction_of word }
 {
     let op = match fields::funct3(word) {
         0 => SignOp::Sgnj,
@@ -162,7 +162,7 @@ fn min_max(word: u32, format: Format) -> Option<FloatInstr>
     requires opcode { Fields.opcode word ≡ 0x53 }
     requires funct5 { funct5 word ≡ 0x05 }
     requires format { format_of (fmt word) ≡ Some format }
-    ensures { result ≡ instruction_of word }
+    ensures { result ≡ float_instruction_of word }
 {
     let op = match fields::funct3(word) {
         0 => MinMaxOp::Min,
@@ -183,7 +183,7 @@ fn compare(word: u32, format: Format) -> Option<FloatInstr>
     requires opcode { Fields.opcode word ≡ 0x53 }
     requires funct5 { funct5 word ≡ 0x14 }
     requires format { format_of (fmt word) ≡ Some format }
-    ensures { result ≡ instruction_of word }
+    ensures { result ≡ float_instruction_of word }
 {
     let op = match fields::funct3(word) {
         0 => CompareOp::Fle,
@@ -206,7 +206,7 @@ fn to_format(word: u32, format: Format) -> Option<FloatInstr>
     requires opcode { Fields.opcode word ≡ 0x53 }
     requires funct5 { funct5 word ≡ 0x08 }
     requires format { format_of (fmt word) ≡ Some format }
-    ensures { result ≡ instruction_of word }
+    ensures { result ≡ float_instruction_of word }
 {
     match (format, fields::rs2(word)) {
         (Format::Single, 1) => read_to_format(word, Format::Single),
@@ -235,7 +235,7 @@ fn square_root(word: u32, format: Format) -> Option<FloatInstr>
     requires opcode { Fields.opcode word ≡ 0x53 }
     requires funct5 { funct5 word ≡ 0x0B }
     requires format { format_of (fmt word) ≡ Some format }
-    ensures { result ≡ instruction_of word }
+    ensures { result ≡ float_instruction_of word }
 {
     if fields::rs2(word) != 0 {
         return None;
@@ -263,7 +263,7 @@ fn to_word(word: u32, format: Format) -> Option<FloatInstr>
     requires opcode { Fields.opcode word ≡ 0x53 }
     requires funct5 { funct5 word ≡ 0x18 }
     requires format { format_of (fmt word) ≡ Some format }
-    ensures { result ≡ instruction_of word }
+    ensures { result ≡ float_instruction_of word }
 {
     match fields::rs2(word) {
         0 => read_to_word(word, WordKind::Signed, format),
@@ -293,7 +293,7 @@ fn from_word(word: u32, format: Format) -> Option<FloatInstr>
     requires opcode { Fields.opcode word ≡ 0x53 }
     requires funct5 { funct5 word ≡ 0x1A }
     requires format { format_of (fmt word) ≡ Some format }
-    ensures { result ≡ instruction_of word }
+    ensures { result ≡ float_instruction_of word }
 {
     match fields::rs2(word) {
         0 => read_from_word(word, WordKind::Signed, format),
@@ -324,7 +324,7 @@ fn move_to_integer_or_class(word: u32, format: Format) -> Option<FloatInstr>
     requires opcode { Fields.opcode word ≡ 0x53 }
     requires funct5 { funct5 word ≡ 0x1C }
     requires format { format_of (fmt word) ≡ Some format }
-    ensures { result ≡ instruction_of word }
+    ensures { result ≡ float_instruction_of word }
 {
     if fields::rs2(word) != 0 {
         return None;
@@ -351,7 +351,7 @@ fn move_from_integer(word: u32, format: Format) -> Option<FloatInstr>
     requires opcode { Fields.opcode word ≡ 0x53 }
     requires funct5 { funct5 word ≡ 0x1E }
     requires format { format_of (fmt word) ≡ Some format }
-    ensures { result ≡ instruction_of word }
+    ensures { result ≡ float_instruction_of word }
 {
     if format == Format::Double || fields::rs2(word) != 0 || fields::funct3(word) != 0 {
         return None;
@@ -365,7 +365,7 @@ fn move_from_integer(word: u32, format: Format) -> Option<FloatInstr>
 #[tactic(auto, using(crate::proofs::NoRow::csrs))]
 fn csr(word: u32) -> Option<FloatInstr>
     requires { Fields.opcode word ≡ 0x73 }
-    ensures { result ≡ instruction_of word }
+    ensures { result ≡ float_instruction_of word }
 {
     match fields::funct3(word) {
         1 => read_csr(word, CsrOp::Write),

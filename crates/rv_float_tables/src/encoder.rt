@@ -2,9 +2,9 @@
 
 ghost use Rattle.std.specs.Prelude.{◌≡◌, ◌↔◌, ℕ, ◌+◌, ◌*◌, ◌^◌, ◌<◌, ◌++◌, codes, Some, IsSome, IfSome};
 ghost use Rattle.rv_float_tables.specs.Fields.{format_code};
-ghost use Rattle.rv_float_tables.specs.Mnemonics.{row_named, load_mnemonic, store_mnemonic, fused_mnemonic, arithmetic_mnemonic, sign_mnemonic, min_max_mnemonic, compare_mnemonic, to_word_mnemonic, from_word_mnemonic, to_format_mnemonic, csr_mnemonic};
+ghost use Rattle.rv_float_tables.specs.Mnemonics.{float_row_named, load_mnemonic, store_mnemonic, fused_mnemonic, arithmetic_mnemonic, sign_mnemonic, min_max_mnemonic, compare_mnemonic, to_word_mnemonic, from_word_mnemonic, to_format_mnemonic, csr_mnemonic};
 ghost use Rattle.rv_float_tables.specs.Operands.{IsEncodable};
-ghost use Rattle.rv_float_tables.specs.Rows.{instruction_of, load_row, store_row, fused_row, arithmetic_row, sign_row, min_max_row, compare_row, to_word_row, from_word_row, to_format_row, csr_row, csr_immediate_row};
+ghost use Rattle.rv_float_tables.specs.Rows.{float_instruction_of, load_row, store_row, fused_row, arithmetic_row, sign_row, min_max_row, compare_row, to_word_row, from_word_row, to_format_row, csr_row, csr_immediate_row};
 ghost use Rattle.rv_float_tables.specs.declared.instr.Format.{Format as AnyFormat};
 
 use crate::fields::{csr_number, format_code, rounding_code};
@@ -22,8 +22,8 @@ const SYSTEM: u32 = 0x73;
 /// Each instruction has one word.
 pub fn encode(instr: &FloatInstr) -> Option<u32>
     ensures encodable { IsSome result ↔ IsEncodable instr.now }
-    ensures decodes { IfSome result (λ w. instruction_of w ≡ Some instr.now) }
-    ensures only_word { (w : ℕ) → w < 2 ^ 32 → instruction_of w ≡ Some instr.now → result ≡ Some w }
+    ensures decodes { IfSome result (λ w. float_instruction_of w ≡ Some instr.now) }
+    ensures only_word { (w : ℕ) → w < 2 ^ 32 → float_instruction_of w ≡ Some instr.now → result ≡ Some w }
 {
     match *instr {
         FloatInstr::Load {
@@ -151,10 +151,10 @@ pub fn encode(instr: &FloatInstr) -> Option<u32>
 }
 
 /// The funct3 of a load and of a store of this format.
-#[tactic(auto, unfolding(crate::specs::Mnemonics::row_named, crate::specs::Rows::encodings))]
+#[tactic(auto, unfolding(crate::specs::Mnemonics::float_row_named, crate::specs::Rows::float_encodings))]
 fn width_funct3(format: Format) -> u32
-    ensures load { row_named (load_mnemonic format) ≡ Some (load_row result 0b0000111 format) }
-    ensures store { row_named (store_mnemonic format) ≡ Some (store_row result 0b0100111 format) }
+    ensures load { float_row_named (load_mnemonic format) ≡ Some (load_row result 0b0000111 format) }
+    ensures store { float_row_named (store_mnemonic format) ≡ Some (store_row result 0b0100111 format) }
     ensures narrow { result < 2 ^ 3 }
 {
     match format {
@@ -167,7 +167,7 @@ fn width_funct3(format: Format) -> u32
 #[tactic(auto, using(crate::proofs::RowNames::fused))]
 fn fused_opcode(op: FusedOp) -> u32
     ensures row { (format : AnyFormat)
-        → row_named (fused_mnemonic op format) ≡ Some (fused_row (format_code format) result op format) }
+        → float_row_named (fused_mnemonic op format) ≡ Some (fused_row (format_code format) result op format) }
     ensures narrow { result < 2 ^ 7 }
 {
     match op {
@@ -182,7 +182,7 @@ fn fused_opcode(op: FusedOp) -> u32
 #[tactic(auto, using(crate::proofs::RowNames::arithmetic))]
 fn arithmetic_funct5(op: ArithmeticOp) -> u32
     ensures row { (format : AnyFormat)
-        → row_named (arithmetic_mnemonic op format) ≡ Some (arithmetic_row (result * 4 + format_code format) 0b1010011 op format) }
+        → float_row_named (arithmetic_mnemonic op format) ≡ Some (arithmetic_row (result * 4 + format_code format) 0b1010011 op format) }
     ensures narrow { result < 2 ^ 5 }
 {
     match op {
@@ -197,7 +197,7 @@ fn arithmetic_funct5(op: ArithmeticOp) -> u32
 #[tactic(auto, using(crate::proofs::RowNames::signs))]
 fn sign_funct3(op: SignOp) -> u32
     ensures row { (format : AnyFormat)
-        → row_named (sign_mnemonic op format) ≡ Some (sign_row (0x10 + format_code format) result 0b1010011 op format) }
+        → float_row_named (sign_mnemonic op format) ≡ Some (sign_row (0x10 + format_code format) result 0b1010011 op format) }
     ensures narrow { result < 2 ^ 3 }
 {
     match op {
@@ -211,7 +211,7 @@ fn sign_funct3(op: SignOp) -> u32
 #[tactic(auto, using(crate::proofs::RowNames::min_maxes))]
 fn min_max_funct3(op: MinMaxOp) -> u32
     ensures row { (format : AnyFormat)
-        → row_named (min_max_mnemonic op format) ≡ Some (min_max_row (0x14 + format_code format) result 0b1010011 op format) }
+        → float_row_named (min_max_mnemonic op format) ≡ Some (min_max_row (0x14 + format_code format) result 0b1010011 op format) }
     ensures narrow { result < 2 ^ 3 }
 {
     match op {
@@ -224,7 +224,7 @@ fn min_max_funct3(op: MinMaxOp) -> u32
 #[tactic(auto, using(crate::proofs::RowNames::compares))]
 fn compare_funct3(op: CompareOp) -> u32
     ensures row { (format : AnyFormat)
-        → row_named (compare_mnemonic op format) ≡ Some (compare_row (0x50 + format_code format) result 0b1010011 op format) }
+        → float_row_named (compare_mnemonic op format) ≡ Some (compare_row (0x50 + format_code format) result 0b1010011 op format) }
     ensures narrow { result < 2 ^ 3 }
 {
     match op {
@@ -238,9 +238,9 @@ fn compare_funct3(op: CompareOp) -> u32
 #[tactic(auto, using(crate::proofs::RowNames::words))]
 fn kind_code(kind: WordKind) -> u8
     ensures to_word { (format : AnyFormat)
-        → row_named (to_word_mnemonic kind format) ≡ Some (to_word_row (0x60 + format_code format) result 0b1010011 kind format) }
+        → float_row_named (to_word_mnemonic kind format) ≡ Some (to_word_row (0x60 + format_code format) result 0b1010011 kind format) }
     ensures from_word { (format : AnyFormat)
-        → row_named (from_word_mnemonic kind format) ≡ Some (from_word_row (0x68 + format_code format) result 0b1010011 kind format) }
+        → float_row_named (from_word_mnemonic kind format) ≡ Some (from_word_row (0x68 + format_code format) result 0b1010011 kind format) }
     ensures narrow { result < 2 ^ 5 }
 {
     match kind {
@@ -250,9 +250,9 @@ fn kind_code(kind: WordKind) -> u8
 }
 
 /// What stands where rs2 does in a conversion to this format: the code of the other one.
-#[tactic(auto, unfolding(crate::specs::Mnemonics::row_named, crate::specs::Rows::encodings))]
+#[tactic(auto, unfolding(crate::specs::Mnemonics::float_row_named, crate::specs::Rows::float_encodings))]
 fn other_code(format: Format) -> u8
-    ensures row { row_named (to_format_mnemonic format) ≡ Some (to_format_row (0x20 + format_code format) result 0b1010011 format) }
+    ensures row { float_row_named (to_format_mnemonic format) ≡ Some (to_format_row (0x20 + format_code format) result 0b1010011 format) }
     ensures narrow { result < 2 ^ 5 }
 {
     match format {
@@ -262,10 +262,10 @@ fn other_code(format: Format) -> u8
 }
 
 /// The funct3 of a row on a CSR and a register. That of the row with an immediate is 4 more.
-#[tactic(auto, unfolding(crate::specs::Mnemonics::row_named, crate::specs::Rows::encodings))]
+#[tactic(auto, unfolding(crate::specs::Mnemonics::float_row_named, crate::specs::Rows::float_encodings))]
 fn csr_funct3(op: CsrOp) -> u32
-    ensures register { row_named (csr_mnemonic op) ≡ Some (csr_row result 0b1110011 op) }
-    ensures immediate { row_named (csr_mnemonic op ++ codes "i") ≡ Some (csr_immediate_row (result + 4) 0b1110011 op) }
+    ensures register { float_row_named (csr_mnemonic op) ≡ Some (csr_row result 0b1110011 op) }
+    ensures immediate { float_row_named (csr_mnemonic op ++ codes "i") ≡ Some (csr_immediate_row (result + 4) 0b1110011 op) }
     ensures narrow { result < 4 }
 {
     match op {

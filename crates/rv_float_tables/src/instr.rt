@@ -40,14 +40,6 @@ pub enum FloatForm {
     CsrImmediate,
 }
 
-/// A row of the listings: the bits that it fixes, as a mask, and the value that a word of it has in them.
-#[derive(Clone, Copy, Debug, PartialEq, Eq)]
-pub struct FloatRow {
-    pub mask: u32,
-    pub value: u32,
-    pub form: FloatForm,
-}
-
 /// The two formats: of F and of D.
 #[derive(Clone, Copy, Debug, PartialEq, Eq)]
 pub enum Format {

@@ -44,8 +44,8 @@ pub use compressed::decode16;
 pub use decoder::decode;
 pub use encoder::encode;
 pub use instr::{
-    ArithmeticOp, CompareOp, CsrOp, FloatCsr, FloatForm, FloatInstr, FloatRow, Format, FusedOp,
-    MinMaxOp, RoundingField, SignOp, WordKind,
+    ArithmeticOp, CompareOp, CsrOp, FloatCsr, FloatForm, FloatInstr, Format, FusedOp, MinMaxOp,
+    RoundingField, SignOp, WordKind,
 };
 pub use mnemonics::{csr_name, csr_named, mnemonic, rounding_name, rounding_named};
 pub use registers::{float_reg_name, float_reg_number};

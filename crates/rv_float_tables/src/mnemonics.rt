@@ -1,7 +1,7 @@
 //! The names of the instructions, of rounding modes, and of control and status registers.
 
 ghost use Rattle.std.specs.Prelude.{◌≡◌, ◌++◌, codes};
-ghost use Rattle.rv_float_tables.specs.Mnemonics.{mnemonic_of, of_format, load_mnemonic, store_mnemonic, fused_mnemonic, arithmetic_mnemonic, sign_mnemonic, min_max_mnemonic, compare_mnemonic, to_word_mnemonic, from_word_mnemonic, to_format_mnemonic, csr_mnemonic, rounding_name, rounding_named, csr_name, csr_named};
+ghost use Rattle.rv_float_tables.specs.Mnemonics.{float_mnemonic_of, of_format, load_mnemonic, store_mnemonic, fused_mnemonic, arithmetic_mnemonic, sign_mnemonic, min_max_mnemonic, compare_mnemonic, to_word_mnemonic, from_word_mnemonic, to_format_mnemonic, csr_mnemonic, rounding_name, rounding_named, csr_name, csr_named};
 
 use crate::instr::{
     ArithmeticOp, CompareOp, CsrOp, FloatCsr, FloatInstr, Format, FusedOp, MinMaxOp, RoundingField,
@@ -25,7 +25,7 @@ static CSRS: [(&str, FloatCsr); 3] = [
 
 /// The instruction's name in assembly: the row's name in lower case, as `fadd.d` and `csrrw`.
 pub fn mnemonic(instr: &FloatInstr) -> &'static str
-    ensures { result.now ≡ mnemonic_of instr.now }
+    ensures { result.now ≡ float_mnemonic_of instr.now }
 {
     match *instr {
         FloatInstr::Load { format, .. } => load_mnemonic(format),

@@ -1,15 +1,15 @@
 //! The rows as a table.
 
-ghost use Rattle.std.specs.Prelude.{◌≡◌, map};
-ghost use Rattle.std.specs.List.{AllPairs};
-ghost use Rattle.rv_float_tables.specs.Rows.{encodings, IsDisjoint};
+ghost use Rattle.rv_tables.specs.Tables.{AreRowsOf};
+ghost use Rattle.rv_float_tables.specs.Rows.{float_encodings};
 
-use crate::instr::{FloatForm, FloatRow};
+use crate::instr::FloatForm;
+use rv_tables::Row;
 
 // One line for a row: its mask, value and form.
 macro_rules! row {
     ($mask:literal $value:literal $form:ident) => {
-        FloatRow {
+        Row {
             mask: $mask,
             value: $value,
             form: FloatForm::$form,
@@ -17,7 +17,7 @@ macro_rules! row {
     };
 }
 
-static ROWS: [FloatRow; 58] = [
+static ROWS: [Row<FloatForm>; 58] = [
     row!(0x707F 0x1073 Csr), // CSRRW
     row!(0x707F 0x2073 Csr), // CSRRS
     row!(0x707F 0x3073 Csr), // CSRRC
@@ -79,10 +79,9 @@ static ROWS: [FloatRow; 58] = [
 ];
 
 /// The rows of Zicsr, F and D, in the order of the manual's listings.
-#[tactic(auto, unfolding(crate::specs::Rows::encodings))]
-pub fn rows() -> &'static [FloatRow]
-    ensures order { result.now ≡ map (λ e. e.row) encodings }
-    ensures disjoint { AllPairs IsDisjoint result.now }
+#[tactic(auto, unfolding(crate::specs::Rows::float_encodings))]
+pub fn rows() -> &'static [Row<FloatForm>]
+    ensures { AreRowsOf float_encodings result.now }
 {
     &ROWS
 }

@@ -13,7 +13,7 @@ use Rattle.rv_float_tables.specs.declared.instr.Format.TheVariants.{Single, Doub
 use Rattle.rv_float_tables.specs.declared.instr.RoundingField.{RoundingField}
 use Rattle.rv_float_tables.specs.declared.instr.RoundingField.TheVariants.{Rne, Dyn}
 use Rattle.rv_float_tables.specs.Codes.{float_decoded}
-use Rattle.rv_float_tables.specs.Mnemonics.{mnemonic_of, rounding_name, csr_name}
+use Rattle.rv_float_tables.specs.Mnemonics.{float_mnemonic_of, rounding_name, csr_name}
 use Rattle.rv_listing.specs.Statement.{register, relative, operand_list, statement_of}
 
 -- the floating-point register with a number, as `f10`
@@ -56,7 +56,7 @@ float_operands_of (CsrImmediate op csr rd imm) = register rd ∷ csr_name csr �
 
 -- an instruction: its mnemonic and its operands
 abbrev pub float_instruction_text : FloatInstr → List ℕ
-float_instruction_text i = mnemonic_of i ++ operand_list (float_operands_of i)
+float_instruction_text i = float_mnemonic_of i ++ operand_list (float_operands_of i)
 
 -- the instruction of a code: behind that of a halfword stands that it is compressed
 abbrev pub float_code_text : Code → FloatInstr → List ℕ

@@ -5,10 +5,13 @@ use Rattle.std.specs.List.{All}
 use Rattle.std.proofs.lemmas.Bool.{true≢false}
 use Rattle.std.proofs.lemmas.Bool.Decides.{nat_tests}
 use Rattle.std.proofs.lemmas.List.Elements.{All-from_recursion, All-contains}
+use Rattle.rv_tables.specs.declared.instr.Instr.{Instr}
 use Rattle.rv_tables.specs.Fields.{sign_extended}
 use Rattle.rv_tables.specs.Halfwords.{rd, immediate, small_layout}
-use Rattle.rv_tables.specs.Compressed.{CompressedRow, compressed_rows, expanded, expansion_of, IsHint, DoesNothing, has_none, rd_is_0, small_is_0, c_addi4spn, c_lw, c_sw, c_addi, c_jal, c_li, c_addi16sp, c_lui, c_srli, c_srai, c_andi, c_sub, c_xor, c_or, c_and, c_j, c_beqz, c_bnez, c_slli, c_lwsp, c_jr, c_mv, c_ebreak, c_jalr, c_add, c_swsp}
+use Rattle.rv_tables.specs.Compressed.{compressed_rows, expansion_of, IsHint, DoesNothing, rd_is_0, small_is_0, c_addi4spn, c_lw, c_sw, c_addi, c_jal, c_li, c_addi16sp, c_lui, c_srli, c_srai, c_andi, c_sub, c_xor, c_or, c_and, c_j, c_beqz, c_bnez, c_slli, c_lwsp, c_jr, c_mv, c_ebreak, c_jalr, c_add, c_swsp}
+use Rattle.rv_tables.specs.CompressedTables.{CompressedRow, expanded, has_none}
 use Rattle.rv_tables.proofs.CompressedSpelling.{expansion_of-met}
+use Rattle.rv_tables.proofs.Pairs.{◌⨾◌}
 
 rd_0 : (h : ℕ) → has_none h (rd_is_0 ∷ []) ≡ false → rd h ≡ 0
 rd_0 h e = grind (arith, nat_tests)
@@ -23,7 +26,7 @@ signed_0 : (n : ℕ) → n ≡ 0 → sign_extended 6 n ≡ pos 0
 signed_0 n e = rw e
 
 -- a hint of the row does nothing
-abbrev IdlesAtHints : CompressedRow → Type 0
+abbrev IdlesAtHints : CompressedRow Instr → Type 0
 IdlesAtHints r = (h : ℕ) → has_none h r.hints ≡ false → DoesNothing (expanded h r)
 
 addi : IdlesAtHints c_addi
@@ -51,13 +54,8 @@ mv h e = rd_0 h e
 add : IdlesAtHints c_add
 add h e = rd_0 h e
 
-none : (r : CompressedRow) → r.hints ≡ [] → IdlesAtHints r
+none : (r : CompressedRow Instr) → r.hints ≡ [] → IdlesAtHints r
 none r no_hints h e = absurd (true≢false (rw no_hints at e))
-
-infixr 5 ◌⨾◌
--- a pair, written without parentheses
-◌⨾◌ : {P Q : Type 0} → P → Q → P × Q
-p ⨾ q = (p, q)
 
 -- row by row, in the order of the list
 each_row : All IdlesAtHints compressed_rows

@@ -2,11 +2,12 @@
 use Rattle.std.proofs.Common.{◌≡◌, ℕ, Bool, ◌&&◌, eqb, Option, refl}
 use Rattle.std.specs.List.{find}
 use Rattle.std.specs.Option.{option_map}
-use Rattle.rv_tables.specs.Compressed.{CompressedRow, compressed_rows, expanded, expansion_of, has, has_none}
+use Rattle.rv_tables.specs.Compressed.{compressed_rows, expansion_of}
+use Rattle.rv_tables.specs.CompressedTables.{CompressedRow, expanded, has, has_none}
 use Rattle.rv_tables.specs.Halfwords.{quadrant, funct3}
 use Rattle.rv_tables.specs.declared.instr.Instr.{Instr}
 
-abbrev pub meets_at : ℕ → ℕ → ℕ → CompressedRow → Bool
+abbrev pub meets_at : {I : Type 0} → ℕ → ℕ → ℕ → CompressedRow I → Bool
 meets_at h q f3 r =
     (eqb q r.quadrant && eqb f3 r.funct3 && has h r.fixed && has_none h r.others) && has_none h r.reserved
 

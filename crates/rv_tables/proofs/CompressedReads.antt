@@ -10,11 +10,13 @@ use Rattle.rv_tables.specs.declared.instr.Instr.{Instr}
 use Rattle.rv_tables.specs.Fields.{sign_extended}
 use Rattle.rv_tables.specs.Halfwords.{immediate, addi4spn_layout, word_layout, small_layout, addi16sp_layout, jump_layout, branch_layout, lwsp_layout, swsp_layout}
 use Rattle.rv_tables.specs.Operands.{IsEncodable, IsImmediate, IsBranchOffset, IsJumpOffset}
-use Rattle.rv_tables.specs.Compressed.{CompressedRow, compressed_rows, is_of, meets, expanded, expansion_of, has_none, amount_has_bit_5, c_addi4spn, c_lw, c_sw, c_addi, c_jal, c_li, c_addi16sp, c_lui, c_srli, c_srai, c_andi, c_sub, c_xor, c_or, c_and, c_j, c_beqz, c_bnez, c_slli, c_lwsp, c_jr, c_mv, c_ebreak, c_jalr, c_add, c_swsp}
+use Rattle.rv_tables.specs.Compressed.{compressed_rows, expansion_of, amount_has_bit_5, c_addi4spn, c_lw, c_sw, c_addi, c_jal, c_li, c_addi16sp, c_lui, c_srli, c_srai, c_andi, c_sub, c_xor, c_or, c_and, c_j, c_beqz, c_bnez, c_slli, c_lwsp, c_jr, c_mv, c_ebreak, c_jalr, c_add, c_swsp}
+use Rattle.rv_tables.specs.CompressedTables.{CompressedRow, is_of, meets, expanded, has_none}
 use Rattle.rv_tables.proofs.CompressedSpelling.{Expands-from_expansion}
+use Rattle.rv_tables.proofs.Pairs.{◌⨾◌}
 
 -- the instruction of a halfword that meets the row has operands in range
-abbrev ReadsWell : CompressedRow → Type 0
+abbrev ReadsWell : CompressedRow Instr → Type 0
 ReadsWell r = (h : ℕ) → meets h r ≡ true → IsEncodable (expanded h r)
 
 small : (h : ℕ) → IsImmediate (sign_extended 6 (immediate h small_layout))
@@ -23,13 +25,13 @@ small h = grind (arith, ints)
 addi4spn_offset : (h : ℕ) → IsImmediate (pos (immediate h addi4spn_layout))
 addi4spn_offset h = grind (arith, ints)
 
-word_offset : (h : ℕ) → IsImmediate (pos (immediate h word_layout))
+pub word_offset : (h : ℕ) → IsImmediate (pos (immediate h word_layout))
 word_offset h = grind (arith, ints)
 
-lwsp_offset : (h : ℕ) → IsImmediate (pos (immediate h lwsp_layout))
+pub lwsp_offset : (h : ℕ) → IsImmediate (pos (immediate h lwsp_layout))
 lwsp_offset h = grind (arith, ints)
 
-swsp_offset : (h : ℕ) → IsImmediate (pos (immediate h swsp_layout))
+pub swsp_offset : (h : ℕ) → IsImmediate (pos (immediate h swsp_layout))
 swsp_offset h = grind (arith, ints)
 
 addi16sp_immediate : (h : ℕ) → IsImmediate (sign_extended 10 (immediate h addi16sp_layout))
@@ -47,12 +49,7 @@ zero_immediate = grind (arith, ints)
 amount : (h : ℕ) → has_none h (amount_has_bit_5 ∷ []) ≡ true → immediate h small_layout < 32
 amount h e = grind (arith, nat_tests)
 
-infixr 5 ◌⨾◌
--- a pair, written without parentheses
-◌⨾◌ : {P Q : Type 0} → P → Q → P × Q
-p ⨾ q = (p, q)
-
-not_reserved : (h : ℕ) (r : CompressedRow) → meets h r ≡ true → has_none h r.reserved ≡ true
+not_reserved : (h : ℕ) (r : CompressedRow Instr) → meets h r ≡ true → has_none h r.reserved ≡ true
 not_reserved h r e = (and_parts (is_of h r) (has_none h r.reserved) e).1
 
 reads_addi4spn : ReadsWell c_addi4spn

@@ -13,7 +13,8 @@ use Rattle.rv_tables.specs.declared.instr.UpperOp.TheVariants.{Lui}
 use Rattle.rv_tables.specs.declared.instr.PlainOp.TheVariants.{Ebreak}
 use Rattle.rv_tables.specs.Fields.{bits, sign_extended}
 use Rattle.rv_tables.specs.Halfwords.{quadrant, funct3, rd, rs2, rs1_prime, rs2_prime, immediate, addi4spn_layout, word_layout, small_layout, addi16sp_layout, lui_layout, jump_layout, branch_layout, lwsp_layout, swsp_layout, upper_field}
-use Rattle.rv_tables.specs.Compressed.{compressed_rows, expansion_of, has, small_is_0}
+use Rattle.rv_tables.specs.Compressed.{compressed_rows, expansion_of, small_is_0}
+use Rattle.rv_tables.specs.CompressedTables.{has}
 use Rattle.rv_tables.proofs.CompressedLookup.{expansion_at, at_fields}
 
 pub addi4spn : (h : ℕ) → quadrant h ≡ 0 → funct3 h ≡ 0 → bits h 12 5 ≢ 0 → expansion_of h ≡ Some (I Addi (rs2_prime h) 2 (pos (immediate h addi4spn_layout)))

@@ -3,6 +3,7 @@ pub mod CompressedHints
 pub mod CompressedLookup
 pub mod CompressedReads
 pub mod CompressedSpelling
+pub mod CompressedTables
 pub mod EachCompressedRow
 pub mod EachRow
 pub mod Finds
@@ -15,3 +16,4 @@ pub mod Pairs
 pub mod RegisterNames
 pub mod RowReads
 pub mod Spelling
+pub mod Tables

@@ -5,7 +5,8 @@ use Rattle.std.specs.Option.{option_map}
 use Rattle.std.proofs.lemmas.Bool.{cases_eq, eqb-true, ne_eqb}
 use Rattle.std.proofs.lemmas.Bool.Decides.{nat_tests}
 use Rattle.rv_tables.specs.Fields.{opcode, funct3, funct7}
-use Rattle.rv_tables.specs.Rows.{encodings, meets, instruction_of}
+use Rattle.rv_tables.specs.Rows.{encodings, instruction_of}
+use Rattle.rv_tables.specs.Tables.{meets}
 use Rattle.rv_tables.specs.declared.instr.Instr.{Instr}
 use Rattle.rv_tables.proofs.Finds.{find-agree}
 use Rattle.rv_tables.proofs.Masks.{under_7F, under_707F, under_FE00707F, under_FFFFFFFF}

@@ -15,7 +15,8 @@ use Rattle.rv_tables.specs.declared.instr.StoreOp.{StoreOp}
 use Rattle.rv_tables.specs.declared.instr.BranchOp.{BranchOp}
 use Rattle.rv_tables.specs.declared.instr.UpperOp.{UpperOp}
 use Rattle.rv_tables.specs.Mnemonics.{mnemonic_of, row_named, r_mnemonic, i_mnemonic, shift_mnemonic, load_mnemonic, store_mnemonic, branch_mnemonic, upper_mnemonic}
-use Rattle.rv_tables.specs.Rows.{Encoding, encodings, MeetsRow, instruction_of, jal_row, jalr_row, system_row}
+use Rattle.rv_tables.specs.Rows.{Encoding, encodings, instruction_of, jal_row, jalr_row, system_row}
+use Rattle.rv_tables.specs.Tables.{MeetsRow}
 use Rattle.rv_tables.specs.Words.{r_row_of, i_row_of, shift_row_of, load_row_of, store_row_of, branch_row_of, upper_row_of, IsRWord, IsIWord, IsSWord, IsBWord, IsUWord, IsJWord, IsOnlyWord}
 use Rattle.rv_tables.specs.declared.instr.PlainOp.TheVariants.{Ecall, Ebreak}
 use Rattle.rv_tables.proofs.Masks.{under_FFFFFFFF}

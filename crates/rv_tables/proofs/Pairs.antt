@@ -32,3 +32,8 @@ same_by_pairs R xs x y pairs (i, i_in, x_at) (j, j_in, y_at) not_xy not_yx =
       | inr (inl lt) ↦ let pair = pairs i j x lt j_in in absurd (not_xy (rw (← x_at, ← y_at_x) pair))
       | inr (inr lt) ↦ let pair = pairs j i y lt i_in in absurd (not_yx (rw (← y_at, ← x_at_y) pair))
     ]
+
+infixr 5 ◌⨾◌
+-- a pair, written without parentheses
+pub ◌⨾◌ : {P Q : Type 0} → P → Q → P × Q
+p ⨾ q = (p, q)

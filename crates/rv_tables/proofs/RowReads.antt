@@ -26,12 +26,13 @@ use Rattle.rv_tables.specs.Fields.{rd, rs1, rs2, shamt, i_immediate, s_immediate
 use Rattle.rv_tables.specs.Mnemonics.{mnemonic_of}
 use Rattle.rv_tables.specs.Operands.{IsEncodable, IsImmediate, IsBranchOffset, IsJumpOffset}
 use Rattle.rv_tables.specs.Rows.{Encoding, encodings, Spells, instruction_of}
+use Rattle.rv_tables.proofs.Pairs.{◌⨾◌}
 use Rattle.rv_tables.proofs.Spelling.{Spells-from_instruction}
 
-IsImmediate-i_immediate : (w : ℕ) → IsImmediate (i_immediate w)
+pub IsImmediate-i_immediate : (w : ℕ) → IsImmediate (i_immediate w)
 IsImmediate-i_immediate w = grind (arith, ints)
 
-IsImmediate-s_immediate : (w : ℕ) → IsImmediate (s_immediate w)
+pub IsImmediate-s_immediate : (w : ℕ) → IsImmediate (s_immediate w)
 IsImmediate-s_immediate w = grind (arith, ints)
 
 IsBranchOffset-b_immediate : (w : ℕ) → IsBranchOffset (b_immediate w)
@@ -73,11 +74,6 @@ jalr w = ((omega arith, omega arith, IsImmediate-i_immediate w), refl)
 
 plain : (op : PlainOp) → ReadsAlike (λ w. Plain op)
 plain op w = (tt, refl)
-
-infixr 5 ◌⨾◌
--- a pair, written without parentheses
-◌⨾◌ : {P Q : Type 0} → P → Q → P × Q
-p ⨾ q = (p, q)
 
 -- row by row, in the order of the listing
 each_row : All (λ e. ReadsAlike e.read) encodings

@@ -1,9 +1,11 @@
 pub mod Codes
 pub mod Compressed
+pub mod CompressedTables
 pub mod Fields
 pub mod Halfwords
 pub mod Mnemonics
 pub mod Operands
 pub mod Registers
 pub mod Rows
+pub mod Tables
 pub mod Words

@@ -1,7 +1,6 @@
 -- The rows of RV32I, Zifencei and M (RISC-V Unprivileged ISA 20191213, chapter 24 "RV32/64G Instruction Set Listings"),
 -- and the instruction of a word.
-use Rattle.std.specs.Prelude.{◌≡◌, ℕ, ◌+◌, ◌-◌, ◌*◌, ◌^◌, ◌==◌, Bool, List, [], ◌∷◌, find, Option, bit_and, Contains}
-use Rattle.std.specs.Option.{option_map}
+use Rattle.std.specs.Prelude.{ℕ, ◌+◌, ◌*◌, ◌^◌, List, [], ◌∷◌, Option}
 use Rattle.rv_tables.specs.declared.instr.Instr.{Instr}
 use Rattle.rv_tables.specs.declared.instr.Instr.TheVariants.{R, I, Shift, Load, Store, Branch, Upper, Jal, Jalr, Plain}
 use Rattle.rv_tables.specs.declared.instr.Form.{Form}
@@ -24,29 +23,25 @@ use Rattle.rv_tables.specs.declared.instr.UpperOp.TheVariants.{Lui, Auipc}
 use Rattle.rv_tables.specs.declared.instr.PlainOp.{PlainOp}
 use Rattle.rv_tables.specs.declared.instr.PlainOp.TheVariants.{Fence, FenceI, Ecall, Ebreak}
 use Rattle.rv_tables.specs.Fields.{rd, rs1, rs2, shamt, i_immediate, s_immediate, b_immediate, u_immediate, j_immediate}
+use Rattle.rv_tables.specs.Tables.{ones, RowEncoding, Reads, read_off}
 
 -- a row, and the instruction of a word that meets it
-pub record Encoding : Type 0 where
-  pub row : Row
-  pub read : ℕ → Instr
-
--- ones in the bits from `high` down to `low`
-abbrev ones : (high low : ℕ) → ℕ
-ones high low = (2 ^ (high - low + 1) - 1) * 2 ^ low
+abbrev pub Encoding : Type 0
+Encoding = RowEncoding Form Instr
 
 -- rows by the fields that they fix, from bit 31 down: the opcode in bits 6 to 0, funct3 in 14 to 12, funct7 in 31 to 25
-abbrev pub by_opcode : (opcode : ℕ) → Form → Row
+abbrev pub by_opcode : (opcode : ℕ) → Form → Row Form
 by_opcode opcode form = record { mask = ones 6 0; value = opcode; form = form }
 
-abbrev pub by_funct3 : (funct3 opcode : ℕ) → Form → Row
+abbrev pub by_funct3 : (funct3 opcode : ℕ) → Form → Row Form
 by_funct3 funct3 opcode form = record { mask = ones 14 12 + ones 6 0; value = funct3 * 2 ^ 12 + opcode; form = form }
 
-abbrev pub by_funct7 : (funct7 funct3 opcode : ℕ) → Form → Row
+abbrev pub by_funct7 : (funct7 funct3 opcode : ℕ) → Form → Row Form
 by_funct7 funct7 funct3 opcode form =
     record { mask = ones 31 25 + ones 14 12 + ones 6 0; value = funct7 * 2 ^ 25 + funct3 * 2 ^ 12 + opcode; form = form }
 
 -- all fields: funct12 in bits 31 to 20, rs1 in 19 to 15, rd in 11 to 7
-abbrev pub by_word : (funct12 rs1 funct3 rd opcode : ℕ) → Form → Row
+abbrev pub by_word : (funct12 rs1 funct3 rd opcode : ℕ) → Form → Row Form
 by_word funct12 rs1 funct3 rd opcode form =
     record { mask = ones 31 0; value = funct12 * 2 ^ 20 + rs1 * 2 ^ 15 + funct3 * 2 ^ 12 + rd * 2 ^ 7 + opcode; form = form }
 
@@ -138,25 +133,10 @@ encodings =
     ∷ system_row 0b000000000001 0b00000 0b000 0b00000 0b1110011 Ebreak
     ∷ []
 
--- a word meets a row where it has the row's value under the row's mask
-abbrev pub MeetsRow : ℕ → Row → Type 0
-MeetsRow w row = bit_and w row.mask ≡ row.value
-
--- no word meets both rows
-abbrev pub IsDisjoint : Row → Row → Type 0
-IsDisjoint a b = (w : ℕ) → MeetsRow w a → MeetsRow w b → ⊥
-
--- the test whether a word meets the row of an encoding
-abbrev pub meets : ℕ → Encoding → Bool
-meets w e = bit_and w e.row.mask == e.row.value
-
 -- a word spells an instruction: it meets a row, with the instruction's operands in its fields
-pub record Spells (w : ℕ) (i : Instr) : Type 0 where
-  pub encoding : Encoding
-  pub listed : Contains encodings encoding
-  pub met : MeetsRow w encoding.row
-  pub operands : encoding.read w ≡ i
+abbrev pub Spells : ℕ → Instr → Type 0
+Spells w i = Reads encodings w i
 
 -- the instruction of a word: that of the row that it meets, or none
 unfoldable pub instruction_of : ℕ → Option Instr
-instruction_of w = option_map (λ e. e.read w) (find (meets w) encodings)
+instruction_of w = read_off encodings w

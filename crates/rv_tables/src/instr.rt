@@ -25,12 +25,12 @@ pub enum Form {
     Plain,
 }
 
-/// A row of the listings: the bits that it fixes, as a mask, and the value that a word of it has in them.
+/// A row of the listings: the bits that it fixes, as a mask, the value that a word of it has in them, and the form of its operands.
 #[derive(Clone, Copy, Debug, PartialEq, Eq)]
-pub struct Row {
+pub struct Row<F> {
     pub mask: u32,
     pub value: u32,
-    pub form: Form,
+    pub form: F,
 }
 
 /// The rows on three registers.

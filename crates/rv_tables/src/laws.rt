@@ -1,12 +1,13 @@
 //! Facts about the rows and the words that they make. There is nothing to run: a caller calls one for what it ensures.
 
 ghost use Rattle.std.specs.Prelude.{◌≡◌, ◌↔◌, ℕ, ◌^◌, ◌<◌, map, Some, None, IfSome, IsTrue};
-ghost use Rattle.std.specs.List.{AllPairs, list_all};
-ghost use Rattle.rv_tables.specs.Compressed.{compressed_rows, expansion_of, AreDisjoint, Expands, IsReserved, IsHint, DoesNothing};
+ghost use Rattle.std.specs.List.{AllPairs};
+ghost use Rattle.rv_tables.specs.Compressed.{compressed_rows, expansion_of, Expands, IsReserved, IsHint, DoesNothing};
+ghost use Rattle.rv_tables.specs.CompressedTables.{AreDisjoint, are_filled};
 ghost use Rattle.rv_tables.specs.declared.instr.Instr.{Instr};
 ghost use Rattle.rv_tables.specs.Operands.{IsEncodable};
-ghost use Rattle.rv_tables.specs.Halfwords.{is_filled};
-ghost use Rattle.rv_tables.specs.Rows.{encodings, instruction_of, IsDisjoint, Spells};
+ghost use Rattle.rv_tables.specs.Rows.{encodings, instruction_of, Spells};
+ghost use Rattle.rv_tables.specs.Tables.{IsDisjoint};
 
 /// No word meets two rows.
 pub fn rows_are_disjoint()
@@ -55,5 +56,5 @@ pub fn a_hint_expands_to_an_instruction_that_does_nothing()
 
 /// The immediate's bits of a layout are as many as the halfword's that hold them.
 pub fn layouts_fill_their_places()
-    ensures { IsTrue (list_all (λ r. list_all is_filled r.layout) compressed_rows) }
+    ensures { IsTrue (are_filled compressed_rows) }
 {}

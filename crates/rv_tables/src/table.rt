@@ -1,8 +1,7 @@
 //! The rows as a table.
 
-ghost use Rattle.std.specs.Prelude.{◌≡◌, map};
-ghost use Rattle.std.specs.List.{AllPairs};
-ghost use Rattle.rv_tables.specs.Rows.{encodings, IsDisjoint};
+ghost use Rattle.rv_tables.specs.Rows.{encodings};
+ghost use Rattle.rv_tables.specs.Tables.{AreRowsOf};
 
 use crate::instr::{Form, Row};
 
@@ -17,7 +16,7 @@ macro_rules! row {
     };
 }
 
-static ROWS: [Row; 49] = [
+static ROWS: [Row<Form>; 49] = [
     row!(0x7F 0x37 Upper), // LUI
     row!(0x7F 0x17 Upper), // AUIPC
     row!(0x7F 0x6F Jal), // JAL
@@ -72,9 +71,8 @@ static ROWS: [Row; 49] = [
 /// The rows of RV32I, Zifencei and M: first those told by the opcode alone, then those by funct3 too, then those by
 /// funct7 too, then the two of whole words; each of these groups in the order of the manual's listings.
 #[tactic(auto, unfolding(crate::specs::Rows::encodings))]
-pub fn rows() -> &'static [Row]
-    ensures order { result.now ≡ map (λ e. e.row) encodings }
-    ensures disjoint { AllPairs IsDisjoint result.now }
+pub fn rows() -> &'static [Row<Form>]
+    ensures { AreRowsOf encodings result.now }
 {
     &ROWS
 }

@@ -3,9 +3,9 @@ use Rattle.std.proofs.Common.{◌≡◌, ◌↔◌, ℕ, ◌^◌, ◌<◌, Optio
 use Rattle.std.proofs.lemmas.Int.{to_z-of_z}
 use Rattle.rv_tables.specs.Words.{IsOnlyWord}
 use Rattle.rv_float_tables.specs.declared.instr.FloatInstr.{FloatInstr}
-use Rattle.rv_float_tables.specs.Mnemonics.{row_named}
+use Rattle.rv_float_tables.specs.Mnemonics.{float_row_named}
 use Rattle.rv_float_tables.specs.Operands.{IsEncodable}
-use Rattle.rv_float_tables.specs.Rows.{encodings, instruction_of}
+use Rattle.rv_float_tables.specs.Rows.{float_encodings, float_instruction_of}
 use Rattle.rv_float_tables.proofs.FieldCodes.{csr_number_within}
 use Rattle.rv_float_tables.proofs.OnlyWords.{only_load, only_store, only_fused, only_arithmetic, only_square_root, only_sign, only_min_max, only_compare, only_class, only_to_word, only_from_word, only_to_format, only_move_to_integer, only_move_from_integer, only_csr, only_csr_immediate}
 use Rattle.rv_float_tables.proofs.RowNames.{fsqrt, fclass}
@@ -15,11 +15,11 @@ use Rattle.rv_float_tables.proofs.encoder.encode.Goals as goal
 abbrev Clauses : FloatInstr → Option ℕ → Type 0
 Clauses i r = record {
   encodable : IsSome r ↔ IsEncodable i;
-  decodes : IfSome r (λ w. instruction_of w ≡ Some i);
-  only_word : (w : ℕ) → w < 2 ^ 32 → instruction_of w ≡ Some i → r ≡ Some w;
+  decodes : IfSome r (λ w. float_instruction_of w ≡ Some i);
+  only_word : (w : ℕ) → w < 2 ^ 32 → float_instruction_of w ≡ Some i → r ≡ Some w;
 }
 
-clauses : (i j : FloatInstr) (r : Option ℕ) → j ≡ i → IsSome r ↔ IsEncodable i → IsOnlyWord (λ w. instruction_of w ≡ Some i) r → Clauses j r
+clauses : (i j : FloatInstr) (r : Option ℕ) → j ≡ i → IsSome r ↔ IsEncodable i → IsOnlyWord (λ w. float_instruction_of w ≡ Some i) r → Clauses j r
 clauses i j r is encodable only = rw is (record { encodable = encodable; decodes = only.0; only_word = only.1 })
 
 -- a form that has no rs2 has something in its place
@@ -87,13 +87,13 @@ returns-in-ToFormat c =
     clauses _ _ _ c.in-ToFormat.is (without_rs2 c.r_word-in-ToFormat.ensures.encodable c.other_code.ensures.narrow) (only_to_format _ _ _ _ _ _ _ c.other_code.ensures.narrow c.other_code.ensures.row word)
 
 pub returns-in-MoveToInteger : goal.returns-in-MoveToInteger
-unfolding row_named encodings
+unfolding float_row_named float_encodings
 returns-in-MoveToInteger c =
     let word = c.r_word-in-MoveToInteger.ensures.word in
     clauses _ _ _ c.in-MoveToInteger.is (without_rs2 c.r_word-in-MoveToInteger.ensures.encodable (omega arith)) (only_move_to_integer _ _ _ _ _ _ (omega arith) (omega arith) refl word)
 
 pub returns-in-MoveFromInteger : goal.returns-in-MoveFromInteger
-unfolding row_named encodings
+unfolding float_row_named float_encodings
 returns-in-MoveFromInteger c =
     let word = c.r_word-in-MoveFromInteger.ensures.word in
     clauses _ _ _ c.in-MoveFromInteger.is (without_rs2 c.r_word-in-MoveFromInteger.ensures.encodable (omega arith)) (only_move_from_integer _ _ _ _ _ _ (omega arith) (omega arith) refl word)

@@ -1,5 +1,5 @@
-use Rattle.rv_float_tables.proofs.CompressedRows.{IsEncodable-expansion_of}
+use Rattle.rv_float_tables.proofs.CompressedRows.{IsEncodable-float_expansion_of}
 use Rattle.rv_float_tables.proofs.laws.an_expansion_is_encodable.Goals as goal
 
 pub returns : goal.returns
-returns c = IsEncodable-expansion_of
+returns c = IsEncodable-float_expansion_of

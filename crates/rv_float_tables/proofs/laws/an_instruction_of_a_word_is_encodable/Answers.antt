@@ -1,5 +1,5 @@
-use Rattle.rv_float_tables.proofs.RowReads.{IsEncodable-instruction_of}
+use Rattle.rv_float_tables.proofs.RowReads.{IsEncodable-float_instruction_of}
 use Rattle.rv_float_tables.proofs.laws.an_instruction_of_a_word_is_encodable.Goals as goal
 
 pub returns : goal.returns
-returns c = IsEncodable-instruction_of
+returns c = IsEncodable-float_instruction_of

@@ -1,7 +1,7 @@
 use Rattle.std.proofs.Common.{refl}
-use Rattle.rv_float_tables.specs.Compressed.{compressed_rows}
+use Rattle.rv_float_tables.specs.Compressed.{float_compressed_rows}
 use Rattle.rv_float_tables.proofs.laws.layouts_fill_their_places.Goals as goal
 
 pub returns : goal.returns
-unfolding compressed_rows
+unfolding float_compressed_rows
 returns c = refl

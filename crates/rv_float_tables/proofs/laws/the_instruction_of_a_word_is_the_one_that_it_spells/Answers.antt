@@ -1,5 +1,5 @@
-use Rattle.rv_float_tables.proofs.Spelling.{Spells-from_instruction, instruction_of-Spells}
+use Rattle.rv_float_tables.proofs.Spelling.{Spells-from_instruction, float_instruction_of-Spells}
 use Rattle.rv_float_tables.proofs.laws.the_instruction_of_a_word_is_the_one_that_it_spells.Goals as goal
 
 pub returns : goal.returns
-returns c w i = (Spells-from_instruction w i, instruction_of-Spells w i)
+returns c w i = (Spells-from_instruction w i, float_instruction_of-Spells w i)

@@ -1,7 +1,8 @@
-use Rattle.rv_float_tables.specs.Rows.{encodings}
+use Rattle.std.proofs.Common.{refl}
+use Rattle.rv_float_tables.specs.Rows.{float_encodings}
 use Rattle.rv_float_tables.proofs.Spelling.{rows_disjoint}
 use Rattle.rv_float_tables.proofs.table.rows.Goals as goal
 
-pub returns-clause-disjoint : goal.returns-clause-disjoint
-unfolding encodings
-returns-clause-disjoint c = rows_disjoint
+pub returns : goal.returns
+unfolding float_encodings
+returns c = record { order = refl; disjoint = rows_disjoint }

@@ -1,7 +1,8 @@
+use Rattle.std.proofs.Common.{refl}
 use Rattle.rv_tables.specs.Rows.{encodings}
 use Rattle.rv_tables.proofs.Spelling.{rows_disjoint}
 use Rattle.rv_tables.proofs.table.rows.Goals as goal
 
-pub returns-clause-disjoint : goal.returns-clause-disjoint
+pub returns : goal.returns
 unfolding encodings
-returns-clause-disjoint c = rows_disjoint
+returns c = record { order = refl; disjoint = rows_disjoint }

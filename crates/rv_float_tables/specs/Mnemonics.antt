@@ -1,8 +1,9 @@
 -- The mnemonic of each row: its name in the listings (RISC-V Unprivileged ISA 20191213, chapter 24) in lower case; and the names of
 -- rounding modes (table 11.1) and of control and status registers (section 11.2), which stand in assembly in lower case too.
 use Rattle.std.specs.Prelude.{ℕ, ◌*◌, ◌^◌, Bool, false, List, [], ◌∷◌, ◌++◌, codes, find, Option}
-use Rattle.std.specs.Option.{option_map, option_map_or}
+use Rattle.std.specs.Option.{option_map_or}
 use Rattle.std.specs.Str.{bytes_eq}
+use Rattle.rv_tables.specs.Names.{named_by}
 use Rattle.rv_float_tables.specs.declared.instr.FloatInstr.{FloatInstr}
 use Rattle.rv_float_tables.specs.declared.instr.FloatInstr.TheVariants.{Load, Store, Fused, Arithmetic, SquareRoot, Sign, MinMax, Compare, Class, ToWord, FromWord, ToFormat, MoveToInteger, MoveFromInteger, Csr, CsrImmediate}
 use Rattle.rv_float_tables.specs.declared.instr.Format.{Format}
@@ -121,7 +122,7 @@ rounding_names =
 
 -- the rounding mode with a name, or none
 unfoldable pub rounding_named : List ℕ → Option RoundingField
-rounding_named name = option_map (λ p. p.1) (find (λ p. bytes_eq p.0 name) rounding_names)
+rounding_named name = named_by rounding_names name
 
 abbrev pub rounding_name : RoundingField → List ℕ
 rounding_name Rne = codes "rne"
@@ -137,7 +138,7 @@ csr_names = (codes "fflags", Fflags) ∷ (codes "frm", Frm) ∷ (codes "fcsr", F
 
 -- the register with a name, or none
 unfoldable pub csr_named : List ℕ → Option FloatCsr
-csr_named name = option_map (λ p. p.1) (find (λ p. bytes_eq p.0 name) csr_names)
+csr_named name = named_by csr_names name
 
 abbrev pub csr_name : FloatCsr → List ℕ
 csr_name Fflags = codes "fflags"

@@ -1,8 +1,7 @@
 -- The names of the floating-point registers: f0 to f31 (RISC-V Unprivileged ISA 20191213, section 11.1) and those of the calling
 -- convention (chapter 25 "RISC-V Assembly Programmer's Handbook").
-use Rattle.std.specs.Prelude.{ℕ, List, [], ◌∷◌, Option, find, codes, slice_get}
-use Rattle.std.specs.Option.{option_map}
-use Rattle.std.specs.Str.{bytes_eq}
+use Rattle.std.specs.Prelude.{ℕ, List, [], ◌∷◌, Option, codes, slice_get}
+use Rattle.rv_tables.specs.Names.{named_by}
 
 -- each name with the number of its register
 unfoldable pub float_register_names : List (List ℕ × ℕ)
@@ -22,7 +21,7 @@ float_register_names =
 
 -- the number of the register with a name, or none
 unfoldable pub float_register_number : List ℕ → Option ℕ
-float_register_number name = option_map (λ p. p.1) (find (λ p. bytes_eq p.0 name) float_register_names)
+float_register_number name = named_by float_register_names name
 
 -- the names of the calling convention, in the order of their registers
 unfoldable pub convention_names : List (List ℕ)

@@ -7,6 +7,7 @@ use crate::instr::{
     ArithmeticOp, CompareOp, CsrOp, FloatCsr, FloatInstr, Format, FusedOp, MinMaxOp, RoundingField,
     SignOp, WordKind,
 };
+use rv_tables::named;
 
 static ROUNDINGS: [(&str, RoundingField); 6] = [
     ("rne", RoundingField::Rne),
@@ -65,10 +66,7 @@ pub fn rounding_name(rounding: RoundingField) -> &'static str
 pub fn rounding_named(name: &[u8]) -> Option<RoundingField>
     ensures { result ≡ rounding_named name.now }
 {
-    ROUNDINGS
-        .iter()
-        .find(|entry| entry.0.as_bytes() == name)
-        .map(|entry| entry.1)
+    named(&ROUNDINGS, name)
 }
 
 /// The name of a control and status register, as `fcsr`.
@@ -86,9 +84,7 @@ pub fn csr_name(csr: FloatCsr) -> &'static str
 pub fn csr_named(name: &[u8]) -> Option<FloatCsr>
     ensures { result ≡ csr_named name.now }
 {
-    CSRS.iter()
-        .find(|entry| entry.0.as_bytes() == name)
-        .map(|entry| entry.1)
+    named(&CSRS, name)
 }
 
 fn load_mnemonic(format: Format) -> &'static str

@@ -5,6 +5,8 @@ ghost use Rattle.std.specs.Option.{option_map};
 ghost use Rattle.rv_tables.specs.Operands.{IsRegister};
 ghost use Rattle.rv_float_tables.specs.Registers.{float_register_number, float_register_name};
 
+use rv_tables::named;
+
 static NAMES: [(&str, u8); 64] = [
     ("f0", 0),
     ("f1", 1),
@@ -80,10 +82,7 @@ pub fn float_reg_number(name: &[u8]) -> Option<u8>
     ensures value { result ≡ float_register_number name.now }
     ensures register { IfSome result IsRegister }
 {
-    NAMES
-        .iter()
-        .find(|entry| entry.0.as_bytes() == name)
-        .map(|entry| entry.1)
+    named(&NAMES, name)
 }
 
 /// The name that a floating-point register has in the calling convention, or none past register 31.

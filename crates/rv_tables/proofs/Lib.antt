@@ -10,6 +10,7 @@ pub mod Finds
 pub mod JumpWord
 pub mod Lookup
 pub mod Masks
+pub mod NameTables
 pub mod NoRow
 pub mod OnlyWords
 pub mod Pairs

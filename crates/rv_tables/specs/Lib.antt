@@ -4,6 +4,7 @@ pub mod CompressedTables
 pub mod Fields
 pub mod Halfwords
 pub mod Mnemonics
+pub mod Names
 pub mod Operands
 pub mod Registers
 pub mod Rows

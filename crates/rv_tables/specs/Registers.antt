@@ -1,8 +1,7 @@
 -- The names of the registers: x0 to x31 (RISC-V Unprivileged ISA 20191213, section 2.1) and those of the calling
 -- convention (chapter 25 "RISC-V Assembly Programmer's Handbook").
-use Rattle.std.specs.Prelude.{ℕ, List, [], ◌∷◌, Option, find, codes}
-use Rattle.std.specs.Option.{option_map}
-use Rattle.std.specs.Str.{bytes_eq}
+use Rattle.std.specs.Prelude.{ℕ, List, [], ◌∷◌, Option, codes}
+use Rattle.rv_tables.specs.Names.{named_by}
 
 -- each name with the number of its register
 unfoldable pub register_names : List (List ℕ × ℕ)
@@ -19,4 +18,4 @@ register_names =
 
 -- the number of the register with a name, or none
 unfoldable pub register_number : List ℕ → Option ℕ
-register_number name = option_map (λ p. p.1) (find (λ p. bytes_eq p.0 name) register_names)
+register_number name = named_by register_names name

@@ -4,6 +4,8 @@ ghost use Rattle.std.specs.Prelude.{◌≡◌, IfSome};
 ghost use Rattle.rv_tables.specs.Operands.{IsRegister};
 ghost use Rattle.rv_tables.specs.Registers.{register_number};
 
+use crate::names::named;
+
 static NAMES: [(&str, u8); 65] = [
     ("x0", 0),
     ("x1", 1),
@@ -80,8 +82,5 @@ pub fn reg_number(name: &[u8]) -> Option<u8>
     ensures value { result ≡ register_number name.now }
     ensures register { IfSome result IsRegister }
 {
-    NAMES
-        .iter()
-        .find(|entry| entry.0.as_bytes() == name)
-        .map(|entry| entry.1)
+    named(&NAMES, name)
 }

@@ -1,3 +1,4 @@
+pub mod Agreeing
 pub mod Cuts
 pub mod Exactly
 pub mod Fused

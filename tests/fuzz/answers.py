@@ -15,7 +15,7 @@ FAULTS_OF_FILES = (
 )
 FAULTS_OF_STEPS = (
     "IllegalInstruction", "FetchOutside", "Misaligned", "LoadOutside", "StoreOutside", "Break", "UnknownCall", "BadRank",
-    "RangeOutside", "NotRegistered", "TooMuch", "BadSize", "UnsupportedRounding",
+    "RangeOutside", "NotRegistered", "TooMuch", "BadSize",
 )
 
 # The subcommands whose run may be refused for a setting, and the settings that each of them has.

@@ -41,16 +41,17 @@ def float_word(chance: random.Random, is_bad: bool) -> int:
     """A word of floating point that computes, converts, moves, or reads or writes a control and status register; a bad one may have any
     rounding mode and any fields. Of the registers there are few, so that results are operands again."""
     rd, rs1, rs2, rs3 = (chance.randrange(8) for _ in range(4))
-    kind, rm = chance.randrange(2), chance.choice([0, 7])
+    kind, rm = chance.randrange(2), chance.choice([0, 7, 7, chance.randrange(5)])
     rm = chance.randrange(8) if is_bad else rm
     form = chance.randrange(12)
     if form < 2:
         return chance.choice([0x43, 0x47, 0x4B, 0x4F]) | rd << 7 | rm << 12 | rs1 << 15 | rs2 << 20 | kind << 25 | rs3 << 27
     if form == 2:
-        # The rounding mode is written by bad ones alone: it is a fault of most that come behind.
+        # Any word is written to the rounding mode by bad ones alone: where it is none, that is a fault of most that come behind.
         register = chance.randrange(5) if is_bad else chance.choice([1, 1, 2, 3])
-        funct3 = chance.choice([1, 2, 3, 5, 6, 7]) if is_bad or register == 1 else 2
-        return 0x73 | rd << 7 | funct3 << 12 | (rs1 if is_bad or register == 1 else 0) << 15 | register << 20
+        funct3 = chance.choice([1, 2, 3, 5, 6, 7]) if is_bad or register == 1 else chance.choice([2, 5])
+        operand = rs1 if is_bad or register == 1 else chance.randrange(5) if funct3 == 5 else 0
+        return 0x73 | rd << 7 | funct3 << 12 | operand << 15 | register << 20
     if form < 7:
         funct5 = chance.choice([0, 1, 2, 3, 11])
         rs2 = 0 if funct5 == 11 and not is_bad else rs2

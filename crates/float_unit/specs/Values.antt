@@ -1,10 +1,11 @@
--- What the operations of floating point give and raise, by the patterns of their operands. Each is the definition of `rv_floats` or of
--- `rv_float_flags`, at an operation that an instruction names.
+-- What the operations of floating point give and raise, by the patterns of their operands. Each is the definition of `rv_floats`, of
+-- `rv_float_flags` or of `rv_float_modes`, at an operation that an instruction names.
 use Rattle.std.specs.Prelude.{ℕ, ◌^◌, ◌-◌, Bool, ℤ, pos, bit_and, bit_or, unsigned_abs, to_bits, if◌then◌else◌}
 use Rattle.std.specs.Int.{int_rem_euclid}
 use Rattle.std.specs.Float.{round_to_format}
 use Rattle.rv_tables.specs.Fields.{sign_extended}
 use Rattle.rv_floats.specs.declared.rounding.Rounding.{Rounding}
+use Rattle.rv_floats.specs.declared.rounding.Rounding.TheVariants.{NearestEven, TowardZero, Down, Up, NearestAway}
 use Rattle.rv_floats.specs.Comparisons.{minimum, maximum}
 use Rattle.rv_floats.specs.Conversions.{signed_word, unsigned_word}
 use Rattle.rv_floats.specs.Fused.{multiply_add, multiply_subtract, negated_multiply_subtract, negated_multiply_add}
@@ -12,7 +13,9 @@ use Rattle.rv_floats.specs.Signs.{sign_injected, sign_negated, sign_xored}
 use Rattle.rv_float_flags.specs.declared.flags.Flags.{Flags}
 use Rattle.rv_float_flags.specs.Conversions.{exact_word, is_signed_word, is_unsigned_word, narrowing_flags, widening_flags, word_flags}
 use Rattle.rv_float_flags.specs.Flags.{no_flags, rounding_flags}
-use Rattle.rv_float_flags.specs.Operations.{add_flags, sub_flags, mul_flags, div_flags, multiply_add_flags, multiply_subtract_flags, negated_multiply_subtract_flags, negated_multiply_add_flags, quiet_flags, ordered_flags}
+use Rattle.rv_float_flags.specs.Operations.{add_flags, sub_flags, mul_flags, div_flags, sqrt_flags, multiply_add_flags, multiply_subtract_flags, negated_multiply_subtract_flags, negated_multiply_add_flags, quiet_flags, ordered_flags}
+use Rattle.rv_float_modes.specs.declared.rounded.Rounded.{Rounded}
+use Rattle.rv_float_modes.specs.Operations.{add_in, sub_in, mul_in, div_in, sqrt_in, multiply_add_in, multiply_subtract_in, negated_multiply_subtract_in, negated_multiply_add_in, narrowed_in, word_in}
 use Rattle.rv_float_tables.specs.declared.instr.Format as format
 use Rattle.rv_float_tables.specs.declared.instr.Format.TheVariants.{Single, Double}
 use Rattle.rv_float_tables.specs.declared.instr.ArithmeticOp.{ArithmeticOp}
@@ -37,6 +40,17 @@ abbrev pub ieee : format.Format → Format
 ieee Single = binary32
 ieee Double = binary64
 
+-- ---- arithmetic in a rounding mode
+
+-- To the nearest, ties to even, the value is that of `lib.Ieee`, and the flags are those of `rv_float_flags`. In another mode both are
+-- those of `rv_float_modes`. By laws there its own definitions to the nearest, ties to even, are no others (of roots, their values).
+abbrev pub by_mode : Rounding → (bits : ℕ) → Flags → (otherwise : Rounded) → Rounded
+by_mode NearestEven bits flags otherwise = record { bits = bits; flags = flags }
+by_mode TowardZero bits flags otherwise = otherwise
+by_mode Down bits flags otherwise = otherwise
+by_mode Up bits flags otherwise = otherwise
+by_mode NearestAway bits flags otherwise = otherwise
+
 -- FADD, FSUB, FMUL, FDIV (sections 11.6, 12.4)
 abbrev pub arithmetic : ArithmeticOp → Format → ℕ → ℕ → ℕ
 arithmetic Add f a b = to_bits f (Ieee.add f (of_bits f a) (of_bits f b))
@@ -50,7 +64,16 @@ arithmetic_flags Sub = sub_flags
 arithmetic_flags Mul = mul_flags
 arithmetic_flags Div = div_flags
 
--- FMADD, FMSUB, FNMSUB, FNMADD
+abbrev pub arithmetic_otherwise : ArithmeticOp → Rounding → Format → ℕ → ℕ → Rounded
+arithmetic_otherwise Add = add_in
+arithmetic_otherwise Sub = sub_in
+arithmetic_otherwise Mul = mul_in
+arithmetic_otherwise Div = div_in
+
+abbrev pub arithmetic_in : ArithmeticOp → Rounding → Format → ℕ → ℕ → Rounded
+arithmetic_in op mode f a b = by_mode mode (arithmetic op f a b) (arithmetic_flags op f a b) (arithmetic_otherwise op mode f a b)
+
+-- FMADD, FMSUB, FNMSUB, FNMADD (sections 11.6, 12.4)
 abbrev pub fused : FusedOp → Format → ℕ → ℕ → ℕ → ℕ
 fused Madd f a b c = to_bits f (multiply_add f (of_bits f a) (of_bits f b) (of_bits f c))
 fused Msub f a b c = to_bits f (multiply_subtract f (of_bits f a) (of_bits f b) (of_bits f c))
@@ -63,9 +86,23 @@ fused_flags Msub = multiply_subtract_flags
 fused_flags Nmsub = negated_multiply_subtract_flags
 fused_flags Nmadd = negated_multiply_add_flags
 
--- FSQRT
+abbrev pub fused_otherwise : FusedOp → Rounding → Format → ℕ → ℕ → ℕ → Rounded
+fused_otherwise Madd = multiply_add_in
+fused_otherwise Msub = multiply_subtract_in
+fused_otherwise Nmsub = negated_multiply_subtract_in
+fused_otherwise Nmadd = negated_multiply_add_in
+
+abbrev pub fused_in : FusedOp → Rounding → Format → ℕ → ℕ → ℕ → Rounded
+fused_in op mode f a b c = by_mode mode (fused op f a b c) (fused_flags op f a b c) (fused_otherwise op mode f a b c)
+
+-- FSQRT (sections 11.6, 12.4)
 abbrev pub square_root : Format → ℕ → ℕ
 square_root f a = to_bits f (Ieee.sqrt f (of_bits f a))
+
+unfoldable pub square_root_in : Rounding → Format → ℕ → Rounded
+square_root_in mode f a = by_mode mode (square_root f a) (sqrt_flags f a) (sqrt_in mode f a)
+
+-- ---- signs and comparisons
 
 -- FMIN, FMAX
 abbrev pub min_max : MinMaxOp → Format → ℕ → ℕ → ℕ
@@ -113,22 +150,22 @@ abbrev pub whole : WordKind → ℕ → ℤ
 whole Signed x = sign_extended 32 x
 whole Unsigned x = pos x
 
--- FCVT.S.W, FCVT.S.WU and those of doubles, which have each word
+-- FCVT.S.W, FCVT.S.WU and those of doubles, which have each word, so that these are exact in any mode
 abbrev pub from_word : Format → ℤ → ℕ
 from_word f z = to_bits f (Ieee.of_int f z)
 
-abbrev pub from_word_flags : format.Format → ℤ → Flags
-from_word_flags Single z = rounding_flags binary32 (exact_word z)
-from_word_flags Double z = no_flags
+abbrev pub from_word_in : format.Format → Rounding → ℤ → Rounded
+from_word_in Single mode z = by_mode mode (from_word binary32 z) (rounding_flags binary32 (exact_word z)) (word_in mode z)
+from_word_in Double mode z = record { bits = from_word binary64 z; flags = no_flags }
 
--- FCVT.S.D, of a double; FCVT.D.S, of a single
+-- FCVT.S.D, of a double; FCVT.D.S, of a single, all of which are doubles, so that it is exact in any mode
 abbrev pub converted : format.Format → ℕ → ℕ
 converted Single a = to_bits binary32 (round_to_format binary32 (of_bits binary64 a))
 converted Double a = to_bits binary64 (of_bits binary32 a)
 
-abbrev pub converted_flags : format.Format → ℕ → Flags
-converted_flags Single a = narrowing_flags a
-converted_flags Double a = widening_flags a
+abbrev pub converted_in : format.Format → Rounding → ℕ → Rounded
+converted_in Single mode a = by_mode mode (converted Single a) (narrowing_flags a) (narrowed_in mode a)
+converted_in Double mode a = record { bits = converted Double a; flags = widening_flags a }
 
 -- ---- what is written to a CSR, by its value and the operand (section 9.1)
 

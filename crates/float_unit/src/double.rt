@@ -10,14 +10,18 @@ use rv_float_flags::{
     Flags, accrued_add_flags_d, accrued_mul_flags_d, accrued_sub_flags_d, add_flags_d,
     add_unflagged_d, d_to_word_flags, d_to_word_unsigned_flags, div_flags_d, mul_flags_d,
     mul_unflagged_d, multiply_add_flags_d, multiply_subtract_flags_d, negated_multiply_add_flags_d,
-    negated_multiply_subtract_flags_d, ordered_flags_d, quiet_flags_d, sub_flags_d,
+    negated_multiply_subtract_flags_d, ordered_flags_d, quiet_flags_d, sqrt_flags_d, sub_flags_d,
     sub_unflagged_d,
+};
+use rv_float_modes::{
+    Rounded, add_in_d, div_in_d, mul_in_d, multiply_add_in_d, multiply_subtract_in_d,
+    negated_multiply_add_in_d, negated_multiply_subtract_in_d, sqrt_in_d, sub_in_d,
 };
 use rv_float_tables::{ArithmeticOp, CompareOp, FusedOp, MinMaxOp, SignOp, WordKind};
 use rv_floats::{
     Rounding, add_d, d_to_word, d_to_word_unsigned, div_d, eq_d, le_d, lt_d, max_d, min_d, mul_d,
     multiply_add_d, multiply_subtract_d, negated_multiply_add_d, negated_multiply_subtract_d,
-    sign_injected_d, sign_negated_d, sign_xored_d, sub_d,
+    sign_injected_d, sign_negated_d, sign_xored_d, sqrt_d, sub_d,
 };
 
 #[inline(always)]
@@ -70,6 +74,33 @@ pub fn unflagged(op: ArithmeticOp, flags: Flags, a: u64, b: u64) -> Option<u64>
     }
 }
 
+/// FADD, FSUB, FMUL, FDIV, in a rounding mode.
+pub fn arithmetic_in(op: ArithmeticOp, mode: Rounding, a: u64, b: u64) -> Rounded
+    ensures { result ≡ Values.arithmetic_in op mode binary64 a b }
+{
+    match mode {
+        Rounding::NearestEven => Rounded {
+            bits: arithmetic(op, a, b),
+            flags: arithmetic_flags(op, a, b),
+        },
+        _ => arithmetic_otherwise(op, mode, a, b),
+    }
+}
+
+/// The same where the mode is another than to the nearest, ties to even.
+#[cold]
+#[inline(never)]
+fn arithmetic_otherwise(op: ArithmeticOp, mode: Rounding, a: u64, b: u64) -> Rounded
+    ensures { result ≡ Values.arithmetic_otherwise op mode binary64 a b }
+{
+    match op {
+        ArithmeticOp::Add => add_in_d(mode, a, b),
+        ArithmeticOp::Sub => sub_in_d(mode, a, b),
+        ArithmeticOp::Mul => mul_in_d(mode, a, b),
+        ArithmeticOp::Div => div_in_d(mode, a, b),
+    }
+}
+
 pub fn fused(op: FusedOp, a: u64, b: u64, c: u64) -> u64
     ensures { result ≡ Values.fused op binary64 a b c }
 {
@@ -89,6 +120,47 @@ pub fn fused_flags(op: FusedOp, a: u64, b: u64, c: u64) -> Flags
         FusedOp::Msub => multiply_subtract_flags_d(a, b, c),
         FusedOp::Nmsub => negated_multiply_subtract_flags_d(a, b, c),
         FusedOp::Nmadd => negated_multiply_add_flags_d(a, b, c),
+    }
+}
+
+/// FMADD, FMSUB, FNMSUB, FNMADD, in a rounding mode.
+pub fn fused_in(op: FusedOp, mode: Rounding, a: u64, b: u64, c: u64) -> Rounded
+    ensures { result ≡ Values.fused_in op mode binary64 a b c }
+{
+    match mode {
+        Rounding::NearestEven => Rounded {
+            bits: fused(op, a, b, c),
+            flags: fused_flags(op, a, b, c),
+        },
+        _ => fused_otherwise(op, mode, a, b, c),
+    }
+}
+
+/// The same where the mode is another than to the nearest, ties to even.
+#[cold]
+#[inline(never)]
+fn fused_otherwise(op: FusedOp, mode: Rounding, a: u64, b: u64, c: u64) -> Rounded
+    ensures { result ≡ Values.fused_otherwise op mode binary64 a b c }
+{
+    match op {
+        FusedOp::Madd => multiply_add_in_d(mode, a, b, c),
+        FusedOp::Msub => multiply_subtract_in_d(mode, a, b, c),
+        FusedOp::Nmsub => negated_multiply_subtract_in_d(mode, a, b, c),
+        FusedOp::Nmadd => negated_multiply_add_in_d(mode, a, b, c),
+    }
+}
+
+/// FSQRT, in a rounding mode.
+#[tactic(auto, unfolding(crate::specs::Values::square_root_in))]
+pub fn square_root_in(mode: Rounding, a: u64) -> Rounded
+    ensures { result ≡ Values.square_root_in mode binary64 a }
+{
+    match mode {
+        Rounding::NearestEven => Rounded {
+            bits: sqrt_d(a),
+            flags: sqrt_flags_d(a),
+        },
+        _ => sqrt_in_d(mode, a),
     }
 }
 

@@ -5,7 +5,4 @@
 pub enum FloatFault {
     /// It asks for the rounding mode in `frm`, and there is none.
     IllegalInstruction,
-    /// Its result goes into a register of floating point and may have to be rounded, whatever the operands are, and the mode is another
-    /// than to the nearest, ties to even.
-    UnsupportedRounding,
 }

@@ -7,17 +7,17 @@
 //! What callers may rely on:
 //!
 //! - An effect is one function of the unit's record, with one clause for each form of instruction (`specs/Effects.antt`). What operations
-//!   give and raise is what `rv_floats` and `rv_float_flags` say.
+//!   give and raise is what `rv_floats`, `rv_float_flags` and `rv_float_modes` say.
 //! - Singles stand in a register in a box of ones. One that does not is the canonical NaN to each operation, but not to moves and stores.
 //! - Flags are sticky, and only a write of a CSR clears them.
-//! - What goes into a register of floating point, and may have to be rounded, is rounded to the nearest, ties to even; with each other
-//!   mode the instruction is refused as [`FloatFault::UnsupportedRounding`], whatever its operands are. Conversions to words have all five
-//!   modes, and one that is always exact takes any. Where the mode in `frm` is asked for and is none, an
-//!   instruction is illegal. Whatever is refused changes nothing.
+//! - What may have to be rounded is rounded in the mode of the instruction, or in that of `frm` where it asks for that, in each of the five.
+//!   To the nearest, ties to even, results and flags are found by arithmetic of the host's, and in the other modes by `rv_float_modes`.
+//!   Where the mode in `frm` is asked for and is none, an instruction is illegal, also one that is always exact, and changes nothing.
 //!
 //! Source: The RISC-V Instruction Set Manual, Volume I: Unprivileged ISA, 20191213, chapters 9, 11 and 12.
 #![tactic(auto)]
 
+mod convert;
 mod double;
 mod effect;
 mod fault;

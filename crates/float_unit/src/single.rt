@@ -1,6 +1,6 @@
 //! The operations on singles that instructions name.
 
-ghost use Rattle.std.specs.Prelude.{◌≡◌};
+ghost use Rattle.std.specs.Prelude.{◌≡◌, ◌^◌, ◌<◌};
 ghost use Rattle.rv_float_flags.specs.Operations.{quiet_flags};
 ghost use Rattle.float_unit.specs.Values as Values;
 ghost use lib.Ieee.{binary32};
@@ -8,13 +8,17 @@ ghost use lib.Ieee.{binary32};
 use rv_float_flags::{
     Flags, add_flags_s, div_flags_s, mul_flags_s, multiply_add_flags_s, multiply_subtract_flags_s,
     negated_multiply_add_flags_s, negated_multiply_subtract_flags_s, ordered_flags_s,
-    quiet_flags_s, s_to_word_flags, s_to_word_unsigned_flags, sub_flags_s,
+    quiet_flags_s, s_to_word_flags, s_to_word_unsigned_flags, sqrt_flags_s, sub_flags_s,
+};
+use rv_float_modes::{
+    Rounded, add_in_s, div_in_s, mul_in_s, multiply_add_in_s, multiply_subtract_in_s,
+    negated_multiply_add_in_s, negated_multiply_subtract_in_s, sqrt_in_s, sub_in_s,
 };
 use rv_float_tables::{ArithmeticOp, CompareOp, FusedOp, MinMaxOp, SignOp, WordKind};
 use rv_floats::{
     Rounding, add_s, div_s, eq_s, le_s, lt_s, max_s, min_s, mul_s, multiply_add_s,
     multiply_subtract_s, negated_multiply_add_s, negated_multiply_subtract_s, s_to_word,
-    s_to_word_unsigned, sign_injected_s, sign_negated_s, sign_xored_s, sub_s,
+    s_to_word_unsigned, sign_injected_s, sign_negated_s, sign_xored_s, sqrt_s, sub_s,
 };
 
 pub fn arithmetic(op: ArithmeticOp, a: u32, b: u32) -> u32
@@ -39,6 +43,35 @@ pub fn arithmetic_flags(op: ArithmeticOp, a: u32, b: u32) -> Flags
     }
 }
 
+/// FADD, FSUB, FMUL, FDIV, in a rounding mode.
+pub fn arithmetic_in(op: ArithmeticOp, mode: Rounding, a: u32, b: u32) -> Rounded
+    ensures value { result ≡ Values.arithmetic_in op mode binary32 a b }
+    ensures narrow { result.bits < 2 ^ 32 }
+{
+    match mode {
+        Rounding::NearestEven => Rounded {
+            bits: arithmetic(op, a, b) as u64,
+            flags: arithmetic_flags(op, a, b),
+        },
+        _ => arithmetic_otherwise(op, mode, a, b),
+    }
+}
+
+/// The same where the mode is another than to the nearest, ties to even.
+#[cold]
+#[inline(never)]
+fn arithmetic_otherwise(op: ArithmeticOp, mode: Rounding, a: u32, b: u32) -> Rounded
+    ensures value { result ≡ Values.arithmetic_otherwise op mode binary32 a b }
+    ensures narrow { result.bits < 2 ^ 32 }
+{
+    match op {
+        ArithmeticOp::Add => add_in_s(mode, a, b),
+        ArithmeticOp::Sub => sub_in_s(mode, a, b),
+        ArithmeticOp::Mul => mul_in_s(mode, a, b),
+        ArithmeticOp::Div => div_in_s(mode, a, b),
+    }
+}
+
 pub fn fused(op: FusedOp, a: u32, b: u32, c: u32) -> u32
     ensures { result ≡ Values.fused op binary32 a b c }
 {
@@ -58,6 +91,50 @@ pub fn fused_flags(op: FusedOp, a: u32, b: u32, c: u32) -> Flags
         FusedOp::Msub => multiply_subtract_flags_s(a, b, c),
         FusedOp::Nmsub => negated_multiply_subtract_flags_s(a, b, c),
         FusedOp::Nmadd => negated_multiply_add_flags_s(a, b, c),
+    }
+}
+
+/// FMADD, FMSUB, FNMSUB, FNMADD, in a rounding mode.
+pub fn fused_in(op: FusedOp, mode: Rounding, a: u32, b: u32, c: u32) -> Rounded
+    ensures value { result ≡ Values.fused_in op mode binary32 a b c }
+    ensures narrow { result.bits < 2 ^ 32 }
+{
+    match mode {
+        Rounding::NearestEven => Rounded {
+            bits: fused(op, a, b, c) as u64,
+            flags: fused_flags(op, a, b, c),
+        },
+        _ => fused_otherwise(op, mode, a, b, c),
+    }
+}
+
+/// The same where the mode is another than to the nearest, ties to even.
+#[cold]
+#[inline(never)]
+fn fused_otherwise(op: FusedOp, mode: Rounding, a: u32, b: u32, c: u32) -> Rounded
+    ensures value { result ≡ Values.fused_otherwise op mode binary32 a b c }
+    ensures narrow { result.bits < 2 ^ 32 }
+{
+    match op {
+        FusedOp::Madd => multiply_add_in_s(mode, a, b, c),
+        FusedOp::Msub => multiply_subtract_in_s(mode, a, b, c),
+        FusedOp::Nmsub => negated_multiply_subtract_in_s(mode, a, b, c),
+        FusedOp::Nmadd => negated_multiply_add_in_s(mode, a, b, c),
+    }
+}
+
+/// FSQRT, in a rounding mode.
+#[tactic(auto, unfolding(crate::specs::Values::square_root_in))]
+pub fn square_root_in(mode: Rounding, a: u32) -> Rounded
+    ensures value { result ≡ Values.square_root_in mode binary32 a }
+    ensures narrow { result.bits < 2 ^ 32 }
+{
+    match mode {
+        Rounding::NearestEven => Rounded {
+            bits: sqrt_s(a) as u64,
+            flags: sqrt_flags_s(a),
+        },
+        _ => sqrt_in_s(mode, a),
     }
 }
 

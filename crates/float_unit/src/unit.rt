@@ -7,6 +7,7 @@ ghost use Rattle.float_unit.specs.Effects as Effects;
 
 use crate::fault::FloatFault;
 use rv_float_flags::Flags;
+use rv_float_modes::Rounded;
 use rv_float_tables::{FloatCsr, Format, RoundingField};
 use rv_floats::{Rounding, boxed, unboxed};
 use std::marker::Model;
@@ -108,6 +109,25 @@ impl FloatUnit {
     {
         self.registers[rd as usize] = a;
         self.flags = self.flags | flags;
+    }
+
+    /// Writes a double that was rounded, and what that raised.
+    #[inline]
+    pub(crate) fn round_double(&mut self, rd: u8, rounded: Rounded)
+        requires { rd < 32 }
+        ensures { self.new ≡ (Effects.rounded_into Format.Double self.old rd rounded).state }
+    {
+        self.put_double(rd, rounded.bits, rounded.flags);
+    }
+
+    /// Writes a single that was rounded, and what that raised.
+    #[inline]
+    pub(crate) fn round_single(&mut self, rd: u8, rounded: Rounded)
+        requires rd { rd < 32 }
+        requires narrow { rounded.bits < 2 ^ 32 }
+        ensures { self.new ≡ (Effects.rounded_into Format.Single self.old rd rounded).state }
+    {
+        self.put_single(rd, rounded.bits as u32, rounded.flags);
     }
 
     /// Writes a double and all of the flags.

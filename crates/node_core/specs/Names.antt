@@ -1,7 +1,7 @@
 -- What faults and states are called in texts for users (own names).
 use Rattle.std.specs.Prelude.{ℕ, List, ◌++◌, codes}
 use Rattle.node_core.specs.declared.state.Fault.{Fault}
-use Rattle.node_core.specs.declared.state.Fault.TheVariants.{IllegalInstruction, FetchOutside, Misaligned, LoadOutside, StoreOutside, Break, UnknownCall, BadRank, RangeOutside, NotRegistered, TooMuch, BadSize, UnsupportedRounding}
+use Rattle.node_core.specs.declared.state.Fault.TheVariants.{IllegalInstruction, FetchOutside, Misaligned, LoadOutside, StoreOutside, Break, UnknownCall, BadRank, RangeOutside, NotRegistered, TooMuch, BadSize}
 use Rattle.node_core.specs.declared.state.State.{State}
 use Rattle.node_core.specs.declared.state.State.TheVariants.{Running, Synced, Ended, Aborted, Exhausted, Faulted}
 
@@ -18,7 +18,6 @@ fault_name RangeOutside = codes "RangeOutside"
 fault_name NotRegistered = codes "NotRegistered"
 fault_name TooMuch = codes "TooMuch"
 fault_name BadSize = codes "BadSize"
-fault_name UnsupportedRounding = codes "UnsupportedRounding"
 
 -- the name of a faulted state has that of its fault
 abbrev pub state_name : State → List ℕ

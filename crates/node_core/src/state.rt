@@ -30,9 +30,6 @@ pub enum Fault {
     TooMuch,
     /// A tag size above the greatest.
     BadSize,
-    /// The result of an instruction is a number of floating point that may have to be rounded, and the mode is another than to the nearest,
-    /// ties to even.
-    UnsupportedRounding,
 }
 
 impl Fault {
@@ -56,7 +53,6 @@ impl Fault {
             Fault::NotRegistered => "NotRegistered",
             Fault::TooMuch => "TooMuch",
             Fault::BadSize => "BadSize",
-            Fault::UnsupportedRounding => "UnsupportedRounding",
         }
     }
 }

@@ -2,6 +2,7 @@ pub mod Agreeing
 pub mod Cuts
 pub mod Exactly
 pub mod Fused
+pub mod Narrow
 pub mod Nearest
 pub mod NearestFlags
 pub mod Quotients

@@ -18,7 +18,6 @@ SIGNALS = {
     "fault StoreOutside": SEGMENT,
     "fault RangeOutside": SEGMENT,
     "fault IllegalInstruction": ILLEGAL,
-    "fault UnsupportedRounding": ILLEGAL,
     "fault Break": TRAP,
 }
 

@@ -151,7 +151,6 @@ class Why:
         texts = {
             "BadRank": f"there is no rank {signed(node.x[10])}: with {counted(self.nodes, 'node')} {ranks}",
             "Break": "the compiler saw that the program goes wrong here, as at a use of NULL, and put a trap",
-            "UnsupportedRounding": "a mode is set, as by fesetround, in which nodes do not round: they round to the nearest, ties to even",
             "Misaligned": f"the program begins at {node.pc:#x}, and instructions stand at even addresses",
             "UnknownCall": f"a7 is {node.x[17]}, and calls have the numbers 1 to 18",
         }

@@ -53,8 +53,6 @@ WRITTEN = {
 THROUGH_NULL = "#include <stdio.h>\nstruct it { NUMBER a[4]; struct it *next; } *volatile none;\n"
 THROUGH_NULL += "int main(int argc, char **argv)\n{\n    if (argc == 1)\n        return none->next->a[1];\n"
 THROUGH_NULL += '    return fputs("x", fopen("absent", "r"));\n}\n'
-# A quotient in a rounding mode that nodes do not have.
-UPWARD = "#include <fenv.h>\nvolatile double x = 1, y = 3;\nint main(void)\n{\n    fesetround(FE_UPWARD);\n    return x / y > 1;\n}\n"
 # A get whose target, a number of some type, is read early in one superstep of many.
 OFTEN = "#include <bsp.h>\n#include <stdio.h>\nint main(void)\n{\n    TYPE x = 1, y = 0; int k;\n    bsp_begin(bsp_nprocs());\n"
 OFTEN += "    bsp_push_reg(&x, sizeof x);\n    bsp_sync();\n    for (k = 0; k < 50; k++) {\n        bsp_get(0, &x, 0, &y, sizeof y);\n"
@@ -107,9 +105,6 @@ class Telling:
             self.expect(f"the {kind} of a pointer that is read through NULL", done, 2, "main, through.c:6", "the pointer was read through NULL")
         done = self.run("-DNUMBER=int", "through.c", "x")
         self.expect("a function that is read through NULL", done, 2, "through.c:7", "called by a pointer that was read through NULL")
-        (self.folder / "upward.c").write_text(UPWARD)
-        done = self.run("upward.c", "-lm")
-        self.expect("a rounding mode that nodes do not have", done, 2, "main, upward.c:6", "a mode is set, as by fesetround")
         self.expect("nothing to warn of", self.run("-n", "2", "--warn", image, "0"), 0, NOT_FOUND)
 
     def written(self) -> None:

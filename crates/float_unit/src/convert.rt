@@ -1,0 +1,81 @@
+//! Conversions into registers of floating point.
+
+ghost use Rattle.std.specs.Prelude.{◌≡◌, ◌^◌, ◌<◌};
+ghost use Rattle.float_unit.specs.Values as Values;
+ghost use Rattle.rv_float_flags.specs.Conversions.{exact_word};
+ghost use Rattle.rv_float_flags.specs.Flags.{rounding_flags};
+ghost use Rattle.rv_float_modes.specs.Operations.{word_in};
+ghost use Rattle.rv_float_tables.specs.declared.instr.Format.TheVariants.{Single};
+ghost use lib.Ieee.{binary32, binary64};
+
+use rv_float_flags::{Flags, d_to_s_flags, word_to_s_flags, word_unsigned_to_s_flags};
+use rv_float_modes::{Rounded, d_to_s_in, word_to_s_in, word_unsigned_to_s_in};
+use rv_float_tables::WordKind;
+use rv_floats::{Rounding, d_to_s, word_to_d, word_to_s, word_unsigned_to_d, word_unsigned_to_s};
+
+/// FCVT.S.D.
+pub fn double_to_single(mode: Rounding, a: u64) -> Rounded
+    ensures value { result ≡ Values.converted_in Single mode a }
+    ensures narrow { result.bits < 2 ^ 32 }
+{
+    match mode {
+        Rounding::NearestEven => Rounded {
+            bits: d_to_s(a) as u64,
+            flags: d_to_s_flags(a),
+        },
+        _ => d_to_s_in(mode, a),
+    }
+}
+
+/// FCVT.S.W, FCVT.S.WU.
+pub fn word_to_single(kind: WordKind, mode: Rounding, x: u32) -> Rounded
+    ensures value { result ≡ Values.from_word_in Single mode (Values.whole kind x) }
+    ensures narrow { result.bits < 2 ^ 32 }
+{
+    match mode {
+        Rounding::NearestEven => Rounded {
+            bits: nearest_single(kind, x) as u64,
+            flags: nearest_single_flags(kind, x),
+        },
+        _ => word_otherwise(kind, mode, x),
+    }
+}
+
+/// The same where the mode is another than to the nearest, ties to even.
+fn word_otherwise(kind: WordKind, mode: Rounding, x: u32) -> Rounded
+    ensures value { result ≡ word_in mode (Values.whole kind x) }
+    ensures narrow { result.bits < 2 ^ 32 }
+{
+    match kind {
+        WordKind::Signed => word_to_s_in(mode, x.cast_signed()),
+        WordKind::Unsigned => word_unsigned_to_s_in(mode, x),
+    }
+}
+
+fn nearest_single(kind: WordKind, x: u32) -> u32
+    ensures { result ≡ Values.from_word binary32 (Values.whole kind x) }
+{
+    match kind {
+        WordKind::Signed => word_to_s(x.cast_signed()),
+        WordKind::Unsigned => word_unsigned_to_s(x),
+    }
+}
+
+fn nearest_single_flags(kind: WordKind, x: u32) -> Flags
+    ensures { result ≡ rounding_flags binary32 (exact_word (Values.whole kind x)) }
+{
+    match kind {
+        WordKind::Signed => word_to_s_flags(x.cast_signed()),
+        WordKind::Unsigned => word_unsigned_to_s_flags(x),
+    }
+}
+
+/// FCVT.D.W, FCVT.D.WU, which are exact.
+pub fn word_to_double(kind: WordKind, x: u32) -> u64
+    ensures { result ≡ Values.from_word binary64 (Values.whole kind x) }
+{
+    match kind {
+        WordKind::Signed => word_to_d(x.cast_signed()),
+        WordKind::Unsigned => word_unsigned_to_d(x),
+    }
+}

@@ -42,37 +42,89 @@ static Answer N(answer)(REAL x, unsigned flags)
     return (Answer){RESULT(N(is_nan)(bits) ? CANONICAL : bits), flags};
 }
 
-/* Arithmetic of the host's. The operands are read, and the result is written, between the calls of <fenv.h>: they are volatile. */
-#define HOST(name, expression) \
-    static Answer N(name)(const uint64_t *operands) \
+/* What the host makes of operands, in the mode that is set, and what it makes of them as long doubles. Operands are read, and results are
+   written, between the calls of <fenv.h>: they are volatile. */
+typedef struct {
+    void (*make)(const volatile void *, volatile REAL *);
+    void (*widely)(const volatile void *, volatile long double *);
+} N(Host);
+#define OF_HOST(name, narrow, wide) \
+    static void N(make_##name)(const volatile void *operands, volatile REAL *result) \
     { \
-        volatile REAL va = N(real)(OPERAND(operands[0])), vb = N(real)(OPERAND(operands[1])), result; \
-        feclearexcept(FE_ALL_EXCEPT); \
-        REAL a = va, b = vb; \
-        (void)b; \
-        result = expression; \
-        return N(answer)(result, raised()); \
+        const volatile REAL *x = operands; \
+        REAL a = x[0], b = x[1], c = x[2]; \
+        (void)b, (void)c; \
+        *result = narrow; \
+    } \
+    static void N(widely_##name)(const volatile void *operands, volatile long double *result) \
+    { \
+        const volatile REAL *x = operands; \
+        long double a = x[0], b = x[1], c = x[2]; \
+        (void)b, (void)c; \
+        *result = wide; \
+    } \
+    static const N(Host) N(host_##name) = {N(make_##name), N(widely_##name)};
+
+/* Whether the exact result lies halfway between two neighbours of the format. It has a digit more than these, so that a long double holds it. */
+static bool N(is_tie)(const N(Host) *host, const volatile void *operands, REAL one, REAL other)
+{
+    volatile long double exact;
+    fesetround(FE_TONEAREST);
+    feclearexcept(FE_ALL_EXCEPT);
+    host->widely(operands, &exact);
+    return !fetestexcept(FE_INEXACT) && exact == ((long double)one + other) / 2;
+}
+
+/* In a mode of RISC-V. The host has no RMM: that is to the nearest, but for a tie, and raises the same, since a tie at the greatest value or
+   next below the least normal one goes away from zero to the nearest, too. */
+static Answer N(rounded)(const N(Host) *host, const volatile void *operands, unsigned mode)
+{
+    volatile REAL results[2];
+    unsigned flags = 0;
+    for (int i = mode == RMM ? 0 : 1; i < 2; i++) {
+        fesetround(mode == RMM && i == 0 ? FE_TOWARDZERO : MODES[mode]);
+        feclearexcept(FE_ALL_EXCEPT);
+        host->make(operands, &results[i]);
+        flags = raised();
     }
-HOST(fadd, a + b)
-HOST(fsub, a - b)
-HOST(fmul, a * b)
-HOST(fdiv, a / b)
-HOST(fsqrt, MATH(sqrt)(a))
+    REAL result = results[1];
+    if (mode == RMM && isfinite(result) && flags & NX && N(bits)(result) == N(bits)(results[0])) {
+        REAL away = N(real)(N(bits)(result) + 1);
+        if (isfinite(away) && N(is_tie)(host, operands, result, away))
+            result = away;
+    }
+    fesetround(FE_TONEAREST);
+    return N(answer)(result, flags);
+}
+
+#define HOST(name, narrow, wide) \
+    OF_HOST(name, narrow, wide) \
+    static Answer N(name)(const uint64_t *x, unsigned mode) \
+    { \
+        volatile REAL operands[] = {N(real)(OPERAND(x[0])), N(real)(OPERAND(x[1])), 0}; \
+        return N(rounded)(&N(host_##name), operands, mode); \
+    }
+HOST(fadd, a + b, a + b)
+HOST(fsub, a - b, a - b)
+HOST(fmul, a * b, a * b)
+HOST(fdiv, a / b, a / b)
+HOST(fsqrt, MATH(sqrt)(a), sqrtl(a))
 
 /* a * b + c, rounded once. Infinity times zero is invalid whatever is added; x86 leaves the flag where a quiet NaN is added to it. */
-static Answer N(fused)(BITS a, BITS b, BITS c)
+OF_HOST(fma, MATH(fma)(a, b, c), fmal(a, b, c))
+static Answer N(fused)(BITS a, BITS b, BITS c, unsigned mode)
 {
-    volatile REAL va = N(real)(a), vb = N(real)(b), vc = N(real)(c), result;
+    volatile REAL operands[] = {N(real)(a), N(real)(b), N(real)(c)};
     BITS sizes[] = {a & ~SIGN, b & ~SIGN};
     bool is_invalid = (sizes[0] == 0 && sizes[1] == INFINITY_BITS) || (sizes[0] == INFINITY_BITS && sizes[1] == 0);
-    feclearexcept(FE_ALL_EXCEPT);
-    result = MATH(fma)(va, vb, vc);
-    return N(answer)(result, raised() | (is_invalid ? NV : 0));
+    Answer answer = N(rounded)(&N(host_fma), operands, mode);
+    answer.flags |= is_invalid ? NV : 0;
+    return answer;
 }
 #define FUSED(name, of_product, of_sum) \
-    static Answer N(name)(const uint64_t *x) \
+    static Answer N(name)(const uint64_t *x, unsigned mode) \
     { \
-        return N(fused)(OPERAND(x[0]) ^ (of_product), OPERAND(x[1]), OPERAND(x[2]) ^ (of_sum)); \
+        return N(fused)(OPERAND(x[0]) ^ (of_product), OPERAND(x[1]), OPERAND(x[2]) ^ (of_sum), mode); \
     }
 FUSED(fmadd, 0, 0)
 FUSED(fmsub, 0, SIGN)
@@ -147,35 +199,24 @@ static Answer N(word)(REAL value, REAL whole, double least, double most)
         return (Answer){(uint32_t)(int64_t)least, NV};
     return (Answer){(uint32_t)(int64_t)whole, whole == value ? 0 : NX};
 }
-#define TO_WORD_IN(mode, rounding) \
-    static Answer N(fcvt_w_##mode)(const uint64_t *x) \
+static REAL N(whole)(REAL value, unsigned mode)
+{
+    switch (mode) {
+    case RNE: return MATH(rint)(value);
+    case RTZ: return MATH(trunc)(value);
+    case RDN: return MATH(floor)(value);
+    case RUP: return MATH(ceil)(value);
+    default: return MATH(round)(value);
+    }
+}
+#define TO_WORD(name, least, most) \
+    static Answer N(name)(const uint64_t *x, unsigned mode) \
     { \
         REAL value = N(real)(OPERAND(x[0])); \
-        return N(word)(value, MATH(rounding)(value), INT32_MIN, INT32_MAX); \
-    } \
-    static Answer N(fcvt_wu_##mode)(const uint64_t *x) \
-    { \
-        REAL value = N(real)(OPERAND(x[0])); \
-        return N(word)(value, MATH(rounding)(value), 0, UINT32_MAX); \
+        return N(word)(value, N(whole)(value, mode), least, most); \
     }
-TO_WORD_IN(rne, rint)
-TO_WORD_IN(rtz, trunc)
-TO_WORD_IN(rdn, floor)
-TO_WORD_IN(rup, ceil)
-TO_WORD_IN(rmm, round)
-
-/* Words as values: the host rounds. */
-#define FROM_WORD(name, type) \
-    static Answer N(name)(const uint64_t *x) \
-    { \
-        volatile type word = (type)x[0]; \
-        volatile REAL result; \
-        feclearexcept(FE_ALL_EXCEPT); \
-        result = (REAL)word; \
-        return N(answer)(result, raised()); \
-    }
-FROM_WORD(fcvt_of_w, int32_t)
-FROM_WORD(fcvt_of_wu, uint32_t)
+TO_WORD(fcvt_w, INT32_MIN, INT32_MAX)
+TO_WORD(fcvt_wu, 0, UINT32_MAX)
 
 /* A pattern of one of TestFloat's kinds: an exponent anywhere, or near the edges, and digits anywhere, few, or next to many that are alike. */
 static BITS N(some)(void)
@@ -250,9 +291,9 @@ static void N(choose)(uint64_t *x)
 #undef INFINITY_BITS
 #undef QUIET
 #undef CANONICAL
+#undef OF_HOST
 #undef HOST
 #undef FUSED
 #undef COMPARED
 #undef SIGNED
-#undef TO_WORD_IN
-#undef FROM_WORD
+#undef TO_WORD

@@ -1,11 +1,15 @@
-/* Makes one instruction of operations.h over and over. The input has its number in four bytes, and then the operands, three registers of 64
-   bits for each time; written are the result, in 64 bits, and the flags that it raised, in 32. */
+/* Makes one instruction of operations.h over and over. The input has its number in four bytes, and then for each time the operands, three
+   registers of 64 bits, and in 32 bits each what frm has, and the instruction's own field for a rounding mode, where it rounds; written are
+   the result, in 64 bits, and the flags that it raised, in 32. */
 #include <stdint.h>
 
 enum { END = 1, WRITE = 17, READ = 18, BLOCK = 512 };
+enum { RNE, RTZ, RDN, RUP, RMM };
 
 typedef struct {
     uint64_t operands[3];
+    uint32_t frm;
+    uint32_t field;
 } Case;
 
 typedef struct {
@@ -38,19 +42,36 @@ static long machine(long number, void *place, long count)
 #define STORES_XF STORES_X
 #define STORES_XFF STORES_X
 
+#define MAKE(kind, text) \
+    __asm__ volatile("lw a2,24(%0)\nfsrm a2\n" LOADS_##kind "fsflags zero\n" text "\nfrflags a2\n" STORES_##kind "sw a2,8(%1)" \
+                     : \
+                     : "r"(from + i), "r"(to + i) \
+                     : "a0", "a1", "a2", "fa0", "fa1", "fa2", "fa3", "memory")
 #define OPERATION(name, kind, text) \
     static void name(const Case *from, Answer *to, long count) \
     { \
         for (long i = 0; i < count; i++) \
-            __asm__ volatile(LOADS_##kind "fsflags zero\n" text "\nfrflags a2\n" STORES_##kind "sw a2,8(%1)" \
-                             : \
-                             : "r"(from + i), "r"(to + i) \
-                             : "a0", "a1", "a2", "fa0", "fa1", "fa2", "fa3", "memory"); \
+            MAKE(kind, text); \
+    }
+#define ROUNDED(name, kind, text) \
+    static void name(const Case *from, Answer *to, long count) \
+    { \
+        for (long i = 0; i < count; i++) \
+            switch (from[i].field) { \
+            case RNE: MAKE(kind, text ",rne"); break; \
+            case RTZ: MAKE(kind, text ",rtz"); break; \
+            case RDN: MAKE(kind, text ",rdn"); break; \
+            case RUP: MAKE(kind, text ",rup"); break; \
+            case RMM: MAKE(kind, text ",rmm"); break; \
+            default: MAKE(kind, text ",dyn"); break; \
+            } \
     }
 #include "operations.h"
 #undef OPERATION
+#undef ROUNDED
 
 #define OPERATION(name, kind, text) name,
+#define ROUNDED OPERATION
 static void (*const operations[])(const Case *, Answer *, long) = {
 #include "operations.h"
 };

@@ -1,12 +1,12 @@
 /* What the instructions of operations.h have to answer, by the host's own arithmetic: SSE's on x86-64, which is IEEE 754's, with tininess
-   after rounding as RISC-V has it. What RISC-V decides by itself is written out: NaNs, boxes, the least and the greatest of two, signs,
-   classes, and conversions to words.
+   after rounding as RISC-V has it, in the modes of <fenv.h>. What RISC-V decides by itself is written out: NaNs, boxes, the least and the
+   greatest of two, signs, classes, conversions to words, and the mode that rounds ties away from zero.
 
-   Usage: reference                         lists the operations, each with its number of special cases
+   Usage: reference                         lists the operations, each with its number of special cases, and of rounding modes
           reference OPERATION SEED FIRST COUNT OPERANDS ANSWERS
                                             writes what guest.c reads, and what it has to write, into these files, of so many cases from
-                                            one on: the first are all pairs (triples, or values) of the special values, and the rest are
-                                            made by chance of the seed */
+                                            one on: the first are all pairs (triples, or values) of the special values, then come those
+                                            of some of them in each other rounding mode, and the rest are made by chance of the seed */
 #include <fenv.h>
 #include <inttypes.h>
 #include <math.h>
@@ -17,6 +17,10 @@
 #include <string.h>
 
 enum { NX = 1, UF = 2, OF = 4, DZ = 8, NV = 16 };
+/* The rounding modes, the field of an instruction that takes the one in frm, and how many values frm and that field have. */
+enum { RNE, RTZ, RDN, RUP, RMM, ROUNDINGS, DYN = 7, CODES };
+/* The host's. It has no RMM. */
+static const int MODES[ROUNDINGS] = {FE_TONEAREST, FE_TOWARDZERO, FE_DOWNWARD, FE_UPWARD, FE_TONEAREST};
 
 typedef struct {
     uint64_t result;
@@ -80,13 +84,47 @@ static uint64_t boxed(uint32_t x)
 
 /* Conversions between formats, and moves. */
 
-static Answer fcvt_s_d(const uint64_t *x)
+static void make_single(const volatile void *operand, volatile float *result)
 {
-    volatile double value = real_d(x[0]);
-    volatile float result;
-    feclearexcept(FE_ALL_EXCEPT);
-    result = (float)value;
-    return answer_s(result, raised());
+    *result = (float)*(const volatile double *)operand;
+}
+
+static void widely_single(const volatile void *operand, volatile long double *result)
+{
+    *result = *(const volatile double *)operand;
+}
+
+static Answer single_of(double x, unsigned mode)
+{
+    static const Host_s host = {make_single, widely_single};
+    volatile double operand = x;
+    return rounded_s(&host, &operand, mode);
+}
+
+static Answer fcvt_s_d(const uint64_t *x, unsigned mode)
+{
+    return single_of(real_d(x[0]), mode);
+}
+
+/* A double has each word. */
+static Answer fcvt_of_w_s(const uint64_t *x, unsigned mode)
+{
+    return single_of((int32_t)x[0], mode);
+}
+
+static Answer fcvt_of_wu_s(const uint64_t *x, unsigned mode)
+{
+    return single_of((uint32_t)x[0], mode);
+}
+
+static Answer fcvt_of_w_d(const uint64_t *x)
+{
+    return answer_d((int32_t)x[0], 0);
+}
+
+static Answer fcvt_of_wu_d(const uint64_t *x)
+{
+    return answer_d((uint32_t)x[0], 0);
 }
 
 static Answer fcvt_d_s(const uint64_t *x)
@@ -110,12 +148,15 @@ static Answer fmv_w_x(const uint64_t *x)
 
 enum kind { FX, XF, FF, XFF, FFF, FFFF };
 
+/* It is made in a mode, or without one. */
 static const struct {
     const char *name;
     enum kind kind;
     Answer (*make)(const uint64_t *);
+    Answer (*round)(const uint64_t *, unsigned);
 } OPERATIONS[] = {
-#define OPERATION(name, kind, text) {#name, kind, name},
+#define OPERATION(name, kind, text) {#name, kind, name, NULL},
+#define ROUNDED(name, kind, text) {#name, kind, NULL, name},
 #include "operations.h"
 };
 enum { COUNT = sizeof OPERATIONS / sizeof OPERATIONS[0] };
@@ -141,9 +182,9 @@ static const uint64_t NANS_OF_SINGLES[] = {0xFFFFFFFF7FC00000, 0xFFFFFFFF7FFFFFF
 static const uint32_t NUMBERS[] = {0, 1, 2, 3, 0x7FFFFF, 0x800000, 0x1000000, 0x1000001, 0x1000003, 0x7FFFFFBF, 0x7FFFFFC0, 0x7FFFFFFF};
 
 #define LENGTH(array) (sizeof(array) / sizeof(array)[0])
-/* The special values of the operands of an operation, and how many they are. */
-static uint64_t special[256];
-static unsigned specials;
+/* The special values of the operands of an operation, and how many they are; those of them that other modes than RNE are tried with. */
+static uint64_t special[256], coarse[256];
+static unsigned specials, coarses;
 
 static bool takes_doubles(unsigned operation)
 {
@@ -184,23 +225,40 @@ static unsigned operands_of(enum kind kind)
     return kind <= FF ? 1 : kind == FFFF ? 3 : 2;
 }
 
-/* How many special cases an operation has. */
-static uint64_t special_cases(unsigned operation)
+/* Where there are several operands, the other modes are tried with each third of the special values, and the last. */
+static void find_coarse(unsigned operation)
+{
+    coarses = 0;
+    for (unsigned i = 0; i < specials; i += 2)
+        if (operands_of(OPERATIONS[operation].kind) == 1 || i % 6 == 0 || i + 2 == specials)
+            coarse[coarses++] = special[i], coarse[coarses++] = special[i + 1];
+}
+
+/* How many cases an operation has with so many values. */
+static uint64_t cases_of(unsigned operation, unsigned values)
 {
     uint64_t count = 1;
     for (unsigned i = operands_of(OPERATIONS[operation].kind); i > 0; i--)
-        count *= specials;
+        count *= values;
     return count;
 }
 
-static void make_case(unsigned operation, uint64_t seed, uint64_t number, uint64_t *x)
+static uint64_t special_cases(unsigned operation)
+{
+    return cases_of(operation, specials) + (OPERATIONS[operation].round ? (ROUNDINGS - 1) * cases_of(operation, coarses) : 0);
+}
+
+/* The operands of a case, and its rounding mode. */
+static unsigned make_case(unsigned operation, uint64_t seed, uint64_t number, uint64_t *x)
 {
     memset(x, 0, 3 * sizeof *x);
-    uint64_t count = special_cases(operation);
-    if (number < count) {
-        for (unsigned i = 0; i < operands_of(OPERATIONS[operation].kind); i++, number /= specials)
-            x[i] = special[number % specials];
-        return;
+    uint64_t in_first = cases_of(operation, specials), in_other = cases_of(operation, coarses);
+    if (number < special_cases(operation)) {
+        bool is_first = number < in_first;
+        uint64_t left = is_first ? number : (number - in_first) % in_other, values = is_first ? specials : coarses;
+        for (unsigned i = 0; i < operands_of(OPERATIONS[operation].kind); i++, left /= values)
+            x[i] = (is_first ? special : coarse)[left % values];
+        return is_first ? RNE : 1 + (unsigned)((number - in_first) / in_other);
     }
     state = (seed * COUNT + operation) * 0xD1342543DE82EF95 + number * 0x9E3779B97F4A7C15;
     state = chance();
@@ -210,13 +268,14 @@ static void make_case(unsigned operation, uint64_t seed, uint64_t number, uint64
     } else if (takes_doubles(operation)) {
         choose_d(x);
         /* A double that a single has, or nearly, for conversions to it. */
-        if (OPERATIONS[operation].make == fcvt_s_d && chance() & 1)
+        if (OPERATIONS[operation].round == fcvt_s_d && chance() & 1)
             x[0] = near_d(bits_d((double)real_s(some_s())) + (chance() & 1 ? 0x10000000 : 0));
     } else {
         choose_s(x);
         if (chance() % 16 == 0)
             x[chance() % 3] = chance();
     }
+    return number % ROUNDINGS;
 }
 
 int main(int count, char **words)
@@ -224,7 +283,8 @@ int main(int count, char **words)
     if (count == 1) {
         for (unsigned i = 0; i < COUNT; i++) {
             find_specials(i);
-            printf("%s %" PRIu64 "\n", OPERATIONS[i].name, special_cases(i));
+            find_coarse(i);
+            printf("%s %" PRIu64 " %d\n", OPERATIONS[i].name, special_cases(i), OPERATIONS[i].round ? ROUNDINGS : 1);
         }
         return 0;
     }
@@ -237,14 +297,18 @@ int main(int count, char **words)
     if (operation == COUNT || !operands || !answers)
         return 2;
     find_specials(operation);
+    find_coarse(operation);
     fwrite(&operation, sizeof operation, 1, operands);
     uint64_t seed = strtoull(words[2], NULL, 10), first = strtoull(words[3], NULL, 10), end = first + strtoull(words[4], NULL, 10);
     for (uint64_t number = first; number < end; number++) {
         uint64_t x[3];
-        make_case(operation, seed, number, x);
-        Answer answer = OPERATIONS[operation].make(x);
-        uint32_t flags = answer.flags;
+        unsigned mode = make_case(operation, seed, number, x);
+        Answer answer = OPERATIONS[operation].round ? OPERATIONS[operation].round(x, mode) : OPERATIONS[operation].make(x);
+        /* The mode is in frm, or in the instruction's field, and anything else in frm. */
+        bool is_dynamic = number / ROUNDINGS & 1;
+        uint32_t flags = answer.flags, modes[] = {is_dynamic ? mode : (mode + 1 + number / 3 % (CODES - 1)) % CODES, is_dynamic ? DYN : mode};
         fwrite(x, sizeof x, 1, operands);
+        fwrite(modes, sizeof modes, 1, operands);
         fwrite(&answer.result, sizeof answer.result, 1, answers);
         fwrite(&flags, sizeof flags, 1, answers);
     }

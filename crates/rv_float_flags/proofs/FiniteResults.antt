@@ -1,6 +1,6 @@
 -- What a sum or a product of finite doubles raises beside NX, where it is finite and not tiny.
 use Rattle.std.proofs.Common.{◌≡◌, ℕ, suc, ◌+◌, ◌-◌, ◌*◌, ◌/◌, ◌%◌, ◌^◌, ◌<◌, ◌≤◌, Bool, true, false, cond, not, ◌&&◌, ◌||◌, nat_lt, ◌⊎◌, sym, subst, ap, ◌∙◌, refl, arith, inl, inr}
-use Rattle.std.proofs.Math.Nat.{div-div-eq-div-mul, div-mul-le_self, eq_of_mul-eq-mul_right, eq-zero-or-pos, lt_of_mul-lt-mul_right, mul-le-mul_right, mul-lt-mul_of_pos_right, mul-one}
+use Rattle.std.proofs.Math.Nat.{div-div-eq-div-mul, div-mul-le_self, eq_of_mul-eq-mul_right, eq-zero-or-pos, lt_of_mul-lt-mul_right, mul-le-mul_right, mul-lt-mul_of_pos_right, mul-one, zero-mul}
 use Rattle.std.proofs.Math.Pow.{pow_mono}
 use Rattle.std.proofs.lemmas.Nat.{mul-le, mul-lt, pow-add, pow_pos}
 use Rattle.std.proofs.lemmas.Bool.{cases_lt, lt-ltb, ltb-true, ne_eqb, true≢false}
@@ -14,7 +14,7 @@ use Rattle.rv_float_flags.specs.declared.flags.Flags.{Flags}
 use Rattle.rv_float_flags.specs.declared.scaled.Scaled.{Scaled}
 use Rattle.rv_float_flags.proofs.Magnitudes.{no_magnitude, normal, odd-finite, subnormal}
 use Rattle.rv_float_flags.proofs.Fractions.{product_fraction, sum_fraction}
-use Rattle.rv_float_flags.proofs.Numbers.{combined_times}
+use Rattle.rv_float_flags.proofs.Numbers.{combined_sides, combined_times}
 use Rattle.rv_float_flags.proofs.Operations.{none_signals, of_product_so, of_sum_so}
 use Rattle.rv_float_flags.proofs.Roundings.{bound_at, coarse_none, either, exact_value, no_and, overflow, raised_beside, square, two_coarse, underflow}
 use Rattle.rv_float_flags.proofs.Results.{add_rounds, either_round, magnitude_of, mul_rounds, SameSize}
@@ -35,6 +35,7 @@ pub record Finite (a : ℕ) : Type 0 where
   pub magnitude : IsMagnitude binary64 (of_bits binary64 a) scaled
   pub place : scaled.place ≡ exponent a - 1
   pub rest : scaled.digits % 134217728 ≡ a % 134217728
+  pub zero : a % 9223372036854775808 ≡ 0 → scaled.digits ≡ 0
 
 pub finite : (a : ℕ) → a % 9223372036854775808 < 9218868437227405312 → Finite a
 finite a h = elim (eq-zero-or-pos (exponent a)) [
@@ -43,6 +44,7 @@ finite a h = elim (eq-zero-or-pos (exponent a)) [
     magnitude = subnormal binary64 a 0 _ z refl refl refl (omega arith) (omega arith);
     place = omega (arith, z);
     rest = omega arith;
+    zero = λ h. omega (arith, h);
   }
   | inr p ↦
       let x = exponent a - 1 in
@@ -53,6 +55,7 @@ finite a h = elim (eq-zero-or-pos (exponent a)) [
         magnitude = normal binary64 a x 0 _ e (λ ones. absurd (omega (arith, ones, x_small))) refl refl (omega arith) (omega arith) (omega (arith, x_small));
         place = refl;
         rest = omega arith;
+        zero = λ h. absurd (omega (arith, h, p));
       }
 ]
 
@@ -248,7 +251,55 @@ limit = record { digits = 18014398509481983; place = 1072 }
 term_below : (d i l : ℕ) → d < 2 ^ 53 → i ≤ l → d * 2 ^ i ≤ (2 ^ 53 - 1) * 2 ^ l
 term_below d i l h k = mul-le d (2 ^ i) (2 ^ 53 - 1) (2 ^ l) (omega (arith, h)) (pow_mono k)
 
-sum_of : (g : Flags) (x y : Float) (a b z : ℕ) (p : Moderate a) (q : Moderate b) → (g.nx ≡ true) ⊎ IsSumShort a b
+-- sums of such sizes are exact, whatever the signs
+abbrev pub IsExact : {a b : ℕ} → Moderate a → Moderate b → Type 0
+IsExact p q = (r : Ratio) (o : Bool)
+    → IsFraction r (combined o (p.finite.scaled.digits * 2 ^ (p.finite.scaled.place + 1074)) (q.finite.scaled.digits * 2 ^ (q.finite.scaled.place + 1074))) 1
+    → is_inexact binary64 r ≡ false
+
+pub by_short : {a b : ℕ} (p : Moderate a) (q : Moderate b) → IsSumShort a b → IsExact p q
+by_short p q h r o fraction =
+    let f = p.finite in
+    let g = q.finite in
+    short_sum r o f.scaled.digits f.scaled.place g.scaled.digits g.scaled.place f.magnitude.narrow g.magnitude.narrow (f.rest ∙ h.short.first) (g.rest ∙ h.short.second)
+    (omega (arith, h.near, f.place, g.place)) (omega (arith, h.far, f.place, g.place)) (omega (arith, p.most)) (omega (arith, q.most)) fraction
+
+-- one of two is zero
+zero_of : (a b : ℕ) → a * b ≡ 0 → (a ≡ 0) ⊎ (b ≡ 0)
+zero_of a b h = elim (eq-zero-or-pos a) [
+  | inl z ↦ inl z
+  | inr p ↦ inr (eq_of_mul-eq-mul_right a p b 0 (omega (arith, h)))
+]
+
+one_term : (r : Ratio) (o : Bool) (d i : ℕ) → d < 2 ^ 53 → i ≤ 2044 → IsFraction r (d * 2 ^ (i + 1074)) 1 → is_inexact binary64 r ≡ false
+one_term r o d i h l fraction =
+    let m = term d i h l in
+    exact_at r d i _ fraction (raised_by d i) h (omega (arith, m))
+
+pub by_zero : {a b : ℕ} (p : Moderate a) (q : Moderate b) → a % 9223372036854775808 * (b % 9223372036854775808) ≡ 0 → IsExact p q
+by_zero {a = a} {b = b} p q h r o fraction =
+    let d = p.finite.scaled.digits in
+    let i = p.finite.scaled.place in
+    let e = q.finite.scaled.digits in
+    let j = q.finite.scaled.place in
+    elim (zero_of (a % 9223372036854775808) (b % 9223372036854775808) h) [
+      | inl z ↦
+          let none : d * 2 ^ (i + 1074) ≡ 0 = ap (λ (x : ℕ). x * 2 ^ (i + 1074)) (p.finite.zero z) ∙ zero-mul (2 ^ (i + 1074)) in
+          let only : combined o (d * 2 ^ (i + 1074)) (e * 2 ^ (j + 1074)) ≡ e * 2 ^ (j + 1074) = ap (λ (x : ℕ). combined o x (e * 2 ^ (j + 1074))) none ∙ combined_zero o (e * 2 ^ (j + 1074)) in
+          one_term r o e j q.finite.magnitude.narrow (omega (arith, q.most)) (subst (λ (n : ℕ). IsFraction r n 1) only fraction)
+      | inr z ↦
+          let none : e * 2 ^ (j + 1074) ≡ 0 = ap (λ (x : ℕ). x * 2 ^ (j + 1074)) (q.finite.zero z) ∙ zero-mul (2 ^ (j + 1074)) in
+          let only : combined o (d * 2 ^ (i + 1074)) (e * 2 ^ (j + 1074)) ≡ d * 2 ^ (i + 1074) =
+          ap (λ (x : ℕ). combined o (d * 2 ^ (i + 1074)) x) none ∙ combined_sides o (d * 2 ^ (i + 1074)) 0 ∙ combined_zero o (d * 2 ^ (i + 1074))
+          in
+          one_term r o d i p.finite.magnitude.narrow (omega (arith, p.most)) (subst (λ (n : ℕ). IsFraction r n 1) only fraction)
+    ]
+  where
+    combined_zero : (o : Bool) (n : ℕ) → combined o 0 n ≡ n
+    combined_zero true n = omega arith
+    combined_zero false n = omega arith
+
+sum_of : (g : Flags) (x y : Float) (a b z : ℕ) (p : Moderate a) (q : Moderate b) → (g.nx ≡ true) ⊎ IsExact p q
     → IsMagnitude binary64 x p.finite.scaled → IsMagnitude binary64 y q.finite.scaled → z ≡ to_bits binary64 (add binary64 x y)
     → g ≡ accrued g (sum_flags binary64 x y)
 sum_of g x y a b z p q why hx hy is =
@@ -276,12 +327,10 @@ sum_of g x y a b z p q why hx hy is =
           beside g binary64 r f.scaled there result
           (coarse binary64 r limit o d (i + 1074) e (j + 1074) (record { digits = refl; place = refl }) (omega arith) (omega arith) fraction)
       | inr h ↦
-          exact g binary64 r f.scaled result
-          (short_sum r o d i e j hx.narrow hy.narrow (p.finite.rest ∙ h.short.first) (q.finite.rest ∙ h.short.second) (omega (arith, h.near, p.finite.place, q.finite.place))
-            (omega (arith, h.far, p.finite.place, q.finite.place)) (omega (arith, p.most)) (omega (arith, q.most)) fraction)
+          exact g binary64 r f.scaled result (h r o fraction)
     ])
 
-pub sum : (g : Flags) (a b z : ℕ) → Moderate a → Moderate b → (g.nx ≡ true) ⊎ IsSumShort a b
+pub sum : (g : Flags) (a b z : ℕ) (p : Moderate a) (q : Moderate b) → (g.nx ≡ true) ⊎ IsExact p q
     → z ≡ to_bits binary64 (add binary64 (of_bits binary64 a) (of_bits binary64 b)) → accrued g (add_flags binary64 a b) ≡ g
 sum g a b z x y why is =
     sym (sum_of g (of_bits binary64 a) (of_bits binary64 b) a b z x y why x.finite.magnitude y.finite.magnitude is
@@ -297,7 +346,7 @@ sub_is : (f : Format) (x y : Float) → sub f x y ≡ add f x (neg y)
 unfolding sub
 sub_is f x y = refl
 
-pub difference : (g : Flags) (a b z : ℕ) → Moderate a → Moderate b → (g.nx ≡ true) ⊎ IsSumShort a b
+pub difference : (g : Flags) (a b z : ℕ) (p : Moderate a) (q : Moderate b) → (g.nx ≡ true) ⊎ IsExact p q
     → z ≡ to_bits binary64 (sub binary64 (of_bits binary64 a) (of_bits binary64 b)) → accrued g (sub_flags binary64 a b) ≡ g
 difference g a b z x y why is =
     let y_negated = magnitude_of binary64 (of_bits binary64 b) (neg (of_bits binary64 b)) (Some y.finite.scaled) (negated (of_bits binary64 b)) y.finite.magnitude in
@@ -320,7 +369,7 @@ product g a b z x y large little why is =
     let f : Finite z =
     finite_result z (mul binary64 (of_bits binary64 a) (of_bits binary64 b)) (exact_product (of_bits binary64 a) (of_bits binary64 b)) rounds.0 is rounds.1
     (finite_fraction (exact_product (of_bits binary64 a) (of_bits binary64 b)) _
-      (product_fraction binary64 (of_bits binary64 a) (of_bits binary64 b) x.scaled y.scaled (d * e * 2 ^ (i + j)) x.magnitude y.magnitude (sym value)) (omega (arith, top)))
+    (product_fraction binary64 (of_bits binary64 a) (of_bits binary64 b) x.scaled y.scaled (d * e * 2 ^ (i + j)) x.magnitude y.magnitude (sym value)) (omega (arith, top)))
     in
     sym (of_product_so (accrued g) binary64 (of_bits binary64 a) (of_bits binary64 b) x.scaled y.scaled (record { digits = d * e; place = i + j }) z (Some f.scaled) g
     x.magnitude y.magnitude refl is f.magnitude
@@ -333,6 +382,32 @@ product g a b z x y large little why is =
           (short_product r d i e j x.magnitude.narrow y.magnitude.narrow (x.rest ∙ h.first) (y.rest ∙ h.second) (omega (arith, large, x.place, y.place))
           (omega (arith, little, x.place, y.place)) fraction)
     ])
+    ∙ ap (accrued g) (none_signals binary64 a b (product_flags binary64 (of_bits binary64 a) (of_bits binary64 b)) invalid x.magnitude.finite y.magnitude.finite))
+
+pub product_of_zero : (g : Flags) (a b z : ℕ) → Finite a → Finite b → a % 9223372036854775808 * (b % 9223372036854775808) ≡ 0
+    → z ≡ to_bits binary64 (mul binary64 (of_bits binary64 a) (of_bits binary64 b)) → accrued g (mul_flags binary64 a b) ≡ g
+product_of_zero g a b z x y h is =
+    let d = x.scaled.digits in
+    let i = x.scaled.place in
+    let e = y.scaled.digits in
+    let j = y.scaled.place in
+    let v = exact_product (of_bits binary64 a) (of_bits binary64 b) in
+    let rounds = mul_rounds binary64 (of_bits binary64 a) (of_bits binary64 b) x.magnitude.finite y.magnitude.finite in
+    let none : d * e ≡ 0 = elim (zero_of (a % 9223372036854775808) (b % 9223372036854775808) h) [
+      | inl at ↦ ap (λ (n : ℕ). n * e) (x.zero at) ∙ zero-mul e
+      | inr at ↦ ap (λ (n : ℕ). d * n) (y.zero at) ∙ omega arith
+    ] in
+    let value : d * 2 ^ i * (e * 2 ^ j) ≡ 0 = bound_at d i e j ∙ ap (λ (n : ℕ). n * 2 ^ (i + j)) none ∙ zero-mul (2 ^ (i + j)) in
+    let f : Finite z =
+    finite_result z (mul binary64 (of_bits binary64 a) (of_bits binary64 b)) v rounds.0 is rounds.1
+    (finite_fraction v 0 (product_fraction binary64 (of_bits binary64 a) (of_bits binary64 b) x.scaled y.scaled 0 x.magnitude y.magnitude (sym value)) (pow_pos 3171))
+    in
+    sym (of_product_so (accrued g) binary64 (of_bits binary64 a) (of_bits binary64 b) x.scaled y.scaled (record { digits = d * e; place = i + j }) z (Some f.scaled) g
+    x.magnitude y.magnitude refl is f.magnitude
+    (λ r fraction result.
+    let nothing_there : d * e * 2 ^ (i + j) + 0 * 2 ^ 2148 ≡ 0 = omega (arith, ap (λ (n : ℕ). n * 2 ^ (i + j)) none) in
+    exact g binary64 r f.scaled result
+    (exact_at r 0 0 0 (subst (λ (n : ℕ). IsFraction r n 1) nothing_there fraction) (omega arith) (pow_pos 53) (let q = pow_pos 2098 in omega (arith, q))))
     ∙ ap (accrued g) (none_signals binary64 a b (product_flags binary64 (of_bits binary64 a) (of_bits binary64 b)) invalid x.magnitude.finite y.magnitude.finite))
 
 -- ---- no NaN

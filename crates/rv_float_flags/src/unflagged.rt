@@ -1,6 +1,6 @@
 //! Sums and products of doubles that raise no flag but those that are there, as far as a few comparisons find it out.
 
-ghost use Rattle.std.specs.Prelude.{◌≡◌, ◌+◌, ◌%◌, ◌^◌, ◌<◌, ◌≤◌, nat_lt, IfSome, IsTrue};
+ghost use Rattle.std.specs.Prelude.{◌≡◌, ◌+◌, ◌*◌, ◌%◌, ◌^◌, ◌<◌, ◌≤◌, nat_lt, IfSome, IsTrue};
 ghost use Rattle.rv_float_flags.specs.Scaled.{exponent};
 ghost use Rattle.rv_float_flags.specs.Flags.{accrued};
 ghost use Rattle.rv_float_flags.specs.Operations as Operations;
@@ -16,11 +16,15 @@ pub fn add_unflagged_d(flags: Flags, a: u64, b: u64) -> Option<u64>
     ensures value { IfSome result (λ z. z ≡ to_bits binary64 (Ieee.add binary64 (of_bits binary64 a) (of_bits binary64 b))) }
     ensures flags { IfSome result (λ z. accrued flags (Operations.add_flags binary64 a b) ≡ flags) }
 {
-    if is_moderate(a) && is_moderate(b) && (flags.nx || is_sum_short(a, b)) {
-        Some(finite_sum(a, b))
-    } else {
-        None
+    if is_moderate(a) && is_moderate(b) {
+        if flags.nx || is_sum_short(a, b) {
+            return Some(finite_sum(a, b));
+        }
+        if has_zero(a, b) {
+            return Some(finite_sum(a, b));
+        }
     }
+    None
 }
 
 /// FSUB.D.
@@ -29,11 +33,15 @@ pub fn sub_unflagged_d(flags: Flags, a: u64, b: u64) -> Option<u64>
     ensures value { IfSome result (λ z. z ≡ to_bits binary64 (Ieee.sub binary64 (of_bits binary64 a) (of_bits binary64 b))) }
     ensures flags { IfSome result (λ z. accrued flags (Operations.sub_flags binary64 a b) ≡ flags) }
 {
-    if is_moderate(a) && is_moderate(b) && (flags.nx || is_sum_short(a, b)) {
-        Some(finite_difference(a, b))
-    } else {
-        None
+    if is_moderate(a) && is_moderate(b) {
+        if flags.nx || is_sum_short(a, b) {
+            return Some(finite_difference(a, b));
+        }
+        if has_zero(a, b) {
+            return Some(finite_difference(a, b));
+        }
     }
+    None
 }
 
 /// FMUL.D.
@@ -43,15 +51,15 @@ pub fn mul_unflagged_d(flags: Flags, a: u64, b: u64) -> Option<u64>
     ensures value { IfSome result (λ z. z ≡ to_bits binary64 (Ieee.mul binary64 (of_bits binary64 a) (of_bits binary64 b))) }
     ensures flags { IfSome result (λ z. accrued flags (Operations.mul_flags binary64 a b) ≡ flags) }
 {
-    if is_finite(a)
-        && is_finite(b)
-        && is_product_moderate(a, b)
-        && (flags.nx || are_short(a, b))
-    {
-        Some(finite_product(a, b))
-    } else {
-        None
+    if is_finite(a) && is_finite(b) {
+        if is_product_moderate(a, b) && (flags.nx || are_short(a, b)) {
+            return Some(finite_product(a, b));
+        }
+        if has_zero(a, b) {
+            return Some(finite_product(a, b));
+        }
     }
+    None
 }
 
 /// The sum of two doubles that are finite.
@@ -129,6 +137,14 @@ fn is_sum_short(a: u64, b: u64) -> bool
     ensures far { IsTrue result → exponent b ≤ exponent a + 26 }
 {
     are_short(a, b) && exponent(a).abs_diff(exponent(b)) <= 26
+}
+
+/// Whether one of two is zero, so that sum and product are exact.
+#[inline(always)]
+fn has_zero(a: u64, b: u64) -> bool
+    ensures { IsTrue result → a % 2 ^ 63 * (b % 2 ^ 63) ≡ 0 }
+{
+    a % 0x8000_0000_0000_0000 == 0 || b % 0x8000_0000_0000_0000 == 0
 }
 
 /// The exponent field.

@@ -427,7 +427,7 @@ static ROWS: [Row; 10] = [
         name: "debug_framed",
         kind: Frames,
         format: Format::Raw,
-        requests: 227,
+        requests: 226,
     },
 ];
 

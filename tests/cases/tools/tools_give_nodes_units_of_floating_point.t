@@ -32,7 +32,7 @@ instruction; --float gives the nodes units, and bspgdb and bspsweep have it too.
   > list 0 4 1
   > fregs 0
   > END
-  (bsp)    00000004: fcvt.d.w f10,t0
+  (bsp)    00000004: fcvt.d.w fa0,t0
   (bsp) rank 0 fcsr 00000000 frm 0 rne flags -
    fa0=4018000000000000 double 6.0
   $ bspsweep --engine plain --folder kept --float six.elf 2>/dev/null

@@ -1,6 +1,6 @@
-/* floor, ceil, trunc, truncf and llround. Those of picolibc 1.8 are wrong for some numbers: its ceil(4294967295.5) is 4294965248, its
-   llround(1e18) 999999780956667904, and its trunc(1e300) and truncf(1e14f) are other numbers too. A program may have functions of these
-   names of its own: these are weak. */
+/* floor, ceil, trunc, truncf, llround, llrint and llrintf. Those of picolibc 1.8 are wrong for some numbers: its ceil(4294967295.5) is
+   4294965248, its llround(1e18) 999999780956667904, its trunc(1e300) and truncf(1e14f) are other numbers too, and its llrint(0.3) is 0 in
+   every rounding mode. A program may have functions of these names of its own: these are weak. */
 #include <math.h>
 #include <stdint.h>
 #include <string.h>
@@ -55,4 +55,15 @@ WEAK long long llround(double x)
 {
     double whole = whole_of(x);
     return (long long)(fabs(x - whole) >= 0.5 ? whole + copysign(1, x) : whole);
+}
+
+/* In the rounding mode that is set, as rint. */
+WEAK long long llrint(double x)
+{
+    return (long long)rint(x);
+}
+
+WEAK long long llrintf(float x)
+{
+    return (long long)rintf(x);
 }

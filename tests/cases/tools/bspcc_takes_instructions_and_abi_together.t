@@ -46,3 +46,7 @@ What is of another machine is left out.
   $ flags -march=rv64gc -mabi=lp64d
       5
   bspcc: left out, since nodes have no use for it: -march=rv64gc -mabi=lp64d (stderr)
+  $ { printf '\177ELF\002\001\001'; head -c 9 /dev/zero; printf '\001\000\076\000'; head -c 44 /dev/zero; } > other.o
+  $ bspcc --small -o main.elf main.c other.o
+  bspcc: other.o was compiled for another machine: compile it anew by bspcc -c (stderr)
+  [1]

@@ -25,6 +25,33 @@ void bsp_digits_of(struct digits *to, double number, int places, int is_fixed);
 /* The bits of the number of this kind that is nearest to these digits, without a sign; the digits are used up. */
 uint64_t bsp_nearest(struct digits *from, const struct floating *kind);
 
+/* The rounding mode that is set, 0 for the nearest: operations have it, and what is read and printed has not. Without registers of floating
+   point there is no other one. */
+static inline unsigned bsp_rounding(void)
+{
+    unsigned mode = 0;
+#ifdef __riscv_flen
+    __asm__ volatile("frrm %0" : "=r"(mode));
+#endif
+    return mode;
+}
+
+/* The double that is nearest to a number. libgcc rounds in the mode that is set, so that another one is put aside for as long as it does: what
+   it takes and what it gives pass through both, and so stand between them. */
+static inline double bsp_nearest_double(long double number)
+{
+    double nearest;
+#ifdef __riscv_flen
+    unsigned mode;
+    __asm__ volatile("fsrm %0, zero" : "=r"(mode), "+m"(number));
+#endif
+    nearest = (double)number;
+#ifdef __riscv_flen
+    __asm__ volatile("fsrm %1" : "+m"(nearest) : "r"(mode));
+#endif
+    return nearest;
+}
+
 static inline uint64_t bsp_bits_of(double number)
 {
     union {

@@ -400,7 +400,7 @@ static void put_converted(struct sink *to, struct format *how, va_list *argument
         store_count(va_arg(*arguments, void *), how->size, to->count);
         return;
     default:
-        put_double(to, how, how->size == 16 ? (double)va_arg(*arguments, long double) : va_arg(*arguments, double));
+        put_double(to, how, how->size == 16 ? bsp_nearest_double(va_arg(*arguments, long double)) : va_arg(*arguments, double));
     }
 }
 

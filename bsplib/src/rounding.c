@@ -1,6 +1,8 @@
-/* floor, ceil, trunc, truncf, llround, llrint and llrintf. Those of picolibc 1.8 are wrong for some numbers: its ceil(4294967295.5) is
-   4294965248, its llround(1e18) 999999780956667904, its trunc(1e300) and truncf(1e14f) are other numbers too, and its llrint(0.3) is 0 in
-   every rounding mode. A program may have functions of these names of its own: these are weak. */
+/* floor, ceil, trunc, truncf, llround, llrint, llrintf, fesetround and fegetround. Those of picolibc 1.8 are wrong for some numbers: its
+   ceil(4294967295.5) is 4294965248, its llround(1e18) 999999780956667904, its trunc(1e300) and truncf(1e14f) are other numbers too, its
+   llrint(0.3) is 0 in every rounding mode, its fesetround(5) sets what is no mode, and its fegetround() is -134 without registers of floating
+   point. A program may have functions of these names of its own: these are weak. */
+#include <fenv.h>
 #include <math.h>
 #include <stdint.h>
 #include <string.h>
@@ -67,3 +69,19 @@ WEAK long long llrintf(float x)
 {
     return (long long)rintf(x);
 }
+
+#ifdef __riscv_flen
+WEAK int fesetround(int mode)
+{
+    if (mode < FE_TONEAREST || mode > FE_TONEAREST_MM)
+        return -1;
+    __asm__ volatile("fsrm %0" : : "r"(mode));
+    return 0;
+}
+#else
+/* All is to the nearest. */
+WEAK int fegetround(void)
+{
+    return FE_TONEAREST;
+}
+#endif

@@ -178,7 +178,7 @@ static uint64_t read_hexadecimal(struct source *it, const struct floating *kind)
     return nearest_binary(m, exponent, is_more, kind);
 }
 
-/* The bits of a decimal number. One of up to fifteen digits takes one operation on doubles, which rounds it as it should be. */
+/* The bits of a decimal number. One of up to fifteen digits takes one operation on doubles, where that rounds to the nearest. */
 static uint64_t bits_of_decimal(struct digits *from, const struct floating *kind)
 {
     static const double tens[] = {1e0, 1e1, 1e2, 1e3, 1e4, 1e5, 1e6, 1e7, 1e8, 1e9, 1e10, 1e11,
@@ -187,7 +187,7 @@ static uint64_t bits_of_decimal(struct digits *from, const struct floating *kind
     uint64_t whole = 0;
     if (from->count == 0)
         return 0;
-    if (kind != &bsp_double || from->count > 15 || exponent < -22 || exponent > 22)
+    if (kind != &bsp_double || from->count > 15 || exponent < -22 || exponent > 22 || bsp_rounding() != 0)
         return bsp_nearest(from, kind);
     for (int i = 0; i < from->count; i++)
         whole = 10 * whole + from->digit[i];

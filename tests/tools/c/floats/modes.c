@@ -84,8 +84,18 @@ static void bounds(void)
 }
 #endif
 
+/* What is no mode is refused, and leaves the one that is set. */
+static void no_modes(void)
+{
+    static const int none[] = {5, 6, 7, 8, 9, -1, 0x7fffffff};
+    for (int i = 0; i < COUNT(none); i++)
+        if (fesetround(none[i]) == 0 || fegetround() != FE_TONEAREST)
+            printf("%d is a mode\n", none[i]);
+}
+
 int main(void)
 {
+    no_modes();
 #if !defined(__riscv) || defined(__riscv_flen)
     quotients();
     others();

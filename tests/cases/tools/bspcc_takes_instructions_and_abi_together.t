@@ -15,8 +15,6 @@ Of the instructions and the ABI each says the other one. In the flags of the fil
       5
   $ flags -march=rv32imfd -mabi=ilp32d
       4
-  $ flags -march=rv32gc
-      5
   $ flags -march=rv32imc
       1
   $ flags -mabi=ilp32
@@ -24,13 +22,20 @@ Of the instructions and the ABI each says the other one. In the flags of the fil
   $ flags -march=rv32im -mabi=ilp32
       0
 
-What does not go together is refused, and so are objects of another ABI and instructions for which GCC has no libraries.
+What does not go together is refused, and so are objects of another ABI, instructions that nodes have not, and those for which GCC has no
+libraries.
 
   $ flags -march=rv32imc -mabi=ilp32d
   bspcc: -march=rv32imc goes with -mabi=ilp32, and not with -mabi=ilp32d: leave one of the two out (stderr)
   [1]
   $ flags -march=rv32imfdc -mabi=ilp32
   bspcc: -march=rv32imfdc goes with -mabi=ilp32d, and not with -mabi=ilp32: leave one of the two out (stderr)
+  [1]
+  $ flags -march=rv32gc
+  bspcc: -march=rv32gc has instructions of A, which nodes do not have: give rv32imfdc, or rv32imc for nodes without units of floating point (stderr)
+  [1]
+  $ flags -march=rv32i2p1m2p0a2p1v1p0
+  bspcc: -march=rv32i2p1m2p0a2p1v1p0 has instructions of AV, which nodes do not have: give rv32imfdc, or rv32imc for nodes without units of floating point (stderr)
   [1]
   $ flags -march=rv32imc_zifencei
   bspcc: GCC has no libraries for -march=rv32imc_zifencei: give rv32imfdc, or rv32imc for nodes without units of floating point (stderr)
@@ -40,6 +45,19 @@ What does not go together is refused, and so are objects of another ABI and inst
   bspcc: main.o was compiled with -mabi=ilp32, and is linked with -mabi=ilp32d: give the same to both (stderr)
   [1]
   $ bspcc --small -mabi=ilp32 -o main.elf main.o
+
+Of an archive that is told behind what the linker says, and where it is called alone.
+
+  $ printf 'double half(double x);\nint main(void) { return half(0) != 0; }\n' > calls.c
+  $ printf 'double half(double x) { return x / 2; }\n' > half.c
+  $ bspcc --small -march=rv32imc -c half.c && riscv64-unknown-elf-ar rcs libhalf.a half.o
+  $ last() { "$@" 2>&1 | tail -n 1; }
+  $ last bspcc --small -o calls.elf calls.c libhalf.a
+  bspcc: libhalf.a(half.o) was compiled with -mabi=ilp32, and is linked with -mabi=ilp32d: give the same to both
+  $ last bspcc --small -o calls.elf calls.c -L . -lhalf
+  bspcc: ./libhalf.a(half.o) was compiled with -mabi=ilp32, and is linked with -mabi=ilp32d: give the same to both
+  $ bspcc --small -o main.elf main.c -L. -lhalf
+  $ bspcc --small -mabi=ilp32 -o calls.elf calls.c libhalf.a
 
 What is of another machine is left out.
 

@@ -13,6 +13,11 @@ from . import bounds, limits
 from .packages import ELFTOOLS, borrow
 
 LOAD = 1
+# The first bytes of a file, and of one for 32 bits, little-endian, of version 1; the number of RISC-V; and an object, which is not linked.
+MAGIC = b"\x7fELF"
+ELF32_LITTLE, RISCV, OBJECT_FILE = MAGIC + b"\x01\x01\x01", 243, 1
+# The bytes of a file's header, for 32 bits.
+HEADER = 52
 # The bits of a file's flags that say in which registers of floating point functions take values; zero where in none.
 FLOAT_ABI = 0x6
 # A section of symbols, the bytes of one of them, and of a name at the most.
@@ -40,6 +45,17 @@ def segments(content: bytes) -> Iterator[tuple[int, memoryview, int]]:
                 stored = memoryview(content)[offset : offset + filesize][:room]
                 room -= len(stored)
                 yield address, stored, address + memsize
+
+
+def misfit(content: bytes) -> str:
+    """Why an ELF file can be no program of nodes, whatever else it has: nothing, where its header speaks of one. A broken file, or one that is
+    none, is the emulator's to refuse."""
+    if not content.startswith(MAGIC) or len(content) < HEADER:
+        return ""
+    kind, machine = struct.unpack_from("<HH", content, 16)
+    if not content.startswith(ELF32_LITTLE) or machine != RISCV:
+        return "was compiled for another machine, and nodes have the instructions of RISC-V with 32 bits: compile its sources by bspcc"
+    return "is an object, which is not linked: bspcc -o PROGRAM.elf makes a program of it" if kind == OBJECT_FILE else ""
 
 
 def entry(content: bytes) -> int:

@@ -12,7 +12,7 @@ from .. import children, files, streams
 from ..limits import MOST_WORKERS, WORKERS
 from ..machines import Take
 from ..options import Parser
-from ..refusals import BY_SIGNAL, REFUSED, about, show, tell
+from ..refusals import BY_SIGNAL, REFUSED, Refused, about, show, tell
 from .given import files_read
 from .job import Job, prepared
 from .longs import Beside
@@ -154,6 +154,8 @@ def main(words: list[str]) -> int:
     files.expect_apart(outputs, files_read(options))
     files.expect_writable(outputs)
     if options.out is not None and not os.path.isdir(options.out):
+        if os.path.lexists(options.out):
+            raise Refused(f"--out wants a folder, which {options.out} is not")
         with about(options.out):
             os.mkdir(options.out)
     with children.folder("bsprun") as folder, contextlib.closing(Beside(folder)) as beside:

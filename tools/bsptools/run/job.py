@@ -93,6 +93,8 @@ def prepared(
         image = folder / "program.elf"
         tell(compiled(options, image))
         content, kind = content_of(image, MOST_PROGRAM), "elf"
+    elif kind == "elf" and elf.misfit(content):
+        raise Refused(f"{options.program} {elf.misfit(content)}")
     elif getattr(options, "portable", False):
         expect_choices(options.program, content)
     if kind == "asm":

@@ -27,6 +27,9 @@ instruction; --float gives the nodes units, and bspgdb and bspsweep have it too.
   6 (no-eol)
   $ bsprun six.s
   6 (no-eol)
+  $ bspgdb --dialogue six.elf <<<go | tail -n 2
+  fcvt.d.w is of floating point, for which the nodes have no units: bspgdb --float gives these
+  (bsp) 
   $ bspgdb --dialogue --float six.elf <<'END' | grep -e fcvt -e fcsr -e fa0
   > step 0 3
   > list 0 4 1

@@ -15,7 +15,7 @@ from .machine import RESERVE, Machine
 from .names import STACK, Names
 from .process import POLL
 from .telling import BY_CTRL_C, Teller
-from .words import FLOATS, REGISTERS
+from .words import FLOATS, REGISTERS, rank_of
 
 # How many bytes, words and instructions are shown, if it is not said, of how many at the most, and of how many bytes a text.
 DEFAULTS = {"bytes": 16, "words": 8, "list": 8, "wrote": 4}
@@ -167,6 +167,14 @@ class Dialogue:
         self._is_told = True
         lines = list(self._where(Asked("where", {}, [])))
         _tell(*lines[:MOST_PLACES], *([f"and {len(lines) - MOST_PLACES} ranks more: where"] if len(lines) > MOST_PLACES else []))
+        _tell(*self._unit_wanted(rank_of(line, 0)))
+
+    def _unit_wanted(self, rank: int) -> List[str]:
+        """What is told of a rank that has stopped for want of a unit of floating point."""
+        node = self._node(rank)
+        if self.names.code.is_float or node.pc >= self._size:
+            return []
+        return showing.unit_wanted(node.state, self._memory(rank, node.pc, 4))
 
     def _with_names(self, line: str) -> str:
         """A line with the names of the addresses that it tells."""

@@ -8,7 +8,7 @@ from typing import Callable, Iterable, List, Optional, Sequence, Set
 
 from ..debugger import Node
 from ..refusals import Refused
-from . import words
+from . import showing, words
 from .arrivals import Arrival, AtRank, AtSuperstep, BrokenOff, Interrupted, Over, Place, Point
 from .calls import Awaited, addresses_of
 from .halts import Exit, Halt, Stop, halt_of_outcome
@@ -265,6 +265,7 @@ class Runner:
             self._show_output()
         if isinstance(arrival, Over):
             self.show(f"{arrival.outcome}\n".encode() + (ENDS if isinstance(halt, Exit) else b""))
+            self._tell_unit_wanted(words.rank_of(arrival.outcome, current))
         elif arrival == AtSuperstep(self.machine.superstep) and halt is not None:
             self.show(f"superstep {self.machine.superstep} begins\n".encode())
         return halt
@@ -406,7 +407,16 @@ class Runner:
         if state in ("running", "synced", "ended"):
             return None
         self.show(f"rank {rank}: {state}\n".encode())
+        self._tell_unit_wanted(rank)
         return Stop(rank, words.signal_of(state))
+
+    def _tell_unit_wanted(self, rank: int) -> None:
+        """Says what gives nodes units of floating point where a rank has stopped for want of one."""
+        if self.machine.has_floats:
+            return
+        node = self.machine.node(rank)
+        for line in showing.unit_wanted(node.state, self.machine.memory(rank, node.pc, 4)):
+            self.show(f"bspgdb: {line}\n".encode())
 
     def _as_end_of_step(self, halt: Halt) -> Halt:
         """gdb takes the signal of EBREAK for the end of a step, and would go on. So at a step another one says it."""

@@ -7,7 +7,7 @@ import struct
 from typing import Iterator, List
 
 from ..debugger import Floats, Node
-from ..run.program import listing
+from ..run.program import first_code, float_name, listing
 from .names import Names
 from .words import FLOATS, REGISTERS
 
@@ -40,6 +40,12 @@ def _float(name: str, pattern: int) -> str:
     if pattern >> 32 == BOX:
         return f"{name:>4}={pattern:016x} single {struct.unpack('<f', struct.pack('<I', pattern & BOX))[0]:.9g}"
     return f"{name:>4}={pattern:016x} double {struct.unpack('<d', struct.pack('<Q', pattern))[0]!r}"
+
+
+def unit_wanted(state: str, code: bytes) -> List[str]:
+    """What a rank wants that nodes do not have, where it has stopped in this state before this code: a unit of floating point, if any."""
+    name = float_name(first_code(code)) if state == "fault IllegalInstruction" else ""
+    return [f"{name} is of floating point, for which the nodes have no units: bspgdb --float gives these"] if name else []
 
 
 def behind(names: Names, address: int) -> str:

@@ -190,6 +190,11 @@ def float_name(code: bytes) -> str:
     return next((name for _, _, name, _ in listing(code, is_float=True) if not name.startswith(".")), "")
 
 
+def first_code(content: bytes) -> bytes:
+    """The first instruction's code: two bytes of the content, or four."""
+    return content[:4] if content and content[0] & 3 == 3 else content[:2]
+
+
 def read_elf(content: bytes) -> Code:
     """The code of an ELF file, as far as it can be read."""
     code = Code(content=content, entry=elf.entry(content))

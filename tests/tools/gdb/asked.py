@@ -220,7 +220,7 @@ def who_wrote_is_bounded(bench: Bench) -> None:
     program = bench.build(SOURCE, "-DREST=100000")
     commands = ["monitor end", "continue", "monitor wrote 0 first", "monitor superstep 2", "reverse-continue", "monitor wrote 0 first"]
     text = bench.gdb(program, commands, "-n", "3")
-    in_order(text, "not written in the last ", " instructions of rank 0, back into superstep 2; ", "watch it, and reverse-continue looks on from there")
+    in_order(text, f"not written in the last {writers.MOST} instructions of rank 0, back into superstep 2; ", "watch it, and reverse-continue looks on from there")
     in_order(text, "superstep 2 begins", marked("a store by rank 0 in superstep 0: main, writers.c:<first>"))
 
 

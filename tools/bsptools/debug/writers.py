@@ -72,6 +72,7 @@ class Search:
         wanted = 1 if is_any_enough else count
         while len(self._found) < wanted and self._left > 0 and (superstep > first or end > self._begin(first)):
             begin, last = self._begin(superstep), end
+            width = min(width, self._left)
             if end > begin:
                 end = max(begin, end - width)
                 self._note(self._instructions(superstep, end, last - end))

@@ -65,6 +65,37 @@ static void strings(void)
     printf("%s %d %s %d\n", text, memcmp("ab", "ab", 2), strchr("a-b", '-'), atoi(" -12x"));
 }
 
+/* Bytes from one place to another, and bytes that are all the same, beside what each byte has to be. */
+static void copy(int to, int from, int count)
+{
+    static unsigned char bytes[3][56];
+
+    for (int i = 0; i < 56; i++) {
+        bytes[0][i] = bytes[1][i] = (unsigned char)(3 * i);
+        bytes[2][i] = 255;
+    }
+    memcpy(bytes[2] + to, bytes[0] + from, (size_t)count);
+    memmove(bytes[1] + to, bytes[1] + from, (size_t)count);
+    memset(bytes[0] + to, 256 + 77, (size_t)count);
+    for (int i = 0; i < 56; i++) {
+        int is_there = i >= to && i < to + count, there = 3 * (i + from - to);
+        if (bytes[2][i] != (is_there ? there : 255) || bytes[1][i] != (is_there ? there : 3 * i) || bytes[0][i] != (is_there ? 77 : 3 * i))
+            printf("byte %d of %d from %d to %d\n", i, count, from, to);
+    }
+}
+
+static void copies(void)
+{
+    static const int counts[] = {0, 1, 7, 8, 11, 32, 45};
+
+    for (int i = 0; i < (int)(sizeof counts / sizeof *counts); i++)
+        for (int to = 0; to < 5; to++)
+            for (int from = 0; from < 5; from++)
+                copy(to, from, counts[i]);
+    copy(11, 0, 40);
+    copy(0, 11, 40);
+}
+
 static void input(void)
 {
     char word[16], line[16];
@@ -85,6 +116,7 @@ int main(int argc, char **argv)
     formats();
     memory();
     strings();
+    copies();
     input();
     fprintf(stderr, "%d arguments, %s\n", argc - 1, argv[0]);
     bsp_end();

@@ -23,27 +23,27 @@
   cell 21: 0/1000
   cell 22: 0/1000
   cell 23: 0/1000
-  superstep 0: w 468 h 0 turned
+  superstep 0: w 254 h 0 turned
   superstep 1: w 117 h 16 turned
-  superstep 2: w 481 h 16 turned
-  superstep 3: w 481 h 16 turned
-  superstep 4: w 481 h 16 turned
-  superstep 5: w 481 h 16 turned
-  superstep 6: w 481 h 16 turned
-  superstep 7: w 481 h 16 turned
-  superstep 8: w 481 h 16 turned
-  superstep 9: w 481 h 16 turned
-  superstep 10: w 481 h 16 turned
-  superstep 11: w 481 h 16 turned
-  superstep 12: w 481 h 16 turned
-  superstep 13: w 481 h 16 turned
-  superstep 14: w 481 h 16 turned
-  superstep 15: w 481 h 16 turned
-  superstep 16: w 481 h 16 turned
-  superstep 17: w 481 h 16 turned
-  superstep 18: w 481 h 16 turned
-  superstep 19: w 481 h 16 turned
-  superstep 20: w 481 h 16 turned
-  superstep 21: w 7043 h 0 last
-  total 17087
+  superstep 2: w 255 h 16 turned
+  superstep 3: w 255 h 16 turned
+  superstep 4: w 255 h 16 turned
+  superstep 5: w 255 h 16 turned
+  superstep 6: w 255 h 16 turned
+  superstep 7: w 255 h 16 turned
+  superstep 8: w 255 h 16 turned
+  superstep 9: w 255 h 16 turned
+  superstep 10: w 255 h 16 turned
+  superstep 11: w 255 h 16 turned
+  superstep 12: w 255 h 16 turned
+  superstep 13: w 255 h 16 turned
+  superstep 14: w 255 h 16 turned
+  superstep 15: w 255 h 16 turned
+  superstep 16: w 255 h 16 turned
+  superstep 17: w 255 h 16 turned
+  superstep 18: w 255 h 16 turned
+  superstep 19: w 255 h 16 turned
+  superstep 20: w 255 h 16 turned
+  superstep 21: w 6817 h 0 last
+  total 12353
   ended

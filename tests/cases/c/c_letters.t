@@ -22,8 +22,8 @@
   v: 2, from 2 ranks
   w: 4, from 3 ranks
   y: 1, from 1 ranks
-  superstep 0: w 22169 h 0 turned
+  superstep 0: w 21104 h 0 turned
   superstep 1: w 509 h 100 turned
   superstep 2: w 10547 h 0 last
-  total 33325
+  total 32260
   ended

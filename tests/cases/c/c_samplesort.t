@@ -59,8 +59,8 @@
   855
   952
   974
-  superstep 0: w 50752 h 64 turned
+  superstep 0: w 50477 h 64 turned
   superstep 1: w 2496 h 84 turned
   superstep 2: w 11548 h 0 last
-  total 64944
+  total 64669
   ended

@@ -11,6 +11,7 @@ pub mod Harts
 pub mod Messages
 pub mod Moves
 pub mod NotWritten
+pub mod OfKinds
 pub mod OneStep
 pub mod OwnStores
 pub mod Ranks

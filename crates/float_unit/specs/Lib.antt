@@ -1,3 +1,4 @@
 pub mod Effects
+pub mod Found
 pub mod State
 pub mod Values

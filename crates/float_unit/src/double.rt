@@ -1,8 +1,9 @@
 //! The operations on doubles that instructions name.
 
-ghost use Rattle.std.specs.Prelude.{◌≡◌, IfSome};
+ghost use Rattle.std.specs.Prelude.{◌≡◌, is_some, IfSome};
 ghost use Rattle.rv_float_flags.specs.Flags.{accrued};
 ghost use Rattle.rv_float_flags.specs.Operations.{quiet_flags};
+ghost use Rattle.float_unit.specs.Found.{is_arithmetic_found};
 ghost use Rattle.float_unit.specs.Values as Values;
 ghost use lib.Ieee.{binary64};
 
@@ -63,6 +64,7 @@ pub fn accrued_flags(op: ArithmeticOp, flags: Flags, a: u64, b: u64) -> Flags
 /// What `arithmetic` gives, where all that it raises is there already, and that is found out at once.
 #[inline(always)]
 pub fn unflagged(op: ArithmeticOp, flags: Flags, a: u64, b: u64) -> Option<u64>
+    ensures when { is_some result ≡ is_arithmetic_found op flags a b }
     ensures value { IfSome result (λ z. z ≡ Values.arithmetic op binary64 a b) }
     ensures flags { IfSome result (λ z. accrued flags (Values.arithmetic_flags op binary64 a b) ≡ flags) }
 {

@@ -3,7 +3,7 @@ use Rattle.std.proofs.Common.{◌≡◌, ℕ, suc, ◌+◌, ◌-◌, ◌*◌, �
 use Rattle.std.proofs.Math.Nat.{div-div-eq-div-mul, div-mul-le_self, eq_of_mul-eq-mul_right, eq-zero-or-pos, lt_of_mul-lt-mul_right, mul-le-mul_right, mul-lt-mul_of_pos_right, mul-one, zero-mul}
 use Rattle.std.proofs.Math.Pow.{pow_mono}
 use Rattle.std.proofs.lemmas.Nat.{mul-le, mul-lt, pow-add, pow_pos}
-use Rattle.std.proofs.lemmas.Bool.{cases_lt, lt-ltb, ltb-true, ne_eqb, true≢false}
+use Rattle.std.proofs.lemmas.Bool.{cases_lt, lt-ltb, ne_eqb, true≢false}
 use Rattle.std.specs.Float.{float_is_finite, float_is_infinite, is_sign_negative}
 use Rattle.std.specs.Prelude.{Some}
 use Rattle.rv_float_flags.specs.Exact.{combined, exact_product, exact_sum, is_inexact, is_tiny, rounded, Ratio}
@@ -59,17 +59,13 @@ finite a h = elim (eq-zero-or-pos (exponent a)) [
       }
 ]
 
-pub finite_so : (a : ℕ) → nat_lt (a % 9223372036854775808) 9218868437227405312 ≡ true → Finite a
-finite_so a h = finite a (ltb-true (a % 9223372036854775808) 9218868437227405312 h)
-
 -- less than 2 ^ 1022
 pub record Moderate (a : ℕ) : Type 0 where
   pub finite : Finite a
   pub most : finite.scaled.place ≤ 2043
 
-pub moderate : (a : ℕ) → nat_lt (a % 9223372036854775808) 9209861237972664320 ≡ true → Moderate a
-moderate a h =
-    let l : a % 9223372036854775808 < 9209861237972664320 = ltb-true (a % 9223372036854775808) 9209861237972664320 h in
+pub moderate : (a : ℕ) → a % 9223372036854775808 < 9209861237972664320 → Moderate a
+moderate a l =
     let f = finite a (omega (arith, l)) in
     record { finite = f; most = omega (arith, l, f.place) }
 

@@ -1,4 +1,5 @@
 pub mod FiniteResults
+pub mod Found
 pub mod Fractions
 pub mod Limits
 pub mod Literals

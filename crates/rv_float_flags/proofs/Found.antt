@@ -1,0 +1,81 @@
+-- What is found out at once of a sum or a product does raise nothing new.
+use Rattle.std.proofs.Common.{◌≡◌, ℕ, ◌*◌, ◌%◌, true, ◌&&◌, ◌||◌, ◌⊎◌, ap, ◌∙◌, arith, inl, inr}
+use Rattle.std.proofs.Math.Nat.{zero-mul}
+use Rattle.std.proofs.lemmas.Bool.{and_parts, eqb-true, leb-true, ltb-true, or_cases}
+use Rattle.rv_float_flags.specs.Flags.{accrued}
+use Rattle.rv_float_flags.specs.Found.{are_near, are_short, has_zero, is_finite, is_moderate, is_product_found, is_product_moderate, is_sum_found}
+use Rattle.rv_float_flags.specs.Operations.{add_flags, mul_flags, sub_flags}
+use Rattle.rv_float_flags.specs.Scaled.{exponent}
+use Rattle.rv_float_flags.specs.declared.flags.Flags.{Flags}
+use Rattle.rv_float_flags.proofs.FiniteResults.{by_short, by_zero, difference, finite, moderate, product, product_of_zero, sum, AreShort, Finite, IsExact, Moderate}
+use lib.Ieee.{add, binary64, mul, of_bits, sub, to_bits}
+
+finite_so : (a : ℕ) → is_finite a ≡ true → Finite a
+finite_so a h = let l = ltb-true (exponent a) 2047 h in finite a (omega (arith, l))
+
+moderate_so : (a : ℕ) → is_moderate a ≡ true → Moderate a
+moderate_so a h = let l = ltb-true (exponent a) 2045 h in moderate a (omega (arith, l))
+
+short_so : (a b : ℕ) → are_short a b ≡ true → AreShort a b
+short_so a b h =
+    let each = and_parts _ _ h in
+    record { first = eqb-true _ _ each.0; second = eqb-true _ _ each.1 }
+
+zero_so : (a b : ℕ) → has_zero a b ≡ true → a % 9223372036854775808 * (b % 9223372036854775808) ≡ 0
+zero_so a b h = elim (or_cases _ _ h) [
+  | inl at ↦ ap (λ (n : ℕ). n * (b % 9223372036854775808)) (eqb-true _ _ at) ∙ zero-mul (b % 9223372036854775808)
+  | inr at ↦ ap (λ (n : ℕ). a % 9223372036854775808 * n) (eqb-true _ _ at) ∙ omega arith
+]
+
+-- it is there, or cannot be
+sum_so : (g : Flags) (a b : ℕ) (p : Moderate a) (q : Moderate b) → (g.nx || (are_short a b && are_near a b) || has_zero a b) ≡ true
+    → (g.nx ≡ true) ⊎ IsExact p q
+sum_so g a b p q h = elim (or_cases _ _ h) [
+  | inl l ↦
+      elim (or_cases _ _ l) [
+        | inl there ↦ inl there
+        | inr few ↦
+            let parts = and_parts (are_short a b) (are_near a b) few in
+            let near = and_parts _ _ parts.1 in
+            inr (by_short p q (record { short = short_so a b parts.0; near = leb-true _ _ near.0; far = leb-true _ _ near.1 }))
+      ]
+  | inr zero ↦ inr (by_zero p q (zero_so a b zero))
+]
+
+pub sum_found : (g : Flags) (a b z : ℕ) → is_sum_found g a b ≡ true → z ≡ to_bits binary64 (add binary64 (of_bits binary64 a) (of_bits binary64 b))
+    → accrued g (add_flags binary64 a b) ≡ g
+sum_found g a b z h is =
+    let parts = and_parts _ _ h in
+    let sizes = and_parts (is_moderate a) (is_moderate b) parts.0 in
+    let p = moderate_so a sizes.0 in
+    let q = moderate_so b sizes.1 in
+    sum g a b z p q (sum_so g a b p q parts.1) is
+
+pub difference_found : (g : Flags) (a b z : ℕ) → is_sum_found g a b ≡ true → z ≡ to_bits binary64 (sub binary64 (of_bits binary64 a) (of_bits binary64 b))
+    → accrued g (sub_flags binary64 a b) ≡ g
+difference_found g a b z h is =
+    let parts = and_parts _ _ h in
+    let sizes = and_parts (is_moderate a) (is_moderate b) parts.0 in
+    let p = moderate_so a sizes.0 in
+    let q = moderate_so b sizes.1 in
+    difference g a b z p q (sum_so g a b p q parts.1) is
+
+pub product_found : (g : Flags) (a b z : ℕ) → is_product_found g a b ≡ true → z ≡ to_bits binary64 (mul binary64 (of_bits binary64 a) (of_bits binary64 b))
+    → accrued g (mul_flags binary64 a b) ≡ g
+product_found g a b z h is =
+    let parts = and_parts _ _ h in
+    let sizes = and_parts (is_finite a) (is_finite b) parts.0 in
+    let p = finite_so a sizes.0 in
+    let q = finite_so b sizes.1 in
+    elim (or_cases _ _ parts.1) [
+      | inl l ↦
+          let each = and_parts (is_product_moderate a b) (g.nx || are_short a b) l in
+          let bounds = and_parts _ _ each.0 in
+          product g a b z p q (leb-true _ _ bounds.0) (leb-true _ _ bounds.1)
+          (elim (or_cases _ _ each.1) [
+            | inl there ↦ inl there
+            | inr few ↦ inr (short_so a b few)
+          ])
+          is
+      | inr zero ↦ product_of_zero g a b z p q (zero_so a b zero) is
+    ]

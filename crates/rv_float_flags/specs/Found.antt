@@ -1,0 +1,40 @@
+-- Which sums and products of doubles are known at once to raise nothing that is not there, without rounding them once more: finite ones,
+-- not tiny, that may be inexact, or cannot be. These are no words of the manual. They say for whom an operation is quick, and change no
+-- result.
+use Rattle.std.specs.Prelude.{ℕ, ◌+◌, ◌%◌, ◌^◌, ◌==◌, Bool, ◌&&◌, ◌||◌, nat_lt, nat_le}
+use Rattle.rv_float_flags.specs.declared.flags.Flags.{Flags}
+use Rattle.rv_float_flags.specs.Scaled.{exponent}
+
+-- by its pattern neither an infinity nor a NaN
+abbrev pub is_finite : ℕ → Bool
+is_finite a = nat_lt (exponent a) 2047
+
+-- less than 2 ^ 1022 in size, so that a sum of two is finite
+abbrev pub is_moderate : ℕ → Bool
+is_moderate a = nat_lt (exponent a) 2045
+
+-- By their exponents the product of two is neither tiny nor infinite.
+abbrev pub is_product_moderate : ℕ → ℕ → Bool
+is_product_moderate a b = nat_le 1076 (exponent a + exponent b) && nat_le (exponent a + exponent b) 3066
+
+-- The last 27 of the 53 digits of both are zeros, so that their product has 52 digits at most.
+abbrev pub are_short : ℕ → ℕ → Bool
+are_short a b = a % 2 ^ 27 == 0 && b % 2 ^ 27 == 0
+
+-- They lie at most 26 binary places apart, so that the sum of two short ones has 53 digits at most.
+abbrev pub are_near : ℕ → ℕ → Bool
+are_near a b = nat_le (exponent a) (exponent b + 26) && nat_le (exponent b) (exponent a + 26)
+
+-- One of two is zero, of either sign, so that sum and product are exact.
+abbrev pub has_zero : ℕ → ℕ → Bool
+has_zero a b = a % 2 ^ 63 == 0 || b % 2 ^ 63 == 0
+
+-- of a sum, and of a difference
+abbrev pub is_sum_found : Flags → ℕ → ℕ → Bool
+is_sum_found flags a b =
+    is_moderate a && is_moderate b && (flags.nx || (are_short a b && are_near a b) || has_zero a b)
+
+-- of a product
+abbrev pub is_product_found : Flags → ℕ → ℕ → Bool
+is_product_found flags a b =
+    is_finite a && is_finite b && ((is_product_moderate a b && (flags.nx || are_short a b)) || has_zero a b)

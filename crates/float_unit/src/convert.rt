@@ -71,6 +71,7 @@ fn nearest_single_flags(kind: WordKind, x: u32) -> Flags
 }
 
 /// FCVT.D.W, FCVT.D.WU, which are exact.
+#[inline(always)]
 pub fn word_to_double(kind: WordKind, x: u32) -> u64
     ensures { result ≡ Values.from_word binary64 (Values.whole kind x) }
 {

@@ -8,11 +8,11 @@ ghost use Rattle.float_unit.specs.Values as Values;
 ghost use lib.Ieee.{binary64};
 
 use rv_float_flags::{
-    Flags, accrued_add_flags_d, accrued_mul_flags_d, accrued_sub_flags_d, add_flags_d,
-    add_unflagged_d, d_to_word_flags, d_to_word_unsigned_flags, div_flags_d, mul_flags_d,
-    mul_unflagged_d, multiply_add_flags_d, multiply_subtract_flags_d, negated_multiply_add_flags_d,
-    negated_multiply_subtract_flags_d, ordered_flags_d, quiet_flags_d, sqrt_flags_d, sub_flags_d,
-    sub_unflagged_d,
+    Flags, accrued_add_flags_d, accrued_div_flags_d, accrued_mul_flags_d, accrued_sub_flags_d,
+    add_flags_d, add_unflagged_d, d_to_word_flags, d_to_word_unsigned_flags, div_flags_d,
+    div_unflagged_d, mul_flags_d, mul_unflagged_d, multiply_add_flags_d, multiply_subtract_flags_d,
+    negated_multiply_add_flags_d, negated_multiply_subtract_flags_d, ordered_flags_d,
+    quiet_flags_d, sqrt_flags_d, sub_flags_d, sub_unflagged_d,
 };
 use rv_float_modes::{
     Rounded, add_in_d, div_in_d, mul_in_d, multiply_add_in_d, multiply_subtract_in_d,
@@ -57,7 +57,7 @@ pub fn accrued_flags(op: ArithmeticOp, flags: Flags, a: u64, b: u64) -> Flags
         ArithmeticOp::Add => accrued_add_flags_d(flags, a, b),
         ArithmeticOp::Sub => accrued_sub_flags_d(flags, a, b),
         ArithmeticOp::Mul => accrued_mul_flags_d(flags, a, b),
-        ArithmeticOp::Div => flags | div_flags_d(a, b),
+        ArithmeticOp::Div => accrued_div_flags_d(flags, a, b),
     }
 }
 
@@ -72,7 +72,7 @@ pub fn unflagged(op: ArithmeticOp, flags: Flags, a: u64, b: u64) -> Option<u64>
         ArithmeticOp::Add => add_unflagged_d(flags, a, b),
         ArithmeticOp::Sub => sub_unflagged_d(flags, a, b),
         ArithmeticOp::Mul => mul_unflagged_d(flags, a, b),
-        ArithmeticOp::Div => None,
+        ArithmeticOp::Div => div_unflagged_d(flags, a, b),
     }
 }
 
@@ -166,6 +166,7 @@ pub fn square_root_in(mode: Rounding, a: u64) -> Rounded
     }
 }
 
+#[inline(always)]
 pub fn signed_as(op: SignOp, a: u64, b: u64) -> u64
     ensures { result ≡ Values.signed_as op binary64 a b }
 {
@@ -191,6 +192,7 @@ pub fn min_max_flags(a: u64, b: u64) -> Flags
     quiet_flags_d(a, b)
 }
 
+#[inline(always)]
 pub fn compares(op: CompareOp, a: u64, b: u64) -> bool
     ensures { result ≡ Values.compares op binary64 a b }
 {
@@ -201,6 +203,7 @@ pub fn compares(op: CompareOp, a: u64, b: u64) -> bool
     }
 }
 
+#[inline(always)]
 pub fn compare_flags(op: CompareOp, a: u64, b: u64) -> Flags
     ensures { result ≡ Values.compare_flags op binary64 a b }
 {

@@ -86,10 +86,10 @@ or_false : (b : Bool) → (b || false) ≡ b
 or_false true = refl
 or_false false = refl
 
-nothing : (g : Flags) → accrued g (overflow_if false) ≡ g
+pub nothing : (g : Flags) → accrued g (overflow_if false) ≡ g
 nothing g = rw (or_false g.nv, or_false g.dz, or_false g.of, or_false g.uf, or_false g.nx) refl
 
-beside : (g : Flags) (f : Format) (r : Ratio) (p : Scaled) → g.nx ≡ true → IsMagnitude f (rounded f r) p → is_tiny f r && is_inexact f r ≡ false → g ≡ accrued g (rounding_flags f r)
+pub beside : (g : Flags) (f : Format) (r : Ratio) (p : Scaled) → g.nx ≡ true → IsMagnitude f (rounded f r) p → is_tiny f r && is_inexact f r ≡ false → g ≡ accrued g (rounding_flags f r)
 beside g f r p there finite tiny = sym (nothing g) ∙ raised_beside g false _ _ _ there (overflow f r (Some p) false refl finite) tiny
 
 -- of terms that are multiples of the smallest value
@@ -127,7 +127,7 @@ finite_units f s q k h =
     ∙ odd-finite (suc (prec f)) s q k (low f)
 
 -- less than 2 ^ 1023
-finite_below : (r : Ratio) → 0 < r.denominator → r.numerator * 2 ^ 1074 < 2 ^ 2097 * r.denominator → float_is_finite (rounded binary64 r) ≡ true
+pub finite_below : (r : Ratio) → 0 < r.denominator → r.numerator * 2 ^ 1074 < 2 ^ 2097 * r.denominator → float_is_finite (rounded binary64 r) ≡ true
 finite_below r p h =
     let n = r.numerator * 2 ^ 1074 in
     let w = n / r.denominator in
@@ -161,7 +161,7 @@ finite_pattern a h = elim (cases_lt (a % 9223372036854775808) 921886843722740531
   | inr l ↦ absurd (true≢false (sym h ∙ not_finite a l))
 ]
 
-finite_result : (z : ℕ) (v : Float) (r : Ratio) (u : Bool) → z ≡ to_bits binary64 v → v ≡ round binary64 u r.numerator r.denominator → float_is_finite (rounded binary64 r) ≡ true → Finite z
+pub finite_result : (z : ℕ) (v : Float) (r : Ratio) (u : Bool) → z ≡ to_bits binary64 v → v ≡ round binary64 u r.numerator r.denominator → float_is_finite (rounded binary64 r) ≡ true → Finite z
 finite_result z v r u is rounds h =
     let same = either_round binary64 u false r.numerator r.denominator in
     let fit : T (fits binary64 v) = subst (λ (x : Float). T (fits binary64 x)) (sym rounds) (round-fits binary64 u r.numerator r.denominator) in
@@ -241,7 +241,7 @@ short_sum r o d i e j hd he zd ze ij ji hi hj fraction = elim (cases_lt i j) [
   | inr l ↦ short_sum_from r o d i e j j hd he zd ze (omega (arith, l)) (omega arith) (omega (arith, ij)) (omega arith) hi hj fraction
 ]
 
-abbrev limit : Scaled
+abbrev pub limit : Scaled
 limit = record { digits = 18014398509481983; place = 1072 }
 
 term_below : (d i l : ℕ) → d < 2 ^ 53 → i ≤ l → d * 2 ^ i ≤ (2 ^ 53 - 1) * 2 ^ l
@@ -420,7 +420,7 @@ finite_no_nan nan h = absurd (true≢false (sym h))
 finite_no_nan (inf s) h = tt
 finite_no_nan (fin s m e) h = tt
 
-rounded_no_nan : (f : Format) (x : Float) (r : Ratio) → (u : Bool) × (x ≡ round f u r.numerator r.denominator) → T (not (is_nan x))
+pub rounded_no_nan : (f : Format) (x : Float) (r : Ratio) → (u : Bool) × (x ≡ round f u r.numerator r.denominator) → T (not (is_nan x))
 rounded_no_nan f x r is = subst (λ (y : Float). T (not (is_nan y))) (sym is.1) (finite_no_nan _ (either f is.0 r.numerator r.denominator))
 
 pub sum_no_nan : (x y : Float) → float_is_finite x ≡ true → float_is_finite y ≡ true → T (not (is_nan (add binary64 x y)))

@@ -1,14 +1,17 @@
 -- What is found out at once of a sum or a product does raise nothing new.
-use Rattle.std.proofs.Common.{◌≡◌, ℕ, ◌*◌, ◌%◌, true, ◌&&◌, ◌||◌, ◌⊎◌, ap, ◌∙◌, arith, inl, inr}
+use Rattle.std.proofs.Common.{◌≡◌, ℕ, ◌*◌, ◌%◌, Bool, true, false, not, cond, ◌&&◌, ◌||◌, ◌⊎◌, ap, sym, ◌∙◌, refl, arith, inl, inr}
 use Rattle.std.proofs.Math.Nat.{zero-mul}
 use Rattle.std.proofs.lemmas.Bool.{and_parts, eqb-true, leb-true, ltb-true, or_cases}
-use Rattle.rv_float_flags.specs.Flags.{accrued}
+use Rattle.rv_float_flags.specs.Flags.{accrued, inexact_if, invalid, no_flags}
 use Rattle.rv_float_flags.specs.Found.{are_near, are_short, has_zero, is_finite, is_moderate, is_product_found, is_product_moderate, is_sum_found}
-use Rattle.rv_float_flags.specs.Operations.{add_flags, mul_flags, sub_flags}
+use Rattle.rv_float_flags.specs.Operations.{add_flags, is_root, mul_flags, sqrt_flags, sub_flags}
+use Rattle.std.specs.Float.{float_is_finite, float_zero}
+use Rattle.rv_float_flags.proofs.Operations.{no_signal}
+use Rattle.rv_float_flags.proofs.Roundings.{raised_beside}
 use Rattle.rv_float_flags.specs.Scaled.{exponent}
 use Rattle.rv_float_flags.specs.declared.flags.Flags.{Flags}
-use Rattle.rv_float_flags.proofs.FiniteResults.{by_short, by_zero, difference, finite, moderate, product, product_of_zero, sum, AreShort, Finite, IsExact, Moderate}
-use lib.Ieee.{add, binary64, mul, of_bits, sub, to_bits}
+use Rattle.rv_float_flags.proofs.FiniteResults.{by_short, by_zero, difference, finite, moderate, nothing, product, product_of_zero, sum, AreShort, Finite, IsExact, Moderate}
+use lib.Ieee.{add, binary64, lt, mul, of_bits, sqrt, sub, to_bits}
 
 finite_so : (a : ℕ) → is_finite a ≡ true → Finite a
 finite_so a h = let l = ltb-true (exponent a) 2047 h in finite a (omega (arith, l))
@@ -79,3 +82,17 @@ product_found g a b z h is =
           is
       | inr zero ↦ product_of_zero g a b z p q (zero_so a b zero) is
     ]
+
+-- what a root raises is there
+inexact_there : (g : Flags) (b : Bool) → g.nx ≡ true → accrued g (inexact_if b) ≡ g
+inexact_there g b there = sym (raised_beside g false false false b there refl refl) ∙ nothing g
+
+pub root_found : (g : Flags) (a : ℕ) → g.nx ≡ true → is_finite a ≡ true → lt (of_bits binary64 a) float_zero ≡ false → accrued g (sqrt_flags binary64 a) ≡ g
+root_found g a there h above =
+    let x = of_bits binary64 a in
+    let finite = (finite_so a h).magnitude.finite in
+    let found = inexact_if (not (is_root (sqrt binary64 x) x)) in
+    ap (λ (b : Bool). accrued g (cond b invalid (cond (lt x float_zero) invalid (cond (float_is_finite x) found no_flags)))) (no_signal binary64 a finite)
+    ∙ ap (λ (b : Bool). accrued g (cond b invalid (cond (float_is_finite x) found no_flags))) above
+    ∙ ap (λ (b : Bool). accrued g (cond b found no_flags)) finite
+    ∙ inexact_there g _ there

@@ -8,6 +8,7 @@ pub mod Negated
 pub mod Numbers
 pub mod Odd
 pub mod Operations
+pub mod Quotients
 pub mod Results
 pub mod Roundings
 pub mod Shifts

@@ -91,7 +91,7 @@ no_nan nan h = absurd (true≢false (sym h))
 no_nan (inf s) h = refl
 no_nan (fin s m e) h = refl
 
-no_signal : (f : Format) (a : ℕ) → float_is_finite (of_bits f a) ≡ true → is_signaling f a ≡ false
+pub no_signal : (f : Format) (a : ℕ) → float_is_finite (of_bits f a) ≡ true → is_signaling f a ≡ false
 no_signal f a finite = ap (λ (b : Bool). b && nat_lt (a % hid f) (hid f / 2)) (no_nan (of_bits f a) finite)
 
 pub none_signals : (f : Format) (a b : ℕ) (g h : Flags) → float_is_finite (of_bits f a) ≡ true → float_is_finite (of_bits f b) ≡ true → g ≡ (if any_signaling f a b then h else g)
@@ -140,19 +140,26 @@ of_root f z x k p a b t hz hx ha hb e =
 pub by_values : (t : Float → Float → Bool) (x y v w : Float) (b : Bool) → b ≡ t v w → v ≡ x → w ≡ y → b ≡ false → t x y ≡ false
 by_values t x y v w b e h k l = sym (ap (λ (z : Float). t z w) h ∙ ap (λ (z : Float). t x z) k) ∙ sym e ∙ l
 
-pub of_quotient : (f : Format) (x y : Float) (p q : Scaled) (u : ℕ) (m : Option Scaled) (g : Flags) → IsMagnitude f x p → IsMagnitude f y q
+pub of_quotient_so : (so : Flags → Flags) (f : Format) (x y : Float) (p q : Scaled) (u : ℕ) (m : Option Scaled) (g : Flags) → IsMagnitude f x p → IsMagnitude f y q
     → is_invalid_quotient x y ≡ false → is_division_by_zero x y ≡ false → u ≡ to_bits f (div f x y) → IsMagnitudeOf f (of_bits f u) m
-    → ((r : Ratio) → IsFraction r (p.digits * 2 ^ (p.place + 2148)) (amount q) → IsMagnitudeOf f (rounded f r) m → g ≡ rounding_flags f r)
-    → g ≡ quotient_flags f x y
-of_quotient f x y p q u m g hx hy hi hd hu hm k =
+    → ((r : Ratio) → IsFraction r (p.digits * 2 ^ (p.place + 2148)) (amount q) → IsMagnitudeOf f (rounded f r) m → g ≡ so (rounding_flags f r))
+    → g ≡ so (quotient_flags f x y)
+of_quotient_so so f x y p q u m g hx hy hi hd hu hm k =
     let r = exact_quotient x y in
     let n : 0 < num y = not_zero y hy.finite (sym (ap (λ (b : Bool). b && is_zero y) hx.finite) ∙ hd) in
     let w = div_rounds f x y hx.finite hy.finite n in
     let rest = cond (float_is_finite x && float_is_finite y) (rounding_flags f r) no_flags in
     k r (quotient_fraction f x y p q hx hy n) (result f (div f x y) u m w.0 r hu hm w.1)
-    ∙ two _ _ (rounding_flags f r) no_flags hx.finite hy.finite
+    ∙ ap so
+    (two _ _ (rounding_flags f r) no_flags hx.finite hy.finite
     ∙ sym (ap (λ (b : Bool). cond b divided_by_zero rest) hd)
-    ∙ sym (ap (λ (b : Bool). cond b invalid (cond (is_division_by_zero x y) divided_by_zero rest)) hi)
+    ∙ sym (ap (λ (b : Bool). cond b invalid (cond (is_division_by_zero x y) divided_by_zero rest)) hi))
+
+pub of_quotient : (f : Format) (x y : Float) (p q : Scaled) (u : ℕ) (m : Option Scaled) (g : Flags) → IsMagnitude f x p → IsMagnitude f y q
+    → is_invalid_quotient x y ≡ false → is_division_by_zero x y ≡ false → u ≡ to_bits f (div f x y) → IsMagnitudeOf f (of_bits f u) m
+    → ((r : Ratio) → IsFraction r (p.digits * 2 ^ (p.place + 2148)) (amount q) → IsMagnitudeOf f (rounded f r) m → g ≡ rounding_flags f r)
+    → g ≡ quotient_flags f x y
+of_quotient = of_quotient_so (λ g. g)
 
 pub of_square : (f : Format) (x : Float) (p : Scaled) (u : ℕ) (t : Bool) (g : Flags) → IsMagnitude f x p → lt x float_zero ≡ false
     → u ≡ to_bits f (sqrt f x) → t ≡ is_root (of_bits f u) x → g ≡ inexact_if (not t) → g ≡ root_flags f x

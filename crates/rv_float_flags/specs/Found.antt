@@ -1,9 +1,11 @@
--- Which sums and products of doubles are known at once to raise nothing that is not there, without rounding them once more: finite ones,
+-- Which sums, products, quotients and roots of doubles are known at once to raise nothing that is not there, without rounding them once more: finite ones,
 -- not tiny, that may be inexact, or cannot be. These are no words of the manual. They say for whom an operation is quick, and change no
 -- result.
-use Rattle.std.specs.Prelude.{ℕ, ◌+◌, ◌%◌, ◌^◌, ◌==◌, Bool, ◌&&◌, ◌||◌, nat_lt, nat_le}
+use Rattle.std.specs.Prelude.{ℕ, ◌+◌, ◌%◌, ◌^◌, ◌==◌, Bool, not, ◌&&◌, ◌||◌, nat_lt, nat_le}
 use Rattle.rv_float_flags.specs.declared.flags.Flags.{Flags}
+use Rattle.std.specs.Float.{float_zero}
 use Rattle.rv_float_flags.specs.Scaled.{exponent}
+use lib.Ieee.{binary64, lt, of_bits}
 
 -- by its pattern neither an infinity nor a NaN
 abbrev pub is_finite : ℕ → Bool
@@ -25,6 +27,14 @@ are_short a b = a % 2 ^ 27 == 0 && b % 2 ^ 27 == 0
 abbrev pub are_near : ℕ → ℕ → Bool
 are_near a b = nat_le (exponent a) (exponent b + 26) && nat_le (exponent b) (exponent a + 26)
 
+-- by its pattern neither infinite nor a NaN, and all of its 53 digits count
+abbrev pub is_normal : ℕ → Bool
+is_normal a = nat_le 1 (exponent a) && nat_le (exponent a) 2046
+
+-- They lie at most 1021 binary places apart, so that the quotient of two normal ones is neither tiny nor infinite.
+abbrev pub are_within_range : ℕ → ℕ → Bool
+are_within_range a b = nat_le (exponent a) (exponent b + 1021) && nat_le (exponent b) (exponent a + 1021)
+
 -- One of two is zero, of either sign, so that sum and product are exact.
 abbrev pub has_zero : ℕ → ℕ → Bool
 has_zero a b = a % 2 ^ 63 == 0 || b % 2 ^ 63 == 0
@@ -38,3 +48,11 @@ is_sum_found flags a b =
 abbrev pub is_product_found : Flags → ℕ → ℕ → Bool
 is_product_found flags a b =
     is_finite a && is_finite b && ((is_product_moderate a b && (flags.nx || are_short a b)) || has_zero a b)
+
+-- of a quotient
+abbrev pub is_quotient_found : Flags → ℕ → ℕ → Bool
+is_quotient_found flags a b = flags.nx && is_normal a && is_normal b && are_within_range a b
+
+-- of a root: none is tiny or infinite
+abbrev pub is_root_found : Flags → ℕ → Bool
+is_root_found flags a = flags.nx && is_finite a && not (lt (of_bits binary64 a) float_zero)

@@ -5,11 +5,12 @@ ghost use Rattle.rv_float_flags.specs.Flags.{accrued};
 ghost use Rattle.rv_float_flags.specs.Operations as Operations;
 ghost use lib.Ieee.{binary64};
 
-use crate::double::{add_flags_d, is_negative_d, mul_flags_d};
+use crate::double::{add_flags_d, div_flags_d, is_negative_d, mul_flags_d};
 use crate::flags::Flags;
 use crate::magnitude::magnitude_d;
 use crate::rounding::{LIMIT_D, accrued_sum_rounding};
 use crate::scaled::ZERO;
+use crate::unflagged::is_quotient_found;
 use rv_floats::{add_d, mul_d, sign_negated_d};
 use std::num::f64_from_bits_with_nan;
 
@@ -56,5 +57,18 @@ pub fn accrued_mul_flags_d(flags: Flags, a: u64, b: u64) -> Flags
             LIMIT_D,
         ),
         _ => flags | mul_flags_d(a, b),
+    }
+}
+
+/// FDIV.D.
+// For speed: most quotients are found out at once.
+#[inline(always)]
+pub fn accrued_div_flags_d(flags: Flags, a: u64, b: u64) -> Flags
+    ensures { result ≡ accrued flags (Operations.div_flags binary64 a b) }
+{
+    if is_quotient_found(flags, a, b) {
+        flags
+    } else {
+        flags | div_flags_d(a, b)
     }
 }

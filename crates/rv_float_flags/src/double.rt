@@ -190,7 +190,8 @@ fn is_zero_d(x: f64) -> bool
     x == 0.0
 }
 
-fn is_below_zero_d(x: f64) -> bool
+#[inline(always)]
+pub fn is_below_zero_d(x: f64) -> bool
     ensures { result ≡ lt x float_zero }
 {
     x < 0.0

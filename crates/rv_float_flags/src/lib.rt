@@ -36,7 +36,9 @@ mod scaled;
 mod single;
 mod unflagged;
 
-pub use accrued::{accrued_add_flags_d, accrued_mul_flags_d, accrued_sub_flags_d};
+pub use accrued::{
+    accrued_add_flags_d, accrued_div_flags_d, accrued_mul_flags_d, accrued_sub_flags_d,
+};
 pub use compare::{ordered_flags_d, ordered_flags_s, quiet_flags_d, quiet_flags_s};
 pub use convert::{
     d_to_s_flags, d_to_word_flags, d_to_word_unsigned_flags, s_to_d_flags, s_to_word_flags,
@@ -53,4 +55,6 @@ pub use single::{
     add_flags_s, div_flags_s, mul_flags_s, multiply_add_flags_s, multiply_subtract_flags_s,
     negated_multiply_add_flags_s, negated_multiply_subtract_flags_s, sqrt_flags_s, sub_flags_s,
 };
-pub use unflagged::{add_unflagged_d, mul_unflagged_d, sub_unflagged_d};
+pub use unflagged::{
+    add_unflagged_d, div_unflagged_d, mul_unflagged_d, sqrt_unflagged_d, sub_unflagged_d,
+};

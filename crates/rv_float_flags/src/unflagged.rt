@@ -1,6 +1,6 @@
-//! Sums and products of doubles that raise no flag but those that are there, as far as a few comparisons find it out.
+//! Sums, products and quotients of doubles that raise no flag but those that are there, as far as a few comparisons find it out.
 
-ghost use Rattle.std.specs.Prelude.{◌≡◌, ◌%◌, ◌^◌, ◌<◌, is_some, IfSome};
+ghost use Rattle.std.specs.Prelude.{◌≡◌, ◌%◌, ◌^◌, ◌<◌, true, is_some, IfSome};
 ghost use Rattle.rv_float_flags.specs.Scaled.{exponent};
 ghost use Rattle.rv_float_flags.specs.Flags.{accrued};
 ghost use Rattle.rv_float_flags.specs.Found as Found;
@@ -8,7 +8,10 @@ ghost use Rattle.rv_float_flags.specs.Operations as Operations;
 ghost use lib.Ieee as Ieee;
 ghost use lib.Ieee.{binary64, of_bits, to_bits};
 
+use crate::double::is_below_zero_d;
 use crate::flags::Flags;
+use rv_floats::sqrt_d;
+use std::num::f64_from_bits_with_nan;
 
 /// FADD.D, where all that it raises is there, and that is found out at once.
 // For speed: a finite sum of finite doubles raises nothing but NX, and not even that where it has few digits.
@@ -53,6 +56,36 @@ pub fn mul_unflagged_d(flags: Flags, a: u64, b: u64) -> Option<u64>
     }
 }
 
+/// FDIV.D.
+// For speed: by its exponents a quotient of normal numbers is neither tiny nor too large.
+#[inline(always)]
+pub fn div_unflagged_d(flags: Flags, a: u64, b: u64) -> Option<u64>
+    ensures when { is_some result ≡ Found.is_quotient_found flags a b }
+    ensures value { IfSome result (λ z. z ≡ to_bits binary64 (Ieee.div binary64 (of_bits binary64 a) (of_bits binary64 b))) }
+    ensures flags { IfSome result (λ z. accrued flags (Operations.div_flags binary64 a b) ≡ flags) }
+{
+    if is_quotient_found(flags, a, b) {
+        Some(normal_quotient(a, b))
+    } else {
+        None
+    }
+}
+
+/// FSQRT.D.
+// For speed: a root of what is not below zero raises nothing but NX.
+#[inline(always)]
+pub fn sqrt_unflagged_d(flags: Flags, a: u64) -> Option<u64>
+    ensures when { is_some result ≡ Found.is_root_found flags a }
+    ensures value { IfSome result (λ z. z ≡ to_bits binary64 (Ieee.sqrt binary64 (of_bits binary64 a))) }
+    ensures flags { IfSome result (λ z. accrued flags (Operations.sqrt_flags binary64 a) ≡ flags) }
+{
+    if flags.nx && is_finite(a) && !is_below_zero_d(f64_from_bits_with_nan(a)) {
+        Some(sqrt_d(a))
+    } else {
+        None
+    }
+}
+
 /// Whether what the sum or the difference of two raises is found out at once to be there.
 #[inline(always)]
 fn is_sum_found(flags: Flags, a: u64, b: u64) -> bool
@@ -71,6 +104,14 @@ fn is_product_found(flags: Flags, a: u64, b: u64) -> bool
     is_finite(a)
         && is_finite(b)
         && ((is_product_moderate(a, b) && (flags.nx || are_short(a, b))) || has_zero(a, b))
+}
+
+/// The same of a quotient.
+#[inline(always)]
+pub fn is_quotient_found(flags: Flags, a: u64, b: u64) -> bool
+    ensures { result ≡ Found.is_quotient_found flags a b }
+{
+    flags.nx && is_normal(a) && is_normal(b) && are_within_range(a, b)
 }
 
 /// The sum of two doubles that are finite.
@@ -102,6 +143,16 @@ fn finite_product(a: u64, b: u64) -> u64
     ensures { result ≡ to_bits binary64 (Ieee.mul binary64 (of_bits binary64 a) (of_bits binary64 b)) }
 {
     (f64::from_bits(a) * f64::from_bits(b)).to_bits()
+}
+
+/// The quotient of two that are normal.
+#[inline(always)]
+fn normal_quotient(a: u64, b: u64) -> u64
+    requires first { Found.is_normal a ≡ true }
+    requires second { Found.is_normal b ≡ true }
+    ensures { result ≡ to_bits binary64 (Ieee.div binary64 (of_bits binary64 a) (of_bits binary64 b)) }
+{
+    (f64::from_bits(a) / f64::from_bits(b)).to_bits()
 }
 
 /// Whether a double is finite.
@@ -143,6 +194,22 @@ fn are_near(a: u64, b: u64) -> bool
     ensures { result ≡ Found.are_near a b }
 {
     exponent(a) <= exponent(b) + 26 && exponent(b) <= exponent(a) + 26
+}
+
+/// Whether a double is normal.
+#[inline(always)]
+fn is_normal(a: u64) -> bool
+    ensures { result ≡ Found.is_normal a }
+{
+    1 <= exponent(a) && exponent(a) <= 2046
+}
+
+/// Whether they lie at most 1021 binary places apart.
+#[inline(always)]
+fn are_within_range(a: u64, b: u64) -> bool
+    ensures { result ≡ Found.are_within_range a b }
+{
+    exponent(a) <= exponent(b) + 1021 && exponent(b) <= exponent(a) + 1021
 }
 
 /// Whether one of two is zero, so that sum and product are exact.

@@ -1,9 +1,10 @@
 //! Work on the nodes of a row, each of which is taken through its local part of the superstep.
 
-ghost use Rattle.std.specs.Prelude.{◌≡◌, ◌<◌, ℕ, OnOk, IsTrue, IsFalse, false};
+ghost use Rattle.std.specs.Prelude.{◌≡◌, ◌<◌, ℕ, IfOk, OnOk, OnErr, IsTrue, IsFalse, false};
 ghost use Rattle.std.specs.Thread.{IsSend, IsSync};
 ghost use denote.Param.Send.{Frees};
 ghost use Rattle.node_core.specs.Node.{is_running, local_steps};
+ghost use Rattle.node_core.specs.declared.state.State.TheVariants.{Running};
 ghost use Rattle.machine_core.specs.Events.{HaveStepped};
 ghost use Rattle.bsp_exchange.specs.Exchange.{states};
 ghost use Rattle.phase_pool.specs.Work.{HasCome, IsWorked};
@@ -19,9 +20,15 @@ use std::thread::Threads;
 /// The most steps that a node may make, whatever its limit.
 const MOST_STEPS: u64 = 1 << 40;
 
-/// After how many steps of a node the bytes that it has asked for are first looked at; after these, each time that its steps have
-/// doubled.
+/// After how many steps of a node the bytes that it has asked for are first looked at, where its share is small; after these, each time that
+/// its steps have doubled. Where it is large, that is after each call.
 const FIRST_LOOK: u64 = 256;
+
+/// From how many steps on a share is large: some more do not matter then, and none of them is counted by itself.
+const LARGE: u64 = 16_384;
+
+/// How many steps are allowed beyond a large share. About half of them are made.
+const SPARE: u64 = 4_096;
 
 /// How much of a superstep this thread makes by itself before others are started: so many steps, and fewer where the nodes have asked
 /// for so many bytes before that.
@@ -178,7 +185,7 @@ fn begin<A: Allocator + Copy>(
     Worked { nodes, refused }
 }
 
-/// Makes a share of a node's steps. How many bytes it has asked for is looked at now and then, so that it ends near those of the share.
+/// Makes about a share of a node's steps. How many bytes it has asked for is looked at now and then, so that it ends near those of the share.
 ///
 /// # Errors
 /// Where memory is refused in a step. The steps before it are made.
@@ -189,13 +196,36 @@ fn begin_node<A: Allocator + Copy>(
 ) -> Result<(), AllocError>
     ensures stepped { (k : ℕ) × (node.new.node ≡ local_steps input.now k node.old.node) }
 {
-    let mut made = 0;
-    while made < share.steps && node.requests().bytes() < share.bytes && node.state().is_running() {
-        let more = made.max(FIRST_LOOK).min(share.steps - made);
-        node.run(input, more)?;
-        made += more;
+    let mut left = share.steps;
+    while left > 0 && node.requests().bytes() < share.bytes && node.state().is_running() {
+        let made = some_steps(input, share.steps - left, left, node)?;
+        left = left.saturating_sub(made);
     }
     Ok(())
+}
+
+/// Makes some steps of a node that runs, of a share of which so many are made and so many left. How many.
+///
+/// # Errors
+/// Where memory is refused in a step. The steps before it are made.
+fn some_steps<A: Allocator + Copy>(
+    input: &[u8],
+    made: u64,
+    left: u64,
+    node: &mut Node<A>,
+) -> Result<u64, AllocError>
+    requires runs { node.old.node.state ≡ Running }
+    requires some { 0 < left }
+    ensures ok { IfOk result (λ steps. (0 < steps) × (node.new.node ≡ local_steps input.now steps node.old.node)) }
+    ensures err { OnErr result ((k : ℕ) × (node.new.node ≡ local_steps input.now k node.old.node)) }
+{
+    if left < LARGE {
+        let more = made.max(FIRST_LOOK).min(left);
+        node.run(input, more)?;
+        Ok(more)
+    } else {
+        node.run_on(input, left.saturating_add(SPARE))
+    }
 }
 
 /// Takes nodes to the end of their local parts one after another, in this thread. One that is refused memory stops no other.

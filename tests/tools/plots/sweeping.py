@@ -388,7 +388,7 @@ def ended(check: Check) -> None:
     (check.folder / "bad.elf").write_bytes(b"\x7fELF" + bytes(60))
     for _ in range(2):
         done = check.tool("bspsweep", "--engine", "plain", "--folder", "stopped", "bad.elf")
-        right = done.returncode == 1 and done.stdout.splitlines()[1].endswith(",,,,,not run") and "image refused" in done.stderr
+        right = done.returncode == 1 and done.stdout.splitlines()[1].endswith(",,,,,not run") and "was compiled for another machine" in done.stderr
         check.expect("a run that cannot be made", right and "1 of 1 run done" in done.stderr, done.stdout + done.stderr)
 
 

@@ -169,10 +169,16 @@ class Watch:
                     raise
                 seconds = self.seconds
                 child.kill()
-                with contextlib.suppress(Fewer):
-                    self._follow(child, is_ended=True)
-                    self.outputs.end()
                 kind = Interrupted if isinstance(ended, children.Ended) else Stopped
+                try:
+                    with contextlib.suppress(Fewer):
+                        self._follow(child, is_ended=True)
+                        self.outputs.end()
+                except BrokenPipeError:
+                    # Ctrl-C ends who reads the output too, as a tee. Where the ranks were is told on standard error.
+                    if kind is not Interrupted:
+                        raise
+                    streams.drop_output()
                 raise kind(seconds, self.outputs.received) from None
             finally:
                 self.outputs.clear()

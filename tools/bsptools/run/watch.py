@@ -26,8 +26,8 @@ from .records import Record, record_of
 FEWER = re.compile(rb"^bsp: rank 0: there are more nodes than the program takes in bsp_begin: bsprun -n (\d+) ", re.MULTILINE)
 # The first superstep's output is kept until nothing has come for so long, or so much, since that line may stand in it.
 PAUSE, MOST_KEPT = 0.1, 1 << 20
-# After how many seconds the time is shown, at a terminal.
-QUIET_SECONDS = 2
+# After how many seconds the time is shown, at a terminal, and for how many nothing has come where the output is a pipe.
+QUIET_SECONDS, PIPED_SECONDS = 2, 0.9
 CHUNK = 1 << 16
 
 
@@ -72,6 +72,8 @@ class Outputs:
         self.kept: list[tuple[bool, bytes]] | None = [] if nodes > 1 else None
         # Whether the last line at the terminal, to which both may go, is a whole one, and whether the time is shown behind it.
         self.is_line_whole, self.is_shown = True, False
+        # Who reads a pipe may write to the terminal too, somewhat later.
+        self.is_piped, self.given = stat.S_ISFIFO(os.fstat(streams.STDOUT).st_mode), 0.0
 
     def take(self, content: bytes) -> None:
         """Writes what has come, but for what may be a mark or the report."""
@@ -119,11 +121,11 @@ class Outputs:
             sys.stderr.buffer.write(content)
         else:
             put(content)
-        self.is_line_whole = content.endswith(b"\n")
+        self.is_line_whole, self.given = content.endswith(b"\n"), time.monotonic()
 
     def show(self, seconds: float) -> None:
         """Shows the time at a terminal, so that one sees that a long run lives."""
-        if self.is_line_whole:
+        if self.is_line_whole and (not self.is_piped or time.monotonic() - self.given >= PIPED_SECONDS):
             show(f"bsprun: running, {int(seconds)} s")
             self.is_shown = True
 

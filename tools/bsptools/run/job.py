@@ -83,8 +83,10 @@ def prepared(
     kind = options.format or kind_of(pathlib.Path(options.program), content)
     emulate = [options.bspemu or emulator.emulator()]
     image = pathlib.Path(os.path.abspath(options.program))
-    if options.check and kind != "c":
-        raise Refused(f"--check is for a program in C, and {options.program} is compiled: give --check to bspcc")
+    wanted = " ".join([*(["--check"] if options.check else []), *(options.compiled or [])])
+    if wanted and kind != "c":
+        instead = f"and {options.program} is compiled: give {wanted} to bspcc" if kind == "elf" else f"which {options.program} is not"
+        raise Refused(f"{wanted} is for a program in C, {instead}")
     options.sources = []
     if kind == "c":
         take_sources(options)

@@ -15,6 +15,8 @@ RA, SP, FP = 1, 2, 8
 MOST_FRAMES = 40
 # Where sources lie that are none of the program's own.
 LIBRARIES = (REPO / "bsplib", pathlib.Path("/usr/include"), pathlib.Path("/usr/lib"))
+# Folders of the sources of picolibc and of GCC's own library, which have lines in a program, and are on no user's machine.
+ELSEWHERE = {"newlib", "libgcc"}
 # Functions of bsplib/ that are in a program and not in bsp.h, and how those begin that stand for others in a program of bspcc --portable.
 WRAP = "__wrap_"
 INNER = ("_start", "bsp_start", "bsp_stop", "bsp_stop_with", "bsp_stop_for_guards", "end_line", "end_of_main")
@@ -113,8 +115,8 @@ class Frame(NamedTuple):
 
 def users_frames(code: Code, chain: list[int]) -> list[Frame]:
     """The frames of the program's own source in a chain of addresses, innermost first; none where no line is known."""
-    known = [(at, *line) for at in range(len(chain)) for line in source_lines(code, chain[at])]
-    # A C library's own lines are of files that are not here; those of headers are of files that no user has written.
+    known = [(at, *line) for at in range(len(chain)) for line in source_lines(code, chain[at]) if not is_elsewhere(line[1])]
+    # A library's own lines are of files that are not here; those of headers are of files that no user has written.
     written_here = [it for it in known if not is_librarys(it[2])]
     known = [it for it in written_here if code.lines or path_of(it[2]).exists()] or written_here or known
     return [Frame(function, line, called_as(code.name_at(chain[at - 1])) if at > 0 else "") for at, function, line in known]
@@ -131,6 +133,12 @@ def called_as(name: str) -> str:
 def path_of(line: str) -> pathlib.Path:
     """The file of a line."""
     return pathlib.Path(line.rpartition(":")[0])
+
+
+def is_elsewhere(line: str) -> bool:
+    """Whether a line is of a C library that was compiled elsewhere."""
+    path = path_of(line)
+    return not ELSEWHERE.isdisjoint(path.parts) and not path.exists()
 
 
 def is_librarys(line: str) -> bool:

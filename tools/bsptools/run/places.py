@@ -19,6 +19,8 @@ LIBRARIES = (REPO / "bsplib", pathlib.Path("/usr/include"), pathlib.Path("/usr/l
 ELSEWHERE = {"newlib", "libgcc"}
 # Functions of bsplib/ that are in a program and not in bsp.h, and how those begin that stand for others in a program of bspcc --portable.
 WRAP = "__wrap_"
+# How GCC's functions begin that take back what a function saved, as it ends, and return in its place.
+RESTORE = "__riscv_restore_"
 INNER = ("_start", "bsp_start", "bsp_stop", "bsp_stop_with", "bsp_stop_for_guards", "end_line", "end_of_main")
 
 
@@ -84,6 +86,15 @@ def frames(code: Code, node: Node) -> list[int]:
     addresses = [node.pc]
     pc, sp, ra, fp = node.pc, node.x[SP], node.x[RA], node.x[FP]
     called = code.call_before(ra)
+    if code.name_at(pc).startswith(RESTORE):
+        sp, ra, fp = restored(code, node)
+        called = code.call_before(ra)
+        if called is None:
+            return addresses
+        # The function that ends so stands behind the call of it.
+        it = code.body((code.function(called) or (called, ""))[0]).get(called)
+        addresses += [it.target, called] if it is not None and it.name == "jal" else [called]
+        pc = called
     if code.function(pc) is None and not code.stored(pc) and called is not None:
         pc = called
         addresses.append(pc)
@@ -100,6 +111,17 @@ def frames(code: Code, node: Node) -> list[int]:
         pc, sp = call, top
         addresses.append(pc)
     return addresses
+
+
+def restored(code: Code, node: Node) -> tuple[int, int, int]:
+    """The stack, the return and the frame of who called a function that ends, for a node that takes back what that saved."""
+    x = {SP: node.x[SP], RA: node.x[RA], FP: node.x[FP]}
+    for at, it in code.body((code.function(node.pc) or (node.pc, ""))[0]).items():
+        if at >= node.pc and it.name == "lw" and it.pointer == SP and it.operand(0) in (RA, FP):
+            x[it.operand(0)] = node.at((x[SP] + it.operand(1)) & 0xFFFFFFFF) or 0
+        elif at >= node.pc and it.name == "addi" and it.operand(0) == SP:
+            x[SP] = (x[SP] + it.operand(2)) & 0xFFFFFFFF
+    return x[SP], x[RA], x[FP]
 
 
 class Frame(NamedTuple):

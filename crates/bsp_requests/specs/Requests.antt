@@ -1,6 +1,8 @@
 -- The requests and the output of one node in one superstep, and their limits.
-use Rattle.std.specs.Prelude.{◌≡◌, ℕ, ◌+◌, ◌^◌, ◌≤◌, Bool, ◌||◌, nat_le, nat_lt, List, [], ◌∷◌, ◌++◌, length, sum_by}
+use Rattle.std.specs.Prelude.{◌≡◌, ℕ, ◌+◌, ◌^◌, ◌≤◌, ◌↔◌, Bool, ◌||◌, nat_le, nat_lt, List, [], ◌∷◌, ◌++◌, length, sum_by, IsTrue, Result, OnOk, OnErr, IsErrOf}
 use Rattle.bsp_requests.specs.Request.{Asked, size_of}
+use Rattle.bsp_requests.specs.declared.requests.AddError.{AddError}
+use Rattle.bsp_requests.specs.declared.requests.AddError.TheVariants.{TooMuch}
 
 -- the requests in issue order, and the output
 pub record Requests : Type 0 where
@@ -47,6 +49,12 @@ is_full_for r n = nat_le max_requests (length r.requests) || are_too_many r n
 -- whether this request would
 abbrev pub is_too_much : Requests → Asked → Bool
 is_too_much r q = is_full_for r (size_of q)
+
+-- a request was to be issued: it is; or it would pass a limit, or memory is refused, and nothing has changed
+pub record IsIssued (q : Asked) (old new : Requests) (answer : Result (Unit {0}) AddError) : Type 0 where
+  pub ok : OnOk answer (new ≡ with_request old q)
+  pub too_much : IsErrOf answer TooMuch ↔ IsTrue (is_too_much old q)
+  pub err : OnErr answer (new ≡ old)
 
 -- the number n is the sum of its bytes, and no limit is passed
 pub record IsCounted (r : Requests) (n : ℕ) : Type 0 where

@@ -1,6 +1,6 @@
 ghost use Rattle.std.specs.Prelude.{◌≡◌, ◌≤◌, ◌↔◌, length, map, IsTrue, IsErrOf, IfOk, OnOk, OnErr, option_map, option_copied, slice_get};
 ghost use Rattle.bsp_requests.specs.Request.{asked, asks_put, asks_get, asks_send};
-ghost use Rattle.bsp_requests.specs.Requests.{no_requests, with_request, with_output, total_bytes, max_requests, max_bytes, are_too_many, is_full_for, is_too_much};
+ghost use Rattle.bsp_requests.specs.Requests.{IsIssued, no_requests, with_output, total_bytes, max_requests, max_bytes, are_too_many, is_full_for};
 ghost use Rattle.bsp_requests.specs.declared.requests.AddError.TheVariants.{NoMemory};
 
 use crate::request::{Get, Outgoing, Put, Request};
@@ -93,25 +93,19 @@ impl<A: Allocator + Copy> Requests<A> {
 
 impl<A: Allocator> Requests<A> {
     pub fn add_put(&mut self, put: Put<A>) -> Result<(), AddError>
-        ensures ok { OnOk result (self.new ≡ with_request self.old (asks_put put)) }
-        ensures too_much { IsErrOf result AddError.TooMuch ↔ IsTrue (is_too_much self.old (asks_put put)) }
-        ensures err { OnErr result (self.new ≡ self.old) }
+        ensures { IsIssued (asks_put put) self.old self.new result }
     {
         self.add(Request::Put(put))
     }
 
     pub fn add_get(&mut self, get: Get) -> Result<(), AddError>
-        ensures ok { OnOk result (self.new ≡ with_request self.old (asks_get get)) }
-        ensures too_much { IsErrOf result AddError.TooMuch ↔ IsTrue (is_too_much self.old (asks_get get)) }
-        ensures err { OnErr result (self.new ≡ self.old) }
+        ensures { IsIssued (asks_get get) self.old self.new result }
     {
         self.add(Request::Get(get))
     }
 
     pub fn add_send(&mut self, message: Outgoing<A>) -> Result<(), AddError>
-        ensures ok { OnOk result (self.new ≡ with_request self.old (asks_send message)) }
-        ensures too_much { IsErrOf result AddError.TooMuch ↔ IsTrue (is_too_much self.old (asks_send message)) }
-        ensures err { OnErr result (self.new ≡ self.old) }
+        ensures { IsIssued (asks_send message) self.old self.new result }
     {
         self.add(Request::Send(message))
     }
@@ -186,9 +180,7 @@ impl<A: Allocator> Requests<A> {
     // For speed: it stands where it is called, so that a request is written once, into its place in the list.
     #[inline(always)]
     fn add(&mut self, request: Request<A>) -> Result<(), AddError>
-        ensures ok { OnOk result (self.new ≡ with_request self.old (asked request)) }
-        ensures too_much { IsErrOf result AddError.TooMuch ↔ IsTrue (is_too_much self.old (asked request)) }
-        ensures err { OnErr result (self.new ≡ self.old) }
+        ensures { IsIssued (asked request) self.old self.new result }
     {
         let size = request.size();
         if self.is_full_for(size) {

@@ -4,7 +4,6 @@ ghost use Rattle.std.specs.Prelude.{◌≡◌, ◌+◌, ◌*◌, ◌/◌, ◌≤
 ghost use Rattle.std.specs.List.{flat_map, prefix_len};
 ghost use Rattle.std.specs.Option.{option_map_or};
 ghost use Rattle.rv_listing.specs.Listing.{ended_line};
-ghost use Rattle.node_memory.specs.Bytes.{word_at};
 ghost use Rattle.bsp_requests.specs.Request.{asked as asked_of};
 ghost use Rattle.debug_lines.specs.Shown.{area_line, area_lines, asked_text, character, code_lines, is_of_text, point_line, point_lines, put_text, get_text, send_text, request_line, request_lines};
 ghost use Rattle.debug_lines.specs.Shown.{shown_len, shown_text, text_line, unit_of, word_entry, word_head, word_lines};
@@ -17,7 +16,7 @@ use bsp_requests::{Get, Request, Requests};
 use bsp_slots::{Area, Slots};
 use list_vec::ListVec;
 use node_memory::Segment;
-use rv_listing::{EightDigits, Lines, ShownLine};
+use rv_listing::{EightDigits, Lines, ShownLine, word_at};
 use std::alloc::{AllocError, Allocator};
 
 /// Points, a line for each. It is an error only where memory is refused.
@@ -123,14 +122,6 @@ fn add_head<B: Allocator>(text: &mut String<B>, addr: u32, at: usize) -> Result<
         write!(text, "{}: ", EightDigits(addr + 4 * at as u32))?;
     }
     Ok(())
-}
-
-/// The word at an index, its low byte first.
-fn word_at(bytes: &[u8], at: usize) -> u32
-    requires { at + 4 ≤ length bytes.now }
-    ensures { result ≡ word_at bytes.now at }
-{
-    u32::from_le_bytes([bytes[at], bytes[at + 1], bytes[at + 2], bytes[at + 3]])
 }
 
 /// Bytes as a text in quotes, up to the first that is 0.

@@ -2,6 +2,7 @@
 
 ghost use Rattle.std.specs.Prelude.{◌≡◌, ◌<◌, ◌^◌};
 ghost use Rattle.std.specs.Prelude as Prelude;
+ghost use Rattle.rv_tables.specs.Operands.{IsRegister};
 ghost use Rattle.float_unit.specs.State as State;
 ghost use Rattle.float_unit.specs.Effects as Effects;
 
@@ -47,7 +48,7 @@ impl FloatUnit {
 
     /// The pattern of 64 bits in a register.
     pub fn register(&self, r: u8) -> u64
-        requires { r < 32 }
+        requires { IsRegister r }
         ensures { result ≡ Prelude.slice_index self.now.registers r }
     {
         self.registers[r as usize]
@@ -55,7 +56,7 @@ impl FloatUnit {
 
     /// What a store of a format writes: of a single the lower half of the register, boxed or not.
     pub fn stored(&self, format: Format, r: u8) -> u64
-        requires { r < 32 }
+        requires { IsRegister r }
         ensures { result ≡ Effects.stored format self.now r }
     {
         narrowed(format, self.registers[r as usize])
@@ -88,7 +89,7 @@ impl FloatUnit {
 
     /// The double in a register.
     pub(crate) fn double(&self, r: u8) -> u64
-        requires { r < 32 }
+        requires { IsRegister r }
         ensures { result ≡ State.operand Format.Double self.now r }
     {
         self.registers[r as usize]
@@ -96,7 +97,7 @@ impl FloatUnit {
 
     /// The single in a register: the canonical NaN where it is not boxed.
     pub(crate) fn single(&self, r: u8) -> u32
-        requires { r < 32 }
+        requires { IsRegister r }
         ensures { result ≡ State.operand Format.Single self.now r }
     {
         unboxed(self.registers[r as usize])
@@ -104,7 +105,7 @@ impl FloatUnit {
 
     /// Writes a double and what it raised.
     pub(crate) fn put_double(&mut self, rd: u8, a: u64, flags: Flags)
-        requires { rd < 32 }
+        requires { IsRegister rd }
         ensures { self.new ≡ (Effects.into_float Format.Double self.old rd a flags).state }
     {
         self.registers[rd as usize] = a;
@@ -114,7 +115,7 @@ impl FloatUnit {
     /// Writes a double that was rounded, and what that raised.
     #[inline]
     pub(crate) fn round_double(&mut self, rd: u8, rounded: Rounded)
-        requires { rd < 32 }
+        requires { IsRegister rd }
         ensures { self.new ≡ (Effects.rounded_into Format.Double self.old rd rounded).state }
     {
         self.put_double(rd, rounded.bits, rounded.flags);
@@ -123,7 +124,7 @@ impl FloatUnit {
     /// Writes a single that was rounded, and what that raised.
     #[inline]
     pub(crate) fn round_single(&mut self, rd: u8, rounded: Rounded)
-        requires rd { rd < 32 }
+        requires rd { IsRegister rd }
         requires narrow { rounded.bits < 2 ^ 32 }
         ensures { self.new ≡ (Effects.rounded_into Format.Single self.old rd rounded).state }
     {
@@ -133,7 +134,7 @@ impl FloatUnit {
     /// Writes a double and all of the flags.
     #[inline(always)]
     pub(crate) fn set_double(&mut self, rd: u8, a: u64, flags: Flags)
-        requires { rd < 32 }
+        requires { IsRegister rd }
         ensures { self.new ≡ record self.old { registers = Prelude.slice_set self.old.registers rd a; flags = flags } }
     {
         self.registers[rd as usize] = a;
@@ -143,7 +144,7 @@ impl FloatUnit {
     /// Writes a double that raised nothing new.
     #[inline(always)]
     pub(crate) fn write_double(&mut self, rd: u8, a: u64)
-        requires { rd < 32 }
+        requires { IsRegister rd }
         ensures { self.new ≡ State.with_register self.old rd a }
     {
         self.registers[rd as usize] = a;
@@ -167,7 +168,7 @@ impl FloatUnit {
 
     /// Writes a single and what it raised.
     pub(crate) fn put_single(&mut self, rd: u8, a: u32, flags: Flags)
-        requires { rd < 32 }
+        requires { IsRegister rd }
         ensures { self.new ≡ (Effects.into_float Format.Single self.old rd a flags).state }
     {
         self.registers[rd as usize] = boxed(a);

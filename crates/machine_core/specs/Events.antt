@@ -1,6 +1,7 @@
 -- What happens in a machine, one event after another, in any order (own rule; BSP, Valiant 1990, leaves open how the nodes' local
 -- work is interleaved).
-use Rattle.std.specs.Prelude.{◌≡◌, ℕ, ◌≤◌, ◌==◌, Bool, true, false, not, ◌&&◌, List, [], ◌∷◌, fold, slice_get, slice_set, is_none, IsSomeAnd, if◌then◌else◌}
+use Rattle.std.specs.Prelude.{◌≡◌, ℕ, ◌<◌, ◌≤◌, ◌==◌, Bool, true, false, not, ◌&&◌, List, [], ◌∷◌, fold, replicate, slice_get, slice_set, is_none, IsSomeAnd, Result, OnOk, OnErr, IfOk, if◌then◌else◌}
+use Rattle.std.specs.declared.alloc.AllocError.{AllocError}
 use Rattle.std.specs.Fn.{iterate}
 use Rattle.std.specs.List.{AllZip, list_any}
 use Rattle.std.specs.Option.{option_map_or}
@@ -69,6 +70,20 @@ MakeNoTurn m (e ∷ events) = (makes_turn m e ≡ false) × MakeNoTurn (event m 
 abbrev pub MayRefuseEvent : MachineState → Event → Type 0
 MayRefuseEvent m (Step rank) = IsSomeAnd (slice_get m.nodes rank) (λ n. MayRefuseStep m.input n)
 MayRefuseEvent m Turn = is_enabled m Turn ≡ true
+
+-- an event was to be made, with whether it was enabled: it was made, where it is enabled, or it was refused memory. Else nothing has changed
+pub record IsAnswered (e : Event) (old new : MachineState) (answer : Result Bool AllocError) : Type 0 where
+  pub ok : OnOk answer (new ≡ event old e)
+  pub enabled : IfOk answer (λ made. made ≡ is_enabled old e)
+  pub err : OnErr answer (new ≡ old)
+  pub refuses : OnErr answer (MayRefuseEvent old e)
+
+-- so many steps of the node of a rank were to be made at most, as long as it runs: they are; or memory is refused in one of them, which
+-- could be made next, and those before it are made
+pub record AreStepsMade {T : Type 0} (rank most : ℕ) (old new : MachineState) (answer : Result T AllocError) : Type 0 where
+  pub ok : OnOk answer (new ≡ after old (replicate most (Step rank)))
+  pub err : OnErr answer ((k : ℕ) × (k < most) × (new ≡ after old (replicate k (Step rank))))
+  pub refuses : OnErr answer (MayRefuseEvent new (Step rank))
 
 -- a machine some events later: settings and input are as they were, and nothing that was done is undone
 pub record IsOnward (old new : MachineState) : Type 0 where

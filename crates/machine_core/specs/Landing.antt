@@ -1,7 +1,6 @@
 -- The turn in two halves, between which the parts of its exchange land. BSPlib (Hill and others, 1998: `bsp_sync`) leaves open who
 -- lands them; that a machine hands them out is an own form.
-use Rattle.std.specs.Prelude.{◌≡◌, List, Bool, true, None, Result, OnOk, OnErr, IfOk, IsTrue, IsSome}
-use Rattle.std.specs.declared.alloc.AllocError.{AllocError}
+use Rattle.std.specs.Prelude.{◌≡◌, List, true, None, IfOk, IsTrue, IsSome}
 use Rattle.std.specs.List.{AllZip}
 use Rattle.node_core.specs.Node.{NodeState, PreparedNode}
 use Rattle.bsp_exchange.specs.Exchange.{states}
@@ -9,17 +8,9 @@ use Rattle.bsp_exchange.specs.Parts.{PartState, CanPrepare, landed, parts_of}
 use Rattle.machine_core.specs.declared.event.Event.TheVariants.{Turn}
 use Rattle.machine_core.specs.declared.machine.turn.Begun.{Begun}
 use Rattle.machine_core.specs.declared.machine.turn.Begun.TheVariants.{Whole, Landing}
-use Rattle.machine_core.specs.Events.{event, is_enabled}
+use Rattle.machine_core.specs.Events.{IsAnswered, is_enabled}
 use Rattle.machine_core.specs.Machine.{MachineState}
 use Rattle.machine_core.specs.Turn.{outcome_of}
-
--- a machine after a turn of which no part is left to land, with its answer: the turn was made, or it is not enabled or was refused
--- memory, and nothing has changed
-pub record IsAnswered (old new : MachineState) (answer : Result Bool AllocError) : Type 0 where
-  pub ok : OnOk answer (new ≡ event old Turn)
-  pub enabled : IfOk answer (λ made. made ≡ is_enabled old Turn)
-  pub err : OnErr answer (new ≡ old)
-  pub refuses : OnErr answer (is_enabled old Turn ≡ true)
 
 -- the turn of a machine makes the exchange, whose parts are handed out with its row. Each node can be prepared for the part at its
 -- place, which lands there then
@@ -33,7 +24,7 @@ pub record IsHandedOut (old lander : MachineState) (nodes : List PreparedNode) (
 
 -- a turn that has begun: whole, and with an outcome if it was made, or with parts that have to land in nodes that are prepared for them
 abbrev pub HasBegun : {A : Type 0} → MachineState → Begun A → Type 0
-HasBegun m (Whole new answer) = IsAnswered m new answer × IfOk answer (λ made. IsTrue made → IsSome new.outcome)
+HasBegun m (Whole new answer) = IsAnswered Turn m new answer × IfOk answer (λ made. IsTrue made → IsSome new.outcome)
 HasBegun m (Landing at) = IsHandedOut m at.lander at.nodes.items at.parts.items
 
 -- the row of a machine's nodes, in each of which its part of their exchange has landed

@@ -1,12 +1,12 @@
 //! The machine itself: its events, its runs, and what can be read of it.
 
-ghost use Rattle.std.specs.Prelude.{◌≡◌, ◌↔◌, ◌<◌, ℕ, Some, None, IfOk, OnOk, OnErr, IsErrOf, IsSome, IsSomeAnd, length, map, replicate, slice_get, option_copied, option_map, true};
+ghost use Rattle.std.specs.Prelude.{◌≡◌, ◌↔◌, ◌<◌, ℕ, Some, None, IfOk, OnOk, OnErr, IsErrOf, IsSome, IsSomeAnd, length, map, slice_get, option_copied, option_map, true};
 ghost use Rattle.node_core.specs.Node.{PreparedNode, MayRefuseStep, is_running};
 ghost use Rattle.bsp_exchange.specs.Exchange.{states};
 ghost use Rattle.machine_core.specs.declared.event.Event.TheVariants.{Step as step_of, Turn as the_turn};
 ghost use Rattle.machine_core.specs.Machine.{fresh, machine_fault};
 ghost use Rattle.machine_core.specs.Turn.{lowest, makes_exchange as makes_exchange_of, with_phases, end_of};
-ghost use Rattle.machine_core.specs.Events.{is_enabled, event as event_of, after, MayRefuseEvent};
+ghost use Rattle.machine_core.specs.Events.{AreStepsMade, IsAnswered, is_enabled};
 ghost use Rattle.machine_core.specs.Walk.{walked, IsOnPhase};
 ghost use Rattle.machine_core.specs.Sound.{IsSoundMachine};
 
@@ -137,10 +137,7 @@ impl<A: Allocator + Copy> Machine<A> {
     /// refused: at a store, and at a call that stores, registers, asks or writes. Nothing has changed then, and the event can be made
     /// again.
     pub fn apply(&mut self, event: Event) -> Result<bool, AllocError>
-        ensures ok { OnOk result (self.new ≡ event_of self.old event) }
-        ensures enabled { IfOk result (λ made. made ≡ is_enabled self.old event) }
-        ensures err { OnErr result (self.new ≡ self.old) }
-        ensures refuses { OnErr result (MayRefuseEvent self.old event) }
+        ensures { IsAnswered event self.old self.new result }
     {
         match event {
             Event::Step(rank) => self.step(rank),
@@ -150,10 +147,7 @@ impl<A: Allocator + Copy> Machine<A> {
 
     /// Makes a step of the node of a rank, as [`Machine::apply`] does.
     fn step(&mut self, rank: u32) -> Result<bool, AllocError>
-        ensures ok { OnOk result (self.new ≡ event_of self.old (step_of rank)) }
-        ensures enabled { IfOk result (λ made. made ≡ is_enabled self.old (step_of rank)) }
-        ensures err { OnErr result (self.new ≡ self.old) }
-        ensures refuses { OnErr result (MayRefuseEvent self.old (step_of rank)) }
+        ensures { IsAnswered (step_of rank) self.old self.new result }
     {
         row::step_at(&mut self.nodes, rank as usize, self.input.as_slice())
     }
@@ -189,10 +183,7 @@ impl<A: Allocator + Copy> Machine<A> {
     /// # Errors
     /// Where memory is refused in a step. The steps before it are made, fewer than `most`, and the node still runs.
     pub fn run_node(&mut self, rank: u32, most: u64) -> Result<(), AllocError>
-        ensures ok { OnOk result (self.new ≡ after self.old (replicate most (step_of rank))) }
-        ensures err { OnErr result ((k : ℕ) × (k < most)
-            × (self.new ≡ after self.old (replicate k (step_of rank)))) }
-        ensures refuses { OnErr result (MayRefuseEvent self.new (step_of rank)) }
+        ensures { AreStepsMade rank most self.old self.new result }
     {
         if rank as usize >= self.nodes.len() {
             return Ok(());
@@ -203,10 +194,7 @@ impl<A: Allocator + Copy> Machine<A> {
     /// Makes at most `most` steps of the node at a place of the row, while it runs.
     fn run_at(&mut self, rank: usize, most: u64) -> Result<(), AllocError>
         requires { rank < length self.old.nodes }
-        ensures ok { OnOk result (self.new ≡ after self.old (replicate most (step_of rank))) }
-        ensures err { OnErr result ((k : ℕ) × (k < most)
-            × (self.new ≡ after self.old (replicate k (step_of rank)))) }
-        ensures refuses { OnErr result (MayRefuseEvent self.new (step_of rank)) }
+        ensures steps { AreStepsMade rank most self.old self.new result }
         ensures sound { IsSoundMachine self.old }
     {
         row::run_at(&mut self.nodes, rank, most, self.input.as_slice())

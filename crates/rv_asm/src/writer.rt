@@ -74,7 +74,7 @@ fn low_part(word: u32) -> i32
 
 /// Writes the two instructions that load a word.
 pub fn push_lui_addi<A: Allocator>(bytes: &mut Vec<u8, A>, rd: u8, word: u32) -> Result<(), AsmKind>
-    requires { rd < 32 }
+    requires { IsRegister rd }
     ensures ok { OnOk result (Adds (Spell (lui_addi rd word)) bytes.old.items bytes.new.items) }
     ensures err { IfErr result (λ kind. kind ≡ AsmKind.NoMemory) }
 {
@@ -95,7 +95,7 @@ pub fn push_lui_addi<A: Allocator>(bytes: &mut Vec<u8, A>, rd: u8, word: u32) ->
 
 /// Writes the instructions of `li`.
 pub fn push_load<A: Allocator>(bytes: &mut Vec<u8, A>, rd: u8, word: u32) -> Result<(), AsmKind>
-    requires { rd < 32 }
+    requires { IsRegister rd }
     ensures ok { OnOk result (Adds (Spell (load_of rd word)) bytes.old.items bytes.new.items) }
     ensures err { IfErr result (λ kind. kind ≡ AsmKind.NoMemory) }
 {

@@ -1,7 +1,6 @@
 -- The instruction that a halfword of each row expands to, by its quadrant and funct3, and the halfwords of none. No halfword is of two
 -- rows, of this table or of this one and that of whole numbers.
-use Rattle.std.proofs.Common.{◌≡◌, ◌≢◌, ℕ, Option, Some, None, IsSome, pos, refl, sym, ◌∙◌, arith}
-use Rattle.std.specs.Prelude.{IfSome}
+use Rattle.std.proofs.Common.{◌≡◌, ◌≢◌, ℕ, Option, Some, None, IsSome, pos, refl, ◌∙◌, arith}
 use Rattle.std.specs.List.{All, AllPairs, Contains, find}
 use Rattle.std.specs.Option.{option_map}
 use Rattle.std.proofs.lemmas.Bool.{ne_eqb, false≢true}
@@ -11,12 +10,13 @@ use Rattle.rv_tables.specs.declared.instr.Instr.{Instr}
 use Rattle.rv_tables.specs.Compressed as Integers
 use Rattle.rv_tables.specs.CompressedTables.{CompressedRow, expanded, AreDisjoint}
 use Rattle.rv_tables.specs.Halfwords.{quadrant, funct3, rd, rs2, rs1_prime, rs2_prime, immediate, word_layout, lwsp_layout, swsp_layout}
-use Rattle.rv_tables.specs.Operands.{IsImmediate}
+use Rattle.rv_tables.specs.Operands.{IsFound, IsImmediate}
 use Rattle.rv_tables.proofs.CompressedLookup.{meets_at}
 use Rattle.rv_tables.proofs.CompressedReads.{word_offset, lwsp_offset, swsp_offset}
 use Rattle.rv_tables.proofs.CompressedSpelling as IntegerSpelling
 use Rattle.rv_tables.proofs.CompressedTables.{apart, AreDisjoint-from_apart, tables_apart, of_met, ExpandsBy-from_expansion, expansion_by-ExpandsBy}
 use Rattle.rv_tables.proofs.Pairs.{AllPairs-from_pass}
+use Rattle.rv_tables.proofs.Tables.{found}
 use Rattle.rv_float_tables.specs.declared.instr.FloatInstr.{FloatInstr}
 use Rattle.rv_float_tables.specs.declared.instr.FloatInstr.TheVariants.{Load, Store}
 use Rattle.rv_float_tables.specs.declared.instr.Format.TheVariants.{Single, Double}
@@ -141,6 +141,5 @@ IsEncodable-float_expansion_of h i e =
     let x = Expands-from_expansion h i e in
     rw (← x.instruction) (All-contains ReadsWell float_compressed_rows x.row each_row x.listed h)
 
-pub IfSome-float_expansion_of : (h : ℕ) (r : Option FloatInstr) → r ≡ float_expansion_of h → IfSome r IsEncodable
-IfSome-float_expansion_of h None e = tt
-IfSome-float_expansion_of h (Some i) e = IsEncodable-float_expansion_of h i (sym e)
+pub found_halfword : (h : ℕ) (r : Option FloatInstr) → r ≡ float_expansion_of h → IsFound IsEncodable (float_expansion_of h) r
+found_halfword h r e = found IsEncodable (float_expansion_of h) r (IsEncodable-float_expansion_of h) e

@@ -1,13 +1,14 @@
 -- What the rows read off words: operands in the ranges of their forms, and one mnemonic for each row.
-use Rattle.std.proofs.Common.{◌≡◌, ℕ, List, Option, Some, None, refl, sym, arith}
-use Rattle.std.specs.Prelude.{IfSome}
+use Rattle.std.proofs.Common.{◌≡◌, ℕ, List, Option, Some, None, refl, arith}
 use Rattle.std.specs.List.{All}
 use Rattle.std.specs.Option.{option_map}
 use Rattle.std.proofs.lemmas.List.Elements.{All-from_recursion, All-contains}
 use Rattle.std.proofs.lemmas.Option.{same_Some}
 use Rattle.rv_tables.specs.Fields.{rd, rs1, rs2, i_immediate, s_immediate}
+use Rattle.rv_tables.specs.Operands.{IsFound}
 use Rattle.rv_tables.proofs.Pairs.{◌⨾◌}
 use Rattle.rv_tables.proofs.RowReads.{IsImmediate-i_immediate, IsImmediate-s_immediate}
+use Rattle.rv_tables.proofs.Tables.{found}
 use Rattle.rv_float_tables.specs.declared.instr.FloatInstr.{FloatInstr}
 use Rattle.rv_float_tables.specs.declared.instr.FloatInstr.TheVariants.{Load, Store, Fused, Arithmetic, SquareRoot, Sign, MinMax, Compare, Class, ToWord, FromWord, ToFormat, MoveToInteger, MoveFromInteger, Csr, CsrImmediate}
 use Rattle.rv_float_tables.specs.declared.instr.Format.{Format}
@@ -140,6 +141,5 @@ Suits-spelled w i s = All-contains (λ f. ReadsAlike f.read) float_encodings s.e
 pub IsEncodable-float_instruction_of : (w : ℕ) (i : FloatInstr) → float_instruction_of w ≡ Some i → IsEncodable i
 IsEncodable-float_instruction_of w i h = (Suits-spelled w i (Spells-from_instruction w i h)).0
 
-pub IfSome-float_instruction_of : (w : ℕ) (r : Option FloatInstr) → r ≡ float_instruction_of w → IfSome r IsEncodable
-IfSome-float_instruction_of w None e = tt
-IfSome-float_instruction_of w (Some i) e = IsEncodable-float_instruction_of w i (sym e)
+pub found_word : (w : ℕ) (r : Option FloatInstr) → r ≡ float_instruction_of w → IsFound IsEncodable (float_instruction_of w) r
+found_word w r e = found IsEncodable (float_instruction_of w) r (IsEncodable-float_instruction_of w) e

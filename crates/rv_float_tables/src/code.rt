@@ -1,6 +1,6 @@
 //! The instruction of a code, which may have two or four bytes.
 
-ghost use Rattle.std.specs.Prelude.{◌≡◌, IfSome};
+ghost use Rattle.rv_tables.specs.Operands.{IsFound};
 ghost use Rattle.rv_float_tables.specs.Codes.{float_decoded};
 ghost use Rattle.rv_float_tables.specs.Operands.{IsEncodable};
 
@@ -15,8 +15,7 @@ use rv_tables::Code;
 /// matter in which table a code is looked up first.
 #[inline]
 pub fn decode_code(code: Code) -> Option<FloatInstr>
-    ensures value { result ≡ float_decoded code }
-    ensures encodable { IfSome result IsEncodable }
+    ensures { IsFound IsEncodable (float_decoded code) result }
 {
     match code {
         Code::Half(half) => decode16(half),

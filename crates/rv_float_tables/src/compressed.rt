@@ -1,7 +1,8 @@
 //! The instruction that a halfword expands to.
 
-ghost use Rattle.std.specs.Prelude.{◌≡◌, IfSome};
+ghost use Rattle.std.specs.Prelude.{◌≡◌};
 ghost use Rattle.rv_tables.specs.Halfwords as Halfwords;
+ghost use Rattle.rv_tables.specs.Operands.{IsFound};
 ghost use Rattle.rv_float_tables.specs.Compressed.{float_expansion_of};
 ghost use Rattle.rv_float_tables.specs.Operands.{IsEncodable};
 
@@ -11,10 +12,9 @@ use crate::instr::{FloatInstr, Format};
 /// The instruction of floating point that a halfword expands to, or none where it meets no row of these.
 ///
 /// By matches on the quadrant and on funct3.
-#[tactic(auto, using(crate::proofs::CompressedRows::no_quadrant))]
+#[tactic(auto, using(crate::proofs::CompressedRows::no_quadrant, crate::proofs::CompressedRows::found_halfword))]
 pub fn decode16(half: u16) -> Option<FloatInstr>
-    ensures value { result ≡ float_expansion_of half }
-    ensures encodable { IfSome result IsEncodable }
+    ensures { IsFound IsEncodable (float_expansion_of half) result }
 {
     let half = u32::from(half);
     match halfword::quadrant(half) {

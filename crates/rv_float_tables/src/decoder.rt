@@ -1,8 +1,9 @@
 //! The instruction of a word.
 
-ghost use Rattle.std.specs.Prelude.{◌≡◌, Some, IfSome};
+ghost use Rattle.std.specs.Prelude.{◌≡◌, Some};
 ghost use Rattle.std.specs.Option.{option_and_then};
 ghost use Rattle.rv_tables.specs.Fields as Fields;
+ghost use Rattle.rv_tables.specs.Operands.{IsFound};
 ghost use Rattle.rv_float_tables.specs.Fields.{funct5, fmt, format_of};
 ghost use Rattle.rv_float_tables.specs.Operands.{IsEncodable};
 ghost use Rattle.rv_float_tables.specs.Rows.{float_instruction_of, fused_of, arithmetic_of, square_root_of, to_word_of, from_word_of, to_format_of, csr_instruction_of, csr_immediate_of};
@@ -16,10 +17,9 @@ use crate::instr::{
 /// control and status register of another kind.
 ///
 /// By matches on the opcode, and on the fields that it asks for.
-#[tactic(auto, using(crate::proofs::NoRow::opcodes))]
+#[tactic(auto, using(crate::proofs::NoRow::opcodes, crate::proofs::RowReads::found_word))]
 pub fn decode(word: u32) -> Option<FloatInstr>
-    ensures value { result ≡ float_instruction_of word }
-    ensures encodable { IfSome result IsEncodable }
+    ensures { IsFound IsEncodable (float_instruction_of word) result }
 {
     match fields::opcode(word) {
         0x07 => load(word),

@@ -1,6 +1,7 @@
 //! The word of an instruction.
 
-ghost use Rattle.std.specs.Prelude.{◌≡◌, ◌↔◌, ℕ, ◌+◌, ◌*◌, ◌^◌, ◌<◌, ◌++◌, codes, Some, IsSome, IfSome};
+ghost use Rattle.std.specs.Prelude.{◌≡◌, ◌+◌, ◌*◌, ◌^◌, ◌<◌, ◌++◌, codes, Some};
+ghost use Rattle.rv_tables.specs.Words.{IsEncoded};
 ghost use Rattle.rv_float_tables.specs.Fields.{format_code};
 ghost use Rattle.rv_float_tables.specs.Mnemonics.{float_row_named, load_mnemonic, store_mnemonic, fused_mnemonic, arithmetic_mnemonic, sign_mnemonic, min_max_mnemonic, compare_mnemonic, to_word_mnemonic, from_word_mnemonic, to_format_mnemonic, csr_mnemonic};
 ghost use Rattle.rv_float_tables.specs.Operands.{IsEncodable};
@@ -21,9 +22,7 @@ const SYSTEM: u32 = 0x73;
 ///
 /// Each instruction has one word.
 pub fn encode(instr: &FloatInstr) -> Option<u32>
-    ensures encodable { IsSome result ↔ IsEncodable instr.now }
-    ensures decodes { IfSome result (λ w. float_instruction_of w ≡ Some instr.now) }
-    ensures only_word { (w : ℕ) → w < 2 ^ 32 → float_instruction_of w ≡ Some instr.now → result ≡ Some w }
+    ensures { IsEncoded (IsEncodable instr.now) (λ w. float_instruction_of w ≡ Some instr.now) result }
 {
     match *instr {
         FloatInstr::Load {

@@ -1,8 +1,8 @@
 //! The names of the registers.
 
-ghost use Rattle.std.specs.Prelude.{◌≡◌, IfSome};
+ghost use Rattle.std.specs.Prelude.{◌≡◌};
 ghost use Rattle.std.specs.Option.{option_map};
-ghost use Rattle.rv_tables.specs.Operands.{IsRegister};
+ghost use Rattle.rv_tables.specs.Operands.{IsRegister, IsFound};
 ghost use Rattle.rv_float_tables.specs.Registers.{float_register_number, float_register_name};
 
 use rv_tables::named;
@@ -79,8 +79,7 @@ static NAMES: [(&str, u8); 64] = [
 /// The names are `f0` to `f31`, with no leading zero, and those of the calling convention: `ft0` to `ft11`, `fs0` to `fs11`,
 /// `fa0` to `fa7`.
 pub fn float_reg_number(name: &[u8]) -> Option<u8>
-    ensures value { result ≡ float_register_number name.now }
-    ensures register { IfSome result IsRegister }
+    ensures { IsFound IsRegister (float_register_number name.now) result }
 {
     named(&NAMES, name)
 }

@@ -1,8 +1,8 @@
 //! The words of the formats I, S and R, made of their fields.
 
-ghost use Rattle.std.specs.Prelude.{◌≡◌, ◌↔◌, ◌^◌, ◌<◌, IsSome};
+ghost use Rattle.std.specs.Prelude.{◌^◌, ◌<◌};
 ghost use Rattle.rv_tables.specs.Operands.{IsRegister, IsImmediate};
-ghost use Rattle.rv_tables.specs.Words.{IsOnlyWord};
+ghost use Rattle.rv_tables.specs.Words.{IsEncoded};
 ghost use Rattle.rv_float_tables.specs.Words.{IsIWord, IsSWord, IsRWord, IsR4Word};
 
 use crate::fields::bits;
@@ -11,8 +11,7 @@ use crate::fields::bits;
 pub fn i_word(opcode: u32, funct3: u32, rd: u8, rs1: u8, imm: i32) -> Option<u32>
     requires opcode { opcode < 2 ^ 7 }
     requires funct3 { funct3 < 2 ^ 3 }
-    ensures encodable { IsSome result ↔ (IsRegister rd × IsRegister rs1 × IsImmediate imm) }
-    ensures word { IsOnlyWord (IsIWord opcode funct3 rd rs1 imm) result }
+    ensures { IsEncoded (IsRegister rd × IsRegister rs1 × IsImmediate imm) (IsIWord opcode funct3 rd rs1 imm) result }
 {
     if rd >= 32 || rs1 >= 32 || !(-2048..2048).contains(&imm) {
         return None;
@@ -26,8 +25,7 @@ pub fn i_word(opcode: u32, funct3: u32, rd: u8, rs1: u8, imm: i32) -> Option<u32
 pub fn s_word(opcode: u32, funct3: u32, rs1: u8, rs2: u8, imm: i32) -> Option<u32>
     requires opcode { opcode < 2 ^ 7 }
     requires funct3 { funct3 < 2 ^ 3 }
-    ensures encodable { IsSome result ↔ (IsRegister rs1 × IsRegister rs2 × IsImmediate imm) }
-    ensures word { IsOnlyWord (IsSWord opcode funct3 rs1 rs2 imm) result }
+    ensures { IsEncoded (IsRegister rs1 × IsRegister rs2 × IsImmediate imm) (IsSWord opcode funct3 rs1 rs2 imm) result }
 {
     if rs1 >= 32 || rs2 >= 32 || !(-2048..2048).contains(&imm) {
         return None;
@@ -43,8 +41,7 @@ pub fn r_word(opcode: u32, rd: u8, funct3: u32, rs1: u8, rs2: u8, funct7: u32) -
     requires opcode { opcode < 2 ^ 7 }
     requires funct3 { funct3 < 2 ^ 3 }
     requires funct7 { funct7 < 2 ^ 7 }
-    ensures encodable { IsSome result ↔ (IsRegister rd × IsRegister rs1 × IsRegister rs2) }
-    ensures word { IsOnlyWord (IsRWord opcode rd funct3 rs1 rs2 funct7) result }
+    ensures { IsEncoded (IsRegister rd × IsRegister rs1 × IsRegister rs2) (IsRWord opcode rd funct3 rs1 rs2 funct7) result }
 {
     if rd >= 32 || rs1 >= 32 || rs2 >= 32 {
         return None;
@@ -58,8 +55,7 @@ pub fn r4_word(opcode: u32, rd: u8, funct3: u32, rs1: u8, rs2: u8, fmt: u32, rs3
     requires opcode { opcode < 2 ^ 7 }
     requires funct3 { funct3 < 2 ^ 3 }
     requires fmt { fmt < 2 ^ 2 }
-    ensures encodable { IsSome result ↔ (IsRegister rd × IsRegister rs1 × IsRegister rs2 × IsRegister rs3) }
-    ensures word { IsOnlyWord (IsR4Word opcode rd funct3 rs1 rs2 fmt rs3) result }
+    ensures { IsEncoded (IsRegister rd × IsRegister rs1 × IsRegister rs2 × IsRegister rs3) (IsR4Word opcode rd funct3 rs1 rs2 fmt rs3) result }
 {
     if rd >= 32 || rs1 >= 32 || rs2 >= 32 || rs3 >= 32 {
         return None;

@@ -13,7 +13,7 @@
 //! - Instructions of floating point are data in all of these, as on nodes without units. [`ShownLine`] and [`FloatStatement`] have
 //!   their names, as GNU objdump writes them; all else is the same there.
 //! - [`TwoDigits`], [`FourDigits`] and [`EightDigits`] display bytes, halfwords and words as listings write them, for other texts
-//!   that show such.
+//!   that show such; [`word_at`] gives the word that stands at a place among bytes.
 //! - The text of a code does not rest on the codes beside it, and says nothing of labels, sections or pseudo-instructions. A
 //!   compressed instruction has the text of the one to which it expands, with a comment that it is compressed.
 //!
@@ -27,6 +27,6 @@ mod numerals;
 mod statement;
 
 pub use floats::{FloatStatement, ShownLine};
-pub use lines::{Line, Lines};
+pub use lines::{Line, Lines, word_at};
 pub use numerals::{EightDigits, FourDigits, TwoDigits};
 pub use statement::{Statement, list};

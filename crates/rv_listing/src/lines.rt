@@ -157,7 +157,7 @@ fn half_at(bytes: &[u8], at: usize) -> u16
 }
 
 /// The word at an index, its low byte first.
-fn word_at(bytes: &[u8], at: usize) -> u32
+pub fn word_at(bytes: &[u8], at: usize) -> u32
     requires { at + 4 ≤ length bytes.now }
     ensures { result ≡ word_at bytes.now at }
 {

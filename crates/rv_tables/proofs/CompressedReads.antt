@@ -1,6 +1,6 @@
 -- What the compressed rows read off halfwords that meet them: operands in the ranges of their forms.
-use Rattle.std.proofs.Common.{◌≡◌, ℕ, true, [], ◌∷◌, Option, Some, None, pos, sym, arith}
-use Rattle.std.specs.Prelude.{IfSome, ◌<◌}
+use Rattle.std.proofs.Common.{◌≡◌, ℕ, true, [], ◌∷◌, Option, Some, pos, arith}
+use Rattle.std.specs.Prelude.{◌<◌}
 use Rattle.std.specs.List.{All}
 use Rattle.std.proofs.lemmas.Bool.{and_parts}
 use Rattle.std.proofs.lemmas.Bool.Decides.{nat_tests}
@@ -9,11 +9,12 @@ use Rattle.std.proofs.lemmas.List.Elements.{All-from_recursion, All-contains}
 use Rattle.rv_tables.specs.declared.instr.Instr.{Instr}
 use Rattle.rv_tables.specs.Fields.{sign_extended}
 use Rattle.rv_tables.specs.Halfwords.{immediate, addi4spn_layout, word_layout, small_layout, addi16sp_layout, jump_layout, branch_layout, lwsp_layout, swsp_layout}
-use Rattle.rv_tables.specs.Operands.{IsEncodable, IsImmediate, IsBranchOffset, IsJumpOffset}
+use Rattle.rv_tables.specs.Operands.{IsEncodable, IsFound, IsImmediate, IsBranchOffset, IsJumpOffset}
 use Rattle.rv_tables.specs.Compressed.{compressed_rows, expansion_of, amount_has_bit_5, c_addi4spn, c_lw, c_sw, c_addi, c_jal, c_li, c_addi16sp, c_lui, c_srli, c_srai, c_andi, c_sub, c_xor, c_or, c_and, c_j, c_beqz, c_bnez, c_slli, c_lwsp, c_jr, c_mv, c_ebreak, c_jalr, c_add, c_swsp}
 use Rattle.rv_tables.specs.CompressedTables.{CompressedRow, is_of, meets, expanded, has_none}
 use Rattle.rv_tables.proofs.CompressedSpelling.{Expands-from_expansion}
 use Rattle.rv_tables.proofs.Pairs.{◌⨾◌}
+use Rattle.rv_tables.proofs.Tables.{found}
 
 -- the instruction of a halfword that meets the row has operands in range
 abbrev ReadsWell : CompressedRow Instr → Type 0
@@ -145,6 +146,5 @@ IsEncodable-expansion_of h i e =
     let x = Expands-from_expansion h i e in
     rw (← x.instruction) (All-contains ReadsWell compressed_rows x.row each_row x.listed h x.met)
 
-pub IfSome-expansion_of : (h : ℕ) (r : Option Instr) → r ≡ expansion_of h → IfSome r IsEncodable
-IfSome-expansion_of h None e = tt
-IfSome-expansion_of h (Some i) e = IsEncodable-expansion_of h i (sym e)
+pub found_halfword : (h : ℕ) (r : Option Instr) → r ≡ expansion_of h → IsFound IsEncodable (expansion_of h) r
+found_halfword h r e = found IsEncodable (expansion_of h) r (IsEncodable-expansion_of h) e

@@ -1,6 +1,5 @@
 -- What the rows read off words: operands in the ranges of their forms, and one mnemonic for each row.
-use Rattle.std.proofs.Common.{◌≡◌, ℕ, Option, Some, None, refl, sym, ap, ◌∙◌, arith}
-use Rattle.std.specs.Prelude.{IfSome}
+use Rattle.std.proofs.Common.{◌≡◌, ℕ, Option, Some, refl, sym, ap, ◌∙◌, arith}
 use Rattle.std.specs.List.{All, Contains}
 use Rattle.std.proofs.lemmas.Int.{ints}
 use Rattle.std.proofs.lemmas.List.Elements.{All-from_recursion, All-contains}
@@ -24,10 +23,11 @@ use Rattle.rv_tables.specs.declared.instr.PlainOp.{PlainOp}
 use Rattle.rv_tables.specs.declared.instr.PlainOp.TheVariants.{Fence, FenceI, Ecall, Ebreak}
 use Rattle.rv_tables.specs.Fields.{rd, rs1, rs2, shamt, i_immediate, s_immediate, b_immediate, u_immediate, j_immediate}
 use Rattle.rv_tables.specs.Mnemonics.{mnemonic_of}
-use Rattle.rv_tables.specs.Operands.{IsEncodable, IsImmediate, IsBranchOffset, IsJumpOffset}
+use Rattle.rv_tables.specs.Operands.{IsEncodable, IsFound, IsImmediate, IsBranchOffset, IsJumpOffset}
 use Rattle.rv_tables.specs.Rows.{Encoding, encodings, Spells, instruction_of}
 use Rattle.rv_tables.proofs.Pairs.{◌⨾◌}
 use Rattle.rv_tables.proofs.Spelling.{Spells-from_instruction}
+use Rattle.rv_tables.proofs.Tables.{found}
 
 pub IsImmediate-i_immediate : (w : ℕ) → IsImmediate (i_immediate w)
 IsImmediate-i_immediate w = grind (arith, ints)
@@ -100,9 +100,8 @@ IsEncodable-instruction_of w i h =
     let s = Spells-from_instruction w i h in
     rw (← s.operands) (reads_alike s.encoding s.listed w).0
 
-pub IfSome-instruction_of : (w : ℕ) (r : Option Instr) → r ≡ instruction_of w → IfSome r IsEncodable
-IfSome-instruction_of w None e = tt
-IfSome-instruction_of w (Some i) e = IsEncodable-instruction_of w i (sym e)
+pub found_word : (w : ℕ) (r : Option Instr) → r ≡ instruction_of w → IsFound IsEncodable (instruction_of w) r
+found_word w r e = found IsEncodable (instruction_of w) r (IsEncodable-instruction_of w) e
 
 -- a row that reads an instruction off some word has its mnemonic
 pub mnemonic_of-spelled : (w : ℕ) (i : Instr) (s : Spells w i) → mnemonic_of i ≡ mnemonic_of (s.encoding.read 0)

@@ -1,4 +1,5 @@
--- Tables of which no word meets two rows: the row that a lookup finds is the one that the word meets.
+-- Tables of which no word meets two rows: the row that a lookup finds is the one that the word meets. What a table has in range is
+-- found in range.
 use Rattle.std.proofs.Common.{◌≡◌, ℕ, Bool, true, not, List, Option, Some, None, refl, sym, ◌∙◌, ap, eqb, bit_and}
 use Rattle.std.specs.List.{AllPairs, Contains, find, list_all}
 use Rattle.std.specs.Option.{option_map}
@@ -9,6 +10,7 @@ use Rattle.std.proofs.lemmas.Nat.{and_assoc, and_comm}
 use Rattle.std.proofs.lemmas.Option.{same_Some}
 use lib.Bits.{and_self}
 use Rattle.rv_tables.specs.declared.instr.Row.{Row}
+use Rattle.rv_tables.specs.Operands.{IsFound}
 use Rattle.rv_tables.specs.Tables.{RowEncoding, meets, MeetsRow, IsDisjoint, Reads, read_off}
 use Rattle.rv_tables.proofs.Finds.{find-found, find-finds}
 use Rattle.rv_tables.proofs.Pairs.{all_pairs, AllPairs-from_pass, same_by_pairs}
@@ -62,3 +64,8 @@ Reads-from_read_off {F} {R} table w r h = from_first (find (meets w) table) refl
 
 pub read_off-Reads : {F R : Type 0} (table : List (RowEncoding F R)) → HasDisjointRows table → (w : ℕ) (r : R) → Reads table w r → read_off table w ≡ Some r
 read_off-Reads table disjoint w r s = read_off-met table disjoint w s.encoding s.listed s.met ∙ ap Some s.operands
+
+-- what is found is what is meant, and all that this may be is in its range
+pub found : {T : Type 0} (InRange : T → Type 0) (meant r : Option T) → ((x : T) → meant ≡ Some x → InRange x) → r ≡ meant → IsFound InRange meant r
+found InRange meant None in_range e = record { value = e; encodable = tt }
+found InRange meant (Some x) in_range e = record { value = e; encodable = in_range x (sym e) }

@@ -1,6 +1,6 @@
 -- The operands that the fields of a word have room for (RISC-V Unprivileged ISA 20191213, section 2.2 "Base
 -- Instruction Formats" and section 2.3 "Immediate Encoding Variants").
-use Rattle.std.specs.Prelude.{◌≡◌, ℕ, ◌-◌, ◌<◌, ◌^◌, ℤ, pos, neg_ℤ, ◌≤ℤ◌, ◌<ℤ◌, int_rem}
+use Rattle.std.specs.Prelude.{◌≡◌, ℕ, ◌-◌, ◌<◌, ◌^◌, ℤ, pos, neg_ℤ, ◌≤ℤ◌, ◌<ℤ◌, int_rem, Option, IfSome}
 use Rattle.rv_tables.specs.declared.instr.Instr.{Instr}
 use Rattle.rv_tables.specs.declared.instr.Instr.TheVariants.{R, I, Shift, Load, Store, Branch, Upper, Jal, Jalr, Plain}
 use Rattle.rv_tables.specs.declared.instr.PlainOp.TheVariants.{Fence, FenceI}
@@ -40,6 +40,11 @@ IsEncodable (Upper op rd imm) = IsRegister rd × (imm < 2 ^ 20)
 IsEncodable (Jal rd imm) = IsRegister rd × IsJumpOffset imm
 IsEncodable (Jalr rd rs1 imm) = IsRegister rd × IsRegister rs1 × IsImmediate imm
 IsEncodable (Plain op) = Unit {0}
+
+-- what a code or a name stands for was to be found: it is this, if anything, and is in its range
+pub record IsFound {T : Type 0} (InRange : T → Type 0) (meant result : Option T) : Type 0 where
+  pub value : result ≡ meant
+  pub encodable : IfSome result InRange
 
 -- the instructions that many words spell: a fence's word has fields that are no operands of it
 abbrev pub IsFence : Instr → Type 0

@@ -1,6 +1,6 @@
 -- The words of the base formats (RISC-V Unprivileged ISA 20191213, section 2.2 "Base Instruction Formats" and section 2.3
 -- "Immediate Encoding Variants"): the bits that a row fixes, and the operands in the others.
-use Rattle.std.specs.Prelude.{◌≡◌, ℕ, ◌<◌, ◌^◌, ℤ, Option, Some, IfSome, bit_and}
+use Rattle.std.specs.Prelude.{◌≡◌, ℕ, ◌<◌, ◌^◌, ◌↔◌, ℤ, Option, Some, IfSome, IsSome, bit_and}
 use Rattle.rv_tables.specs.declared.instr.Instr.TheVariants.{R, I, Shift, Load, Store, Branch, Upper}
 use Rattle.rv_tables.specs.declared.instr.Form.TheVariants as form
 use Rattle.rv_tables.specs.declared.instr.ROp.{ROp}
@@ -63,3 +63,8 @@ IsJWord value rd imm w = (bit_and w 0x7F ≡ value) × (Fields.rd w ≡ rd) × (
 -- the value in a result has a property of words, and no other word has it
 abbrev pub IsOnlyWord : (ℕ → Type 0) → Option ℕ → Type 0
 IsOnlyWord P result = IfSome result P × ((w : ℕ) → w < 2 ^ 32 → P w → result ≡ Some w)
+
+-- a word with a property was to be made of operands: there is one just where these are in their ranges, and it is the only one
+pub record IsEncoded (InRange : Type 0) (P : ℕ → Type 0) (result : Option ℕ) : Type 0 where
+  pub encodable : IsSome result ↔ InRange
+  pub word : IsOnlyWord P result

@@ -1,8 +1,8 @@
 //! The code of an instruction, and how long it is.
 
-ghost use Rattle.std.specs.Prelude.{◌≡◌, IfSome};
+ghost use Rattle.std.specs.Prelude.{◌≡◌};
 ghost use Rattle.rv_tables.specs.Codes.{code_length, code_in, length_of, decoded};
-ghost use Rattle.rv_tables.specs.Operands.{IsEncodable};
+ghost use Rattle.rv_tables.specs.Operands.{IsEncodable, IsFound};
 
 use crate::compressed::decode16;
 use crate::decoder::decode;
@@ -46,8 +46,7 @@ impl Code {
     /// Its instruction, as [`decode16`] and [`decode`] answer it.
     #[inline(always)]
     pub fn decode(self) -> Option<Instr>
-        ensures value { result ≡ decoded self }
-        ensures encodable { IfSome result IsEncodable }
+        ensures { IsFound IsEncodable (decoded self) result }
     {
         match self {
             Code::Half(half) => decode16(half),

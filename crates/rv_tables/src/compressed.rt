@@ -1,10 +1,10 @@
 //! The instruction that a halfword expands to.
 
-ghost use Rattle.std.specs.Prelude.{◌≡◌, nat_lt, if◌then◌else◌, Some, None, IfSome};
+ghost use Rattle.std.specs.Prelude.{◌≡◌, nat_lt, if◌then◌else◌, Some, None};
 ghost use Rattle.rv_tables.specs.Fields.{bits};
 ghost use Rattle.rv_tables.specs.Halfwords as Halfwords;
 ghost use Rattle.rv_tables.specs.Halfwords.{immediate, small_layout};
-ghost use Rattle.rv_tables.specs.Operands.{IsEncodable};
+ghost use Rattle.rv_tables.specs.Operands.{IsEncodable, IsFound};
 ghost use Rattle.rv_tables.specs.Compressed.{expansion_of};
 
 use crate::fields::bits;
@@ -18,10 +18,9 @@ use crate::instr::{BranchOp, IOp, Instr, LoadOp, PlainOp, ROp, ShiftOp, StoreOp,
 /// By matches on the quadrant and on funct3, and on further bits where these ask for them.
 // For speed: a node decodes a halfword in each step on compressed code.
 #[inline(always)]
-#[tactic(auto, using(crate::proofs::EachCompressedRow::no_quadrant))]
+#[tactic(auto, using(crate::proofs::EachCompressedRow::no_quadrant, crate::proofs::CompressedReads::found_halfword))]
 pub fn decode16(half: u16) -> Option<Instr>
-    ensures value { result ≡ expansion_of half }
-    ensures encodable { IfSome result IsEncodable }
+    ensures { IsFound IsEncodable (expansion_of half) result }
 {
     let half = u32::from(half);
     match halfword::quadrant(half) {

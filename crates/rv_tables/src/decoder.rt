@@ -1,8 +1,8 @@
 //! The instruction of a word.
 
-ghost use Rattle.std.specs.Prelude.{◌≡◌, ◌⊎◌, Some, IfSome};
+ghost use Rattle.std.specs.Prelude.{◌≡◌, ◌⊎◌, Some};
 ghost use Rattle.rv_tables.specs.Fields as Fields;
-ghost use Rattle.rv_tables.specs.Operands.{IsEncodable};
+ghost use Rattle.rv_tables.specs.Operands.{IsEncodable, IsFound};
 ghost use Rattle.rv_tables.specs.Rows.{instruction_of};
 
 use crate::fields;
@@ -13,10 +13,9 @@ use crate::instr::{BranchOp, IOp, Instr, LoadOp, PlainOp, ROp, ShiftOp, StoreOp,
 /// By matches on the opcode, and on funct3 and funct7 where the opcode asks for them.
 // For speed: a node decodes a word in each step, and a call of its own would cost as much as the rest of the step.
 #[inline(always)]
-#[tactic(auto, using(crate::proofs::NoRow::opcodes))]
+#[tactic(auto, using(crate::proofs::NoRow::opcodes, crate::proofs::RowReads::found_word))]
 pub fn decode(word: u32) -> Option<Instr>
-    ensures value { result ≡ instruction_of word }
-    ensures encodable { IfSome result IsEncodable }
+    ensures { IsFound IsEncodable (instruction_of word) result }
 {
     match fields::opcode(word) {
         0x37 => Some(Instr::Upper {

@@ -1,7 +1,6 @@
 //! The names of the registers.
 
-ghost use Rattle.std.specs.Prelude.{◌≡◌, IfSome};
-ghost use Rattle.rv_tables.specs.Operands.{IsRegister};
+ghost use Rattle.rv_tables.specs.Operands.{IsRegister, IsFound};
 ghost use Rattle.rv_tables.specs.Registers.{register_number};
 
 use crate::names::named;
@@ -79,8 +78,7 @@ static NAMES: [(&str, u8); 65] = [
 /// The names are `x0` to `x31`, with no leading zero, and those of the calling convention: `zero`, `ra`, `sp`, `gp`,
 /// `tp`, `t0` to `t6`, `s0` (also `fp`) to `s11`, `a0` to `a7`.
 pub fn reg_number(name: &[u8]) -> Option<u8>
-    ensures value { result ≡ register_number name.now }
-    ensures register { IfSome result IsRegister }
+    ensures { IsFound IsRegister (register_number name.now) result }
 {
     named(&NAMES, name)
 }

@@ -1,9 +1,9 @@
 //! The words of the base formats: a row's value, and operands where the value has no bits.
 
-ghost use Rattle.std.specs.Prelude.{◌≡◌, ◌↔◌, ◌+◌, ◌*◌, ◌^◌, ◌<◌, bit_and, IsSome};
+ghost use Rattle.std.specs.Prelude.{◌≡◌, ◌+◌, ◌*◌, ◌^◌, ◌<◌, bit_and};
 ghost use Rattle.rv_tables.specs.Fields as Fields;
 ghost use Rattle.rv_tables.specs.Operands.{IsRegister, IsImmediate, IsBranchOffset, IsJumpOffset};
-ghost use Rattle.rv_tables.specs.Words.{IsRWord, IsIWord, IsSWord, IsBWord, IsUWord, IsJWord, IsOnlyWord};
+ghost use Rattle.rv_tables.specs.Words.{IsRWord, IsIWord, IsSWord, IsBWord, IsUWord, IsJWord, IsEncoded};
 
 use crate::fields::bits;
 
@@ -11,8 +11,7 @@ use crate::fields::bits;
 #[tactic(auto, using(crate::proofs::Masks::under_FE00707F))]
 pub fn r_word(value: u32, rd: u8, rs1: u8, rs2: u8) -> Option<u32>
     requires { bit_and value 0xFE00707F ≡ value }
-    ensures encodable { IsSome result ↔ (IsRegister rd × IsRegister rs1 × IsRegister rs2) }
-    ensures word { IsOnlyWord (IsRWord value rd rs1 rs2) result }
+    ensures { IsEncoded (IsRegister rd × IsRegister rs1 × IsRegister rs2) (IsRWord value rd rs1 rs2) result }
 {
     if rd >= 32 || rs1 >= 32 || rs2 >= 32 {
         return None;
@@ -24,8 +23,7 @@ pub fn r_word(value: u32, rd: u8, rs1: u8, rs2: u8) -> Option<u32>
 #[tactic(auto, using(crate::proofs::Masks::under_707F))]
 pub fn i_word(value: u32, rd: u8, rs1: u8, imm: i32) -> Option<u32>
     requires { bit_and value 0x707F ≡ value }
-    ensures encodable { IsSome result ↔ (IsRegister rd × IsRegister rs1 × IsImmediate imm) }
-    ensures word { IsOnlyWord (IsIWord value rd rs1 imm) result }
+    ensures { IsEncoded (IsRegister rd × IsRegister rs1 × IsImmediate imm) (IsIWord value rd rs1 imm) result }
 {
     if rd >= 32 || rs1 >= 32 || !(-2048..2048).contains(&imm) {
         return None;
@@ -38,8 +36,7 @@ pub fn i_word(value: u32, rd: u8, rs1: u8, imm: i32) -> Option<u32>
 #[tactic(auto, using(crate::proofs::Masks::under_707F))]
 pub fn s_word(value: u32, rs1: u8, rs2: u8, imm: i32) -> Option<u32>
     requires { bit_and value 0x707F ≡ value }
-    ensures encodable { IsSome result ↔ (IsRegister rs1 × IsRegister rs2 × IsImmediate imm) }
-    ensures word { IsOnlyWord (IsSWord value rs1 rs2 imm) result }
+    ensures { IsEncoded (IsRegister rs1 × IsRegister rs2 × IsImmediate imm) (IsSWord value rs1 rs2 imm) result }
 {
     if rs1 >= 32 || rs2 >= 32 || !(-2048..2048).contains(&imm) {
         return None;
@@ -52,8 +49,7 @@ pub fn s_word(value: u32, rs1: u8, rs2: u8, imm: i32) -> Option<u32>
 /// The word of a B-type row.
 pub fn b_word(value: u32, rs1: u8, rs2: u8, imm: i32) -> Option<u32>
     requires { bit_and value 0x707F ≡ value }
-    ensures encodable { IsSome result ↔ (IsRegister rs1 × IsRegister rs2 × IsBranchOffset imm) }
-    ensures word { IsOnlyWord (IsBWord value rs1 rs2 imm) result }
+    ensures { IsEncoded (IsRegister rs1 × IsRegister rs2 × IsBranchOffset imm) (IsBWord value rs1 rs2 imm) result }
 {
     if rs1 >= 32 || rs2 >= 32 || !(-4096..4096).contains(&imm) || imm % 2 != 0 {
         return None;
@@ -76,8 +72,7 @@ fn b_bits(imm: i32) -> u32
 /// The word of a U-type row.
 pub fn u_word(value: u32, rd: u8, imm: u32) -> Option<u32>
     requires { bit_and value 0x7F ≡ value }
-    ensures encodable { IsSome result ↔ (IsRegister rd × (imm < 2 ^ 20)) }
-    ensures word { IsOnlyWord (IsUWord value rd imm) result }
+    ensures { IsEncoded (IsRegister rd × (imm < 2 ^ 20)) (IsUWord value rd imm) result }
 {
     if rd >= 32 || imm >= 1 << 20 {
         return None;
@@ -88,8 +83,7 @@ pub fn u_word(value: u32, rd: u8, imm: u32) -> Option<u32>
 /// The word of a J-type row.
 pub fn j_word(value: u32, rd: u8, imm: i32) -> Option<u32>
     requires { bit_and value 0x7F ≡ value }
-    ensures encodable { IsSome result ↔ (IsRegister rd × IsJumpOffset imm) }
-    ensures word { IsOnlyWord (IsJWord value rd imm) result }
+    ensures { IsEncoded (IsRegister rd × IsJumpOffset imm) (IsJWord value rd imm) result }
 {
     if rd >= 32 || !(-0x10_0000..0x10_0000).contains(&imm) || imm % 2 != 0 {
         return None;

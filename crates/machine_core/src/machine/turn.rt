@@ -1,9 +1,9 @@
 //! The turn, at once or in two halves, between which the nodes are prepared for the parts of their exchange, and these land.
 
-ghost use Rattle.std.specs.Prelude.{◌≡◌, IfOk, OnOk, OnErr, true};
+ghost use Rattle.std.specs.Prelude.{◌≡◌, true};
 ghost use Rattle.machine_core.specs.declared.event.Event.TheVariants.{Turn as the_turn};
-ghost use Rattle.machine_core.specs.Events.{is_enabled, event as event_of, MayRefuseEvent};
-ghost use Rattle.machine_core.specs.Landing.{HasBegun, IsAnswered};
+ghost use Rattle.machine_core.specs.Events.{IsAnswered, is_enabled};
+ghost use Rattle.machine_core.specs.Landing.{HasBegun};
 
 use crate::closing::{Closing, begin, last_row};
 use crate::machine::Machine;
@@ -35,23 +35,20 @@ pub struct Landing<A: Allocator> {
 impl<A: Allocator + Copy> Machine<A> {
     /// Makes the turn, as [`Machine::apply`] does: ends the superstep, with the exchange or with the outcome.
     pub fn turn(&mut self) -> Result<bool, AllocError>
-        ensures ok { OnOk result (self.new ≡ event_of self.old the_turn) }
-        ensures enabled { IfOk result (λ made. made ≡ is_enabled self.old the_turn) }
-        ensures err { OnErr result (self.new ≡ self.old) }
-        ensures refuses { OnErr result (MayRefuseEvent self.old the_turn) }
+        ensures { IsAnswered the_turn self.old self.new result }
     {
         core::mem::replace_with(
             self,
             (),
             |machine: Machine<A>, _nothing: ()| -> (Machine<A>, Result<bool, AllocError>)
-                ensures { IsAnswered machine result.0 result.1 }
+                ensures { IsAnswered the_turn machine result.0 result.1 }
             { machine.turn_whole() },
         )
     }
 
     /// Makes the turn, whose nodes are prepared and whose parts land in this thread.
     fn turn_whole(self) -> (Machine<A>, Result<bool, AllocError>)
-        ensures { IsAnswered self result.0 result.1 }
+        ensures { IsAnswered the_turn self result.0 result.1 }
     {
         match self.begin_turn() {
             Begun::Whole(machine, answer) => (machine, answer),

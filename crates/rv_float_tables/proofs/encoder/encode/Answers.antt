@@ -1,7 +1,7 @@
 -- Each form's word is the only one of its row with its operands, so it is the only one that spells the instruction.
-use Rattle.std.proofs.Common.{◌≡◌, ◌↔◌, ℕ, ◌^◌, ◌<◌, Option, Some, IsSome, IfSome, refl, w32, arith, rules}
+use Rattle.std.proofs.Common.{◌≡◌, ◌↔◌, ℕ, Option, Some, IsSome, refl, w32, arith, rules}
 use Rattle.std.proofs.lemmas.Int.{to_z-of_z}
-use Rattle.rv_tables.specs.Words.{IsOnlyWord}
+use Rattle.rv_tables.specs.Words.{IsOnlyWord, IsEncoded}
 use Rattle.rv_float_tables.specs.declared.instr.FloatInstr.{FloatInstr}
 use Rattle.rv_float_tables.specs.Mnemonics.{float_row_named}
 use Rattle.rv_float_tables.specs.Operands.{IsEncodable}
@@ -11,16 +11,9 @@ use Rattle.rv_float_tables.proofs.OnlyWords.{only_load, only_store, only_fused, 
 use Rattle.rv_float_tables.proofs.RowNames.{fsqrt, fclass}
 use Rattle.rv_float_tables.proofs.encoder.encode.Goals as goal
 
--- what is to be shown of the word of an instruction, clause by clause
-abbrev Clauses : FloatInstr → Option ℕ → Type 0
-Clauses i r = record {
-  encodable : IsSome r ↔ IsEncodable i;
-  decodes : IfSome r (λ w. float_instruction_of w ≡ Some i);
-  only_word : (w : ℕ) → w < 2 ^ 32 → float_instruction_of w ≡ Some i → r ≡ Some w;
-}
-
-clauses : (i j : FloatInstr) (r : Option ℕ) → j ≡ i → IsSome r ↔ IsEncodable i → IsOnlyWord (λ w. float_instruction_of w ≡ Some i) r → Clauses j r
-clauses i j r is encodable only = rw is (record { encodable = encodable; decodes = only.0; only_word = only.1 })
+-- what is to be shown of the word of an instruction
+clauses : (i j : FloatInstr) (r : Option ℕ) → j ≡ i → IsSome r ↔ IsEncodable i → IsOnlyWord (λ w. float_instruction_of w ≡ Some i) r → IsEncoded (IsEncodable j) (λ w. float_instruction_of w ≡ Some j) r
+clauses i j r is encodable only = rw is (record { encodable = encodable; word = only })
 
 -- a form that has no rs2 has something in its place
 without_rs2 : {A B C D : Type 0} → A ↔ (B × C × D) → D → A ↔ (B × C)

@@ -7,8 +7,5 @@ value : (c : goal.After-named) → c.named.result ≡ register_number c.args.nam
 unfolding register_number register_names
 value c = c.named.ensures
 
-pub returns-clause-value : goal.returns-clause-value
-returns-clause-value c = value c
-
-pub returns-clause-register : goal.returns-clause-register
-returns-clause-register c = IsRegister-register_number c.args.name.now c.named.result (value c)
+pub returns : goal.returns
+returns c = record { value = value c; encodable = IsRegister-register_number c.args.name.now c.named.result (value c) }

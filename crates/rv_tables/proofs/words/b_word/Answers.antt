@@ -1,8 +1,10 @@
-use Rattle.std.proofs.Common.{◌∙◌, arith}
+use Rattle.std.proofs.Common.{◌∙◌, arith, rules}
 use Rattle.std.proofs.lemmas.Int.{to_z-of_z}
 use Rattle.rv_tables.proofs.BranchWord.{IsOnlyWord-b}
 use Rattle.rv_tables.proofs.words.b_word.Goals as goal
 
-pub returns-clause-word : goal.returns-clause-word
-returns-clause-word c =
-    IsOnlyWord-b c.args.value c.args.rs1 c.args.rs2 c.b_bits.result _ c.args.imm c.requires (omega arith) (omega arith) (c.b_bits.ensures.offset ∙ to_z-of_z _ _ c.ranges.imm) c.b_bits.ensures.alone (omega arith)
+pub returns : goal.returns
+returns c = record {
+  encodable = search rules;
+  word = IsOnlyWord-b c.args.value c.args.rs1 c.args.rs2 c.b_bits.result _ c.args.imm c.requires (omega arith) (omega arith) (c.b_bits.ensures.offset ∙ to_z-of_z _ _ c.ranges.imm) c.b_bits.ensures.alone (omega arith);
+}

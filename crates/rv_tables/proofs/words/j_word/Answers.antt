@@ -1,8 +1,10 @@
-use Rattle.std.proofs.Common.{◌∙◌, arith}
+use Rattle.std.proofs.Common.{◌∙◌, arith, rules}
 use Rattle.std.proofs.lemmas.Int.{to_z-of_z}
 use Rattle.rv_tables.proofs.JumpWord.{IsOnlyWord-j}
 use Rattle.rv_tables.proofs.words.j_word.Goals as goal
 
-pub returns-clause-word : goal.returns-clause-word
-returns-clause-word c =
-    IsOnlyWord-j c.args.value c.args.rd c.j_bits.result _ c.args.imm c.requires (omega arith) (c.j_bits.ensures.offset ∙ to_z-of_z _ _ c.ranges.imm) c.j_bits.ensures.alone (omega arith)
+pub returns : goal.returns
+returns c = record {
+  encodable = search rules;
+  word = IsOnlyWord-j c.args.value c.args.rd c.j_bits.result _ c.args.imm c.requires (omega arith) (c.j_bits.ensures.offset ∙ to_z-of_z _ _ c.ranges.imm) c.j_bits.ensures.alone (omega arith);
+}

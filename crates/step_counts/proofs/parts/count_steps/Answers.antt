@@ -10,13 +10,13 @@ loop-pcs-init g c = record { counting = Counting-start c.args.machine.now c.args
 
 pub returns-in_err-made-clause-made : goal.returns-in_err-made-clause-made
 returns-in_err-made-clause-made g c =
-    let refused = c.in_err-made.ensures.err in
+    let refused = c.in_err-made.ensures.steps.err in
     made-more c.args.machine.now c.loop-pcs.machine c.args.rank c.loop-pcs.table c.requires.sound c.loop-pcs.invariant.counting c.run_node_traced.new.self refused.0 refused.2
 
 pub loop-place-init : goal.loop-place-init
 loop-place-init g c = record {
   counted =
-      Counted-made c.args.machine.now c.loop-pcs.machine c.args.rank c.loop-pcs.table c.requires.sound c.loop-pcs.invariant.counting c.run_node_traced.new.self _ c.in_ok-made.ensures.ok
+      Counted-made c.args.machine.now c.loop-pcs.machine c.args.rank c.loop-pcs.table c.requires.sound c.loop-pcs.invariant.counting c.run_node_traced.new.self _ c.in_ok-made.ensures.steps.ok
       (take c.in_ok-made.made c.run_node_traced.new.pcs) c.in_ok-made.ensures.addresses;
   memory = c.loop-pcs.invariant.memory;
 }
@@ -24,7 +24,7 @@ loop-place-init g c = record {
 pub loop-pcs-smaller : goal.loop-pcs-smaller
 loop-pcs-smaller g c =
     fewer c.args.machine.now c.loop-pcs.machine c.args.rank c.loop-pcs.table c.requires.sound c.loop-pcs.invariant.counting c.run_node_traced.new.self _ (omega arith)
-    (sym c.runs.ensures ∙ c.loop-pcs-test.true) c.in_ok-made.ensures.ok
+    (sym c.runs.ensures ∙ c.loop-pcs-test.true) c.in_ok-made.ensures.steps.ok
 
 pub loop-pcs-preserved : goal.loop-pcs-preserved
 loop-pcs-preserved g c =
@@ -32,7 +32,7 @@ loop-pcs-preserved g c =
     let long = length-take-le c.in_ok-made.made c.run_node_traced.new.pcs (omega (arith, c.in_ok-made.ensures.few, c.run_node_traced.auto.pcs)) in
     let none : drop c.loop-place.place pcs ≡ [] = drop_all c.loop-place.place pcs (omega (arith, long, c.loop-place-test.false)) in
     record {
-      counting = Counting-more c.args.machine.now c.loop-pcs.machine c.args.rank c.loop-pcs.table c.requires.sound c.loop-pcs.invariant.counting c.run_node_traced.new.self _ c.loop-place.table c.in_ok-made.ensures.ok
+      counting = Counting-more c.args.machine.now c.loop-pcs.machine c.args.rank c.loop-pcs.table c.requires.sound c.loop-pcs.invariant.counting c.run_node_traced.new.self _ c.loop-place.table c.in_ok-made.ensures.steps.ok
           (subst (λ xs. Counted (addresses_at c.args.machine.now c.args.rank) (xs ++ addresses_at c.run_node_traced.new.self c.args.rank) c.loop-place.table) none c.loop-place.invariant.counted);
       memory = c.loop-place.invariant.memory;
     }
@@ -61,7 +61,7 @@ add-requires-clause-outside g c =
 
 pub returns-in_err-add-clause-made : goal.returns-in_err-add-clause-made
 returns-in_err-add-clause-made g c =
-    made-more c.args.machine.now c.loop-pcs.machine c.args.rank c.loop-pcs.table c.requires.sound c.loop-pcs.invariant.counting c.run_node_traced.new.self _ c.in_ok-made.ensures.ok
+    made-more c.args.machine.now c.loop-pcs.machine c.args.rank c.loop-pcs.table c.requires.sound c.loop-pcs.invariant.counting c.run_node_traced.new.self _ c.in_ok-made.ensures.steps.ok
 
 pub loop-place-preserved : goal.loop-place-preserved
 loop-place-preserved g c =

@@ -1,12 +1,10 @@
 use Rattle.std.proofs.Common.{◌≡◌, length, sym, ap, ◌∙◌, arith}
 use Rattle.std.proofs.lemmas.List.{length-map, with_items_is}
-use Rattle.std.proofs.lemmas.Result.{on_ok_weaker, on_err_weaker}
 use Rattle.node_core.specs.Node.{PreparedNode}
 use Rattle.bsp_exchange.specs.Exchange.{states}
-use Rattle.machine_core.specs.Events.{after}
 use Rattle.machine_core.specs.Inside.{machine_view}
 use Rattle.machine_core.specs.Machine.{MachineState}
-use Rattle.machine_core.proofs.Runs.{steps_of, with-steps, sound-steps, may_refuse}
+use Rattle.machine_core.proofs.Runs.{sound-steps, steps_made}
 use Rattle.machine_core.proofs.machine.Machine.run_at.Goals as goal
 
 pub run_at-requires : goal.run_at-requires
@@ -22,31 +20,9 @@ invariant_of-self g c =
     c.as_slice.ensures (ap states c.deref_mut.ensures.value) (ap states row)
     c.run_at.result c.args.most c.self.invariant c.run_at.ensures.ok c.run_at.ensures.err
 
-pub returns-clause-ok : goal.returns-clause-ok
-returns-clause-ok g c =
+pub returns-clause-steps : goal.returns-clause-steps
+returns-clause-steps g c =
     let row = with_items_is c.self.inside.nodes c.run_at.new.nodes (omega arith) in
-    on_ok_weaker c.run_at.result
-    (λ made. with-steps (machine_view c.self.inside) c.as_slice.result.now (states c.deref_mut.result.now) (states c.run_at.new.nodes) _ c.args.rank
-    c.as_slice.ensures (ap states c.deref_mut.ensures.value) (ap states row) c.args.most made
-    ∙ ap (λ (m : MachineState). after m (steps_of c.args.rank c.args.most)) c.self.view_is)
-    c.run_at.ensures.ok
-
-pub returns-clause-err : goal.returns-clause-err
-returns-clause-err g c =
-    let row = with_items_is c.self.inside.nodes c.run_at.new.nodes (omega arith) in
-    on_err_weaker c.run_at.result
-    (λ made. (
-      made.0,
-      made.1,
-      with-steps (machine_view c.self.inside) c.as_slice.result.now (states c.deref_mut.result.now) (states c.run_at.new.nodes) _ c.args.rank
-          c.as_slice.ensures (ap states c.deref_mut.ensures.value) (ap states row) made.0 made.2
-          ∙ ap (λ (m : MachineState). after m (steps_of c.args.rank made.0)) c.self.view_is,
-    ))
-    c.run_at.ensures.err
-
-pub returns-clause-refuses : goal.returns-clause-refuses
-returns-clause-refuses g c =
-    let row = with_items_is c.self.inside.nodes c.run_at.new.nodes (omega arith) in
-    on_err_weaker c.run_at.result
-    (λ may. may_refuse c.as_slice.result.now _ (states c.run_at.new.nodes) _ c.args.rank c.as_slice.ensures (ap states row) may)
-    c.run_at.ensures.refuses
+    steps_made (machine_view c.self.inside) c.as_slice.result.now (states c.deref_mut.result.now) (states c.run_at.new.nodes) _ c.args.rank
+    c.as_slice.ensures (ap states c.deref_mut.ensures.value) (ap states row)
+    _ c.run_at.result c.args.most c.self.view_is c.run_at.ensures.ok c.run_at.ensures.err c.run_at.ensures.refuses

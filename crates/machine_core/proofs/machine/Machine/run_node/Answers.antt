@@ -5,11 +5,11 @@ use Rattle.machine_core.specs.Machine.{MachineState}
 use Rattle.machine_core.proofs.Runs.{steps-absent}
 use Rattle.machine_core.proofs.machine.Machine.run_node.Goals as goal
 
-pub returns-then-rank-len-clause-ok : goal.returns-then-rank-len-clause-ok
-returns-then-rank-len-clause-ok g c =
+pub returns-then-rank-len : goal.returns-then-rank-len
+returns-then-rank-len g c =
     let long : c.len.result ≡ length c.args.self.now.nodes =
     c.len.ensures ∙ c.self.inside.nodes.ok.0 ∙ sym (length-map c.self.inside.nodes.items (λ (p : PreparedNode). p.node)) ∙ ap (λ (m : MachineState). length m.nodes) c.self.view_is in
-    steps-absent c.args.most c.args.self.now c.args.rank (omega (arith, long, c.if-rank-len.true))
+    record { ok = steps-absent c.args.most c.args.self.now c.args.rank (omega (arith, long, c.if-rank-len.true)); err = tt; refuses = tt }
 
 pub run_at-requires : goal.run_at-requires
 run_at-requires g c =
@@ -17,11 +17,5 @@ run_at-requires g c =
     c.len.ensures ∙ c.self.inside.nodes.ok.0 ∙ sym (length-map c.self.inside.nodes.items (λ (p : PreparedNode). p.node)) ∙ ap (λ (m : MachineState). length m.nodes) c.self.view_is in
     omega (arith, long, c.if-rank-len.false)
 
-pub returns-clause-ok : goal.returns-clause-ok
-returns-clause-ok g c = c.run_at.ensures.ok
-
-pub returns-clause-err : goal.returns-clause-err
-returns-clause-err g c = c.run_at.ensures.err
-
-pub returns-clause-refuses : goal.returns-clause-refuses
-returns-clause-refuses g c = c.run_at.ensures.refuses
+pub returns : goal.returns
+returns g c = c.run_at.ensures.steps

@@ -6,11 +6,11 @@ use Rattle.machine_core.proofs.Addresses.{addresses-absent}
 use Rattle.machine_core.proofs.Runs.{steps-absent}
 use Rattle.machine_core.proofs.machine.Machine.run_node_traced.Goals as goal
 
-pub returns-then-rank-len-clause-ok : goal.returns-then-rank-len-clause-ok
-returns-then-rank-len-clause-ok g c =
+pub returns-then-rank-len-clause-steps : goal.returns-then-rank-len-clause-steps
+returns-then-rank-len-clause-steps g c =
     let long : c.len.result ≡ length c.args.self.now.nodes =
     c.len.ensures ∙ c.self.inside.nodes.ok.0 ∙ sym (length-map c.self.inside.nodes.items (λ (p : PreparedNode). p.node)) ∙ ap (λ (m : MachineState). length m.nodes) c.self.view_is in
-    steps-absent (length c.args.pcs.now) c.args.self.now c.args.rank (omega (arith, long, c.if-rank-len.true))
+    record { ok = steps-absent (length c.args.pcs.now) c.args.self.now c.args.rank (omega (arith, long, c.if-rank-len.true)); err = tt; refuses = tt }
 
 pub run_traced_at-requires : goal.run_traced_at-requires
 run_traced_at-requires g c =
@@ -18,14 +18,8 @@ run_traced_at-requires g c =
     c.len.ensures ∙ c.self.inside.nodes.ok.0 ∙ sym (length-map c.self.inside.nodes.items (λ (p : PreparedNode). p.node)) ∙ ap (λ (m : MachineState). length m.nodes) c.self.view_is in
     omega (arith, long, c.if-rank-len.false)
 
-pub returns-clause-ok : goal.returns-clause-ok
-returns-clause-ok g c = c.run_traced_at.ensures.ok
-
-pub returns-clause-err : goal.returns-clause-err
-returns-clause-err g c = c.run_traced_at.ensures.err
-
-pub returns-clause-refuses : goal.returns-clause-refuses
-returns-clause-refuses g c = c.run_traced_at.ensures.refuses
+pub returns-clause-steps : goal.returns-clause-steps
+returns-clause-steps g c = c.run_traced_at.ensures.steps
 
 pub returns-then-rank-len-clause-addresses : goal.returns-then-rank-len-clause-addresses
 returns-then-rank-len-clause-addresses g c =

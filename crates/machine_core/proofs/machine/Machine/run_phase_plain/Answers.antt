@@ -32,28 +32,28 @@ run_at-requires g c =
 pub returns-in_err-run_at-clause-err : goal.returns-in_err-run_at-clause-err
 returns-in_err-run_at-clause-err g c =
     let p = err_from_is_err_and c.from_residual.result c.from_residual.ensures.1 in
-    let made = c.in_err-run_at.ensures.err in
+    let made = c.in_err-run_at.ensures.steps.err in
     rw p.1 (IsOnPhase-part c.args.self.now c.loop-rank.self c.run_at.new.self c.loop-rank.rank c.loop-rank.invariant.phasing made.0 made.2)
 
 pub returns-in_err-run_at-clause-going : goal.returns-in_err-run_at-clause-going
 returns-in_err-run_at-clause-going g c =
     let p = err_from_is_err_and c.from_residual.result c.from_residual.ensures.1 in
-    let made = c.in_err-run_at.ensures.err in
+    let made = c.in_err-run_at.ensures.steps.err in
     let sound = IsSoundMachine-part c.args.self.now c.loop-rank.self c.run_at.new.self c.loop-rank.rank c.loop-rank.invariant.phasing made.0 made.2 in
-    rw p.1 (outcome_from c.run_at.new.self c.loop-rank.rank sound c.in_err-run_at.ensures.refuses)
+    rw p.1 (outcome_from c.run_at.new.self c.loop-rank.rank sound c.in_err-run_at.ensures.steps.refuses)
 
 pub returns-in_err-run_at-clause-refuses : goal.returns-in_err-run_at-clause-refuses
 returns-in_err-run_at-clause-refuses g c =
     let p = err_from_is_err_and c.from_residual.result c.from_residual.ensures.1 in
-    let made = c.in_err-run_at.ensures.err in
+    let made = c.in_err-run_at.ensures.steps.err in
     let before = stopped-part c.args.self.now c.loop-rank.self c.run_at.new.self c.loop-rank.rank c.loop-rank.invariant.phasing made.0 made.2 in
-    rw p.1 (lowest_from c.run_at.new.self c.loop-rank.rank before c.in_err-run_at.ensures.refuses)
+    rw p.1 (lowest_from c.run_at.new.self c.loop-rank.rank before c.in_err-run_at.ensures.steps.refuses)
 
 pub loop-rank-preserved : goal.loop-rank-preserved
 loop-rank-preserved g c =
     let m = c.loop-rank.self in
     let made : c.run_at.new.self ≡ after m (steps_of c.loop-rank.rank m.settings.limit) =
-    c.in_ok-run_at.ensures.ok ∙ ap (λ (x : MachineState). after m (steps_of c.loop-rank.rank x.settings.limit)) c.self-in-loop-rank.view_is in
+    c.in_ok-run_at.ensures.steps.ok ∙ ap (λ (x : MachineState). after m (steps_of c.loop-rank.rank x.settings.limit)) c.self-in-loop-rank.view_is in
     record {
       phasing = IsPhasing-more c.args.self.now m c.run_at.new.self c.loop-rank.rank c.loop-rank.invariant.phasing made;
       settings = ap (λ (x : MachineState). x.settings) (made ∙ after-often m.settings.limit m c.loop-rank.rank) ∙ c.loop-rank.invariant.settings;

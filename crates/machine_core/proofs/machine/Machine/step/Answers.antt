@@ -1,4 +1,4 @@
-use Rattle.std.proofs.Common.{List, false, ap, ◌∙◌, arith}
+use Rattle.std.proofs.Common.{List, false, ap, ◌∙◌, arith, rules}
 use Rattle.std.specs.Prelude.{slice_get}
 use Rattle.std.specs.Option.{option_map_or}
 use Rattle.std.proofs.lemmas.List.{with_items_is}
@@ -19,26 +19,22 @@ invariant_of-self g c =
     c.as_slice.ensures (ap states c.deref_mut.ensures.value) (ap states row)
     c.step_at.result c.self.invariant c.step_at.ensures.ok c.step_at.ensures.err
 
-pub returns-clause-ok : goal.returns-clause-ok
-returns-clause-ok g c =
+pub returns : goal.returns
+returns g c =
     let row = with_items_is c.self.inside.nodes c.step_at.new.nodes (omega arith) in
-    on_ok_weaker c.step_at.result
-    (λ made. with-step (machine_view c.self.inside) c.as_slice.result.now (states c.deref_mut.result.now) (states c.step_at.new.nodes) _ c.args.rank
-    c.as_slice.ensures (ap states c.deref_mut.ensures.value) (ap states row) made
-    ∙ ap (λ (m : MachineState). event m (Step c.args.rank)) c.self.view_is)
-    c.step_at.ensures.ok
-
-pub returns-clause-enabled : goal.returns-clause-enabled
-returns-clause-enabled g c =
-    IfOk-weaker c.step_at.result _ _
-    (λ made is. is
-    ∙ ap (λ (xs : List NodeState). option_map_or runs (slice_get xs c.args.rank) false) (ap states c.deref_mut.ensures.value ∙ ap (λ (m : MachineState). m.nodes) c.self.view_is))
-    c.step_at.ensures.made
-
-pub returns-clause-err : goal.returns-clause-err
-returns-clause-err g c =
-    let row = with_items_is c.self.inside.nodes c.step_at.new.nodes (omega arith) in
-    on_err_weaker c.step_at.result
-    (λ same. with-none (machine_view c.self.inside) c.as_slice.result.now (states c.deref_mut.result.now) (states c.step_at.new.nodes) _ c.args.rank
-    c.as_slice.ensures (ap states c.deref_mut.ensures.value) (ap states row) same ∙ c.self.view_is)
-    c.step_at.ensures.err
+    record {
+      ok = on_ok_weaker c.step_at.result
+          (λ made. with-step (machine_view c.self.inside) c.as_slice.result.now (states c.deref_mut.result.now) (states c.step_at.new.nodes) _ c.args.rank
+          c.as_slice.ensures (ap states c.deref_mut.ensures.value) (ap states row) made
+          ∙ ap (λ (m : MachineState). event m (Step c.args.rank)) c.self.view_is)
+          c.step_at.ensures.ok;
+      enabled = IfOk-weaker c.step_at.result _ _
+          (λ made is. is
+          ∙ ap (λ (xs : List NodeState). option_map_or runs (slice_get xs c.args.rank) false) (ap states c.deref_mut.ensures.value ∙ ap (λ (m : MachineState). m.nodes) c.self.view_is))
+          c.step_at.ensures.made;
+      err = on_err_weaker c.step_at.result
+          (λ same. with-none (machine_view c.self.inside) c.as_slice.result.now (states c.deref_mut.result.now) (states c.step_at.new.nodes) _ c.args.rank
+          c.as_slice.ensures (ap states c.deref_mut.ensures.value) (ap states row) same ∙ c.self.view_is)
+          c.step_at.ensures.err;
+      refuses = search rules;
+    }

@@ -148,13 +148,13 @@ impl<A: Allocator + Copy> Hart<A> {
     {
         let addr = self.reg(A0);
         let len = self.reg(A1);
-        if !self.memory.fits(addr, len) {
+        if !self.memory.plain().fits(addr, len) {
             return Ok(State::Faulted(Fault::RangeOutside));
         }
         if u64::from(len) > MAX_BYTES - self.communication.requests.bytes() {
             return Ok(State::Faulted(Fault::TooMuch));
         }
-        let Ok(bytes) = self.memory.read_range(addr, len) else {
+        let Ok(bytes) = self.memory.plain().read_range(addr, len) else {
             return Err(AllocError);
         };
         match self.communication.requests.add_output(bytes.as_slice()) {

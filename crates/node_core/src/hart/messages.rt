@@ -34,7 +34,7 @@ fn write_word_and_bytes<A: Allocator + Copy>(
     ensures same_size { length memory.new.bytes ≡ length memory.old.bytes }
 {
     let len = bytes.len() as u32;
-    if !memory.fits(word_addr, 4) || !memory.fits(addr, len) {
+    if !memory.plain().fits(word_addr, 4) || !memory.plain().fits(addr, len) {
         return Err(WriteError::Outside);
     }
     memory.own(word_addr, 4)?;

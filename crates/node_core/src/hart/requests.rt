@@ -33,7 +33,7 @@ impl<A: Allocator + Copy> Hart<A> {
             addr: self.reg(A0),
             size: self.reg(A1),
         };
-        if !self.memory.fits(area.addr, area.size) {
+        if !self.memory.plain().fits(area.addr, area.size) {
             return Ok(State::Faulted(Fault::RangeOutside));
         }
         match self.communication.slots.push(area) {
@@ -70,7 +70,7 @@ impl<A: Allocator + Copy> Hart<A> {
         ensures refuses { OnErr result (MayRefuseCall Call.SetTagsize [] self.old.hart) }
     {
         let addr = self.reg(A0);
-        let Some(size) = self.memory.load32(addr) else {
+        let Some(size) = self.memory.plain().load32(addr) else {
             return Ok(State::Faulted(Fault::RangeOutside));
         };
         if size > MAX_TAG_SIZE {
@@ -104,7 +104,7 @@ impl<A: Allocator + Copy> Hart<A> {
         if target >= self.nprocs {
             return Ok(State::Faulted(Fault::BadRank));
         }
-        if !self.memory.fits(src, len) {
+        if !self.memory.plain().fits(src, len) {
             return Ok(State::Faulted(Fault::RangeOutside));
         }
         let Some(slot) = self.communication.slots.find(dst) else {
@@ -113,7 +113,7 @@ impl<A: Allocator + Copy> Hart<A> {
         if self.communication.requests.is_full_for(u64::from(len)) {
             return Ok(State::Faulted(Fault::TooMuch));
         }
-        let Ok(bytes) = self.memory.read_range(src, len) else {
+        let Ok(bytes) = self.memory.plain().read_range(src, len) else {
             return Err(AllocError);
         };
         let put = Put {
@@ -142,7 +142,7 @@ impl<A: Allocator + Copy> Hart<A> {
         if target >= self.nprocs {
             return Ok(State::Faulted(Fault::BadRank));
         }
-        if !self.memory.fits(dst, len) {
+        if !self.memory.plain().fits(dst, len) {
             return Ok(State::Faulted(Fault::RangeOutside));
         }
         let Some(slot) = self.communication.slots.find(src) else {
@@ -179,17 +179,17 @@ impl<A: Allocator + Copy> Hart<A> {
         if target >= self.nprocs {
             return Ok(State::Faulted(Fault::BadRank));
         }
-        if !self.memory.fits(tag, tag_len) || !self.memory.fits(payload, len) {
+        if !self.memory.plain().fits(tag, tag_len) || !self.memory.plain().fits(payload, len) {
             return Ok(State::Faulted(Fault::RangeOutside));
         }
         let size = u64::from(tag_len) + u64::from(len);
         if self.communication.requests.is_full_for(size) {
             return Ok(State::Faulted(Fault::TooMuch));
         }
-        let Ok(tag) = self.memory.read_range(tag, tag_len) else {
+        let Ok(tag) = self.memory.plain().read_range(tag, tag_len) else {
             return Err(AllocError);
         };
-        let Ok(payload) = self.memory.read_range(payload, len) else {
+        let Ok(payload) = self.memory.plain().read_range(payload, len) else {
             return Err(AllocError);
         };
         let message = Outgoing {

@@ -8,7 +8,7 @@ use Rattle.bsp_exchange.specs.declared.fault.ExchangeFault.TheVariants.{TagMisma
 use Rattle.bsp_exchange.specs.declared.fault.ExchangeError.{ExchangeError}
 use Rattle.bsp_exchange.specs.declared.fault.ExchangeError.TheVariants.{Fault, NoMemory}
 use Rattle.bsp_exchange.specs.Issued.{issued}
-use Rattle.bsp_exchange.specs.Faults.{disagreeing, have_same_tag_size, have_same_shape, first_outside, exchange_fault}
+use Rattle.bsp_exchange.specs.Faults.{disagreeing, have_same_tag_size, have_same_shape, first_outside, exchange_fault, NamesFault}
 
 -- the first fault is one of the tag sizes, or else one of the registrations, or else one of the requests
 pub fault_of_tags : (nodes : List NodeState) (rank : ℕ) → disagreeing have_same_tag_size nodes ≡ Some rank → Some (TagMismatch rank) ≡ exchange_fault nodes
@@ -23,10 +23,6 @@ fault_of_slots nodes rank tags slots =
 pub fault_of_requests : (nodes : List NodeState) → disagreeing have_same_tag_size nodes ≡ None → disagreeing have_same_shape nodes ≡ None → first_outside nodes (issued nodes) ≡ exchange_fault nodes
 fault_of_requests nodes tags slots =
     ap₂ (λ (o p : Option ℕ). option_or (option_map TagMismatch o) (option_or (option_map SlotMismatch p) (first_outside nodes (issued nodes)))) (sym tags) (sym slots)
-
--- a result names the fault that there is, and none where there is none
-abbrev pub NamesFault : {T : Type 0} → Result T ExchangeError → Option ExchangeFault → Type 0
-NamesFault r fault = (f : ExchangeFault) → IsErrOf r (Fault f) ↔ (fault ≡ Some f)
 
 pub NamesFault-some : {T : Type 0} (fault : Option ExchangeFault) (e : ExchangeFault) → fault ≡ Some e → NamesFault {T = T} (Err (Fault e)) fault
 NamesFault-some fault e is f = (λ same. cc, λ same. cc)

@@ -1,7 +1,7 @@
 -- Why an exchange is refused. The nodes have to agree on the next tag size and on the sequence of registrations (BSPlib, Hill and
 -- others 1998: `bsp_set_tagsize`, `bsp_push_reg` and `bsp_pop_reg` are to be called alike by all processes), and puts and gets have
 -- to keep to the registered areas. That these are faults, and their order, is an own rule.
-use Rattle.std.specs.Prelude.{ℕ, ◌+◌, ◌==◌, Bool, false, not, nat_le, List, [], ◌∷◌, ◌++◌, codes, length, find, Option, None, option_map, nat_eq}
+use Rattle.std.specs.Prelude.{◌≡◌, ◌↔◌, ℕ, ◌+◌, ◌==◌, Bool, false, not, nat_le, List, [], ◌∷◌, ◌++◌, codes, length, find, Option, Some, None, Result, IsErrOf, option_map, nat_eq}
 use Rattle.std.specs.Option.{option_or, option_map_or, option_eq}
 use Rattle.std.specs.Cmp.Lexicographic.{pointwise}
 use Rattle.std.specs.Fmt.{decimal}
@@ -9,6 +9,8 @@ use Rattle.bsp_slots.specs.declared.area.Area.{Area}
 use Rattle.bsp_slots.specs.Registrations.{shape}
 use Rattle.bsp_requests.specs.Request.{Asked, asks_put, asks_get, asks_send}
 use Rattle.node_core.specs.Node.{NodeState}
+use Rattle.bsp_exchange.specs.declared.fault.ExchangeError.{ExchangeError}
+use Rattle.bsp_exchange.specs.declared.fault.ExchangeError.TheVariants.{Fault}
 use Rattle.bsp_exchange.specs.declared.fault.ExchangeFault.{ExchangeFault}
 use Rattle.bsp_exchange.specs.declared.fault.ExchangeFault.TheVariants.{TagMismatch, SlotMismatch, OutsideArea}
 use Rattle.bsp_exchange.specs.Areas.{area_at}
@@ -54,6 +56,10 @@ exchange_fault nodes =
     option_or (option_map TagMismatch (disagreeing have_same_tag_size nodes))
     (option_or (option_map SlotMismatch (disagreeing have_same_shape nodes))
     (first_outside nodes (issued nodes)))
+
+-- an answer names the fault that there is, and none where there is none: it may be then that memory is refused
+abbrev pub NamesFault : {T : Type 0} → Result T ExchangeError → Option ExchangeFault → Type 0
+NamesFault answer fault = (f : ExchangeFault) → IsErrOf answer (Fault f) ↔ (fault ≡ Some f)
 
 -- what a fault is called in texts for users (own names)
 abbrev pub fault_text : ExchangeFault → List ℕ

@@ -1,15 +1,14 @@
 //! The exchange, whole: its plan, and then the landing of each part.
 
-ghost use Rattle.std.specs.Prelude.{◌≡◌, ◌^◌, ◌<◌, ◌≤◌, ◌↔◌, Some, OnOk, OnErr, IfOk, IsErrOf, length, map, slice_get, slice_set};
+ghost use Rattle.std.specs.Prelude.{◌≡◌, ◌^◌, ◌<◌, ◌≤◌, Some, OnOk, OnErr, IfOk, length, map, slice_get, slice_set};
 ghost use Rattle.std.specs.List.{AllZip};
 ghost use Rattle.node_core.specs.Node.{PreparedNode};
-ghost use Rattle.bsp_exchange.specs.declared.fault.ExchangeFault.{ExchangeFault};
 ghost use Rattle.bsp_exchange.specs.Exchange.{AreAtSync, AreUnready, exchanged, states};
-ghost use Rattle.bsp_exchange.specs.Faults.{exchange_fault};
+ghost use Rattle.bsp_exchange.specs.Faults.{NamesFault, exchange_fault};
 ghost use Rattle.bsp_exchange.specs.Parts.{CanLand, EachKeepsOwn, PartState, landed, landed_as, spent_part};
 ghost use Rattle.bsp_exchange.specs.Traffic.{traffic_of};
 
-use crate::fault::{ExchangeError, ExchangeFault};
+use crate::fault::ExchangeError;
 use crate::part::{Part, Plan};
 use crate::planning::plan;
 use crate::traffic::Traffic;
@@ -38,8 +37,7 @@ pub fn exchange<A: Allocator + Copy>(
     ensures unready { OnOk result (AreUnready nodes.new) }
     ensures traffic { IfOk result (λ t. t ≡ traffic_of (states nodes.old)) }
     ensures bounded { IfOk result (λ t. (t.h ≤ t.h_all) × (t.h_all ≤ 2 ^ 34) × (t.messages ≤ 2 ^ 26)) }
-    ensures fault { (fault : ExchangeFault)
-        → IsErrOf result (ExchangeError.Fault fault) ↔ (exchange_fault (states nodes.old) ≡ Some fault) }
+    ensures fault { NamesFault result (exchange_fault (states nodes.old)) }
     ensures err { OnErr result (states nodes.new ≡ states nodes.old) }
     ensures own { EachKeepsOwn nodes.old nodes.new }
 {

@@ -1,14 +1,14 @@
 //! The plan of an exchange: all of it that takes memory or can be refused, and nothing that changes a node. What of it reads other
 //! nodes than the one at hand is a draft.
 
-ghost use Rattle.std.specs.Prelude.{◌≡◌, ◌+◌, ◌^◌, ◌<◌, ◌≤◌, ◌↔◌, All, Some, IfOk, OnOk, OnErr, IsErrOf, length, map};
+ghost use Rattle.std.specs.Prelude.{◌≡◌, ◌+◌, ◌^◌, ◌<◌, ◌≤◌, ◌↔◌, All, Some, IfOk, OnOk, OnErr, length, map};
 ghost use Rattle.std.specs.List.{AllZip, enumerate_from};
 ghost use Rattle.bsp_requests.specs.Inbox.{IsQueue};
 ghost use Rattle.node_core.specs.Hart.{max_nodes};
 ghost use Rattle.bsp_exchange.specs.declared.fault.ExchangeFault.{ExchangeFault};
 ghost use Rattle.bsp_exchange.specs.Arrivals.{Received, part_from};
 ghost use Rattle.bsp_exchange.specs.Exchange.{AreAtSync, states};
-ghost use Rattle.bsp_exchange.specs.Faults.{exchange_fault};
+ghost use Rattle.bsp_exchange.specs.Faults.{NamesFault, exchange_fault};
 ghost use Rattle.bsp_exchange.specs.Parts.{CanExchange, CanLand, CanPrepare, EachKeepsOwn, bytes_in, parts_of};
 ghost use Rattle.bsp_exchange.specs.Traffic.{traffic_of};
 
@@ -40,8 +40,7 @@ pub fn plan<A: Allocator + Copy>(alloc: A, nodes: &mut [Node<A>]) -> Result<Plan
     ensures traffic { IfOk result (λ plan. plan.traffic ≡ traffic_of (states nodes.old)) }
     ensures bounded { IfOk result (λ plan. (plan.traffic.h ≤ plan.traffic.h_all)
         × (plan.traffic.h_all ≤ 2 ^ 34) × (plan.traffic.messages ≤ 2 ^ 26)) }
-    ensures fault { (fault : ExchangeFault)
-        → IsErrOf result (ExchangeError.Fault fault) ↔ (exchange_fault (states nodes.old) ≡ Some fault) }
+    ensures fault { NamesFault result (exchange_fault (states nodes.old)) }
 {
     let drafted = draft(alloc, nodes)?;
     prepare_all(nodes, &drafted.parts)?;
@@ -63,8 +62,7 @@ pub fn draft<A: Allocator + Copy>(alloc: A, nodes: &[Node<A>]) -> Result<Plan<A>
     ensures traffic { IfOk result (λ plan. plan.traffic ≡ traffic_of (states nodes.now)) }
     ensures bounded { IfOk result (λ plan. (plan.traffic.h ≤ plan.traffic.h_all)
         × (plan.traffic.h_all ≤ 2 ^ 34) × (plan.traffic.messages ≤ 2 ^ 26)) }
-    ensures fault { (fault : ExchangeFault)
-        → IsErrOf result (ExchangeError.Fault fault) ↔ (exchange_fault (states nodes.now) ≡ Some fault) }
+    ensures fault { NamesFault result (exchange_fault (states nodes.now)) }
 {
     let Ok(Gathered { arrivals, traffic }) = gather(alloc, nodes) else {
         return Err(refusal(nodes));

@@ -129,7 +129,7 @@ fn leaves_area<A: Allocator + Copy>(nodes: &[Node<A>], request: &Request<A>) -> 
 }
 
 /// Whether `len` bytes at an offset of an area end past it.
-pub(crate) fn is_outside<A: Allocator + Copy>(
+fn is_outside<A: Allocator + Copy>(
     nodes: &[Node<A>],
     rank: u16,
     slot: usize,
@@ -145,7 +145,7 @@ pub(crate) fn is_outside<A: Allocator + Copy>(
 }
 
 /// Whether `len` bytes at an offset end past `size` bytes.
-fn ends_past(size: u32, offset: u32, len: usize) -> bool
+pub(crate) fn ends_past(size: u32, offset: u32, len: usize) -> bool
     ensures { result ≡ not (nat_le (offset + len) size) }
 {
     offset > size || len > (size - offset) as usize

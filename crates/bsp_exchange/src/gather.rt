@@ -1,9 +1,9 @@
 //! Gathers what each node receives, and how much that is, before anything lands.
 
-ghost use Rattle.std.specs.Prelude.{◌≡◌, ◌+◌, ◌<◌, ◌≤◌, ◌^◌, false, None, All, IsTrue, length, map, replicate, OnOk, IfOk};
+ghost use Rattle.std.specs.Prelude.{◌≡◌, ◌+◌, ◌<◌, ◌≤◌, ◌^◌, false, None, All, IsTrue, is_none, length, map, replicate, OnOk, IfOk, IfSome};
 ghost use Rattle.std.specs.List.{range_with_len};
 ghost use Rattle.node_memory.specs.Bytes.{fits};
-ghost use Rattle.bsp_requests.specs.Request.{asked, asks_get, size_of};
+ghost use Rattle.bsp_requests.specs.Request.{asked, size_of};
 ghost use Rattle.node_core.specs.Hart.{IsHart, max_nodes};
 ghost use Rattle.node_core.specs.Node.{NodeState};
 ghost use Rattle.bsp_exchange.specs.Exchange.{AreAtSync, states};
@@ -16,7 +16,7 @@ ghost use Rattle.bsp_exchange.specs.Parts.{target_of, changed_at};
 ghost use Rattle.bsp_exchange.specs.Traffic.{transfer, transfers, traffic_of};
 
 use crate::arrivals::Arrivals;
-use crate::checks::{area_at, is_outside, slot_mismatch, tag_mismatch};
+use crate::checks::{area_at, ends_past, slot_mismatch, tag_mismatch};
 use crate::traffic::{Load, Traffic, add_transfer, greatest, no_loads};
 use bsp_requests::{Get, Outgoing, Request};
 use node_core::Node;
@@ -154,18 +154,18 @@ fn add_request<A: Allocator + Copy>(
     match request {
         Request::Put(put) => {
             let (target, len) = (put.target, put.bytes.len());
-            if is_outside(nodes, target, put.slot, put.offset, len) {
+            let Some(start) = start_inside(nodes, target, put.slot, put.offset, len) else {
                 return Err(NotGathered);
-            }
-            add_put(nodes, target, put.slot, put.offset, &put.bytes, parts)?;
+            };
+            add_put(target, start, &put.bytes, parts)?;
             add_transfer(caller as usize, target as usize, len as u64, 0, loads);
         }
         Request::Get(get) => {
             let (target, len) = (get.target, get.len);
-            if is_outside(nodes, target, get.slot, get.offset, len as usize) {
+            let Some(start) = start_inside(nodes, target, get.slot, get.offset, len as usize) else {
                 return Err(NotGathered);
-            }
-            add_get(nodes, caller, get, parts)?;
+            };
+            add_get(nodes, caller, get, start, parts)?;
             add_transfer(target as usize, caller as usize, u64::from(len), 0, loads);
         }
         Request::Send(message) => {
@@ -180,36 +180,32 @@ fn add_request<A: Allocator + Copy>(
 
 /// Adds a put to its target's part.
 fn add_put<A: Allocator + Copy>(
-    nodes: &[Node<A>],
     target: u16,
-    slot: usize,
-    offset: u32,
+    start: u32,
     bytes: &SharedBytes<A>,
     parts: &mut [Arrivals<A>],
 ) -> Result<(), AllocError>
-    requires parts { length parts.old ≡ length nodes.now }
-    requires target { target < length nodes.now }
-    requires inside { is_outside (states nodes.now) target slot offset (length bytes.now) ≡ false }
-    ensures { OnOk result (parts.new
-        ≡ changed_at (with_put (record { addr = area_start (states nodes.now) target slot + offset; bytes = bytes.now })) target parts.old) }
+    requires { target < length parts.old }
+    ensures { OnOk result (parts.new ≡ changed_at (with_put (record { addr = start; bytes = bytes.now })) target parts.old) }
 {
-    let start = start_of(nodes, target, slot, offset, bytes.len());
     parts[target as usize].add_put(start, bytes)
 }
 
-/// Adds what a get fetches to its caller's part.
+/// Adds what a get fetches, which begins at `start`, to its caller's part.
 fn add_get<A: Allocator + Copy>(
     nodes: &[Node<A>],
     caller: u32,
     get: &Get,
+    start: u32,
     parts: &mut [Arrivals<A>],
 ) -> Result<(), AllocError>
     requires parts { length parts.old ≡ length nodes.now }
     requires caller { caller < length nodes.now }
-    requires inside { leaves_area (states nodes.now) (asks_get get.now) ≡ false }
+    requires target { get.now.target < length nodes.now }
+    requires start { start ≡ area_start (states nodes.now) get.now.target get.now.slot + get.now.offset }
+    requires within { IsTrue (fits (length (memory_of (states nodes.now) get.now.target)) start get.now.len) }
     ensures { OnOk result (parts.new ≡ changed_at (with_get (fetched (states nodes.now) get.now)) caller parts.old) }
 {
-    let start = start_of(nodes, get.target, get.slot, get.offset, get.len as usize);
     let memory = nodes[get.target as usize].memory();
     parts[caller as usize].add_get(get.dst, memory, start, get.len)
 }
@@ -227,6 +223,31 @@ fn add_message<A: Allocator + Copy>(
     parts[message.target as usize].add_message(sender, &message.tag, &message.payload)
 }
 
+/// Where a transfer of `len` bytes begins in the memory of its area's node; none where it does not keep to the area.
+// For speed: the area is looked up once for both.
+fn start_inside<A: Allocator + Copy>(
+    nodes: &[Node<A>],
+    target: u16,
+    slot: usize,
+    offset: u32,
+    len: usize,
+) -> Option<u32>
+    ensures inside { is_none result ≡ is_outside (states nodes.now) target slot offset len }
+    ensures value { IfSome result (λ start. start ≡ area_start (states nodes.now) target slot + offset) }
+    ensures within { IfSome result (λ start. IsTrue (fits (length (memory_of (states nodes.now) target)) start len)) }
+    ensures most { IfSome result (λ start. start + len ≤ 2 ^ 24) }
+{
+    let Some(area) = area_at(nodes, target, slot) else {
+        return None;
+    };
+    if ends_past(area.size, offset, len) {
+        return None;
+    }
+    // Its contract says that the node is sound, and so that its areas lie in its memory.
+    let _memory = nodes[target as usize].memory();
+    Some(area.addr + offset)
+}
+
 /// Where a transfer of `len` bytes begins that keeps to its area, in the memory of the area's node.
 pub fn start_of<A: Allocator + Copy>(
     nodes: &[Node<A>],
@@ -240,10 +261,5 @@ pub fn start_of<A: Allocator + Copy>(
     ensures within { IsTrue (fits (length (memory_of (states nodes.now) target)) result len) }
     ensures most { result + len ≤ 2 ^ 24 }
 {
-    // Its contract says that the node is sound, and so that its areas lie in its memory.
-    let _memory = nodes[target as usize].memory();
-    match area_at(nodes, target, slot) {
-        Some(area) => area.addr + offset,
-        None => 0,
-    }
+    start_inside(nodes, target, slot, offset, len).unwrap_or(0)
 }

@@ -1,35 +1,17 @@
-use Rattle.std.proofs.Common.{sym, ◌∙◌, arith}
-use Rattle.bsp_exchange.proofs.Transfers.{transfer_most, transfer_range, never_without, node_there, start_at}
+use Rattle.std.proofs.Common.{◌≡◌, ◌∙◌, ℕ, Option, Some, None, false, sym, subst}
+use Rattle.std.specs.Prelude.{IfSome, is_none, unwrap_or}
+use Rattle.std.proofs.lemmas.Bool.{true≢false}
 use Rattle.bsp_exchange.proofs.gather.start_of.Goals as goal
 
-pub bounds-nodes-target : goal.bounds-nodes-target
-bounds-nodes-target g c = node_there c.args.nodes.now c.args.target c.args.slot c.args.offset c.args.len c.requires.inside
+given : (o : Option ℕ) (P : ℕ → Type 0) (x : ℕ) → is_none o ≡ false → IfSome o P → x ≡ unwrap_or o 0 → P x
+given (Some y) P x some p is = subst P (sym is) p
+given None P x some p is = absurd (true≢false some)
 
-pub overflow_add-result : goal.overflow_add-result
-overflow_add-result g c =
-    omega (
-      arith,
-      transfer_most c.args.nodes.now c.args.target c.args.slot c.args.offset c.args.len c.in-Some.area c.index-nodes-target.result
-          (node_there c.args.nodes.now c.args.target c.args.slot c.args.offset c.args.len c.requires.inside) c.index-nodes-target.is c.memory-memory.ensures.sound (sym c.area_at.ensures ∙ c.in-Some.is) c.requires.inside,
-    )
-
-pub returns-in-Some-clause-value : goal.returns-in-Some-clause-value
-returns-in-Some-clause-value g c =
-    start_at c.args.nodes.now c.args.target c.args.slot c.args.offset c.in-Some.area (sym c.area_at.ensures ∙ c.in-Some.is)
-
-pub returns-in-Some-clause-within : goal.returns-in-Some-clause-within
-returns-in-Some-clause-within g c =
-    transfer_range c.args.nodes.now c.args.target c.args.slot c.args.offset c.args.len c.in-Some.area c.index-nodes-target.result
-    (node_there c.args.nodes.now c.args.target c.args.slot c.args.offset c.args.len c.requires.inside) c.index-nodes-target.is c.memory-memory.ensures.sound (sym c.area_at.ensures ∙ c.in-Some.is) c.requires.inside
-
-pub returns-in-Some-clause-most : goal.returns-in-Some-clause-most
-returns-in-Some-clause-most g c =
-    transfer_most c.args.nodes.now c.args.target c.args.slot c.args.offset c.args.len c.in-Some.area c.index-nodes-target.result
-    (node_there c.args.nodes.now c.args.target c.args.slot c.args.offset c.args.len c.requires.inside) c.index-nodes-target.is c.memory-memory.ensures.sound (sym c.area_at.ensures ∙ c.in-Some.is) c.requires.inside
-
-pub returns-in-None : goal.returns-in-None
-returns-in-None g c =
-    absurd (never_without c.args.nodes.now c.args.target c.args.slot c.args.offset c.args.len (sym c.area_at.ensures ∙ c.in-None.is) c.requires.inside)
-
-pub offset_bounds-nodes-target : goal.offset_bounds-nodes-target
-offset_bounds-nodes-target g c = let there = node_there c.args.nodes.now c.args.target c.args.slot c.args.offset c.args.len c.requires.inside in omega (arith, there)
+pub returns : goal.returns
+returns g c =
+    let some = c.start_inside.ensures.inside ∙ c.requires.inside in
+    record {
+      value = given _ _ c.unwrap_or.result some c.start_inside.ensures.value c.unwrap_or.ensures;
+      within = given _ _ c.unwrap_or.result some c.start_inside.ensures.within c.unwrap_or.ensures;
+      most = given _ _ c.unwrap_or.result some c.start_inside.ensures.most c.unwrap_or.ensures;
+    }

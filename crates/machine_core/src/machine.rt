@@ -228,6 +228,16 @@ impl<A: Allocator> Machine<A> {
         self.outcome
     }
 
+    /// Whether the node of a rank runs. Of a rank that is absent none does.
+    pub fn runs(&self, rank: u32) -> bool
+        ensures { result ≡ is_enabled self.now (step_of rank) }
+    {
+        match self.node(rank) {
+            Some(node) => node.state().is_running(),
+            None => false,
+        }
+    }
+
     /// Whether the turn is enabled: no node runs, and there is no outcome.
     pub fn can_turn(&self) -> bool
         ensures { result ≡ is_enabled self.now the_turn }

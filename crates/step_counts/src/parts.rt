@@ -18,16 +18,6 @@ use std::alloc::{AllocError, Allocator};
 // Their slice lies in the frame.
 const MANY: usize = 256;
 
-/// Whether a rank runs.
-fn runs<A: Allocator>(machine: &Machine<A>, rank: u32) -> bool
-    ensures { result ≡ is_enabled machine.now (step_of rank) }
-{
-    match machine.node(rank) {
-        Some(node) => node.state().is_running(),
-        None => false,
-    }
-}
-
 /// Makes the local part of a rank, and counts its steps.
 ///
 /// # Errors
@@ -46,7 +36,7 @@ fn count_steps<A: Allocator + Copy>(
     ensures memory { table.new.memory ≡ table.old.memory }
 {
     let mut pcs = [0; MANY];
-    while runs(machine, rank) {
+    while machine.runs(rank) {
         let made = machine.run_node_traced(rank, &mut pcs)?;
         for place in 0..made {
             table.add(pcs[place])?;

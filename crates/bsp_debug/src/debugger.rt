@@ -1,10 +1,11 @@
 //! The debugger.
 
 ghost use Rattle.std.specs.Prelude.{◌≡◌, ◌+◌, ◌⊎◌, [], length, slice_get, option_copied, true, false, Some, None, IsSome, is_none, is_some, Err, IfOk, IfErr, OnOk, OnErr, if◌then◌else◌};
+ghost use Rattle.std.specs.Result.{result_err};
 ghost use Rattle.machine_core.specs.Events.{after};
 ghost use Rattle.bsp_debug.specs.declared.command.Command.TheVariants.{Bytes as bytes_command};
 ghost use Rattle.bsp_debug.specs.declared.error.DebugError.{DebugError as DebugErrorValue};
-ghost use Rattle.bsp_debug.specs.Debugger.{has_rank, unit_at, add_fault, remove_fault, command_fault, Makes, MakesPart};
+ghost use Rattle.bsp_debug.specs.Debugger.{has_rank, unit_at, refused_unless, add_fault, remove_fault, command_fault, Makes, MakesPart};
 ghost use Rattle.bsp_debug.specs.Kept.{state_at, kept_fault, keeping, back_at, without};
 ghost use Rattle.bsp_debug.specs.Made.{events_of, AreFew};
 ghost use Rattle.bsp_debug.specs.Points.{is_set, AreInOrder, HasAlso, HasNoMore};
@@ -108,8 +109,7 @@ impl<A: Allocator + Copy> Debugger<A> {
 
     /// Whether a point may be set.
     fn check_point(&self, point: Point) -> Result<(), DebugError>
-        ensures ok { OnOk result (add_fault self.now.points self.now.machine point ≡ None) }
-        ensures err { IfErr result (λ e. add_fault self.now.points self.now.machine point ≡ Some e) }
+        ensures { result_err result ≡ add_fault self.now.points self.now.machine point }
     {
         if let Point::Address { rank, .. } = point {
             self.check_rank(rank)?;
@@ -226,8 +226,7 @@ impl<A: Allocator + Copy> Debugger<A> {
 
     /// Whether a command is to be refused.
     fn check(&self, command: Command) -> Result<(), DebugError>
-        ensures ok { OnOk result (command_fault self.now.machine command ≡ None) }
-        ensures err { IfErr result (λ e. command_fault self.now.machine command ≡ Some e) }
+        ensures { result_err result ≡ command_fault self.now.machine command }
     {
         match command {
             Command::Step { rank, .. } => self.check_rank(rank).and(self.check_open()),
@@ -243,8 +242,7 @@ impl<A: Allocator + Copy> Debugger<A> {
 
     /// Whether there is a node of a rank.
     fn check_rank(&self, rank: u32) -> Result<(), DebugError>
-        ensures ok { OnOk result (has_rank self.now.machine rank ≡ true) }
-        ensures err { IfErr result (λ e. (e ≡ DebugError.BadRank) × (has_rank self.now.machine rank ≡ false)) }
+        ensures { result_err result ≡ refused_unless (has_rank self.now.machine rank) DebugError.BadRank }
     {
         match self.machine().node(rank) {
             Some(_) => Ok(()),
@@ -254,9 +252,7 @@ impl<A: Allocator + Copy> Debugger<A> {
 
     /// Whether the node of a rank has a unit of floating point.
     fn check_unit(&self, rank: u32) -> Result<(), DebugError>
-        ensures ok { OnOk result (is_some (unit_at self.now.machine rank) ≡ true) }
-        ensures err { IfErr result (λ e. (e ≡ DebugError.NoFloatUnit)
-            × (is_some (unit_at self.now.machine rank) ≡ false)) }
+        ensures { result_err result ≡ refused_unless (is_some (unit_at self.now.machine rank)) DebugError.NoFloatUnit }
     {
         if unit_of(self.machine(), rank).is_none() {
             return Err(DebugError::NoFloatUnit);
@@ -266,8 +262,7 @@ impl<A: Allocator + Copy> Debugger<A> {
 
     /// Whether a range lies in the memory of the node of a rank.
     fn check_range(&self, rank: u32, addr: u32, len: u32) -> Result<(), DebugError>
-        ensures ok { OnOk result (command_fault self.now.machine (bytes_command rank addr len) ≡ None) }
-        ensures err { IfErr result (λ e. command_fault self.now.machine (bytes_command rank addr len) ≡ Some e) }
+        ensures { result_err result ≡ command_fault self.now.machine (bytes_command rank addr len) }
     {
         match self.machine().node(rank) {
             None => Err(DebugError::BadRank),
@@ -278,8 +273,7 @@ impl<A: Allocator + Copy> Debugger<A> {
 
     /// Whether the machine has no outcome yet.
     fn check_open(&self) -> Result<(), DebugError>
-        ensures ok { OnOk result (is_none self.now.machine.outcome ≡ true) }
-        ensures err { IfErr result (λ e. (e ≡ DebugError.Over) × (is_none self.now.machine.outcome ≡ false)) }
+        ensures { result_err result ≡ refused_unless (is_none self.now.machine.outcome) DebugError.Over }
     {
         match self.machine().outcome() {
             None => Ok(()),

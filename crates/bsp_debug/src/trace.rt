@@ -3,7 +3,7 @@
 ghost use Rattle.std.specs.Prelude.{◌≡◌, ◌++◌, ◌∷◌, ◌≤◌, ◌<◌, ℕ, [], true, None, slice_get, replicate, IfOk, OnOk, OnErr, vec_len, vec_capacity, if◌then◌else◌};
 ghost use Rattle.std.specs.Option.{option_map_or};
 ghost use Rattle.node_core.specs.Node.{NodeState};
-ghost use Rattle.machine_core.specs.declared.event.Event.TheVariants.{Step as step_of, Turn as the_turn};
+ghost use Rattle.machine_core.specs.declared.event.Event.TheVariants.{Turn as the_turn};
 ghost use Rattle.machine_core.specs.Events.{after, event as event_of, is_enabled, some_runs as some_runs_of, runs as runs_of};
 ghost use Rattle.bsp_debug.specs.declared.made.Made.TheVariants.{Turn as turn_made};
 ghost use Rattle.bsp_debug.specs.Debugger.{steps_at};
@@ -115,7 +115,7 @@ impl<A: Allocator + Copy> Trace<A> {
             × (self.new ≡ stepped rank count self.old)) }
     {
         // A node that does not run asks for no room, so that `Go` is not refused where it is to stop at the next one.
-        if !runs(&self.machine, rank) {
+        if !self.machine.runs(rank) {
             return Ok(0);
         }
         self.made.reserve(1)?;
@@ -146,7 +146,7 @@ impl<A: Allocator + Copy> Trace<A> {
         ensures err { OnErr result ((count : ℕ) × IsReturning points.now self.old.machine rank addr sp count
             × (self.new ≡ stepped rank count self.old)) }
     {
-        if !runs(&self.machine, rank) {
+        if !self.machine.runs(rank) {
             return Ok(0);
         }
         self.made.reserve(1)?;
@@ -211,16 +211,6 @@ fn ticks_of<A: Allocator>(machine: &Machine<A>, rank: u32) -> u64
     match machine.node(rank) {
         Some(node) => node.ticks(),
         None => 0,
-    }
-}
-
-/// Whether the node of a rank runs.
-fn runs<A: Allocator>(machine: &Machine<A>, rank: u32) -> bool
-    ensures { result ≡ is_enabled machine.now (step_of rank) }
-{
-    match machine.node(rank) {
-        Some(node) => node.state().is_running(),
-        None => false,
     }
 }
 

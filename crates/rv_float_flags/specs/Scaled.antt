@@ -40,3 +40,8 @@ pub record IsLimit (f : Format) (limit : Scaled) : Type 0 where
 -- the exponent field of a double's pattern
 abbrev pub exponent : ℕ → ℕ
 exponent a = a % 2 ^ 63 / 2 ^ 52
+
+-- between 2 ^ -255 and 2 ^ 257 in size, by its pattern: the middle quarter of the exponents
+pub record IsMiddling (a : ℕ) : Type 0 where
+  pub least : 768 ≤ exponent a
+  pub most : exponent a < 1280

@@ -1,7 +1,7 @@
 //! Sums, products and quotients of doubles that raise no flag but those that are there, as far as a few comparisons find it out.
 
-ghost use Rattle.std.specs.Prelude.{◌≡◌, ◌%◌, ◌^◌, ◌<◌, true, is_some, IfSome};
-ghost use Rattle.rv_float_flags.specs.Scaled.{exponent};
+ghost use Rattle.std.specs.Prelude.{◌≡◌, ◌%◌, ◌^◌, ◌<◌, true, is_some, IfSome, IsTrue};
+ghost use Rattle.rv_float_flags.specs.Scaled.{exponent, IsMiddling};
 ghost use Rattle.rv_float_flags.specs.Flags.{accrued};
 ghost use Rattle.rv_float_flags.specs.Found as Found;
 ghost use Rattle.rv_float_flags.specs.Operations as Operations;
@@ -91,6 +91,9 @@ pub fn sqrt_unflagged_d(flags: Flags, a: u64) -> Option<u64>
 fn is_sum_found(flags: Flags, a: u64, b: u64) -> bool
     ensures { result ≡ Found.is_sum_found flags a b }
 {
+    if flags.nx && are_middling(a, b) {
+        return true;
+    }
     is_moderate(a)
         && is_moderate(b)
         && (flags.nx || (are_short(a, b) && are_near(a, b)) || has_zero(a, b))
@@ -101,6 +104,9 @@ fn is_sum_found(flags: Flags, a: u64, b: u64) -> bool
 fn is_product_found(flags: Flags, a: u64, b: u64) -> bool
     ensures { result ≡ Found.is_product_found flags a b }
 {
+    if are_middling(a, b) && (flags.nx || are_short(a, b)) {
+        return true;
+    }
     is_finite(a)
         && is_finite(b)
         && ((is_product_moderate(a, b) && (flags.nx || are_short(a, b))) || has_zero(a, b))
@@ -111,6 +117,9 @@ fn is_product_found(flags: Flags, a: u64, b: u64) -> bool
 pub fn is_quotient_found(flags: Flags, a: u64, b: u64) -> bool
     ensures { result ≡ Found.is_quotient_found flags a b }
 {
+    if flags.nx && are_middling(a, b) {
+        return true;
+    }
     flags.nx && is_normal(a) && is_normal(b) && are_within_range(a, b)
 }
 
@@ -153,6 +162,26 @@ fn normal_quotient(a: u64, b: u64) -> u64
     ensures { result ≡ to_bits binary64 (Ieee.div binary64 (of_bits binary64 a) (of_bits binary64 b)) }
 {
     (f64::from_bits(a) / f64::from_bits(b)).to_bits()
+}
+
+/// Whether both are between 2^-255 and 2^257 in size, as most are: then none of their sum, product and quotient is tiny or infinite.
+// For speed: it is one comparison, of the upper halves.
+#[inline(always)]
+fn are_middling(a: u64, b: u64) -> bool
+    ensures first { IsTrue result → IsMiddling a }
+    ensures second { IsTrue result → IsMiddling b }
+{
+    (from_middle(a) | from_middle(b)) < 0x4000_0000
+}
+
+/// How far the upper half of a pattern, without its sign, is above that of 2^-255, twice. Below, it is a large number.
+#[inline(always)]
+fn from_middle(a: u64) -> u32
+    ensures { result < 0x4000_0000 → IsMiddling a }
+{
+    ((a / 0x1_0000_0000) as u32)
+        .wrapping_mul(2)
+        .wrapping_sub(0x6000_0000)
 }
 
 /// Whether a double is finite.

@@ -1,6 +1,6 @@
 -- What a sum or a product of finite doubles raises beside NX, where it is finite and not tiny.
 use Rattle.std.proofs.Common.{◌≡◌, ℕ, suc, ◌+◌, ◌-◌, ◌*◌, ◌/◌, ◌%◌, ◌^◌, ◌<◌, ◌≤◌, Bool, true, false, cond, not, ◌&&◌, ◌||◌, nat_lt, ◌⊎◌, sym, subst, ap, ◌∙◌, refl, arith, inl, inr}
-use Rattle.std.proofs.Math.Nat.{div-div-eq-div-mul, div-mul-le_self, eq_of_mul-eq-mul_right, eq-zero-or-pos, lt_of_mul-lt-mul_right, mul-le-mul_right, mul-lt-mul_of_pos_right, mul-one, zero-mul}
+use Rattle.std.proofs.Math.Nat.{div-div-eq-div-mul, div-mul-le_self, eq_of_mul-eq-mul_right, eq-zero-or-pos, lt_of_mul-lt-mul_right, mul-le-mul_right, mul-lt-mul_of_pos_right, mul-one, pow-succ', zero-mul}
 use Rattle.std.proofs.Math.Pow.{pow_mono}
 use Rattle.std.proofs.lemmas.Nat.{mul-le, mul-lt, pow-add, pow_pos}
 use Rattle.std.proofs.lemmas.Bool.{cases_lt, lt-ltb, ne_eqb, true≢false}
@@ -93,7 +93,7 @@ pub beside : (g : Flags) (f : Format) (r : Ratio) (p : Scaled) → g.nx ≡ true
 beside g f r p there finite tiny = sym (nothing g) ∙ raised_beside g false _ _ _ there (overflow f r (Some p) false refl finite) tiny
 
 -- of terms that are multiples of the smallest value
-coarse : (f : Format) (r : Ratio) (l : Scaled) (o : Bool) (a i b j : ℕ) → IsLimit f l → l.place + 2 ≤ i → l.place + 2 ≤ j → IsFraction r (combined o (a * 2 ^ i) (b * 2 ^ j)) 1
+pub coarse : (f : Format) (r : Ratio) (l : Scaled) (o : Bool) (a i b j : ℕ) → IsLimit f l → l.place + 2 ≤ i → l.place + 2 ≤ j → IsFraction r (combined o (a * 2 ^ i) (b * 2 ^ j)) 1
     → is_tiny f r && is_inexact f r ≡ false
 coarse f r l o a i b j limit h k fraction =
     let n = combined o (a * 2 ^ i) (b * 2 ^ j) in
@@ -107,7 +107,7 @@ coarse f r l o a i b j limit h k fraction =
 exact_beside : (g : Flags) (o t x : Bool) → false ≡ o → x ≡ false → accrued g (overflow_if false) ≡ accrued g (record { nv = false; dz = false; of = o; uf = t && x; nx = x })
 exact_beside g o t x overflows exact = rw (sym overflows, exact, no_and t) refl
 
-exact : (g : Flags) (f : Format) (r : Ratio) (p : Scaled) → IsMagnitude f (rounded f r) p → is_inexact f r ≡ false → g ≡ accrued g (rounding_flags f r)
+pub exact : (g : Flags) (f : Format) (r : Ratio) (p : Scaled) → IsMagnitude f (rounded f r) p → is_inexact f r ≡ false → g ≡ accrued g (rounding_flags f r)
 exact g f r p finite same = sym (nothing g) ∙ exact_beside g _ (is_tiny f r) _ (overflow f r (Some p) false refl finite) same
 
 -- where the exact result has 53 digits
@@ -126,31 +126,34 @@ finite_units f s q k h =
     ap (λ (b : Bool). float_is_finite (cond b (odd (suc (prec f)) s q k (low f)) (inf s))) (lt-ltb (q * 2 ^ k) (2 ^ (low f + suc (emax f))) h)
     ∙ odd-finite (suc (prec f)) s q k (low f)
 
--- less than 2 ^ 1023
-pub finite_below : (r : Ratio) → 0 < r.denominator → r.numerator * 2 ^ 1074 < 2 ^ 2097 * r.denominator → float_is_finite (rounded binary64 r) ≡ true
-finite_below r p h =
-    let n = r.numerator * 2 ^ 1074 in
+-- less than 2 ^ emax
+pub finite_below : (f : Format) (r : Ratio) → 0 < r.denominator → r.numerator * 2 ^ low f < 2 ^ (low f + emax f) * r.denominator → float_is_finite (rounded f r) ≡ true
+finite_below f r p h =
+    let n = r.numerator * 2 ^ low f in
     let w = n / r.denominator in
-    let k = size w - 53 in
+    let l = low f + emax f in
+    let k = size w - prec f in
     let u = r.denominator * 2 ^ k in
     let q = nearest (n / u) (compare (n % u * 2) u) in
-    let a : w < 2 ^ 2097 = lt_of_mul-lt-mul_right r.denominator (lt_of_le_of_lt (div-mul-le_self n r.denominator) h) in
-    let b : size w ≤ 2097 = size-le w 2097 a in
-    let below : k ≤ 2044 = omega (arith, b) in
-    let c : 2 ^ k ≤ 2 ^ 2044 = pow_mono below in
+    let a : w < 2 ^ l = lt_of_mul-lt-mul_right r.denominator (lt_of_le_of_lt (div-mul-le_self n r.denominator) h) in
+    let b : size w ≤ l = size-le w l a in
+    let below : k ≤ l = omega (arith, b) in
+    let c : 2 ^ k ≤ 2 ^ l = pow_mono below in
     let d : q ≤ suc (n / u) = nearest-le (n / u) (compare (n % u * 2) u) in
     let e : n / u ≡ w / 2 ^ k = sym (div-div-eq-div-mul n r.denominator (2 ^ k)) in
     let g : w / 2 ^ k * 2 ^ k ≤ w = div-mul-le_self w (2 ^ k) in
     let i : q * 2 ^ k ≤ suc (w / 2 ^ k) * 2 ^ k = mul-le-mul_right (2 ^ k) (omega (arith, d, e)) in
-    let j : q * 2 ^ k < 2 ^ 2098 = omega (arith, i, g, a, c) in
-    subst (λ (x : Float). float_is_finite x ≡ true) (sym (round_is binary64 false r.numerator r.denominator)) (finite_units binary64 false q k j)
+    let above : low f + suc (emax f) ≡ suc l = omega arith in
+    let top : 2 ^ (low f + suc (emax f)) ≡ 2 * 2 ^ l = ap (λ (x : ℕ). 2 ^ x) above ∙ pow-succ' 2 l in
+    let j : q * 2 ^ k < 2 ^ (low f + suc (emax f)) = omega (arith, i, g, a, c, top) in
+    subst (λ (x : Float). float_is_finite x ≡ true) (sym (round_is f false r.numerator r.denominator)) (finite_units f false q k j)
 
 finite_fraction : (r : Ratio) (n : ℕ) → IsFraction r n 1 → n < 2 ^ 3171 → float_is_finite (rounded binary64 r) ≡ true
 finite_fraction r n fraction h =
     let a : r.numerator * (2 ^ 1074 * 2 ^ 1074) * 1 ≡ n * r.denominator = ap (λ (z : ℕ). r.numerator * z * 1) (sym square) ∙ fraction.value in
     let b : n * r.denominator < 2 ^ 3171 * r.denominator = mul-lt-mul_of_pos_right h fraction.nonzero in
     let c : r.numerator * 2 ^ 1074 * 2 ^ 1074 < 2 ^ 2097 * r.denominator * 2 ^ 1074 = omega (arith, a, b) in
-    finite_below r fraction.nonzero (lt_of_mul-lt-mul_right (2 ^ 1074) c)
+    finite_below binary64 r fraction.nonzero (lt_of_mul-lt-mul_right (2 ^ 1074) c)
 
 not_finite : (a : ℕ) → 9218868437227405312 ≤ a % 9223372036854775808 → float_is_finite (of_bits binary64 a) ≡ false
 not_finite a l = no_magnitude binary64 a 2046 (omega (arith, l)) refl
@@ -191,7 +194,7 @@ short_product r d i e j hd he zd ze low high fraction =
     let fine : w * 2 ^ k ≤ 2 ^ 52 * 2 ^ 2044 = mul-le w (2 ^ k) (2 ^ 52) (2 ^ 2044) (omega (arith, small)) top in
     exact_at r w k _ fraction value (omega (arith, small)) (omega (arith, fine))
 
-combined_most : (o : Bool) (a b : ℕ) → combined o a b ≤ a + b
+pub combined_most : (o : Bool) (a b : ℕ) → combined o a b ≤ a + b
 combined_most true a b = omega arith
 combined_most false a b = omega arith
 
@@ -202,7 +205,7 @@ short_term d i m h l = mul-le d (2 ^ (i - m)) (2 ^ 26 - 1) (2 ^ 26) (omega (arit
 term : (d i : ℕ) → d < 2 ^ 53 → i ≤ 2044 → d * 2 ^ i ≤ (2 ^ 53 - 1) * 2 ^ 2044
 term d i h l = mul-le d (2 ^ i) (2 ^ 53 - 1) (2 ^ 2044) (omega (arith, h)) (pow_mono l)
 
-raised_by : (d i : ℕ) → d * 2 ^ i * 2 ^ 1074 ≡ d * 2 ^ (i + 1074)
+pub raised_by : (d i : ℕ) → d * 2 ^ i * 2 ^ 1074 ≡ d * 2 ^ (i + 1074)
 raised_by d i = let p : 2 ^ (i + 1074) ≡ 2 ^ i * 2 ^ 1074 = pow-add 2 i 1074 in omega (arith, ap (λ (x : ℕ). d * x) p)
 
 short_sum_from : (r : Ratio) (o : Bool) (d i e j m : ℕ) → d < 2 ^ 53 → e < 2 ^ 53 → d % 134217728 ≡ 0 → e % 134217728 ≡ 0 → m ≤ i → m ≤ j → i - m ≤ 26 → j - m ≤ 26
@@ -261,7 +264,7 @@ by_short p q h r o fraction =
     (omega (arith, h.near, f.place, g.place)) (omega (arith, h.far, f.place, g.place)) (omega (arith, p.most)) (omega (arith, q.most)) fraction
 
 -- one of two is zero
-zero_of : (a b : ℕ) → a * b ≡ 0 → (a ≡ 0) ⊎ (b ≡ 0)
+pub zero_of : (a b : ℕ) → a * b ≡ 0 → (a ≡ 0) ⊎ (b ≡ 0)
 zero_of a b h = elim (eq-zero-or-pos a) [
   | inl z ↦ inl z
   | inr p ↦ inr (eq_of_mul-eq-mul_right a p b 0 (omega (arith, h)))
@@ -332,13 +335,13 @@ sum g a b z x y why is =
     sym (sum_of g (of_bits binary64 a) (of_bits binary64 b) a b z x y why x.finite.magnitude y.finite.magnitude is
     ∙ ap (accrued g) (none_signals binary64 a b (sum_flags binary64 (of_bits binary64 a) (of_bits binary64 b)) invalid x.finite.magnitude.finite y.finite.magnitude.finite))
 
-negated : (x : Float) → SameSize x (neg x)
+pub negated : (x : Float) → SameSize x (neg x)
 unfolding neg float_is_finite
 negated nan = (refl, refl, refl)
 negated (inf s) = (refl, refl, refl)
 negated (fin s m e) = (refl, refl, refl)
 
-sub_is : (f : Format) (x y : Float) → sub f x y ≡ add f x (neg y)
+pub sub_is : (f : Format) (x y : Float) → sub f x y ≡ add f x (neg y)
 unfolding sub
 sub_is f x y = refl
 
@@ -423,11 +426,11 @@ finite_no_nan (fin s m e) h = tt
 pub rounded_no_nan : (f : Format) (x : Float) (r : Ratio) → (u : Bool) × (x ≡ round f u r.numerator r.denominator) → T (not (is_nan x))
 rounded_no_nan f x r is = subst (λ (y : Float). T (not (is_nan y))) (sym is.1) (finite_no_nan _ (either f is.0 r.numerator r.denominator))
 
-pub sum_no_nan : (x y : Float) → float_is_finite x ≡ true → float_is_finite y ≡ true → T (not (is_nan (add binary64 x y)))
-sum_no_nan x y h g = rounded_no_nan binary64 (add binary64 x y) (exact_sum x y) (add_rounds binary64 x y h g)
+pub sum_no_nan : (f : Format) (x y : Float) → float_is_finite x ≡ true → float_is_finite y ≡ true → T (not (is_nan (add f x y)))
+sum_no_nan f x y h g = rounded_no_nan f (add f x y) (exact_sum x y) (add_rounds f x y h g)
 
-pub product_no_nan : (x y : Float) → float_is_finite x ≡ true → float_is_finite y ≡ true → T (not (is_nan (mul binary64 x y)))
-product_no_nan x y h g = rounded_no_nan binary64 (mul binary64 x y) (exact_product x y) (mul_rounds binary64 x y h g)
+pub product_no_nan : (f : Format) (x y : Float) → float_is_finite x ≡ true → float_is_finite y ≡ true → T (not (is_nan (mul f x y)))
+product_no_nan f x y h g = rounded_no_nan f (mul f x y) (exact_product x y) (mul_rounds f x y h g)
 
 negated_finite : (x : Float) → float_is_finite x ≡ true → float_is_finite (neg x) ≡ true
 unfolding neg float_is_finite
@@ -435,6 +438,6 @@ negated_finite nan h = h
 negated_finite (inf s) h = h
 negated_finite (fin s m e) h = refl
 
-pub difference_no_nan : (x y : Float) → float_is_finite x ≡ true → float_is_finite y ≡ true → T (not (is_nan (sub binary64 x y)))
-difference_no_nan x y h g =
-    subst (λ (z : Float). T (not (is_nan z))) (sym (sub_is binary64 x y)) (sum_no_nan x (neg y) h (negated_finite y g))
+pub difference_no_nan : (f : Format) (x y : Float) → float_is_finite x ≡ true → float_is_finite y ≡ true → T (not (is_nan (sub f x y)))
+difference_no_nan f x y h g =
+    subst (λ (z : Float). T (not (is_nan z))) (sym (sub_is f x y)) (sum_no_nan f x (neg y) h (negated_finite y g))

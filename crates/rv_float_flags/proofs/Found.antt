@@ -11,7 +11,7 @@ use Rattle.rv_float_flags.proofs.Roundings.{raised_beside}
 use Rattle.rv_float_flags.specs.Scaled.{exponent}
 use Rattle.rv_float_flags.specs.declared.flags.Flags.{Flags}
 use Rattle.rv_float_flags.proofs.FiniteResults.{by_short, by_zero, difference, finite, moderate, nothing, product, product_of_zero, sum, AreShort, Finite, IsExact, Moderate}
-use lib.Ieee.{add, binary64, lt, mul, of_bits, sqrt, sub, to_bits}
+use lib.Ieee.{Format, add, binary64, lt, mul, of_bits, sqrt, sub, to_bits}
 
 finite_so : (a : ℕ) → is_finite a ≡ true → Finite a
 finite_so a h = let l = ltb-true (exponent a) 2047 h in finite a (omega (arith, l))
@@ -87,12 +87,14 @@ product_found g a b z h is =
 inexact_there : (g : Flags) (b : Bool) → g.nx ≡ true → accrued g (inexact_if b) ≡ g
 inexact_there g b there = sym (raised_beside g false false false b there refl refl) ∙ nothing g
 
-pub root_found : (g : Flags) (a : ℕ) → g.nx ≡ true → is_finite a ≡ true → lt (of_bits binary64 a) float_zero ≡ false → accrued g (sqrt_flags binary64 a) ≡ g
-root_found g a there h above =
-    let x = of_bits binary64 a in
-    let finite = (finite_so a h).magnitude.finite in
-    let found = inexact_if (not (is_root (sqrt binary64 x) x)) in
-    ap (λ (b : Bool). accrued g (cond b invalid (cond (lt x float_zero) invalid (cond (float_is_finite x) found no_flags)))) (no_signal binary64 a finite)
+pub root_flags_there : (f : Format) (g : Flags) (a : ℕ) → g.nx ≡ true → float_is_finite (of_bits f a) ≡ true → lt (of_bits f a) float_zero ≡ false → accrued g (sqrt_flags f a) ≡ g
+root_flags_there f g a there finite above =
+    let x = of_bits f a in
+    let found = inexact_if (not (is_root (sqrt f x) x)) in
+    ap (λ (b : Bool). accrued g (cond b invalid (cond (lt x float_zero) invalid (cond (float_is_finite x) found no_flags)))) (no_signal f a finite)
     ∙ ap (λ (b : Bool). accrued g (cond b invalid (cond (float_is_finite x) found no_flags))) above
     ∙ ap (λ (b : Bool). accrued g (cond b found no_flags)) finite
     ∙ inexact_there g _ there
+
+pub root_found : (g : Flags) (a : ℕ) → g.nx ≡ true → is_finite a ≡ true → lt (of_bits binary64 a) float_zero ≡ false → accrued g (sqrt_flags binary64 a) ≡ g
+root_found g a there h above = root_flags_there binary64 g a there (finite_so a h).magnitude.finite above

@@ -1,5 +1,6 @@
 pub mod FiniteResults
 pub mod Found
+pub mod FoundSingles
 pub mod Fractions
 pub mod Limits
 pub mod Literals
@@ -13,5 +14,6 @@ pub mod Results
 pub mod Roundings
 pub mod Shifts
 pub mod Signs
+pub mod Singles
 pub mod Sums
 pub mod Tiny

@@ -50,7 +50,7 @@ finite_fraction r n m fraction h =
     let a : r.numerator * (2 ^ 1074 * 2 ^ 1074) * m ≡ n * r.denominator = ap (λ (z : ℕ). r.numerator * z * m) (sym square) ∙ fraction.value in
     let b : n * r.denominator < 2 ^ 3171 * m * r.denominator = mul-lt-mul_of_pos_right h fraction.nonzero in
     let c : r.numerator * 2 ^ 1074 * (2 ^ 1074 * m) < 2 ^ 2097 * r.denominator * (2 ^ 1074 * m) = omega (arith, a, b) in
-    finite_below r fraction.nonzero (lt_of_mul-lt-mul_right (2 ^ 1074 * m) c)
+    finite_below binary64 r fraction.nonzero (lt_of_mul-lt-mul_right (2 ^ 1074 * m) c)
 
 -- the quotient's two sides, where the places are so close
 below : (d i e j : ℕ) → d < 2 ^ 53 → 2 ^ 52 ≤ e → i ≤ j + 1021 → d * 2 ^ (i + 2148) < 2 ^ 3171 * (e * 2 ^ j)
@@ -71,13 +71,13 @@ above d i e j h k l =
     let g : 2 ^ 52 * 2 ^ (i + 2148) ≤ d * 2 ^ (i + 2148) = mul-le (2 ^ 52) (2 ^ (i + 2148)) d (2 ^ (i + 2148)) h (omega arith) in
     omega (arith, b, c, f, g)
 
-finite_not_infinite : (x : Float) → float_is_finite x ≡ true → float_is_infinite x ≡ false
+pub finite_not_infinite : (x : Float) → float_is_finite x ≡ true → float_is_infinite x ≡ false
 unfolding float_is_finite float_is_infinite
 finite_not_infinite nan h = refl
 finite_not_infinite (inf s) h = absurd (true≢false (sym h))
 finite_not_infinite (fin s m e) h = refl
 
-no_zero : (x : Float) → float_is_finite x ≡ true → 0 < num x → is_zero x ≡ false
+pub no_zero : (x : Float) → float_is_finite x ≡ true → 0 < num x → is_zero x ≡ false
 unfolding eq float_is_finite
 no_zero nan h p = refl
 no_zero (inf s) h p = refl

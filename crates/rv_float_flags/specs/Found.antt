@@ -4,8 +4,8 @@
 use Rattle.std.specs.Prelude.{ℕ, ◌+◌, ◌%◌, ◌^◌, ◌==◌, Bool, not, ◌&&◌, ◌||◌, nat_lt, nat_le}
 use Rattle.rv_float_flags.specs.declared.flags.Flags.{Flags}
 use Rattle.std.specs.Float.{float_zero}
-use Rattle.rv_float_flags.specs.Scaled.{exponent}
-use lib.Ieee.{binary64, lt, of_bits}
+use Rattle.rv_float_flags.specs.Scaled.{exponent, single_exponent}
+use lib.Ieee.{binary32, binary64, lt, of_bits}
 
 -- by its pattern neither an infinity nor a NaN
 abbrev pub is_finite : ℕ → Bool
@@ -56,3 +56,30 @@ is_quotient_found flags a b = flags.nx && is_normal a && is_normal b && are_with
 -- of a root: none is tiny or infinite
 abbrev pub is_root_found : Flags → ℕ → Bool
 is_root_found flags a = flags.nx && is_finite a && not (lt (of_bits binary64 a) float_zero)
+
+-- ---- of singles, in the same way: where NX is there, and a product with a zero
+
+abbrev pub is_single_finite : ℕ → Bool
+is_single_finite a = nat_lt (single_exponent a) 255
+
+-- less than 2 ^ 126 in size, so that a sum of two is finite
+abbrev pub is_single_moderate : ℕ → Bool
+is_single_moderate a = nat_lt (single_exponent a) 253
+
+-- from 2 ^ -63 to 2 ^ 63 in size, so that neither a product nor a quotient of two is tiny or infinite
+abbrev pub is_single_middling : ℕ → Bool
+is_single_middling a = nat_le 64 (single_exponent a) && nat_lt (single_exponent a) 190
+
+abbrev pub is_single_sum_found : Flags → ℕ → ℕ → Bool
+is_single_sum_found flags a b = flags.nx && is_single_moderate a && is_single_moderate b
+
+abbrev pub is_single_product_found : Flags → ℕ → ℕ → Bool
+is_single_product_found flags a b =
+    (flags.nx && is_single_middling a && is_single_middling b)
+    || (is_single_finite a && is_single_finite b && (a % 2 ^ 31 == 0 || b % 2 ^ 31 == 0))
+
+abbrev pub is_single_quotient_found : Flags → ℕ → ℕ → Bool
+is_single_quotient_found flags a b = flags.nx && is_single_middling a && is_single_middling b
+
+abbrev pub is_single_root_found : Flags → ℕ → Bool
+is_single_root_found flags a = flags.nx && is_single_finite a && not (lt (of_bits binary32 a) float_zero)

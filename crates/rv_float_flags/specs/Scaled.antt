@@ -45,3 +45,7 @@ exponent a = a % 2 ^ 63 / 2 ^ 52
 pub record IsMiddling (a : ℕ) : Type 0 where
   pub least : 768 ≤ exponent a
   pub most : exponent a < 1280
+
+-- the exponent field of a single's pattern
+abbrev pub single_exponent : ℕ → ℕ
+single_exponent a = a % 2 ^ 31 / 2 ^ 23

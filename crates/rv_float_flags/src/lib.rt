@@ -9,8 +9,8 @@
 //! - [`add_flags_d`] to [`negated_multiply_add_flags_d`], and the same of singles, are the flags of these operations to the nearest, ties
 //!   to even.
 //! - [`accrued_add_flags_d`], [`accrued_sub_flags_d`] and [`accrued_mul_flags_d`] are the first three with flags that are there already.
-//! - [`add_unflagged_d`], [`sub_unflagged_d`] and [`mul_unflagged_d`] are the values of these three, where they raise nothing that is not there, and
-//!   a few comparisons find it out.
+//! - [`add_unflagged_d`] to [`sqrt_unflagged_d`], and the same of singles, are the values of these operations, where they raise nothing that is
+//!   not there, and a few comparisons find it out.
 //! - [`quiet_flags_d`] are those of FEQ, FMIN and FMAX, [`ordered_flags_d`] those of FLT and FLE.
 //! - [`d_to_word_flags`] and its kin are those of conversions. Sign injection, classes, moves and words to doubles raise nothing.
 //! - [`Flags`] accrue by `|`: what is set stays. Their word is that of fflags.
@@ -35,6 +35,7 @@ mod rounding;
 mod scaled;
 mod single;
 mod unflagged;
+mod unflagged_single;
 
 pub use accrued::{
     accrued_add_flags_d, accrued_div_flags_d, accrued_mul_flags_d, accrued_sub_flags_d,
@@ -57,4 +58,7 @@ pub use single::{
 };
 pub use unflagged::{
     add_unflagged_d, div_unflagged_d, mul_unflagged_d, sqrt_unflagged_d, sub_unflagged_d,
+};
+pub use unflagged_single::{
+    add_unflagged_s, div_unflagged_s, mul_unflagged_s, sqrt_unflagged_s, sub_unflagged_s,
 };

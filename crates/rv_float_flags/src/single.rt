@@ -189,7 +189,8 @@ fn is_zero_s(x: f32) -> bool
     x == 0.0
 }
 
-fn is_below_zero_s(x: f32) -> bool
+#[inline(always)]
+pub(crate) fn is_below_zero_s(x: f32) -> bool
     ensures { result ≡ lt x float_zero }
 {
     x < 0.0

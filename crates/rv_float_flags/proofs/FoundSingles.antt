@@ -1,0 +1,58 @@
+-- What is found out at once of a sum, a product or a quotient of singles does raise nothing new.
+use Rattle.std.proofs.Common.{◌≡◌, ℕ, ◌*◌, ◌%◌, ◌≤◌, true, false, ap, ◌∙◌, arith, inl, inr}
+use Rattle.std.proofs.Math.Nat.{zero-mul}
+use Rattle.std.proofs.lemmas.Bool.{and_parts, eqb-true, leb-true, ltb-true, or_cases}
+use Rattle.std.specs.Float.{float_zero}
+use Rattle.rv_float_flags.specs.Flags.{accrued}
+use Rattle.rv_float_flags.specs.Found.{is_single_finite, is_single_middling, is_single_moderate, is_single_product_found}
+use Rattle.rv_float_flags.specs.Operations.{add_flags, div_flags, mul_flags, sqrt_flags, sub_flags}
+use Rattle.rv_float_flags.specs.Scaled.{single_exponent}
+use Rattle.rv_float_flags.specs.declared.flags.Flags.{Flags}
+use Rattle.rv_float_flags.proofs.Found.{root_flags_there}
+use Rattle.rv_float_flags.proofs.Singles.{difference, finite, middling, moderate, product, product_of_zero, quotient, sum, Finite, Middling, Moderate}
+use lib.Ieee.{add, binary32, div, lt, mul, of_bits, sub, to_bits}
+
+finite_so : (a : ℕ) → is_single_finite a ≡ true → Finite a
+finite_so a h = let l = ltb-true (single_exponent a) 255 h in finite a (omega (arith, l))
+
+moderate_so : (a : ℕ) → is_single_moderate a ≡ true → Moderate a
+moderate_so a h = moderate a (ltb-true (single_exponent a) 253 h)
+
+pub middling_so : (a : ℕ) → is_single_middling a ≡ true → Middling a
+middling_so a h = let each = and_parts _ _ h in middling a (leb-true _ _ each.0) (ltb-true _ _ each.1)
+
+pub middling_below : (a : ℕ) → is_single_middling a ≡ true → a % 2147483648 ≤ 2139095040
+middling_below a h = let l = ltb-true (single_exponent a) 190 (and_parts _ _ h).1 in omega (arith, l)
+
+pub sum_found : (g : Flags) (a b z : ℕ) → g.nx ≡ true → is_single_moderate a ≡ true → is_single_moderate b ≡ true
+    → z ≡ to_bits binary32 (add binary32 (of_bits binary32 a) (of_bits binary32 b)) → accrued g (add_flags binary32 a b) ≡ g
+sum_found g a b z there h k is = sum g a b z (moderate_so a h) (moderate_so b k) there is
+
+pub difference_found : (g : Flags) (a b z : ℕ) → g.nx ≡ true → is_single_moderate a ≡ true → is_single_moderate b ≡ true
+    → z ≡ to_bits binary32 (sub binary32 (of_bits binary32 a) (of_bits binary32 b)) → accrued g (sub_flags binary32 a b) ≡ g
+difference_found g a b z there h k is = difference g a b z (moderate_so a h) (moderate_so b k) there is
+
+pub product_found : (g : Flags) (a b z : ℕ) → is_single_product_found g a b ≡ true
+    → z ≡ to_bits binary32 (mul binary32 (of_bits binary32 a) (of_bits binary32 b)) → accrued g (mul_flags binary32 a b) ≡ g
+product_found g a b z h is = elim (or_cases _ _ h) [
+  | inl l ↦
+      let last = and_parts _ _ l in
+      let first = and_parts _ _ last.0 in
+      product g a b z (middling_so a first.1) (middling_so b last.1) first.0 is
+  | inr r ↦
+      let last = and_parts _ _ r in
+      let first = and_parts _ _ last.0 in
+      product_of_zero g a b z (finite_so a first.0) (finite_so b first.1)
+      (elim (or_cases _ _ last.1) [
+        | inl at ↦ ap (λ (n : ℕ). n * (b % 2147483648)) (eqb-true _ _ at) ∙ zero-mul (b % 2147483648)
+        | inr at ↦ ap (λ (n : ℕ). a % 2147483648 * n) (eqb-true _ _ at) ∙ omega arith
+      ])
+      is
+]
+
+pub quotient_found : (g : Flags) (a b z : ℕ) → g.nx ≡ true → is_single_middling a ≡ true → is_single_middling b ≡ true
+    → z ≡ to_bits binary32 (div binary32 (of_bits binary32 a) (of_bits binary32 b)) → accrued g (div_flags binary32 a b) ≡ g
+quotient_found g a b z there h k is = quotient g a b z (middling_so a h) (middling_so b k) there is
+
+pub root_found : (g : Flags) (a : ℕ) → g.nx ≡ true → is_single_finite a ≡ true → lt (of_bits binary32 a) float_zero ≡ false → accrued g (sqrt_flags binary32 a) ≡ g
+root_found g a there h above = root_flags_there binary32 g a there (finite_so a h).magnitude.finite above

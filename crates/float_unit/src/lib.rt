@@ -22,6 +22,7 @@ mod double;
 mod effect;
 mod fault;
 mod frequent;
+mod frequent_single;
 mod single;
 mod unit;
 

@@ -1,14 +1,17 @@
 //! The operations on singles that instructions name.
 
-ghost use Rattle.std.specs.Prelude.{◌≡◌, ◌^◌, ◌<◌};
+ghost use Rattle.std.specs.Prelude.{◌≡◌, ◌^◌, ◌<◌, is_some, IfSome};
+ghost use Rattle.rv_float_flags.specs.Flags.{accrued};
 ghost use Rattle.rv_float_flags.specs.Operations.{quiet_flags};
+ghost use Rattle.float_unit.specs.Found.{is_single_arithmetic_found};
 ghost use Rattle.float_unit.specs.Values as Values;
 ghost use lib.Ieee.{binary32};
 
 use rv_float_flags::{
-    Flags, add_flags_s, div_flags_s, mul_flags_s, multiply_add_flags_s, multiply_subtract_flags_s,
-    negated_multiply_add_flags_s, negated_multiply_subtract_flags_s, ordered_flags_s,
-    quiet_flags_s, s_to_word_flags, s_to_word_unsigned_flags, sqrt_flags_s, sub_flags_s,
+    Flags, add_flags_s, add_unflagged_s, div_flags_s, div_unflagged_s, mul_flags_s,
+    mul_unflagged_s, multiply_add_flags_s, multiply_subtract_flags_s, negated_multiply_add_flags_s,
+    negated_multiply_subtract_flags_s, ordered_flags_s, quiet_flags_s, s_to_word_flags,
+    s_to_word_unsigned_flags, sqrt_flags_s, sub_flags_s, sub_unflagged_s,
 };
 use rv_float_modes::{
     Rounded, add_in_s, div_in_s, mul_in_s, multiply_add_in_s, multiply_subtract_in_s,
@@ -40,6 +43,21 @@ pub fn arithmetic_flags(op: ArithmeticOp, a: u32, b: u32) -> Flags
         ArithmeticOp::Sub => sub_flags_s(a, b),
         ArithmeticOp::Mul => mul_flags_s(a, b),
         ArithmeticOp::Div => div_flags_s(a, b),
+    }
+}
+
+/// What `arithmetic` gives, where all that it raises is there already, and that is found out at once.
+#[inline(always)]
+pub fn unflagged(op: ArithmeticOp, flags: Flags, a: u32, b: u32) -> Option<u32>
+    ensures when { is_some result ≡ is_single_arithmetic_found op flags a b }
+    ensures value { IfSome result (λ z. z ≡ Values.arithmetic op binary32 a b) }
+    ensures flags { IfSome result (λ z. accrued flags (Values.arithmetic_flags op binary32 a b) ≡ flags) }
+{
+    match op {
+        ArithmeticOp::Add => add_unflagged_s(flags, a, b),
+        ArithmeticOp::Sub => sub_unflagged_s(flags, a, b),
+        ArithmeticOp::Mul => mul_unflagged_s(flags, a, b),
+        ArithmeticOp::Div => div_unflagged_s(flags, a, b),
     }
 }
 
@@ -138,6 +156,7 @@ pub fn square_root_in(mode: Rounding, a: u32) -> Rounded
     }
 }
 
+#[inline(always)]
 pub fn signed_as(op: SignOp, a: u32, b: u32) -> u32
     ensures { result ≡ Values.signed_as op binary32 a b }
 {
@@ -163,6 +182,7 @@ pub fn min_max_flags(a: u32, b: u32) -> Flags
     quiet_flags_s(a, b)
 }
 
+#[inline(always)]
 pub fn compares(op: CompareOp, a: u32, b: u32) -> bool
     ensures { result ≡ Values.compares op binary32 a b }
 {
@@ -173,6 +193,7 @@ pub fn compares(op: CompareOp, a: u32, b: u32) -> bool
     }
 }
 
+#[inline(always)]
 pub fn compare_flags(op: CompareOp, a: u32, b: u32) -> Flags
     ensures { result ≡ Values.compare_flags op binary32 a b }
 {

@@ -150,6 +150,15 @@ impl FloatUnit {
         self.registers[rd as usize] = a;
     }
 
+    /// Writes a single that raised nothing new.
+    #[inline(always)]
+    pub(crate) fn write_single(&mut self, rd: u8, a: u32)
+        requires { IsRegister rd }
+        ensures { self.new ≡ State.with_register self.old rd (State.held Format.Single a) }
+    {
+        self.registers[rd as usize] = boxed(a);
+    }
+
     /// The accrued exceptions.
     #[inline(always)]
     pub(crate) fn flags(&self) -> Flags

@@ -4,7 +4,7 @@ use Rattle.std.proofs.Math.Nat.{zero-mul}
 use Rattle.std.proofs.lemmas.Bool.{and_parts, eqb-true, leb-true, ltb-true, or_cases}
 use Rattle.std.specs.Float.{float_zero}
 use Rattle.rv_float_flags.specs.Flags.{accrued}
-use Rattle.rv_float_flags.specs.Found.{is_single_finite, is_single_middling, is_single_moderate, is_single_product_found}
+use Rattle.rv_float_flags.specs.Found.{is_single_finite, is_single_middling, is_single_moderate, is_single_product_found, is_single_quotient_found, is_single_sum_found}
 use Rattle.rv_float_flags.specs.Operations.{add_flags, div_flags, mul_flags, sqrt_flags, sub_flags}
 use Rattle.rv_float_flags.specs.Scaled.{single_exponent}
 use Rattle.rv_float_flags.specs.declared.flags.Flags.{Flags}
@@ -24,13 +24,13 @@ middling_so a h = let each = and_parts _ _ h in middling a (leb-true _ _ each.0)
 pub middling_below : (a : ℕ) → is_single_middling a ≡ true → a % 2147483648 ≤ 2139095040
 middling_below a h = let l = ltb-true (single_exponent a) 190 (and_parts _ _ h).1 in omega (arith, l)
 
-pub sum_found : (g : Flags) (a b z : ℕ) → g.nx ≡ true → is_single_moderate a ≡ true → is_single_moderate b ≡ true
+pub sum_found : (g : Flags) (a b z : ℕ) → is_single_sum_found g a b ≡ true
     → z ≡ to_bits binary32 (add binary32 (of_bits binary32 a) (of_bits binary32 b)) → accrued g (add_flags binary32 a b) ≡ g
-sum_found g a b z there h k is = sum g a b z (moderate_so a h) (moderate_so b k) there is
+sum_found g a b z h is = let last = and_parts _ _ h in let first = and_parts _ _ last.0 in sum g a b z (moderate_so a first.1) (moderate_so b last.1) first.0 is
 
-pub difference_found : (g : Flags) (a b z : ℕ) → g.nx ≡ true → is_single_moderate a ≡ true → is_single_moderate b ≡ true
+pub difference_found : (g : Flags) (a b z : ℕ) → is_single_sum_found g a b ≡ true
     → z ≡ to_bits binary32 (sub binary32 (of_bits binary32 a) (of_bits binary32 b)) → accrued g (sub_flags binary32 a b) ≡ g
-difference_found g a b z there h k is = difference g a b z (moderate_so a h) (moderate_so b k) there is
+difference_found g a b z h is = let last = and_parts _ _ h in let first = and_parts _ _ last.0 in difference g a b z (moderate_so a first.1) (moderate_so b last.1) first.0 is
 
 pub product_found : (g : Flags) (a b z : ℕ) → is_single_product_found g a b ≡ true
     → z ≡ to_bits binary32 (mul binary32 (of_bits binary32 a) (of_bits binary32 b)) → accrued g (mul_flags binary32 a b) ≡ g
@@ -50,9 +50,9 @@ product_found g a b z h is = elim (or_cases _ _ h) [
       is
 ]
 
-pub quotient_found : (g : Flags) (a b z : ℕ) → g.nx ≡ true → is_single_middling a ≡ true → is_single_middling b ≡ true
+pub quotient_found : (g : Flags) (a b z : ℕ) → is_single_quotient_found g a b ≡ true
     → z ≡ to_bits binary32 (div binary32 (of_bits binary32 a) (of_bits binary32 b)) → accrued g (div_flags binary32 a b) ≡ g
-quotient_found g a b z there h k is = quotient g a b z (middling_so a h) (middling_so b k) there is
+quotient_found g a b z h is = let last = and_parts _ _ h in let first = and_parts _ _ last.0 in quotient g a b z (middling_so a first.1) (middling_so b last.1) first.0 is
 
 pub root_found : (g : Flags) (a : ℕ) → g.nx ≡ true → is_single_finite a ≡ true → lt (of_bits binary32 a) float_zero ≡ false → accrued g (sqrt_flags binary32 a) ≡ g
 root_found g a there h above = root_flags_there binary32 g a there (finite_so a h).magnitude.finite above

@@ -49,3 +49,8 @@ pub record IsMiddling (a : ℕ) : Type 0 where
 -- the exponent field of a single's pattern
 abbrev pub single_exponent : ℕ → ℕ
 single_exponent a = a % 2 ^ 31 / 2 ^ 23
+
+-- between 2 ^ -31 and 2 ^ 33 in size, by its pattern: the middle quarter of the exponents
+pub record IsSingleMiddling (a : ℕ) : Type 0 where
+  pub least : 96 ≤ single_exponent a
+  pub most : single_exponent a < 160

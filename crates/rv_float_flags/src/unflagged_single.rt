@@ -1,7 +1,7 @@
 //! The same of singles: sums, products and quotients that raise no flag but those that are there, as far as a few comparisons find it out.
 
-ghost use Rattle.std.specs.Prelude.{◌≡◌, ◌%◌, ◌^◌, ◌<◌, true, is_some, IfSome};
-ghost use Rattle.rv_float_flags.specs.Scaled.{single_exponent};
+ghost use Rattle.std.specs.Prelude.{◌≡◌, ◌%◌, ◌^◌, ◌<◌, true, is_some, IfSome, IsTrue};
+ghost use Rattle.rv_float_flags.specs.Scaled.{single_exponent, IsSingleMiddling};
 ghost use Rattle.rv_float_flags.specs.Flags.{accrued};
 ghost use Rattle.rv_float_flags.specs.Found as Found;
 ghost use Rattle.rv_float_flags.specs.Operations as Operations;
@@ -20,7 +20,7 @@ pub fn add_unflagged_s(flags: Flags, a: u32, b: u32) -> Option<u32>
     ensures value { IfSome result (λ z. z ≡ to_bits binary32 (Ieee.add binary32 (of_bits binary32 a) (of_bits binary32 b))) }
     ensures flags { IfSome result (λ z. accrued flags (Operations.add_flags binary32 a b) ≡ flags) }
 {
-    if flags.nx && is_moderate(a) && is_moderate(b) {
+    if is_sum_found(flags, a, b) {
         Some(finite_sum(a, b))
     } else {
         None
@@ -34,7 +34,7 @@ pub fn sub_unflagged_s(flags: Flags, a: u32, b: u32) -> Option<u32>
     ensures value { IfSome result (λ z. z ≡ to_bits binary32 (Ieee.sub binary32 (of_bits binary32 a) (of_bits binary32 b))) }
     ensures flags { IfSome result (λ z. accrued flags (Operations.sub_flags binary32 a b) ≡ flags) }
 {
-    if flags.nx && is_moderate(a) && is_moderate(b) {
+    if is_sum_found(flags, a, b) {
         Some(finite_difference(a, b))
     } else {
         None
@@ -62,7 +62,7 @@ pub fn div_unflagged_s(flags: Flags, a: u32, b: u32) -> Option<u32>
     ensures value { IfSome result (λ z. z ≡ to_bits binary32 (Ieee.div binary32 (of_bits binary32 a) (of_bits binary32 b))) }
     ensures flags { IfSome result (λ z. accrued flags (Operations.div_flags binary32 a b) ≡ flags) }
 {
-    if flags.nx && is_middling(a) && is_middling(b) {
+    if is_quotient_found(flags, a, b) {
         Some(middling_quotient(a, b))
     } else {
         None
@@ -83,13 +83,38 @@ pub fn sqrt_unflagged_s(flags: Flags, a: u32) -> Option<u32>
     }
 }
 
-/// Whether what the product of two raises is found out at once to be there.
+/// Whether what the sum or the difference of two raises is found out at once to be there.
+#[inline(always)]
+fn is_sum_found(flags: Flags, a: u32, b: u32) -> bool
+    ensures { result ≡ Found.is_single_sum_found flags a b }
+{
+    if flags.nx && are_in_middle(a, b) {
+        return true;
+    }
+    flags.nx && is_moderate(a) && is_moderate(b)
+}
+
+/// The same of a product.
 #[inline(always)]
 fn is_product_found(flags: Flags, a: u32, b: u32) -> bool
     ensures { result ≡ Found.is_single_product_found flags a b }
 {
+    if flags.nx && are_in_middle(a, b) {
+        return true;
+    }
     (flags.nx && is_middling(a) && is_middling(b))
         || (is_finite(a) && is_finite(b) && (a % 0x8000_0000 == 0 || b % 0x8000_0000 == 0))
+}
+
+/// The same of a quotient.
+#[inline(always)]
+fn is_quotient_found(flags: Flags, a: u32, b: u32) -> bool
+    ensures { result ≡ Found.is_single_quotient_found flags a b }
+{
+    if flags.nx && are_in_middle(a, b) {
+        return true;
+    }
+    flags.nx && is_middling(a) && is_middling(b)
 }
 
 /// The sum of two singles that are finite.
@@ -154,6 +179,24 @@ fn is_middling(a: u32) -> bool
     ensures { result ≡ Found.is_single_middling a }
 {
     64 <= exponent(a) && exponent(a) < 190
+}
+
+/// Whether both are between 2^-31 and 2^33 in size, as most are.
+// For speed: it is one comparison.
+#[inline(always)]
+fn are_in_middle(a: u32, b: u32) -> bool
+    ensures first { IsTrue result → IsSingleMiddling a }
+    ensures second { IsTrue result → IsSingleMiddling b }
+{
+    (from_middle(a) | from_middle(b)) < 0x4000_0000
+}
+
+/// How far a pattern, without its sign, is above that of 2^-31, twice. Below, it is a large number.
+#[inline(always)]
+fn from_middle(a: u32) -> u32
+    ensures { result < 0x4000_0000 → IsSingleMiddling a }
+{
+    a.wrapping_mul(2).wrapping_sub(0x6000_0000)
 }
 
 /// The exponent field.

@@ -14,8 +14,8 @@ use bsp_slots::Area;
 use node_core::Node;
 use std::alloc::Allocator;
 
-/// The first fault of the exchange among `nodes`, if there is one.
-pub(crate) fn fault<A: Allocator + Copy>(nodes: &[Node<A>]) -> Option<ExchangeFault>
+/// The first fault for which an exchange among `nodes` would be refused, if there is one. Nothing is changed.
+pub fn first_fault<A: Allocator + Copy>(nodes: &[Node<A>]) -> Option<ExchangeFault>
     ensures { result ≡ exchange_fault (states nodes.now) }
 {
     if let Some(rank) = tag_mismatch(nodes) {

@@ -50,9 +50,10 @@ mod sync;
 mod traffic;
 
 pub use barrier::{exchange, land_all};
+pub use checks::first_fault;
 pub use fault::{ExchangeError, ExchangeFault};
 pub use gather::start_of;
 pub use part::{Part, Plan};
 pub use planning::{draft, plan, prepare_all};
-pub use sync::{are_at_sync, first_fault};
+pub use sync::are_at_sync;
 pub use traffic::Traffic;

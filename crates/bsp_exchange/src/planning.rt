@@ -13,7 +13,7 @@ ghost use Rattle.bsp_exchange.specs.Parts.{CanExchange, CanLand, CanPrepare, Eac
 ghost use Rattle.bsp_exchange.specs.Traffic.{traffic_of};
 
 use crate::arrivals::Arrivals;
-use crate::checks::fault;
+use crate::checks::first_fault;
 use crate::fault::{ExchangeError, ExchangeFault};
 use crate::gather::{Gathered, gather};
 use crate::part::{Part, Plan};
@@ -98,7 +98,7 @@ fn refusal<A: Allocator + Copy>(nodes: &[Node<A>]) -> ExchangeError
     ensures { (fault : ExchangeFault)
         → (result ≡ ExchangeError.Fault fault) ↔ (exchange_fault (states nodes.now) ≡ Some fault) }
 {
-    match fault(nodes) {
+    match first_fault(nodes) {
         Some(fault) => ExchangeError::Fault(fault),
         None => ExchangeError::NoMemory,
     }

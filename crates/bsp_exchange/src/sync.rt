@@ -4,10 +4,7 @@ ghost use Rattle.std.specs.Prelude.{◌≡◌, ◌↔◌, IsTrue, Some, length, 
 ghost use Rattle.node_core.specs.declared.state.State.TheVariants.{Synced};
 ghost use Rattle.node_core.specs.Node.{PreparedNode};
 ghost use Rattle.bsp_exchange.specs.Exchange.{AreAtSync, states};
-ghost use Rattle.bsp_exchange.specs.Faults.{exchange_fault};
 
-use crate::checks::fault;
-use crate::fault::ExchangeFault;
 use node_core::{Node, State};
 use std::alloc::Allocator;
 
@@ -23,13 +20,6 @@ pub fn are_at_sync<A: Allocator + Copy>(nodes: &[Node<A>]) -> bool
         }
     }
     true
-}
-
-/// The first fault for which an exchange among `nodes` would be refused, if there is one. Nothing is changed.
-pub fn first_fault<A: Allocator + Copy>(nodes: &[Node<A>]) -> Option<ExchangeFault>
-    ensures { result ≡ exchange_fault (states nodes.now) }
-{
-    fault(nodes)
 }
 
 /// How many areas the first node has in effect, 0 where there is no node.

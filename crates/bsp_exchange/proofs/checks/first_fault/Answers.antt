@@ -1,7 +1,7 @@
 use Rattle.std.proofs.Common.{sym, ◌∙◌}
 use Rattle.bsp_exchange.specs.Exchange.{states}
 use Rattle.bsp_exchange.proofs.Refusals.{fault_of_tags, fault_of_slots, fault_of_requests}
-use Rattle.bsp_exchange.proofs.checks.fault.Goals as goal
+use Rattle.bsp_exchange.proofs.checks.first_fault.Goals as goal
 
 pub returns-in-Some : goal.returns-in-Some
 returns-in-Some g c = fault_of_tags (states c.args.nodes.now) c.in-Some.rank (sym c.tag_mismatch.ensures ∙ c.in-Some.is)

@@ -1,6 +1,5 @@
 -- Why a file gives no image, or its image no machine.
 use Rattle.std.proofs.Common.{◌≡◌, ◌≢◌, ℕ, List, Bool, true, false, Option, Some, None, option_map, Result, Err, if◌then◌else◌, refl, subst}
-use Rattle.std.specs.Prelude.{IsErrOf, ◌↔◌}
 use Rattle.std.specs.Option.{option_or}
 use Rattle.node_memory.specs.Image.{Image, is_segment_outside}
 use Rattle.elf_image.specs.declared.error.ElfError.{ElfError}
@@ -10,6 +9,7 @@ use Rattle.rv_asm.specs.declared.errors.AsmKind.{AsmKind}
 use Rattle.rv_asm.specs.Faults.{text_fault}
 use Rattle.machine_core.specs.declared.error.MachineError.{MachineError}
 use Rattle.machine_core.specs.declared.error.MachineError.TheVariants as machine
+use Rattle.machine_core.specs.Faults.{NamesFault}
 use Rattle.machine_core.specs.Machine.{machine_fault, settings_fault}
 use Rattle.bsp_session.specs.declared.errors.SessionError.{SessionError}
 use Rattle.bsp_session.specs.declared.errors.SessionError.TheVariants.{BadSettings, TooLong, Text, BadImage, SegmentOutside, ReadFault, WriteFault, NoWorker, NoMemory}
@@ -71,22 +71,17 @@ only_outside None true cause none made = (cc, refl)
 only_outside None false cause none made = cc
 only_outside (Some fault) outside cause none made = cc
 
--- a machine is refused for this if it is its fault
-abbrev Refuses : {X : Type 0} → Result X MachineError → Image → Job → MachineError → Type 0
-Refuses r m job cause = IsErrOf r cause ↔ (machine_fault m job.settings ≡ Some cause)
-
 pub IsErrorOfRun-of_machine : {X : Type 0} (job : Job) (file : List ℕ) (m : Image) (r : Result X MachineError) (cause : MachineError)
-    → job_fault job ≡ None → Gives job.format file m → r ≡ Err cause
-    → Refuses r m job machine.BadNodes → Refuses r m job machine.BadMemory → Refuses r m job machine.BadLimit → Refuses r m job machine.SegmentOutside
+    → job_fault job ≡ None → Gives job.format file m → r ≡ Err cause → NamesFault r (machine_fault m job.settings)
     → IsErrorOfRun job file (error_of_machine cause)
-IsErrorOfRun-of_machine job file m r cause none gives is nodes memory limit outside = of_cause cause is
+IsErrorOfRun-of_machine job file m r cause none gives is names = of_cause cause is
   where
     outside_of : (cause : MachineError) → machine_fault m job.settings ≡ Some cause → (cause ≡ machine.SegmentOutside) × (is_segment_outside m job.settings.memory ≡ true)
     outside_of cause = only_outside (settings_fault job.settings) (is_segment_outside m job.settings.memory) cause (settings_are_in_range job none)
 
     of_cause : (cause : MachineError) → r ≡ Err cause → IsErrorOfRun job file (error_of_machine cause)
-    of_cause machine.BadNodes is = let other = (outside_of machine.BadNodes (nodes.0 is)).0 in cc
-    of_cause machine.BadMemory is = let other = (outside_of machine.BadMemory (memory.0 is)).0 in cc
-    of_cause machine.BadLimit is = let other = (outside_of machine.BadLimit (limit.0 is)).0 in cc
-    of_cause machine.SegmentOutside is = record { m = m; gives = gives; outside = (outside_of machine.SegmentOutside (outside.0 is)).1 }
+    of_cause machine.BadNodes is = let other = (outside_of machine.BadNodes ((names machine.BadNodes (λ same. cc)).0 is)).0 in cc
+    of_cause machine.BadMemory is = let other = (outside_of machine.BadMemory ((names machine.BadMemory (λ same. cc)).0 is)).0 in cc
+    of_cause machine.BadLimit is = let other = (outside_of machine.BadLimit ((names machine.BadLimit (λ same. cc)).0 is)).0 in cc
+    of_cause machine.SegmentOutside is = record { m = m; gives = gives; outside = (outside_of machine.SegmentOutside ((names machine.SegmentOutside (λ same. cc)).0 is)).1 }
     of_cause machine.NoMemory is = tt

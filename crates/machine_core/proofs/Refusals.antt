@@ -7,17 +7,11 @@ use Rattle.node_memory.specs.Image.{Image, is_segment_outside}
 use Rattle.node_memory.specs.declared.memory.MemoryError.{MemoryError}
 use Rattle.node_memory.specs.declared.memory.MemoryError.TheVariants as memory_error
 use Rattle.machine_core.specs.declared.error.MachineError.{MachineError}
-use Rattle.machine_core.specs.declared.error.MachineError.TheVariants.{BadNodes, BadMemory, BadLimit, SegmentOutside, NoMemory}
+use Rattle.machine_core.specs.declared.error.MachineError.TheVariants.{SegmentOutside, NoMemory}
 use Rattle.machine_core.specs.declared.settings.Settings.{Settings}
+use Rattle.machine_core.specs.Faults.{NamesFault}
 use Rattle.machine_core.specs.Machine.{settings_fault, machine_fault}
 use Rattle.machine_core.proofs.Starts.{AreInRange-from, machine_fault-none}
-
--- a result names the fault that there is, and none where there is none
-pub record NamesFault {T : Type 0} (r : Result T MachineError) (fault : Option MachineError) : Type 0 where
-  pub nodes : IsErrOf r BadNodes ↔ (fault ≡ Some BadNodes)
-  pub memory : IsErrOf r BadMemory ↔ (fault ≡ Some BadMemory)
-  pub limit : IsErrOf r BadLimit ↔ (fault ≡ Some BadLimit)
-  pub outside : IsErrOf r SegmentOutside ↔ (fault ≡ Some SegmentOutside)
 
 -- the exit of a `?`
 pub err_of : {T E : Type 0} (r : Result T E) (e : E) → IsErrAnd r (λ y. y ≡ e) → r ≡ Err e
@@ -25,24 +19,14 @@ err_of (Ok x) e is = absurd is
 err_of (Err y) e is = ap Err is
 
 -- a machine that is made names no fault
-pub no_fault-named : {T : Type 0} {x : T} (fault : Option MachineError) (e : MachineError) → fault ≡ None → IsErrOf (Ok x) e ↔ (fault ≡ Some e)
-no_fault-named fault e none = (λ is. absurd cc, λ is. absurd cc)
+pub no_fault-named : {T : Type 0} {x : T} (fault : Option MachineError) → fault ≡ None → NamesFault (Ok x) fault
+no_fault-named fault none e other = (λ is. absurd cc, λ is. absurd cc)
 
 pub NamesFault-none : {T : Type 0} (r : Result T MachineError) (fault : Option MachineError) → r ≡ Err NoMemory → fault ≡ None → NamesFault r fault
-NamesFault-none r fault refused none = record {
-  nodes = (λ is. absurd cc, λ is. absurd cc);
-  memory = (λ is. absurd cc, λ is. absurd cc);
-  limit = (λ is. absurd cc, λ is. absurd cc);
-  outside = (λ is. absurd cc, λ is. absurd cc);
-}
+NamesFault-none r fault refused none e other = (λ is. let same : e ≡ NoMemory = cc in absurd (other same), λ is. absurd cc)
 
-pub NamesFault-some : {T : Type 0} (r : Result T MachineError) (fault : Option MachineError) (e : MachineError) → r ≡ Err e → fault ≡ Some e → NamesFault r fault
-NamesFault-some r fault e refused some = record {
-  nodes = (λ is. cc, λ is. cc);
-  memory = (λ is. cc, λ is. cc);
-  limit = (λ is. cc, λ is. cc);
-  outside = (λ is. cc, λ is. cc);
-}
+NamesFault-some : {T : Type 0} (r : Result T MachineError) (fault : Option MachineError) (e : MachineError) → r ≡ Err e → fault ≡ Some e → NamesFault r fault
+NamesFault-some r fault e refused some d other = (λ is. cc, λ is. cc)
 
 not_true : (b : Bool) → (b ≡ true → ⊥) → b ≡ false
 not_true true never = absurd (never refl)

@@ -1,6 +1,7 @@
 pub mod Clock
 pub mod Closing
 pub mod Events
+pub mod Faults
 pub mod Inside
 pub mod Lander
 pub mod Landing

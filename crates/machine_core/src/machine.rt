@@ -1,9 +1,10 @@
 //! The machine itself: its events, its runs, and what can be read of it.
 
-ghost use Rattle.std.specs.Prelude.{◌≡◌, ◌↔◌, ◌<◌, ℕ, Some, None, IfOk, OnOk, OnErr, IsErrOf, IsSome, IsSomeAnd, length, map, slice_get, option_copied, option_map, true};
+ghost use Rattle.std.specs.Prelude.{◌≡◌, ◌<◌, ℕ, None, IfOk, OnOk, OnErr, IsSome, IsSomeAnd, length, map, slice_get, option_copied, option_map, true};
 ghost use Rattle.node_core.specs.Node.{PreparedNode, MayRefuseStep, is_running};
 ghost use Rattle.bsp_exchange.specs.Exchange.{states};
 ghost use Rattle.machine_core.specs.declared.event.Event.TheVariants.{Step as step_of, Turn as the_turn};
+ghost use Rattle.machine_core.specs.Faults.{NamesFault};
 ghost use Rattle.machine_core.specs.Machine.{fresh, machine_fault};
 ghost use Rattle.machine_core.specs.Turn.{lowest, makes_exchange as makes_exchange_of, with_phases, end_of};
 ghost use Rattle.machine_core.specs.Events.{AreStepsMade, IsAnswered, is_enabled};
@@ -77,14 +78,7 @@ impl<A: Allocator + Copy> Machine<A> {
         settings: Settings,
     ) -> Result<Machine<A>, MachineError>
         ensures ok { IfOk result (λ m. m ≡ fresh image.now input.now settings) }
-        ensures bad_nodes { IsErrOf result MachineError.BadNodes
-            ↔ (machine_fault image.now settings ≡ Some MachineError.BadNodes) }
-        ensures bad_memory { IsErrOf result MachineError.BadMemory
-            ↔ (machine_fault image.now settings ≡ Some MachineError.BadMemory) }
-        ensures bad_limit { IsErrOf result MachineError.BadLimit
-            ↔ (machine_fault image.now settings ≡ Some MachineError.BadLimit) }
-        ensures segment_outside { IsErrOf result MachineError.SegmentOutside
-            ↔ (machine_fault image.now settings ≡ Some MachineError.SegmentOutside) }
+        ensures fault { NamesFault result (machine_fault image.now settings) }
     {
         settings.check()?;
         let nodes = start_nodes(alloc, image, &settings)?;

@@ -34,7 +34,8 @@ pub struct Settings {
 }
 
 impl Settings {
-    ghost use Rattle.std.specs.Prelude.{◌≡◌, Some, None, IfErr, OnOk};
+    ghost use Rattle.std.specs.Prelude.{◌≡◌};
+    ghost use Rattle.std.specs.Result.{result_err};
     ghost use Rattle.machine_core.specs.Machine.{settings_fault};
 
     /// Whether the settings are within their ranges.
@@ -42,8 +43,7 @@ impl Settings {
     /// # Errors
     /// [`MachineError::BadNodes`], [`MachineError::BadMemory`] or [`MachineError::BadLimit`], the first that applies.
     pub fn check(&self) -> Result<(), MachineError>
-        ensures ok { OnOk result (settings_fault self.now ≡ None) }
-        ensures err { IfErr result (λ cause. settings_fault self.now ≡ Some cause) }
+        ensures { result_err result ≡ settings_fault self.now }
     {
         if !(1..=MAX_NODES).contains(&self.nodes) {
             return Err(MachineError::BadNodes);

@@ -1,5 +1,6 @@
 -- No writer has any part in it.
 use Rattle.std.proofs.lemmas.Result.{err_from_is_err_and}
+use Rattle.machine_core.specs.declared.error.MachineError.TheVariants.{SegmentOutside}
 use Rattle.bsp_session.specs.Session.{ReadsBoth, session_of}
 use Rattle.bsp_session.specs.Streams.{Stream, stream}
 use Rattle.bsp_session.proofs.Jobs.{fits_memory}
@@ -30,10 +31,9 @@ returns-in_err-new-clause-err g c =
     let p = err_from_is_err_and c.from_residual-in_err-new.result c.from_residual-in_err-new.ensures.1 in
     let i = stream g.I.Read.remaining c.args.image.now c.read_both.new.image in
     let n = stream g.R.Read.remaining c.args.input.now c.read_both.new.input in
-    let e = c.new.ensures in
     rw (p.1, p.2) (λ out untouched. IsErrorOf-run (session_of i n out c.args.job.now) c.in_ok-file.file.items c.in_ok-file.input.items _ c.in_ok-file.ensures.ok
     (IsErrorOfRun-of_machine c.args.job.now c.in_ok-file.file.items c.in_ok-image.image c.new.result _ c.in_ok-file.ensures.ok.settings
-    (rw c.as_slice.ensures.value at c.in_ok-image.ensures.ok) c.in_err-new.was e.bad_nodes e.bad_memory e.bad_limit e.segment_outside) untouched)
+    (rw c.as_slice.ensures.value at c.in_ok-image.ensures.ok) c.in_err-new.was c.new.ensures.fault) untouched)
 
 -- a machine was made, so no part of its image lies past the memory
 pub returns-clause-ok : goal.returns-clause-ok
@@ -45,7 +45,7 @@ returns-clause-ok g c =
       read = c.in_ok-file.ensures.ok;
       image = record {
         gives = rw c.as_slice.ensures.value at c.in_ok-image.ensures.ok;
-        fits = fits_memory c.in_ok-image.image c.args.job.now c.in_ok-file.ensures.ok.settings (λ is. cc (c.in_ok-new.ensures.segment_outside.1 is));
+        fits = fits_memory c.in_ok-image.image c.args.job.now c.in_ok-file.ensures.ok.settings (λ is. cc ((c.in_ok-new.ensures.fault SegmentOutside (λ same. cc)).1 is));
       };
       is = rw c.as_slice-2.ensures.value at c.in_ok-new.ensures.ok;
     }

@@ -121,7 +121,7 @@ fn talk<A: Allocator + Copy, I: Read, R: Read, C: Read, W: Write>(
         → (commands.new ≡ commands.old) × (out.new ≡ out.old)) }
 {
     let (file, input) = read_files(alloc, image, input, job)?;
-    let mut debugger = debugger_of(alloc, job, file.as_slice(), input.as_slice())?;
+    let mut debugger = debugger_of(alloc, job, file.as_slice(), input)?;
     answer_lines(alloc, &mut debugger, job, manner, commands, out)
 }
 

@@ -62,7 +62,7 @@ pub fn debug_session<A: Allocator + Copy, I: Read, R: Read, C: Read, W: Write>(
 {
     let (file, input) = read_files(alloc, image, input, job)?;
     let script = read_at_most(alloc, commands, SCRIPT_BYTES)?;
-    let mut debugger = debugger_of(alloc, job, file.as_slice(), input.as_slice())?;
+    let mut debugger = debugger_of(alloc, job, file.as_slice(), input)?;
     answer_script(alloc, &mut debugger, job, script.as_slice(), out)
 }
 

@@ -47,11 +47,11 @@ pub(crate) fn debugger_of<A: Allocator + Copy>(
     alloc: A,
     job: &Job,
     file: &[u8],
-    input: &[u8],
+    input: Vec<u8, A>,
 ) -> Result<Debugger<A>, SessionError>
     requires settings { console_fault job.now ≡ None }
     requires limit { length file.now ≤ most_bytes job.now.format }
-    ensures ok { IfOk result (λ d. IsDebuggerOf job.now file.now input.now d) }
+    ensures ok { IfOk result (λ d. IsDebuggerOf job.now file.now input.items d) }
     ensures err { IfErr result (λ e. IsErrorOfImage job.now file.now e) }
 {
     let image = image_of(alloc, job.format, file)?;

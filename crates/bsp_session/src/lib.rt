@@ -37,7 +37,7 @@
 //! again for a bounded number of times. It takes the memory of the image once for all nodes, of a table of pages for each, and
 //! of each page that a node writes; and beside it that of the input, of the output, of a row of costs for each superstep, and where a
 //! report is asked for of a line for each of these; and for each further worker that of a thread's stack and of a list of its nodes.
-//! Up to the start of the run it takes that of the image's file and of the image too, and of the input once more.
+//! Up to the start of the run it takes that of the image's file and of the image too.
 #![tactic(auto)]
 
 mod contested;

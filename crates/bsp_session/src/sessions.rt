@@ -88,7 +88,7 @@ pub(crate) fn start<A: Allocator + Copy, I: Read, R: Read>(
 {
     let (file, input) = read_both(alloc, image, input, job)?;
     let image = image_of(alloc, job.format, file.as_slice())?;
-    Ok(Machine::new(alloc, &image, input.as_slice(), job.settings)?)
+    Ok(Machine::new(alloc, &image, input, job.settings)?)
 }
 
 /// Reads the file of an image and an input, where the settings of the job are within their ranges.

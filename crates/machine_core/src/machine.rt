@@ -67,23 +67,23 @@ impl<A: Allocator> Model for Machine<A> {
 
 impl<A: Allocator + Copy> Machine<A> {
     /// A machine at the start of its first superstep, with the image in each node's memory. The nodes share it, page by page, until they
-    /// write there; the input is copied.
+    /// write there; the input keeps its memory.
     ///
     /// # Errors
     /// The first that applies of [`MachineError`]'s, in their order.
     pub fn new(
         alloc: A,
         image: &Image<A>,
-        input: &[u8],
+        input: Vec<u8, A>,
         settings: Settings,
     ) -> Result<Machine<A>, MachineError>
-        ensures ok { IfOk result (λ m. m ≡ fresh image.now input.now settings) }
+        ensures ok { IfOk result (λ m. m ≡ fresh image.now input.items settings) }
         ensures fault { NamesFault result (machine_fault image.now settings) }
     {
         settings.check()?;
         let nodes = start_nodes(alloc, image, &settings)?;
         let started = vec![in alloc; 0u64; settings.nodes as usize]?;
-        let input = SharedBytes::from_slice(alloc, input)?;
+        let input = SharedBytes::from_vec(input)?;
         Ok(Machine {
             alloc,
             settings,

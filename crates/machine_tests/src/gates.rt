@@ -91,7 +91,7 @@ fn come_to_their_end(
         clock: None,
         float: false,
     };
-    let mut machine = Machine::new(alloc, &image(alloc, ENDS)?, b"", settings)?;
+    let mut machine = Machine::new(alloc, &image(alloc, ENDS)?, Vec::new(alloc), settings)?;
     let gate = OrderGate {
         places: row.places,
         left: AtomicU64::new(0),

@@ -81,5 +81,6 @@ pub fn image<A: Allocator + Copy>(alloc: A, text: &str) -> Result<Image<A>, Fail
 
 /// A machine of these nodes, with an image of the program.
 pub fn machine<A: Allocator + Copy>(alloc: A, image: &Image<A>) -> Result<Machine<A>, Fail> {
-    Ok(Machine::new(alloc, image, INPUT, SETTINGS)?)
+    let input = Vec::from_slice(alloc, INPUT)?;
+    Ok(Machine::new(alloc, image, input, SETTINGS)?)
 }

@@ -47,5 +47,5 @@ returns-clause-ok g c =
         gives = rw c.as_slice.ensures.value at c.in_ok-image.ensures.ok;
         fits = fits_memory c.in_ok-image.image c.args.job.now c.in_ok-file.ensures.ok.settings (λ is. cc ((c.in_ok-new.ensures.fault SegmentOutside (λ same. cc)).1 is));
       };
-      is = rw c.as_slice-2.ensures.value at c.in_ok-new.ensures.ok;
+      is = c.in_ok-new.ensures.ok;
     }

@@ -37,14 +37,14 @@ returns-in_err-input g c =
 pub invariant_of-result : goal.invariant_of-result
 invariant_of-result g c =
     let started = c.in_ok-started.ensures.items_if_clones_equal (λ y is. is) in
-    let parts = fresh-parts c.args.image.now c.args.settings c.args.input.now c.in_ok-input.input c.in_ok-nodes.nodes.items c.in_ok-started.started.items c.new.result.items c.new-2.result.rows
+    let parts = fresh-parts c.args.image.now c.args.settings c.args.input.items c.in_ok-input.input c.in_ok-nodes.nodes.items c.in_ok-started.started.items c.new.result.items c.new-2.result.rows
     c.in_ok-nodes.ensures.ok started c.in_ok-input.ensures.ok c.new.ensures.items (ap (λ (x : PreparedRows). x.rows) c.new-2.ensures) in
-    subst IsSoundMachine (sym parts) (IsSoundMachine-fresh c.args.image.now c.args.settings c.args.input.now (AreInRange-from c.args.settings (sym c.in_ok-check.ensures)))
+    subst IsSoundMachine (sym parts) (IsSoundMachine-fresh c.args.image.now c.args.settings c.args.input.items (AreInRange-from c.args.settings (sym c.in_ok-check.ensures)))
 
 pub returns : goal.returns
 returns g c =
     let started = c.in_ok-started.ensures.items_if_clones_equal (λ y is. is) in
     let none = machine_fault-none c.args.image.now c.args.settings (sym c.in_ok-check.ensures) c.in_ok-nodes.ensures.fits in
-    let parts = fresh-parts c.args.image.now c.args.settings c.args.input.now c.in_ok-input.input c.in_ok-nodes.nodes.items c.in_ok-started.started.items c.new.result.items c.new-2.result.rows
+    let parts = fresh-parts c.args.image.now c.args.settings c.args.input.items c.in_ok-input.input c.in_ok-nodes.nodes.items c.in_ok-started.started.items c.new.result.items c.new-2.result.rows
     c.in_ok-nodes.ensures.ok started c.in_ok-input.ensures.ok c.new.ensures.items (ap (λ (x : PreparedRows). x.rows) c.new-2.ensures) in
     record { ok = parts; fault = no_fault-named _ none }

@@ -1,6 +1,7 @@
 //! What comes before the lines: settings, image, input, and the debugger of their machine.
 
-ghost use Rattle.std.specs.Prelude.{◌≡◌, ◌≢◌, ◌≤◌, length, None, Some, IfOk, IfErr, OnOk};
+ghost use Rattle.std.specs.Prelude.{◌≡◌, ◌≢◌, ◌≤◌, length, None, IfOk, IfErr};
+ghost use Rattle.std.specs.Result.{result_err};
 ghost use Rattle.bsp_session.specs.Images.{most_bytes};
 ghost use Rattle.bsp_session.specs.Streams.{stream};
 ghost use Rattle.bsp_session.specs.Session.{IsErrorOfFiles, IsErrorOfImage, ReadsFiles};
@@ -35,8 +36,7 @@ pub(crate) fn read_files<A: Allocator + Copy, I: Read, R: Read>(
 
 /// Whether the settings of a machine are within their ranges; else the first that is not.
 fn check_settings(job: &Job) -> Result<(), SessionError>
-    ensures ok { OnOk result (console_fault job.now ≡ None) }
-    ensures err { IfErr result (λ e. console_fault job.now ≡ Some e) }
+    ensures { result_err result ≡ console_fault job.now }
 {
     job.settings.check()?;
     Ok(())

@@ -1,6 +1,7 @@
 //! The session that runs a program.
 
-ghost use Rattle.std.specs.Prelude.{◌≡◌, ◌≢◌, ◌↔◌, Some, None, IfOk, IfErr, OnOk, IsErrOf, IsSome};
+ghost use Rattle.std.specs.Prelude.{◌≡◌, ◌≢◌, ◌↔◌, Some, None, IfOk, IfErr, IsErrOf};
+ghost use Rattle.std.specs.Result.{result_err};
 ghost use Rattle.phase_pool.specs.Numbers.{numbers_fault};
 ghost use Rattle.bsp_session.specs.declared.errors.BadSetting.{BadSetting as BadSettingCause};
 ghost use Rattle.bsp_session.specs.Streams.{IsUntouched, Stream, stream};
@@ -113,8 +114,7 @@ fn read_both<A: Allocator + Copy, I: Read, R: Read>(
 
 /// Whether the settings of a job are within their ranges; else the first that is not.
 fn check_job(job: &Job) -> Result<(), SessionError>
-    ensures ok { OnOk result (job_fault job.now ≡ None) }
-    ensures err { IfErr result (λ e. job_fault job.now ≡ Some e) }
+    ensures { result_err result ≡ job_fault job.now }
 {
     job.settings.check()?;
     check_numbers(job.workers, job.slice)?;

@@ -1,6 +1,7 @@
 //! The numbers that a caller gives: how many workers, and how long a slice.
 
-ghost use Rattle.std.specs.Prelude.{◌≡◌, Some, None, IfErr, OnOk};
+ghost use Rattle.std.specs.Prelude.{◌≡◌};
+ghost use Rattle.std.specs.Result.{result_err};
 ghost use Rattle.phase_pool.specs.Numbers.{numbers_fault};
 
 use crate::error::PoolError;
@@ -10,8 +11,7 @@ use crate::error::PoolError;
 /// # Errors
 /// [`PoolError::BadWorkers`], else [`PoolError::BadSlice`].
 pub fn check_numbers(workers: u32, slice: u64) -> Result<(), PoolError>
-    ensures ok { OnOk result (numbers_fault workers slice ≡ None) }
-    ensures err { IfErr result (λ cause. numbers_fault workers slice ≡ Some cause) }
+    ensures { result_err result ≡ numbers_fault workers slice }
 {
     if !(1..=64).contains(&workers) {
         return Err(PoolError::BadWorkers);

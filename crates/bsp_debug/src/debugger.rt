@@ -128,8 +128,7 @@ impl<A: Allocator + Copy> Debugger<A> {
         ensures set { OnOk result (HasNoMore point self.old.points self.new.points) }
         ensures count { OnOk result (length self.new.points + 1 ≡ length self.old.points) }
         ensures others { self.new ≡ record self.old { points = self.new.points } }
-        ensures ok { OnOk result (remove_fault self.old.points point ≡ None) }
-        ensures refused { IfErr result (λ e. remove_fault self.old.points point ≡ Some e) }
+        ensures fault { result_err result ≡ remove_fault self.old.points point }
         ensures err { OnErr result (self.new ≡ self.old) }
     {
         if !self.points.has(point) {
@@ -213,8 +212,7 @@ impl<A: Allocator + Copy> Debugger<A> {
     /// [`DebugError::NoSuchKept`] where no state is kept under the number. Nothing has changed then.
     pub fn forget(&mut self, number: u64) -> Result<(), DebugError>
         ensures ok { OnOk result (self.new ≡ without number self.old) }
-        ensures faultless { OnOk result (kept_fault self.old.kept number ≡ None) }
-        ensures refused { IfErr result (λ e. kept_fault self.old.kept number ≡ Some e) }
+        ensures fault { result_err result ≡ kept_fault self.old.kept number }
         ensures err { OnErr result (self.new ≡ self.old) }
     {
         if self.state(number).is_none() {

@@ -17,6 +17,6 @@ index_mut-requires g c =
 pub invariant_of-self : goal.invariant_of-self
 invariant_of-self g c = reached-without (debugger_view c.self.inside) c.args.number c.self.invariant
 
-pub returns-clause-faultless : goal.returns-clause-faultless
-returns-clause-faultless g c =
-    found-faultless c.state.result c.args.self.now.kept c.args.number (c.is_none.ensures ∙ ap not c.if-is_none.false) c.state.ensures
+pub returns-clause-fault : goal.returns-clause-fault
+returns-clause-fault g c =
+    sym (found-faultless c.state.result c.args.self.now.kept c.args.number (c.is_none.ensures ∙ ap not c.if-is_none.false) c.state.ensures)

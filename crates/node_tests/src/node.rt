@@ -201,14 +201,20 @@ static ROWS: [Row; 18] = [
     },
 ];
 
+// Lays a word into a memory.
+fn lay_word(memory: &mut [u8], at: usize, word: u32) -> Result<(), Fail> {
+    if memory.len() < 4 || at > memory.len() - 4 {
+        return Err(Fail::new("a word past the memory"));
+    }
+    memory[at..at + 4].copy_from_slice(&word.to_le_bytes());
+    Ok(())
+}
+
 // Lays words into a memory from an address on.
 fn lay(memory: &mut [u8], at: usize, words: &[u32]) -> Result<(), Fail> {
     let mut at = at;
     for word in words {
-        match memory.get_mut(at..at.saturating_add(4)) {
-            Some(place) => place.copy_from_slice(&word.to_le_bytes()),
-            None => return Err(Fail::new("a word past the memory")),
-        }
+        lay_word(memory, at, *word)?;
         at = at.saturating_add(4);
     }
     Ok(())

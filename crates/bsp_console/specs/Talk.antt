@@ -25,7 +25,7 @@ use Rattle.debug_lines.specs.declared.line.Line.TheVariants.{Break, Clear, Comma
 use Rattle.debug_lines.specs.declared.verdict.Verdict.TheVariants.{Done, Kept as KeptAs, Refused, BadCommand, Misused as MisusedAs, NoLine as NoLineAs}
 use Rattle.debug_lines.specs.declared.form.Form.{Form}
 use Rattle.debug_lines.specs.Floats.{named_float_registers}
-use Rattle.debug_lines.specs.Framed.{cost_lines_from, framed_text, place_text, setup_text}
+use Rattle.debug_lines.specs.Framed.{cost_lines_from, place_text, setup_text}
 use Rattle.debug_lines.specs.Kept.{kept_text}
 use Rattle.debug_lines.specs.Lines.{line_of, dialogue_line_of, framed_line_of}
 use Rattle.debug_lines.specs.Named.{named_registers}
@@ -34,6 +34,7 @@ use Rattle.debug_lines.specs.Shown.{area_lines, point_lines, request_lines, show
 use Rattle.debug_lines.specs.Topics.{help_line, help_lines}
 use Rattle.debug_lines.specs.Verdicts.{verdict_text}
 use Rattle.debug_lines.specs.Words.{has_bytes}
+use Rattle.counted_io.specs.Framed.{framed_text}
 use Rattle.bsp_session.specs.declared.job.Job.{Job}
 
 -- a debugger with a point more, if it was not set yet

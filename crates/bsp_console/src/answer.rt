@@ -23,10 +23,10 @@ use crate::place::{add_place_of, add_places};
 use crate::telling::told;
 use bsp_debug::{Command, DebugError, Debugger, Point};
 use bsp_session::{Job, SessionError};
-use counted_io::{Counted, write_whole};
+use counted_io::{Counted, framed_text, write_whole};
 use debug_lines::{
-    Form, Line, Topic, Verdict, add_help, add_kept, area_lines, costs_from, framed_text,
-    help_lines, point_lines, request_lines, setup_line, shown_len, shown_text,
+    Form, Line, Topic, Verdict, add_help, add_kept, area_lines, costs_from, help_lines,
+    point_lines, request_lines, setup_line, shown_len, shown_text,
 };
 use machine_core::Machine;
 use std::alloc::{AllocError, Allocator};

@@ -1,4 +1,5 @@
 pub mod Counted
+pub mod Framed
 pub mod Lines
 pub mod Streams
 pub mod Transfers

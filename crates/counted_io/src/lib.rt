@@ -16,6 +16,8 @@
 //! - `NoMemory` is answered only where a growth was refused, for bytes within the limit. No clause can count refusals, or calls
 //!   of a reader or writer: the tests refuse each growth in turn, and look at each call that is passed on. That an interruption
 //!   is tried again, and how often, is shown by tests too.
+//!
+//! [`framed_text`] sets a text behind a header that says how many lines it has, for who reads on until it is over.
 #![tactic(auto)]
 
 ghost use Rattle.std.specs.Prelude.{◌≡◌, ◌<◌, ◌≤◌, IfErr, IfOk, OnErr, OnOk, Ok, is_err, length};
@@ -275,6 +277,8 @@ fn write_retrying<W: Write>(to: &mut Counted<W>, bytes: &[u8]) -> Result<usize, 
     Err(WriteFault)
 }
 
+mod framed;
 mod lines;
 
+pub use framed::framed_text;
 pub use lines::LineReader;

@@ -1,8 +1,7 @@
--- What dialogues and framed sessions add to the replies (own format): in the second a header before each of them, and replies that scripts
--- do not have.
-use Rattle.std.specs.Prelude.{ℕ, ◌==◌, Bool, if◌then◌else◌, List, ◌++◌, length, drop, codes}
+-- What dialogues and framed sessions add to the replies (own format): those that scripts do not have.
+use Rattle.std.specs.Prelude.{ℕ, List, ◌++◌, drop, codes}
 use Rattle.std.specs.Fmt.{decimal}
-use Rattle.std.specs.List.{enumerate_from, filter, flat_map}
+use Rattle.std.specs.List.{enumerate_from, flat_map}
 use Rattle.cost_ledger.specs.declared.CostRow.{CostRow}
 use Rattle.cost_ledger.specs.declared.LedgerText.{LedgerText}
 use Rattle.cost_ledger.specs.declared.LedgerText.TheVariants.{V1, V2}
@@ -12,18 +11,6 @@ use Rattle.node_core.specs.Names.{state_name}
 use Rattle.machine_core.specs.declared.settings.Settings.{Settings}
 use Rattle.bsp_debug.specs.declared.point.Point.TheVariants.{Address}
 use Rattle.debug_lines.specs.Replies.{point_text}
-
--- how many lines a text has, each of which a line feed ends
-abbrev pub line_count : List ℕ → ℕ
-line_count text = length (filter (λ b. b == 10) text)
-
--- the header of a reply of so many lines: whether the line was refused, and how many they are
-abbrev pub header_text : (refused : Bool) → (lines : ℕ) → List ℕ
-header_text refused lines = (if refused then codes "refused " else codes "done ") ++ decimal lines ++ codes "\n"
-
--- a reply behind its header
-abbrev pub framed_text : (refused : Bool) → (reply : List ℕ) → List ℕ
-framed_text refused reply = header_text refused (line_count reply) ++ reply
 
 -- the number of a version of the ledger
 abbrev pub version_number : LedgerText → ℕ

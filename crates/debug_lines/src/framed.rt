@@ -1,9 +1,9 @@
-//! What dialogues and framed sessions add to the replies: headers, and replies that scripts do not have.
+//! What dialogues and framed sessions add to the replies: those that scripts do not have.
 
 ghost use Rattle.std.specs.Prelude.{◌≡◌, ◌≤◌, ◌++◌, length, IfOk, string_bytes};
 ghost use Rattle.cost_ledger.specs.CostRow.{ending_text, superstep_line, total_in as total_of, total_line};
-ghost use Rattle.debug_lines.specs.Framed.{cost_lines_from, framed_text as framed_text_of, header_text, line_count as line_count_of, place_text, prices_text};
-ghost use Rattle.debug_lines.specs.Framed.{settings_text, setup_text, superstep_lines_from, version_number as number_of_version};
+ghost use Rattle.debug_lines.specs.Framed.{cost_lines_from, place_text, prices_text, settings_text, setup_text, superstep_lines_from};
+ghost use Rattle.debug_lines.specs.Framed.{version_number as number_of_version};
 
 use crate::reply::PointText;
 use bsp_debug::Point;
@@ -11,43 +11,6 @@ use cost_ledger::{CostRow, Ledger, LedgerText};
 use machine_core::Settings;
 use node_core::State;
 use std::alloc::{AllocError, Allocator};
-
-/// A reply behind its header: `done 2` or `refused 1`, with the number of its lines. It is an error only where memory is refused.
-pub fn framed_text<A: Allocator>(
-    alloc: A,
-    refused: bool,
-    reply: &[u8],
-) -> Result<Vec<u8, A>, AllocError>
-    ensures { IfOk result (λ text. text.items ≡ framed_text_of refused reply.now) }
-{
-    let mut text = header(alloc, refused, line_count(reply))?.into_bytes();
-    text.extend_from_slice(reply)?;
-    Ok(text)
-}
-
-/// The header of a reply of so many lines.
-fn header<A: Allocator>(alloc: A, refused: bool, lines: usize) -> Result<String<A>, AllocError>
-    ensures { IfOk result (λ text. string_bytes text ≡ header_text refused lines) }
-{
-    if refused {
-        format!(in alloc; "refused {lines}\n")
-    } else {
-        format!(in alloc; "done {lines}\n")
-    }
-}
-
-/// How many lines a text has: each ends with a line feed.
-fn line_count(text: &[u8]) -> usize
-    ensures { result ≡ line_count_of text.now }
-{
-    let mut count = 0;
-    for byte in text {
-        if *byte == b'\n' {
-            count += 1;
-        }
-    }
-    count
-}
 
 /// What a machine is made of, and how its costs are told: in a version of the ledger at `g` a byte and `l` a superstep. It is a line,
 /// and an error only where memory is refused.

@@ -7,8 +7,7 @@
 //! There are three such languages, each with the lines of the one before it and some more: that of scripts, that of dialogues
 //! ([`parse_dialogue_line`]) and that of framed sessions ([`parse_framed_line`]). [`add_place`], [`add_kept`], [`point_lines`],
 //! [`shown_text`], [`area_lines`], [`request_lines`], [`help_lines`], [`setup_line`] and [`costs_from`] give what answers the lines that
-//! scripts do not have, and [`named_registers`] and [`named_float_registers`] what tells of a node in a dialogue. Each reply stands behind a header in a framed session
-//! ([`framed_text`]).
+//! scripts do not have, and [`named_registers`] and [`named_float_registers`] what tells of a node in a dialogue.
 //!
 //! Callers may rely on this:
 //!
@@ -19,7 +18,6 @@
 //! - A number is decimal digits, or `0x` and hexadecimal digits of either case, of any number and without a sign. A line with a
 //!   number that its place has no room for is unknown: ranks, addresses and lengths have 32 bits, counts and numbers of supersteps 64.
 //! - The text of a reply is that of the definitions, with a line feed at the end of each line, and is refused nothing but memory.
-//! - A header has the number of the lines of its reply, and says whether the line was refused.
 //!
 //! The language is this project's own.
 #![tactic(auto)]
@@ -41,7 +39,7 @@ mod word;
 
 pub use floats::named_float_registers;
 pub use form::Form;
-pub use framed::{add_place, costs_from, framed_text, setup_line};
+pub use framed::{add_place, costs_from, setup_line};
 pub use kept::add_kept;
 pub use line::{Line, parse_dialogue_line, parse_framed_line, parse_line};
 pub use named::named_registers;

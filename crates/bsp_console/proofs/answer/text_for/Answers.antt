@@ -1,7 +1,7 @@
 -- The reply that a header announces is that of the line, and so is whether it refuses.
 use Rattle.std.proofs.Common.{ap₂, ◌∙◌}
 use Rattle.std.proofs.lemmas.Result.{IfOk-weaker}
-use Rattle.debug_lines.specs.Framed.{framed_text}
+use Rattle.counted_io.specs.Framed.{framed_text}
 use Rattle.bsp_console.proofs.answer.text_for.Goals as goal
 
 pub returns-in-Script : goal.returns-in-Script

@@ -240,7 +240,8 @@ float_encodings =
 abbrev pub Spells : ℕ → FloatInstr → Type 0
 Spells w i = Reads float_encodings w (Some i)
 
--- a word meets a row, with a field at a value that the row does not have
+-- a word meets a row, with a field at a value that the row does not have: a rounding mode that is reserved, or a CSR other than fflags, frm
+-- and fcsr
 abbrev pub IsReserved : ℕ → Type 0
 IsReserved w = Reads float_encodings w None
 

@@ -47,7 +47,7 @@ c_sw = c_row 0 6 [] word_layout (λ h imm. Store Sw (rs1_prime h) (rs2_prime h) 
 
 -- Quadrant 1.
 
--- with rd and immediate 0 it is C.NOP; with one of them 0, a hint
+-- with rd and immediate 0 it is C.NOP, which stands among the hints here; with one of them 0, a hint
 abbrev pub c_addi : CompressedRow Instr
 c_addi = c_row 1 0 [] small_layout (λ h imm. I Addi (rd h) (rd h) (sign_extended 6 imm)) hints_at rd_is_0 hints_at small_is_0
 

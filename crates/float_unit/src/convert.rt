@@ -52,7 +52,8 @@ fn word_otherwise(kind: WordKind, mode: Rounding, x: u32) -> Rounded
     }
 }
 
-fn nearest_single(kind: WordKind, x: u32) -> u32
+#[inline(always)]
+pub fn nearest_single(kind: WordKind, x: u32) -> u32
     ensures { result ≡ Values.from_word binary32 (Values.whole kind x) }
 {
     match kind {

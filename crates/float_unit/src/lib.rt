@@ -22,9 +22,13 @@ mod double;
 mod effect;
 mod fault;
 mod frequent;
+mod frequent_conversion;
+mod frequent_move;
 mod frequent_single;
+mod ordered;
 mod single;
 mod unit;
+mod whole;
 
 pub use fault::FloatFault;
 pub use unit::FloatUnit;

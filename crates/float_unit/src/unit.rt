@@ -104,6 +104,7 @@ impl FloatUnit {
     }
 
     /// Writes a double and what it raised.
+    #[inline(always)]
     pub(crate) fn put_double(&mut self, rd: u8, a: u64, flags: Flags)
         requires { IsRegister rd }
         ensures { self.new ≡ (Effects.into_float Format.Double self.old rd a flags).state }
@@ -176,6 +177,7 @@ impl FloatUnit {
     }
 
     /// Writes a single and what it raised.
+    #[inline(always)]
     pub(crate) fn put_single(&mut self, rd: u8, a: u32, flags: Flags)
         requires { IsRegister rd }
         ensures { self.new ≡ (Effects.into_float Format.Single self.old rd a flags).state }

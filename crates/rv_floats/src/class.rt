@@ -15,6 +15,7 @@ pub fn is_signaling_d(a: u64) -> bool
 }
 
 /// FCLASS.D: a mask of one bit.
+#[inline]
 pub fn class_d(a: u64) -> u32
     ensures { result ≡ Classes.class_mask binary64 a }
 {
@@ -30,6 +31,7 @@ pub fn class_d(a: u64) -> u32
     }
 }
 
+#[inline]
 fn negative_class_d(x: f64) -> u32
     ensures { result ≡ Classes.negative_class binary64 x }
 {
@@ -44,6 +46,7 @@ fn negative_class_d(x: f64) -> u32
     }
 }
 
+#[inline]
 fn positive_class_d(x: f64) -> u32
     ensures { result ≡ Classes.positive_class binary64 x }
 {
@@ -67,6 +70,7 @@ pub fn is_signaling_s(a: u32) -> bool
 }
 
 /// FCLASS.S: a mask of one bit.
+#[inline]
 pub fn class_s(a: u32) -> u32
     ensures { result ≡ Classes.class_mask binary32 a }
 {
@@ -82,6 +86,7 @@ pub fn class_s(a: u32) -> u32
     }
 }
 
+#[inline]
 fn negative_class_s(x: f32) -> u32
     ensures { result ≡ Classes.negative_class binary32 x }
 {
@@ -96,6 +101,7 @@ fn negative_class_s(x: f32) -> u32
     }
 }
 
+#[inline]
 fn positive_class_s(x: f32) -> u32
     ensures { result ≡ Classes.positive_class binary32 x }
 {

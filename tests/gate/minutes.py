@@ -2,6 +2,7 @@
 
 from __future__ import annotations
 
+import datetime
 import os
 import pathlib
 import re
@@ -93,9 +94,20 @@ def edits_of(crates: pathlib.Path, crate: str) -> int:
     return len(list((crates / crate / "must-fail").glob("*.edit")))
 
 
-def table(crates: pathlib.Path, names: Sequence[str], minutes: Mapping[Part, float], prover: float, checks: Sequence[Done]) -> str:
-    """The tables of what crates and checks cost. `prover` is what the prover's whole run took, in processor minutes."""
-    lines = ["| Crate | Proof | Tests | Edits |", "|---|---|---|---|"]
+def total(prover: float, checks: Sequence[Done], clock: float) -> str:
+    """What all took, in processor minutes and in minutes of the clock, where and when."""
+    spent = prover + sum(it.processor_seconds for it in checks) / 60
+    today = datetime.date.today()
+    processors = len(os.sched_getaffinity(0))
+    return f"On {today.day} {today:%B %Y} all of it took {spent:.0f} processor minutes, which were {clock:.0f} minutes on {processors} processors."
+
+
+def table(
+    crates: pathlib.Path, names: Sequence[str], minutes: Mapping[Part, float], prover: float, checks: Sequence[Done], clock: float
+) -> str:
+    """The tables of what crates and checks cost. `prover` is what the prover's whole run took, in processor minutes, and `clock` what all
+    took of the clock."""
+    lines = [total(prover, checks, clock), "", "| Crate | Proof | Tests | Edits |", "|---|---|---|---|"]
     sums = dict.fromkeys(PARTS, 0.0)
     for name in names:
         cells = []

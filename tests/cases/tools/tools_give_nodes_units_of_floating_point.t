@@ -44,3 +44,4 @@ instruction; --float gives the nodes units, and bspgdb and bspsweep have it too.
   $ bspsweep --engine plain --folder kept six.elf 2>/dev/null
   program,nodes,g,l,input,args,supersteps,w,h,m,total,outcome
   six.elf,1,1,0,,,1,2,0,0,2,rank 0 stopped: fault IllegalInstruction
+  [2]

@@ -380,16 +380,24 @@ def refusals(check: Check) -> None:
 
 
 def ended(check: Check) -> None:
-    """A run that does not end is a row with its outcome; one that cannot be made is a row without costs, and is tried again."""
+    """A run that does not end is a row with its outcome, a line and a status; one that cannot be made is a row without costs, a status that
+    counts before that one, and is tried again."""
     words = ["--engine", "plain", "--nodes", "1:2", "--folder", "stopped", str(REPO / "examples/give_up.elf")]
     done = check.tool("bspsweep", *words)
     outcomes = [row["outcome"] for row in csv.DictReader(io.StringIO(done.stdout))]
-    check.expect("runs that do not end", (done.returncode, outcomes) == (0, ["ended", "rank 1 stopped: aborted"]), done.stdout)
+    told = "bspsweep: 1 of 2 runs did not end well: " + words[-1] + ", 2 nodes: rank 1 stopped: aborted\n"
+    right = (done.returncode, outcomes) == (2, ["ended", "rank 1 stopped: aborted"]) and done.stderr.endswith(told)
+    check.expect("runs that do not end", right, done)
+    done = check.tool("bspsweep", *words, "--nodes", "3,2,1", "--check")
+    told = "2 of 3 runs did not end well, the first one " + words[-1] + ", 3 nodes: rank 1 stopped: aborted\n"
+    check.expect("runs that do not end, checked", done.returncode == 2 and told in done.stderr and "gave the same" in done.stderr, done)
     (check.folder / "bad.elf").write_bytes(b"\x7fELF" + bytes(60))
     for _ in range(2):
         done = check.tool("bspsweep", "--engine", "plain", "--folder", "stopped", "bad.elf")
         right = done.returncode == 1 and done.stdout.splitlines()[1].endswith(",,,,,not run") and "was compiled for another machine" in done.stderr
         check.expect("a run that cannot be made", right and "1 of 1 run done" in done.stderr, done.stdout + done.stderr)
+    done = check.tool("bspsweep", *words, "bad.elf")
+    check.expect("both of them", done.returncode == 1 and "1 of 2 runs did not end well" in done.stderr, done)
 
 
 def sources(check: Check) -> None:

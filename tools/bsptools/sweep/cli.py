@@ -18,6 +18,9 @@ from .programs import digest, programs
 from .progress import Progress
 from .store import MAIN, Place, Store
 
+# The status where all runs were made, and one of them was stopped, at its limit or refused to go on: that of such a run.
+NOT_ENDED = 2
+
 
 def pairs(text: str) -> list[tuple[int, int]]:
     """Prices as `1:1000,4:500`, each a g and an l."""
@@ -193,14 +196,15 @@ def sweep(options: argparse.Namespace, words: list[str]) -> int:
     is_whole = not wrong and not whole.missing() and not whole.unplaced
     if is_whole or not options.check:
         whole.write()
-    tell([*whole.unplaced, *table.failures(whole.places), *wrong], "bspsweep: ")
+    stopped = table.stopped(whole.places)
+    tell([*whole.unplaced, *table.failures(whole.places), *stopped, *wrong], "bspsweep: ")
     if options.check:
         tell([f"{counted(len(whole.places), 'run')} gave the same once more" if is_whole else "no table is written"], "bspsweep: ")
-    return 0 if is_whole else REFUSED
+    return REFUSED if not is_whole else NOT_ENDED if stopped else 0
 
 
 def main(words: list[str]) -> int:
-    """Sweeps; the status is 1 where a run could not be made, or a check found a difference."""
+    """Sweeps; the status is 1 where a run could not be made, or a check found a difference, and else 2 where one did not end well."""
     if words[:1] == ["--make"] and len(words) == 3:
         return job.make(words[1], words[2])
     options = arguments(words)

@@ -8,6 +8,7 @@ import pathlib
 
 from ..files import content_of
 from ..limits import MOST_TABLE
+from ..refusals import counted
 from .points import Point, Run
 from .store import Place, Record
 
@@ -42,6 +43,14 @@ def failures(places: dict[Run, Place]) -> list[str]:
     """Lines for each run that could not be made."""
     failed = {run: place.file("failed") for run, place in places.items() if place.found() is None}
     return [f"{run}: {line}" for run, why in failed.items() for line in reasons(why)]
+
+
+def stopped(places: dict[Run, Place]) -> list[str]:
+    """A line where runs were made that did not end well, with the first of them."""
+    ends = {run: found["outcome"] for run, place in places.items() if (found := place.found()) is not None}
+    first, *more = [f"{run}: {outcome}" for run, outcome in ends.items() if outcome != "ended"] or [""]
+    count = f"{1 + len(more)} of {counted(len(ends), 'run')} did not end well"
+    return [f"{count}{', the first one ' if more else ': '}{first}"] if first else []
 
 
 def reasons(why: pathlib.Path) -> list[str]:

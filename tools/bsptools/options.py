@@ -48,11 +48,19 @@ class Parser(argparse.ArgumentParser):
 
     def __init__(self, name: str, **given: Any) -> None:
         super().__init__(prog=name, allow_abbrev=False, **given)
+        self._words: list[str] = []
         self.add_argument("--version", action=Version, nargs=0, help="versions, the commit if it is known, and what was proved")
 
+    def parse_known_args(self, args: Any = None, namespace: Any = None) -> Any:
+        """Reads a command line, whose words a refusal may name."""
+        self._words = args or []
+        return super().parse_known_args(args, namespace)
+
     def error(self, message: str) -> NoReturn:
-        """Says what is wrong."""
-        raise Refused(f"{message}; {self.prog} --help tells the options")
+        """Says what is wrong, and how a file is given whose name was taken for options."""
+        names = [it for it in self._words if it.startswith("-") and os.path.isfile(it)]
+        lines = [f"{it} is a file here, and begins as options do: give it as ./{it}" for it in names[:1]]
+        raise Refused(f"{message}; {self.prog} --help tells the options", *lines)
 
     def own(self, words: list[str], rest: list[str]) -> list[str]:
         """What looks like options of this parser in the rest of a command line, which is another's. One that stands in front of that too is

@@ -67,6 +67,9 @@ int bsp_stdio_get(void);
 /* Whether some byte of the input has come so far. */
 extern int bsp_has_input;
 
+/* The stream of the input once it was read at its end. */
+extern const void *bsp_ended_input;
+
 /* Up to `count` bytes of the input, from the next one on: how many there were. */
 int bsp_input_read(void *to, int count);
 

@@ -535,6 +535,7 @@ static int scan(struct source *from, const char *format, va_list *arguments)
     return stored;
 }
 
+/* It does not name stdin: a program that has it for sscanf alone would be linked with the input, and bsprun wait for that. */
 int vfscanf(FILE *file, const char *format, va_list arguments)
 {
     struct source from = {NULL, file, NOT_LOOKED_AT, -1, 0, 0};
@@ -545,7 +546,7 @@ int vfscanf(FILE *file, const char *format, va_list arguments)
     va_end(rest);
     if (from.next != NOT_LOOKED_AT && from.next != EOF)
         ungetc(from.next, file);
-    if (stored == EOF && file == stdin && !bsp_has_input) {
+    if (stored == EOF && file == bsp_ended_input && !bsp_has_input) {
         bsp_note(NOTE_EMPTY, __builtin_return_address(0), 0, 0, "");
         bsp_has_input = 1;
     }

@@ -45,14 +45,17 @@ static void read_whole(void)
 static int get(FILE *file)
 {
     int byte;
-    (void)file;
     if (bsp_goes_back == NULL) {
         byte = bsp_stdio_get();
-        return byte < 0 ? _FDEV_EOF : byte;
+    } else {
+        if (whole.bytes == NULL)
+            read_whole();
+        byte = whole.next == whole.end ? -1 : (unsigned char)whole.bytes[whole.next++];
     }
-    if (whole.bytes == NULL)
-        read_whole();
-    return whole.next == whole.end ? _FDEV_EOF : (unsigned char)whole.bytes[whole.next++];
+    if (byte >= 0)
+        return byte;
+    bsp_ended_input = file;
+    return _FDEV_EOF;
 }
 
 static __off_t seek(FILE *file, __off_t offset, int whence)

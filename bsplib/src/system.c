@@ -89,6 +89,7 @@ static struct {
 } in;
 
 int bsp_has_input = 0;
+const void *bsp_ended_input;
 
 static int fill(void)
 {

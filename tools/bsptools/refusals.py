@@ -9,8 +9,9 @@ import sys
 from collections.abc import Iterable, Iterator
 
 
-# Beside these bsprun has the emulator's own statuses, of which a session of lines has that for want of memory.
-REFUSED, NO_MEMORY = 1, 5
+# Beside the first bsprun has the emulator's own statuses, of which a session of lines has that for want of memory; the last is that of a file
+# which could not be written.
+REFUSED, NO_MEMORY, UNWRITTEN = 1, 5, 6
 # A fault of the tool itself, as sysexits.h has it, and the base of the statuses of signals.
 BUG, BY_SIGNAL = 70, 128
 

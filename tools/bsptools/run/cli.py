@@ -12,7 +12,7 @@ from .. import children, files, streams
 from ..limits import MOST_WORKERS, WORKERS
 from ..machines import Take
 from ..options import Parser
-from ..refusals import BY_SIGNAL, REFUSED, Refused, about, show, tell
+from ..refusals import BY_SIGNAL, REFUSED, UNWRITTEN, Refused, about, show, tell
 from .given import files_read
 from .job import Job, prepared
 from .longs import Beside
@@ -80,6 +80,8 @@ def deliver(job: Job, done: Done) -> int:
         return BY_SIGNAL - done.status
     if found is None:
         return done.status
+    if done.status == UNWRITTEN and options.profile is not None:
+        tell([f"bsprun: {options.profile}: the profile could not be written there; the output is whole"])
     # What has no part in most runs is loaded where it is wanted, so that these begin sooner.
     if options.report == "-":
         streams.report(found.text)

@@ -15,7 +15,7 @@ import time
 from typing import NamedTuple
 
 from .. import children, files, streams
-from ..refusals import put, show
+from ..refusals import UNWRITTEN, put, show
 from . import report
 from .job import Job
 from .longs import Beside
@@ -159,7 +159,11 @@ class Watch:
         # The emulator tells the output of a run with a profile at its end.
         with files.replaced(options.profile) as written:
             with children.removed(written) if written != options.profile else contextlib.nullcontext():
-                return self._run([*words, "--profile", written])
+                done = self._run([*words, "--profile", written])
+                if written != options.profile and (done.status == UNWRITTEN or done.status < 0):
+                    # There is a part of it at the most, and what stands in its place stays.
+                    os.truncate(written, 0)
+                return done
 
     def _run(self, words: list[str]) -> Done:
         with children.running(words, stdin=subprocess.DEVNULL, stdout=subprocess.PIPE, stderr=subprocess.PIPE) as child:

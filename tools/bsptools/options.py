@@ -4,6 +4,7 @@ from __future__ import annotations
 
 import argparse
 import os
+import re
 from collections.abc import Callable
 from typing import Any, NoReturn
 
@@ -24,6 +25,8 @@ COMPILED = {
     "-m": "compile for this, as -march=rv32imc",
     "-std": "take this standard, as -std=c99",
 }
+# Words that are hardly meant for a program: where compilers are called, they may stand behind it.
+FOR_COMPILER = re.compile(r"-(D[A-Za-z_]\w*(=.*)?|I.+|O[0-3sgz]|lm|W(all|extra)|std=.+|m(arch|abi)=.+)", re.ASCII)
 KINDS = ("elf", "asm", "raw", "c")
 
 
@@ -71,6 +74,8 @@ class Parser(argparse.ArgumentParser):
             action = options.get(name) if name.startswith("-") else None
             if action and not set(action.option_strings).intersection(it.partition("=")[0] for it in front):
                 found.append(word if action.nargs == 0 or name != word else f"{word} {value}".rstrip())
+            elif FOR_COMPILER.fullmatch(word) and not any(it.startswith(word[:2]) for it in front):
+                found.append(word)
         return found
 
     def add_number(self, *names: str, what: str, least: int, most: int, unit: int = 1, **given: Any) -> None:

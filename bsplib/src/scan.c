@@ -242,6 +242,16 @@ static uint64_t read_floating(struct source *it, const struct floating *kind)
     return bits | sign << kind->bits;
 }
 
+/* Whether a number without a sign has another digit than 0 before its exponent. */
+static int has_digit(const char *text, const char *end)
+{
+    int is_hexadecimal = text[0] == '0' && small(text[1]) == 'x';
+    for (text += is_hexadecimal ? 2 : 0; text < end && small(*text) != (is_hexadecimal ? 'p' : 'e'); text++)
+        if (*text != '0' && *text != '.')
+            return 1;
+    return 0;
+}
+
 static uint64_t floating_of(const char *text, char **end, const struct floating *kind)
 {
     struct source from = {text, NULL, NOT_LOOKED_AT, -1, 0, 0};
@@ -255,8 +265,8 @@ static uint64_t floating_of(const char *text, char **end, const struct floating 
     if (from.accepted <= begin)
         return 0;
     size = bits >> kind->bits & (uint64_t)(2 * kind->most + 1);
-    if ((size == (uint64_t)(2 * kind->most + 1) || (size == 0 && (bits & (((uint64_t)1 << kind->bits) - 1)) != 0)) &&
-        small(text[begin + (text[begin] == '-' || text[begin] == '+')]) < 'a')
+    begin += text[begin] == '-' || text[begin] == '+';
+    if ((size == (uint64_t)(2 * kind->most + 1) || (size == 0 && has_digit(text + begin, text + from.accepted))) && small(text[begin]) < 'a')
         errno = ERANGE;
     return bits;
 }

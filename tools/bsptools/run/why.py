@@ -7,7 +7,7 @@ import re
 from ..debugger import Node, Session, floats_of, node_of, signed
 from ..limits import MOST_AREAS, MOST_BYTES, MOST_REQUESTS, MOST_STACK, MOST_TAG, MOST_TICKS
 from ..refusals import counted
-from .calls import CHANGES, GETS, POP, PUSH, PUTS, REQUESTS, SEND, TAGSIZE, WRITE, Call, Tracer, spelled
+from .calls import CHANGES, GETS, NAMES, POP, PUSH, PUTS, REQUESTS, SEND, TAGSIZE, WRITE, Call, Tracer, spelled
 from .places import place, written
 from .program import ECALL, Code, float_name
 from .replays import Replays, bytes_of
@@ -152,7 +152,7 @@ class Why:
             "BadRank": f"there is no rank {signed(node.x[10])}: with {counted(self.nodes, 'node')} {ranks}",
             "Break": "the compiler saw that the program goes wrong here, as at a use of NULL, and put a trap",
             "Misaligned": f"the program begins at {node.pc:#x}, and instructions stand at even addresses",
-            "UnknownCall": f"a7 is {node.x[17]}, and calls have the numbers 1 to 18",
+            "UnknownCall": f"a7 is {node.x[17]}, and calls have the numbers 1 to {max(NAMES)}",
         }
         return [texts[fault]] if fault in texts else tellers.get(fault, self.no_code)(node, superstep)
 

@@ -1,9 +1,14 @@
 /* Makes one instruction of operations.h over and over. The input has its number in four bytes, and then for each time the operands, three
    registers of 64 bits, and in 32 bits each what frm has, and the instruction's own field for a rounding mode, where it rounds; written are
-   the result, in 64 bits, and the flags that it raised, in 32. */
+   the result, in 64 bits, and the flags that it raised, in 32. It is a program of a node, or with LINUX one of Linux, which qemu runs. */
 #include <stdint.h>
 
-enum { END = 1, WRITE = 17, READ = 18, BLOCK = 512 };
+#ifdef LINUX
+enum { END = 93, WRITE = 64, READ = 63 };
+#else
+enum { END = 1, WRITE = 17, READ = 18 };
+#endif
+enum { BLOCK = 512 };
 enum { RNE, RTZ, RDN, RUP, RMM };
 
 typedef struct {
@@ -17,13 +22,20 @@ typedef struct {
     uint32_t flags;
 } Answer;
 
-/* A call of the machine. */
+/* A call of the machine. That of Linux takes a file besides, in front: standard input is 0, and standard output 1. */
 static long machine(long number, void *place, long count)
 {
+    register long a7 __asm__("a7") = number;
+#ifdef LINUX
+    register long a0 __asm__("a0") = number == WRITE;
+    register long a1 __asm__("a1") = (long)place;
+    register long a2 __asm__("a2") = count;
+    __asm__ volatile("ecall" : "+r"(a0) : "r"(a1), "r"(a2), "r"(a7) : "memory");
+#else
     register long a0 __asm__("a0") = (long)place;
     register long a1 __asm__("a1") = count;
-    register long a7 __asm__("a7") = number;
     __asm__ volatile("ecall" : "+r"(a0) : "r"(a1), "r"(a7) : "memory");
+#endif
     return a0;
 }
 

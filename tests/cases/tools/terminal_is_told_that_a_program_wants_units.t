@@ -11,3 +11,23 @@
   $ at-a-terminal "$REPO"/bspemu run --float image
   bspemu: a node was stopped before it ended; --report tells which, and why (stderr)
   [2]
+
+Beside a report, too; and what comes by a pipe is left to the program.
+
+  $ at-a-terminal "$REPO"/bspemu run --report image --limit 100
+  superstep 0: w 1 h 0 m 0 last
+  total 1
+  rank 0 stopped: fault IllegalInstruction
+  bspemu: the program was linked for units of floating point, which --float gives the nodes (stderr)
+  [2]
+  $ at-a-terminal "$REPO"/bspemu run --report --float image
+  superstep 0: w 2 h 0 m 0 last
+  total 2
+  rank 0 stopped: fault IllegalInstruction
+  [2]
+  $ mkfifo pipe
+  $ cat image >pipe & at-a-terminal "$REPO"/bspemu run --report pipe
+  superstep 0: w 1 h 0 m 0 last
+  total 1
+  rank 0 stopped: fault IllegalInstruction
+  [2]

@@ -1,0 +1,17 @@
+Before a session with the debugger begins, since its status says nothing of nodes. A framed session is for programs.
+
+  $ printf '.word 0x023170d3 # fadd.d f1,f2,f3\n' >text.s
+  $ bspemu asm text.s image
+  $ echo go | at-a-terminal "$REPO"/bspemu debug image
+  rank 0 stopped: fault IllegalInstruction
+  $ printf '\004' | dd of=image bs=1 seek=36 conv=notrunc status=none
+  $ echo go | at-a-terminal "$REPO"/bspemu debug image
+  rank 0 stopped: fault IllegalInstruction
+  bspemu: the program was linked for units of floating point, which --float gives the nodes (stderr)
+  $ echo go | at-a-terminal "$REPO"/bspemu debug --float image
+  rank 0 stopped: fault IllegalInstruction
+  $ echo go | at-a-terminal "$REPO"/bspemu debug --framed image
+  done 1
+  rank 0 stopped: fault IllegalInstruction
+  $ at-a-terminal "$REPO"/bspemu debug image --help | head -n 1
+  Run a program piece by piece: do what each line of standard input says, and write the answer

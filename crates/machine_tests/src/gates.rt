@@ -1,13 +1,12 @@
 //! A gate that lets nodes leave in a given order alone, which a pool that runs one node after another does not.
 
-use crate::program::image;
+use crate::program::machine;
 use machine_core::{Machine, Outcome, Settings};
 use node_core::Node;
 use phase_pool::{Gate, run, run_phase};
 use std::alloc::{Allocator, Global};
 use std::sync::Wait;
 use std::sync::atomic::{AtomicBool, AtomicU64, Ordering};
-use std::test::Fail;
 use std::thread::Threads;
 
 // How often a gate looks before it gives up.
@@ -15,6 +14,14 @@ const LOOKS: u64 = 1_000_000_000;
 
 // Ten steps to the end of each node.
 const ENDS: &str = "nop\nnop\nnop\nnop\nnop\nnop\nnop\nnop\nli a7, 1\necall\n";
+
+const SETTINGS: Settings = Settings {
+    nodes: 0,
+    memory: 0x1000,
+    limit: 10,
+    clock: None,
+    float: false,
+};
 
 // How many nodes leave, and by how many workers, each with how long slices.
 #[derive(Clone, Copy)]
@@ -29,19 +36,21 @@ struct Row {
     ticks: u64,
 }
 
-// How many nodes each leave once, at their ends, by how many workers, how many leave before that of each rank, and their ticks.
-static ORDERS: [(u32, u32, [u64; 4], u64); 8] = [
+// The values of rows, in the order of their names.
+static ROWS: [(u32, u32, u64, [u64; 4], u64, u64); 9] = [
     // Two nodes are run at once.
-    (2, 2, [1, 0, 0, 0], 0xaa),
+    (2, 2, 65_536, [1, 0, 0, 0], 2, 0xaa),
     // So are three, and they leave in any order.
-    (3, 3, [0, 1, 2, 0], 0xaaa),
-    (3, 3, [0, 2, 1, 0], 0xaaa),
-    (3, 3, [1, 0, 2, 0], 0xaaa),
-    (3, 3, [1, 2, 0, 0], 0xaaa),
-    (3, 3, [2, 0, 1, 0], 0xaaa),
-    (3, 3, [2, 1, 0, 0], 0xaaa),
+    (3, 3, 65_536, [0, 1, 2, 0], 3, 0xaaa),
+    (3, 3, 65_536, [0, 2, 1, 0], 3, 0xaaa),
+    (3, 3, 65_536, [1, 0, 2, 0], 3, 0xaaa),
+    (3, 3, 65_536, [1, 2, 0, 0], 3, 0xaaa),
+    (3, 3, 65_536, [2, 0, 1, 0], 3, 0xaaa),
+    (3, 3, 65_536, [2, 1, 0, 0], 3, 0xaaa),
     // One worker is held back at the first node, and the other takes all else.
-    (4, 2, [3, 0, 0, 0], 0xaaaa),
+    (4, 2, 65_536, [3, 0, 0, 0], 4, 0xaaaa),
+    // A node is given back after each slice.
+    (4, 1, 3, [0, 0, 0, 0], 16, 0x3333_6666_9999_aaaa),
 ];
 
 #[derive(Drop)]
@@ -53,6 +62,25 @@ struct OrderGate {
 }
 
 impl OrderGate {
+    fn new(places: [u64; 4]) -> OrderGate {
+        OrderGate {
+            places,
+            left: AtomicU64::new(0),
+            ticks: AtomicU64::new(0),
+            has_given_up: AtomicBool::new(false),
+        }
+    }
+
+    // Waits until so many nodes have left, and answers whether they have.
+    fn lets_leave(&self, place: u64) -> bool {
+        for _ in 0..LOOKS {
+            if self.left.load(Ordering::SeqCst) >= place {
+                return true;
+            }
+        }
+        false
+    }
+
     // Whether nodes left as a row says.
     fn has_seen(&self, row: &Row) -> bool {
         !self.has_given_up.load(Ordering::SeqCst)
@@ -61,12 +89,18 @@ impl OrderGate {
     }
 }
 
+fn place_of(places: &[u64; 4], rank: u32) -> u64 {
+    match places.get(rank as usize) {
+        Some(place) => *place,
+        None => 0,
+    }
+}
+
 impl<A: Allocator> Gate<A> for OrderGate {
     fn enter(&self, _rank: u32) {}
 
     fn leave(&self, rank: u32, node: &Node<A>) {
-        let place = self.places.get(rank as usize).map_or(0, |place| *place);
-        if !(0..LOOKS).any(|_| self.left.load(Ordering::SeqCst) >= place) {
+        if !self.lets_leave(place_of(&self.places, rank)) {
             self.has_given_up.store(true, Ordering::SeqCst);
         }
         // Before the next one may leave.
@@ -78,66 +112,54 @@ impl<A: Allocator> Gate<A> for OrderGate {
 }
 
 // Whether the nodes of a row come to their end as it says, in a phase and a turn, or in a run.
-fn come_to_their_end(
-    rt: &(impl Threads + Wait + Sync),
+fn come_to_their_end<R: Threads + Wait + Sync>(
+    rt: &R,
+    machine: &mut Machine<Global>,
+    gate: &OrderGate,
+    row: &Row,
+    by_phase: bool,
+) -> bool {
+    let is_made = if by_phase {
+        run_phase(rt, machine, row.workers, row.slice, gate).is_ok() && machine.turn() == Ok(true)
+    } else {
+        run(rt, machine, row.workers, row.slice, gate).is_ok()
+    };
+    is_made && machine.outcome() == Some(Outcome::Ended) && gate.has_seen(row)
+}
+
+fn leave_in_order<R: Threads + Wait + Sync>(
+    rt: &R,
     alloc: Global,
     row: &Row,
     by_phase: bool,
-) -> Result<bool, Fail> {
+) -> bool {
     let settings = Settings {
         nodes: row.nodes,
-        memory: 0x1000,
-        limit: 10,
-        clock: None,
-        float: false,
+        ..SETTINGS
     };
-    let mut machine = Machine::new(alloc, &image(alloc, ENDS)?, Vec::new(alloc), settings)?;
-    let gate = OrderGate {
-        places: row.places,
-        left: AtomicU64::new(0),
-        ticks: AtomicU64::new(0),
-        has_given_up: AtomicBool::new(false),
+    let Some(mut machine) = machine(alloc, ENDS, settings) else {
+        return false;
     };
-    if by_phase {
-        run_phase(rt, &mut machine, row.workers, row.slice, &gate)?;
-        machine.turn()?;
-    } else {
-        run(rt, &mut machine, row.workers, row.slice, &gate)?;
-    }
-    Ok(machine.outcome() == Some(Outcome::Ended) && gate.has_seen(row))
+    let gate = OrderGate::new(row.places);
+    come_to_their_end(rt, &mut machine, &gate, row, by_phase)
 }
 
 #[test]
-fn nodes_leave_in_any_order(rt: HostRuntime) -> Result<(), Fail> {
-    for (nodes, workers, places, ticks) in ORDERS {
+fn nodes_leave_in_any_order_and_after_each_slice(rt: HostRuntime) {
+    for (nodes, workers, slice, places, leaves, ticks) in ROWS {
         let row = Row {
             nodes,
             workers,
-            slice: 65_536,
+            slice,
             places,
-            leaves: u64::from(nodes),
+            leaves,
             ticks,
         };
         for by_phase in [false, true] {
             assert!(rt;
-                come_to_their_end(&rt, rt.alloc(), &row, by_phase)?,
+                leave_in_order(&rt, rt.alloc(), &row, by_phase),
                 "{places:?}"
             );
         }
     }
-    Ok(())
-}
-
-#[test]
-fn a_node_is_given_back_after_each_slice(rt: HostRuntime) -> Result<(), Fail> {
-    let row = Row {
-        nodes: 4,
-        workers: 1,
-        slice: 3,
-        places: [0; 4],
-        leaves: 16,
-        ticks: 0x3333_6666_9999_aaaa,
-    };
-    assert!(rt; come_to_their_end(&rt, rt.alloc(), &row, false)?);
-    Ok(())
 }

@@ -3,14 +3,12 @@
 #![tactic(auto)]
 
 #[cfg(test)]
-mod exchange;
-#[cfg(test)]
 mod gates;
+#[cfg(test)]
+mod machines;
 #[cfg(test)]
 mod program;
 #[cfg(test)]
 mod readers;
-#[cfg(test)]
-mod runs;
 #[cfg(test)]
 mod sessions;

@@ -30,7 +30,7 @@ impl Read for Source {
     }
 }
 
-type Sources = Readers<Source, Source, Source>;
+type Sources = Readers<Source>;
 
 // What a whole session reads: a program that ends at once, its input, and a script.
 const WHOLE: Sources = Readers {
@@ -61,82 +61,126 @@ fn cut(source: Source, given: usize) -> Source {
 }
 
 // What comes of a session over sources.
-fn done(rt: &(impl Threads + Wait + Sync), alloc: Global, kind: Kind, sources: Sources) -> Done {
-    make(
-        rt,
-        alloc,
-        alloc,
-        kind,
-        Format::Asm { float: false },
-        sources,
-    )
+fn done<T: Threads + Wait + Sync>(rt: &T, alloc: Global, kind: Kind, sources: Sources) -> Done {
+    let format = Format::Asm { float: false };
+    make(rt, alloc, alloc, kind, format, sources)
 }
 
 // Whether a session is a read fault that writes nothing.
-fn is_read_fault(
-    rt: &(impl Threads + Wait + Sync),
+fn is_read_fault<T: Threads + Wait + Sync>(
+    rt: &T,
     alloc: Global,
     kind: Kind,
     sources: Sources,
 ) -> bool {
-    let done = done(rt, alloc, kind, sources);
-    done.answer == Err(SessionError::ReadFault) && done.out.is_empty() && done.beside.is_empty()
+    done(rt, alloc, kind, sources).is(Err(SessionError::ReadFault), b"")
+}
+
+impl Done {
+    // Whether this is the answer, and what was written.
+    fn is(&self, answer: Result<(), SessionError>, out: &[u8]) -> bool {
+        self.answer == answer && self.out.as_slice() == out && self.beside.is_empty()
+    }
+}
+
+// Whether a session is a read fault wherever its image fails, and wherever its input does, if it reads one.
+fn fails_with_each_reader<T: Threads + Wait + Sync>(
+    rt: &T,
+    alloc: Global,
+    kind: Kind,
+    reads_input: bool,
+) -> bool {
+    for given in 0..=WHOLE.image.text.len() {
+        let image = cut(WHOLE.image, given);
+        if !is_read_fault(rt, alloc, kind, Readers { image, ..WHOLE }) {
+            return false;
+        }
+    }
+    for given in 0..=INPUT.len() {
+        let input = cut(WHOLE.input, given);
+        if is_read_fault(rt, alloc, kind, Readers { input, ..WHOLE }) != reads_input {
+            return false;
+        }
+    }
+    done(rt, alloc, kind, WHOLE).answer == Ok(())
 }
 
 #[test]
 fn one_reader_that_fails_is_a_read_fault(rt: HostRuntime) {
-    let alloc = rt.alloc();
     for (kind, reads_input) in [
         (Kind::Runs, true),
         (Kind::Tells, true),
         (Kind::Profiles, true),
         (Kind::Counts, true),
+        (Kind::Contests, true),
         (Kind::Lists, false),
         (Kind::Saves, false),
         (Kind::Debugs, true),
         (Kind::Talks, true),
+        (Kind::Frames, true),
     ] {
-        assert!(rt; done(&rt, alloc, kind, WHOLE).answer == Ok(()));
-        for given in 0..=WHOLE.image.text.len() {
-            let image = cut(WHOLE.image, given);
-            assert!(rt;
-                is_read_fault(&rt, alloc, kind, Readers { image, ..WHOLE }),
-                "after {given}"
-            );
-        }
-        for given in 0..=INPUT.len() {
-            let input = cut(WHOLE.input, given);
-            assert!(rt; is_read_fault(&rt, alloc, kind, Readers { input, ..WHOLE }) == reads_input);
-        }
+        assert!(rt; fails_with_each_reader(&rt, rt.alloc(), kind, reads_input));
     }
+}
+
+// A session over lines after which their reader fails, and what comes of it.
+struct Row {
+    kind: Kind,
+    text: &'static [u8],
+    answer: Result<(), SessionError>,
+    out: &'static [u8],
+}
+
+// A dialogue answers the lines that came whole, and reads nothing behind `quit`.
+static ROWS: [Row; 5] = [
+    Row {
+        kind: Kind::Debugs,
+        text: b"phase\nquit\n",
+        answer: Err(SessionError::ReadFault),
+        out: b"",
+    },
+    Row {
+        kind: Kind::Talks,
+        text: b"phase\nquit\n",
+        answer: Ok(()),
+        out: b"moved 4\n",
+    },
+    Row {
+        kind: Kind::Debugs,
+        text: b"phase\nturn",
+        answer: Err(SessionError::ReadFault),
+        out: b"",
+    },
+    Row {
+        kind: Kind::Talks,
+        text: b"phase\nturn",
+        answer: Err(SessionError::ReadFault),
+        out: b"moved 4\n",
+    },
+    Row {
+        kind: Kind::Talks,
+        text: b"phase\nturn\n",
+        answer: Err(SessionError::ReadFault),
+        out: b"moved 4\nended\n",
+    },
+];
+
+// Whether that comes of a row, in reads of so many bytes.
+fn is_answered<T: Threads + Wait + Sync>(rt: &T, alloc: Global, row: &Row, step: usize) -> bool {
+    let lines = Source {
+        text: row.text,
+        step,
+        fails: true,
+    };
+    done(rt, alloc, row.kind, Readers { lines, ..WHOLE }).is(row.answer, row.out)
 }
 
 #[test]
 fn a_script_is_read_before_its_first_reply_and_a_dialogue_as_it_comes(rt: HostRuntime) {
-    let alloc = rt.alloc();
-    let fault = Err(SessionError::ReadFault);
-    // A dialogue answers the lines that came whole, and reads nothing behind `quit`.
-    for (kind, text, answer, out) in [
-        (
-            Kind::Debugs,
-            b"phase\nquit\n".as_slice(),
-            fault,
-            b"".as_slice(),
-        ),
-        (Kind::Talks, b"phase\nquit\n", Ok(()), b"moved 4\n"),
-        (Kind::Debugs, b"phase\nturn", fault, b""),
-        (Kind::Talks, b"phase\nturn", fault, b"moved 4\n"),
-        (Kind::Talks, b"phase\nturn\n", fault, b"moved 4\nended\n"),
-    ] {
+    for row in &ROWS {
         for step in [1, 3, 4096] {
-            let lines = Source {
-                text,
-                step,
-                fails: true,
-            };
-            let done = done(&rt, alloc, kind, Readers { lines, ..WHOLE });
             assert!(rt;
-                done.answer == answer && done.out.as_slice() == out,
+                is_answered(&rt, rt.alloc(), row, step),
                 "in parts of {step}"
             );
         }

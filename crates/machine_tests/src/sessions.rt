@@ -7,9 +7,9 @@ use bsp_session::{
     list_session, live_session, profile_session, session,
 };
 use counted_io::Counted;
-use machine_core::Settings;
+use machine_core::{Outcome, Settings};
 use std::alloc::{Allocator, Global};
-use std::io::Read;
+use std::io::{Print, Read};
 use std::sync::Wait;
 use std::test::Fail;
 use std::thread::Threads;
@@ -37,10 +37,10 @@ use Kind::{Contests, Counts, Debugs, Frames, Lists, Profiles, Runs, Saves, Talks
 
 /// What a session reads.
 #[derive(Drop)]
-pub struct Readers<I, J, L> {
-    pub image: I,
-    pub input: J,
-    pub lines: L,
+pub struct Readers<R> {
+    pub image: R,
+    pub input: R,
+    pub lines: R,
 }
 
 /// What a session answered and wrote. Its profile, its counts or what it tells of contested bytes stand by themselves.
@@ -53,40 +53,28 @@ pub struct Done {
 
 // What a session reads and writes.
 #[derive(Drop)]
-struct Streams<I, J, L> {
-    image: Counted<I>,
-    input: Counted<J>,
-    lines: Counted<L>,
+struct Streams<R> {
+    image: Counted<R>,
+    input: Counted<R>,
+    lines: Counted<R>,
     out: Counted<Vec<u8>>,
     beside: Counted<Vec<u8>>,
 }
 
 /// Makes a session, with memory of `alloc`. What it writes is held by `holder`.
-pub fn make<T, A, I, J, L>(
+pub fn make<T, A, R>(
     rt: &T,
     alloc: A,
     holder: Global,
     kind: Kind,
     format: Format,
-    readers: Readers<I, J, L>,
+    readers: Readers<R>,
 ) -> Done
 where
     T: Threads + Wait + Sync,
     A: Allocator + Copy + Send + Sync,
-    I: Read + Drop,
-    J: Read + Drop,
-    L: Read + Drop,
+    R: Read + Drop,
 {
-    let job = Job {
-        format,
-        settings: settings_of(kind),
-        workers: 2,
-        slice: 1 << 16,
-        report: true,
-        ledger: LedgerText::V2,
-        g: 2,
-        l: 10,
-    };
     let mut streams = Streams {
         image: Counted::new(readers.image),
         input: Counted::new(readers.input),
@@ -94,11 +82,7 @@ where
         out: Counted::new(Vec::new(holder)),
         beside: Counted::new(Vec::new(holder)),
     };
-    let answer = match kind {
-        Runs | Tells | Profiles | Counts | Contests => run(rt, alloc, kind, &job, &mut streams),
-        Lists | Saves => convert(alloc, kind, format, &mut streams),
-        Debugs | Talks | Frames => debug(alloc, kind, &job, &mut streams),
-    };
+    let answer = answer(rt, alloc, kind, &job_of(kind, format), &mut streams);
     Done {
         answer,
         out: streams.out.into_inner(),
@@ -106,69 +90,113 @@ where
     }
 }
 
-// The settings of a session. Its nodes have units of floating point where what these hold is asked for.
-fn settings_of(kind: Kind) -> Settings {
-    Settings {
-        float: matches!(kind, Debugs | Talks),
-        ..SETTINGS
+// What a session is asked to do. Its nodes have units of floating point where what these hold is asked for.
+fn job_of(kind: Kind, format: Format) -> Job {
+    Job {
+        format,
+        settings: Settings {
+            float: matches!(kind, Debugs | Talks),
+            ..SETTINGS
+        },
+        workers: 2,
+        slice: 1 << 16,
+        report: true,
+        ledger: LedgerText::V2,
+        g: 2,
+        l: 10,
     }
 }
 
-fn run<T, A, I, J, L>(
+fn answer<T, A, R>(
     rt: &T,
     alloc: A,
     kind: Kind,
     job: &Job,
-    streams: &mut Streams<I, J, L>,
+    streams: &mut Streams<R>,
 ) -> Result<(), SessionError>
 where
     T: Threads + Wait + Sync,
     A: Allocator + Copy + Send + Sync,
-    I: Read,
-    J: Read,
+    R: Read,
 {
-    let Streams {
-        image,
-        input,
-        out,
-        beside,
-        ..
-    } = streams;
     match kind {
-        Tells => live_session(rt, alloc, image, input, job, out).map(|_| ()),
-        Profiles => profile_session(rt, alloc, image, input, job, out, beside).map(|_| ()),
-        Counts => counts_session(alloc, image, input, job, out, beside).map(|_| ()),
-        Contests => contested_session(rt, alloc, image, input, job, out, beside).map(|_| ()),
-        _ => session(rt, alloc, image, input, job, out).map(|_| ()),
+        Runs | Tells => run(rt, alloc, kind, job, streams),
+        Profiles | Counts | Contests => run_beside(rt, alloc, kind, job, streams),
+        Lists | Saves => convert(alloc, kind, job.format, streams),
+        Debugs | Talks | Frames => debug(alloc, kind, job, streams),
     }
 }
 
-fn convert<A: Allocator + Copy, I: Read, J, L>(
-    alloc: A,
-    kind: Kind,
-    format: Format,
-    streams: &mut Streams<I, J, L>,
-) -> Result<(), SessionError> {
-    if kind == Lists {
-        list_session(alloc, format, false, &mut streams.image, &mut streams.out)
-    } else {
-        asm_session(alloc, false, &mut streams.image, &mut streams.out)
+fn without_outcome(answer: Result<Outcome, SessionError>) -> Result<(), SessionError> {
+    match answer {
+        Ok(_) => Ok(()),
+        Err(error) => Err(error),
     }
 }
 
-fn debug<A: Allocator + Copy, I: Read, J: Read, L: Read>(
+fn run<T, A, R>(
+    rt: &T,
     alloc: A,
     kind: Kind,
     job: &Job,
-    streams: &mut Streams<I, J, L>,
+    streams: &mut Streams<R>,
+) -> Result<(), SessionError>
+where
+    T: Threads + Wait + Sync,
+    A: Allocator + Copy + Send + Sync,
+    R: Read,
+{
+    let (image, input, out) = (&mut streams.image, &mut streams.input, &mut streams.out);
+    without_outcome(if kind == Tells {
+        live_session(rt, alloc, image, input, job, out)
+    } else {
+        session(rt, alloc, image, input, job, out)
+    })
+}
+
+// A run that writes something beside its report.
+fn run_beside<T, A, R>(
+    rt: &T,
+    alloc: A,
+    kind: Kind,
+    job: &Job,
+    streams: &mut Streams<R>,
+) -> Result<(), SessionError>
+where
+    T: Threads + Wait + Sync,
+    A: Allocator + Copy + Send + Sync,
+    R: Read,
+{
+    let (image, input, out) = (&mut streams.image, &mut streams.input, &mut streams.out);
+    let beside = &mut streams.beside;
+    without_outcome(match kind {
+        Profiles => profile_session(rt, alloc, image, input, job, out, beside),
+        Counts => counts_session(alloc, image, input, job, out, beside),
+        _ => contested_session(rt, alloc, image, input, job, out, beside),
+    })
+}
+
+fn convert<A: Allocator + Copy, R: Read>(
+    alloc: A,
+    kind: Kind,
+    format: Format,
+    streams: &mut Streams<R>,
 ) -> Result<(), SessionError> {
-    let Streams {
-        image,
-        input,
-        lines,
-        out,
-        ..
-    } = streams;
+    if kind == Lists {
+        list_session(alloc, format, true, &mut streams.image, &mut streams.out)
+    } else {
+        asm_session(alloc, true, &mut streams.image, &mut streams.out)
+    }
+}
+
+fn debug<A: Allocator + Copy, R: Read>(
+    alloc: A,
+    kind: Kind,
+    job: &Job,
+    streams: &mut Streams<R>,
+) -> Result<(), SessionError> {
+    let (image, input, out) = (&mut streams.image, &mut streams.input, &mut streams.out);
+    let lines = &mut streams.lines;
     match kind {
         Talks => debug_dialogue(alloc, image, input, job, lines, out),
         Frames => debug_framed(alloc, image, input, job, lines, out),
@@ -219,7 +247,7 @@ areas 1
 phase
 requests 0
 words 0 0x2000 5
-text 0 0x40 40
+text 0 0x4c 40
 list 0 0 3
 what
 over
@@ -240,23 +268,25 @@ moved 1
 rank 0 pc 00000008 superstep 0 state running
 stopped at rank 1 pc 00000008
 stopped at superstep 1
-rank 1 pc 00000038 ticks 50 state running
-x0/zero=00000000   x1/ra=00000000   x2/sp=00005000   x3/gp=00000000
-  x4/tp=00000000   x5/t0=00000000   x6/t1=00000000   x7/t2=00000000
-  x8/s0=00000000   x9/s1=000000dc  x10/a0=00000000  x11/a1=00000000
+rank 1 pc 00000044 ticks 53 state running
+x0/zero=00000000   x1/ra=00000000   x2/sp=00010000   x3/gp=00000000
+  x4/tp=00000000   x5/t0=00005ffe   x6/t1=00000000   x7/t2=00000000
+  x8/s0=00000000   x9/s1=000000e8  x10/a0=00000000  x11/a1=00000000
  x12/a2=00000000  x13/a3=00000000  x14/a4=00000000  x15/a5=00000000
  x16/a6=00000000  x17/a7=00000004  x18/s2=00000000  x19/s3=00000000
  x20/s4=00000000  x21/s5=00000000  x22/s6=00000000  x23/s7=00000000
  x24/s8=00000000  x25/s9=00000000 x26/s10=00000000 x27/s11=00000000
  x28/t3=00000000  x29/t4=00000000  x30/t5=00000000  x31/t6=00000000
 area 0 at 00002000 size 4112
-moved 180
+moved 216
 request 0 put to rank 0 area 0 offset 4094 bytes 4
-request 1 put to rank 1 area 0 offset 4096 bytes 4
+request 1 put to rank 1 area 0 offset 4080 bytes 32
 request 2 get from rank 0 area 0 offset 4 bytes 4 into 00003ffe
 request 3 get from rank 1 area 0 offset 4094 bytes 4 into 00001204
-request 4 send to rank 0 bytes 3 tag bytes 4
-request 5 send to rank 1 bytes 30 tag bytes 4
+request 4 put to rank 1 area 0 offset 8 bytes 5
+request 5 get from rank 1 area 0 offset 4 bytes 5 into 00007ffe
+request 6 send to rank 0 bytes 3 tag bytes 4
+request 7 send to rank 1 bytes 30 tag bytes 4
 00002000: 00000000 00000000 00000000 00000000
 00002010: 00000000
 \"more than a few bytes of a message\"
@@ -286,7 +316,7 @@ costs 5
 kept
 back 0
 where 1
-break 1 0x20
+break 1 0x2c
 go 1 5
 go 1 5
 go 2 5
@@ -303,12 +333,12 @@ ok
 done 1
 stopped at superstep 1
 done 1
-nodes 2 memory 20480 limit 10000 g 2 l 10 ledger 2
+nodes 2 memory 65536 limit 10000 g 2 l 10 ledger 2
 done 2
-rank 0 pc 00000038 superstep 1 state running
-rank 1 pc 00000038 superstep 1 state running
+rank 0 pc 00000044 superstep 1 state running
+rank 1 pc 00000044 superstep 1 state running
 done 1
-rank 1 pc 00000038 superstep 1 state running
+rank 1 pc 00000044 superstep 1 state running
 refused 1
 refused: BadRank
 refused 1
@@ -323,15 +353,15 @@ refused 1
 refused: BadRange
 done 2
 superstep 3: w 9 h 0 m 0 last
-total 341
+total 437
 refused 1
 refused: BadRange
 done 1
-kept 0 superstep 1, ranks 0 to 1 pc 00000038 state running
+kept 0 superstep 1, ranks 0 to 1 pc 00000044 state running
 done 1
 ok
 done 1
-rank 1 pc 00000038 superstep 1 state running
+rank 1 pc 00000044 superstep 1 state running
 done 1
 ok
 done 1
@@ -352,11 +382,11 @@ const OUTPUT: &[u8] = b"01";
 
 // What the program writes in a run, and what is told of its costs.
 const REPORT: &str = "\
-01superstep 0: w 50 h 3 m 1 turned
-superstep 1: w 90 h 42 m 1 turned
-superstep 2: w 54 h 4 m 0 turned
+01superstep 0: w 53 h 3 m 1 turned
+superstep 1: w 108 h 75 m 1 turned
+superstep 2: w 63 h 4 m 0 turned
 superstep 3: w 9 h 0 m 0 last
-total 341
+total 437
 ended
 ";
 
@@ -373,7 +403,7 @@ static ROWS: [Row; 10] = [
         name: "asm_session",
         kind: Saves,
         format: Format::Asm { float: false },
-        requests: 426,
+        requests: 520,
     },
     Row {
         name: "list_session",
@@ -385,49 +415,49 @@ static ROWS: [Row; 10] = [
         name: "session",
         kind: Runs,
         format: Format::Elf,
-        requests: 69,
+        requests: 97,
     },
     Row {
         name: "live_session",
         kind: Tells,
         format: Format::Elf,
-        requests: 69,
+        requests: 97,
     },
     Row {
         name: "profile_session",
         kind: Profiles,
         format: Format::Raw,
-        requests: 96,
+        requests: 124,
     },
     Row {
         name: "counts_session",
         kind: Counts,
         format: Format::Raw,
-        requests: 77,
+        requests: 105,
     },
     Row {
         name: "contested_session",
         kind: Contests,
         format: Format::Raw,
-        requests: 80,
+        requests: 110,
     },
     Row {
         name: "debug_session",
         kind: Debugs,
         format: Format::Raw,
-        requests: 120,
+        requests: 148,
     },
     Row {
         name: "debug_dialogue",
         kind: Talks,
         format: Format::Raw,
-        requests: 153,
+        requests: 181,
     },
     Row {
         name: "debug_framed",
         kind: Frames,
         format: Format::Raw,
-        requests: 226,
+        requests: 260,
     },
 ];
 
@@ -447,11 +477,6 @@ fn lines_of(kind: Kind) -> &'static str {
         Frames => FRAMED_LINES,
         _ => LINES,
     }
-}
-
-// Whether a session runs the program to its end, and reports.
-fn is_run(kind: Kind) -> bool {
-    matches!(kind, Runs | Tells | Profiles | Counts | Contests)
 }
 
 // Makes the session of a row over the program and the lines.
@@ -477,22 +502,47 @@ impl Done {
         match self.answer {
             Ok(()) => self.out == whole.out && self.beside == whole.beside,
             Err(SessionError::NoMemory) => {
-                self.beside.is_empty() && (self.out.is_empty() || self.may_begin(whole, kind))
+                self.beside.is_empty() && may_begin(&self.out, &whole.out, kind)
             }
             Err(_) => false,
         }
     }
 
-    // Whether what was written is a part that may stand alone.
-    fn may_begin(&self, whole: &Done, kind: Kind) -> bool {
-        match kind {
-            Tells => self.out.as_slice() == OUTPUT,
-            Lists | Debugs | Talks | Frames => {
-                whole.out.starts_with(&self.out) && self.out.ends_with(b"\n")
+    // Whether this is all that a session of a row comes to.
+    fn is_whole(&self, kind: Kind) -> bool {
+        let out = self.out.as_slice();
+        self.answer == Ok(())
+            && match kind {
+                Runs | Tells | Profiles | Counts | Contests => out == REPORT.as_bytes(),
+                Talks => out.ends_with(TALK_REPLIES.as_bytes()),
+                Frames => out == FRAMED_REPLIES.as_bytes(),
+                Lists | Saves | Debugs => true,
             }
-            Runs | Profiles | Counts | Contests | Saves => false,
-        }
     }
+}
+
+// Whether what was written is nothing, or a part that may stand alone.
+fn may_begin(out: &[u8], whole: &[u8], kind: Kind) -> bool {
+    match kind {
+        Tells => out.is_empty() || out == OUTPUT,
+        Lists | Debugs | Talks | Frames => {
+            out.is_empty() || whole.starts_with(out) && out.ends_with(b"\n")
+        }
+        Runs | Profiles | Counts | Contests | Saves => out.is_empty(),
+    }
+}
+
+// Whether that comes of the session of a row which may, where some of its requests for memory are refused, and some are.
+fn is_right<T: Threads + Wait + Sync>(
+    rt: &T,
+    heap: &Heap,
+    holder: Global,
+    row: &Row,
+    file: &[u8],
+    whole: &Done,
+) -> bool {
+    let done = make_row(rt, heap, holder, row, file);
+    heap.refusals() > 0 && done.may_come_before(whole, row.kind)
 }
 
 // The first request for memory of a session which, refused alone or with all from it on, brings what may not come.
@@ -505,37 +555,43 @@ fn first_wrong<T: Threads + Wait + Sync>(
     whole: &Done,
 ) -> Option<u64> {
     for nth in 1..=row.requests {
-        for from_there in [false, true] {
-            if from_there {
-                heap.refuse_from_nth(nth);
-            } else {
-                heap.refuse_nth(nth);
-            }
-            let done = make_row(rt, heap, holder, row, file);
-            if heap.refusals() == 0 || !done.may_come_before(whole, row.kind) {
-                return Some(nth);
-            }
+        heap.refuse_nth(nth);
+        let is_right_alone = is_right(rt, heap, holder, row, file, whole);
+        heap.refuse_from_nth(nth);
+        if !is_right_alone || !is_right(rt, heap, holder, row, file, whole) {
+            return Some(nth);
         }
     }
     None
 }
 
+// Whether the session of a row comes to its end by as many requests as it says, and to what may come where one of them is refused. It is
+// told where it does not.
+fn is_right_throughout<T: Threads + Wait + Sync + Print>(
+    rt: &T,
+    heap: &Heap,
+    holder: Global,
+    row: &Row,
+    file: &[u8],
+) -> Result<bool, Fail> {
+    heap.refuse_nth(0);
+    let whole = make_row(rt, heap, holder, row, file);
+    let requests = heap.requests();
+    let wrong = first_wrong(rt, heap, holder, row, file, &whole);
+    let is_right = whole.is_whole(row.kind) && requests == row.requests && wrong.is_none();
+    println!(rt;
+        "{requests:4} refused: {}, the first wrong: {wrong:?}",
+        row.name
+    )?;
+    Ok(is_right)
+}
+
 #[test]
 fn each_session_may_be_refused_memory(rt: HostRuntime) -> Result<(), Fail> {
     let heap = Heap::new(rt.alloc());
-    let saved = make_row(&rt, &heap, rt.alloc(), &ROWS[0], b"").out;
+    let saved = make_row(&rt, &heap, rt.alloc(), &ROWS[0], b"");
     for row in &ROWS {
-        heap.refuse_nth(0);
-        let whole = make_row(&rt, &heap, rt.alloc(), row, &saved);
-        let requests = heap.requests();
-        println!(rt; "{requests:4} refused: {}", row.name)?;
-        let is_whole = whole.answer == Ok(())
-            && (!is_run(row.kind) || whole.out.as_slice() == REPORT.as_bytes())
-            && (row.kind != Talks || whole.out.ends_with(TALK_REPLIES.as_bytes()))
-            && (row.kind != Frames || whole.out.as_slice() == FRAMED_REPLIES.as_bytes());
-        assert!(rt; is_whole && requests == row.requests);
-        let wrong = first_wrong(&rt, &heap, rt.alloc(), row, &saved, &whole);
-        assert!(rt; wrong == None, "request {wrong:?}");
+        assert!(rt; is_right_throughout(&rt, &heap, rt.alloc(), row, &saved.out)?);
     }
     Ok(())
 }

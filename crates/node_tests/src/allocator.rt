@@ -6,92 +6,80 @@ use std::test::Fail;
 
 type Heap = RefusingAllocator<Global>;
 
-// Whether each of five requests is refused.
-fn five_requests(heap: &Heap) -> [bool; 5] {
-    let mut refused = [false; 5];
-    for it in &mut refused {
-        *it = Box::new(heap, 0u8).is_err();
+fn is_granted(heap: &Heap) -> bool {
+    Box::new(heap, 0u8).is_ok()
+}
+
+// Whether of five requests these are granted, and all of them are counted.
+fn grants(heap: &Heap, expected: [bool; 5], refusals: u64) -> bool {
+    for is_expected in expected {
+        if is_granted(heap) != is_expected {
+            return false;
+        }
     }
-    refused
+    heap.requests() == 5 && heap.refusals() == refusals
 }
 
 #[test]
 fn requests_are_refused_by_number(rt: HostRuntime) {
     let heap = Heap::new(rt.alloc());
-    assert!(rt; five_requests(&heap) == [false; 5]);
+    assert!(rt; grants(&heap, [true; 5], 0));
     heap.refuse_nth(2);
-    assert!(rt; five_requests(&heap) == [false, true, false, false, false]);
-    assert!(rt; (heap.requests(), heap.refusals()) == (5, 1));
+    assert!(rt; grants(&heap, [true, false, true, true, true], 1));
     heap.refuse_from_nth(3);
-    assert!(rt; five_requests(&heap) == [false, false, true, true, true]);
-    assert!(rt; (heap.requests(), heap.refusals()) == (5, 3));
+    assert!(rt; grants(&heap, [true, true, false, false, false], 3));
     heap.refuse_nth(0);
-    assert!(rt; five_requests(&heap) == [false; 5]);
-    assert!(rt; (heap.requests(), heap.refusals()) == (5, 0));
+    assert!(rt; grants(&heap, [true; 5], 0));
 }
 
-// How a call that puts a byte into each of two lists takes a refusal.
+// How a call that makes two requests takes a refusal.
 #[derive(Clone, Copy)]
 enum Manner {
-    // It makes room in both, and puts nothing where it gets none.
+    // It changes nothing where it is refused one.
     Whole,
-    // It keeps the first byte where the second one gets no room.
+    // It keeps the first where it is refused the second.
     KeepsHalf,
-    // It leaves the second byte out where that gets no room.
+    // It does without the second where it is refused that.
     ForgetsHalf,
-    // It says that it gets no room.
+    // It says that it is refused what it did not ask for.
     GivesUp,
 }
 
+// A call that notes which of its requests were granted, which is all that it changes.
 #[derive(Drop)]
-struct Puts<'h> {
+struct Asks<'h> {
     heap: &'h Heap,
     manner: Manner,
 }
 
-#[derive(Drop)]
-struct Lists<'h> {
-    first: Vec<u8, &'h Heap>,
-    second: Vec<u8, &'h Heap>,
-}
+impl Trial for Asks<'_> {
+    type Subject = [bool; 2];
 
-impl<'h> Trial for Puts<'h> {
-    type Subject = Lists<'h>;
-
-    fn subject(&self) -> Result<Self::Subject, Fail> {
-        Ok(Lists {
-            first: Vec::new(self.heap),
-            second: Vec::new(self.heap),
-        })
+    fn subject(&self) -> Result<[bool; 2], Fail> {
+        Ok([false; 2])
     }
 
-    fn call(&self, lists: &mut Self::Subject) -> Result<Called, Fail> {
-        let has_room = match self.manner {
-            Manner::Whole => lists.first.reserve(1).is_ok() && lists.second.reserve(1).is_ok(),
-            Manner::KeepsHalf | Manner::ForgetsHalf => true,
-            Manner::GivesUp => false,
-        };
-        if !has_room || lists.first.push(1).is_err() {
-            return Ok(Called::Refused);
+    fn call(&self, noted: &mut [bool; 2]) -> Result<Called, Fail> {
+        let is_first = !matches!(self.manner, Manner::GivesUp) && is_granted(self.heap);
+        let is_second = is_first && is_granted(self.heap);
+        if is_second || !matches!(self.manner, Manner::Whole) {
+            *noted = [is_first, is_second];
         }
-        if lists.second.push(2).is_err() && !matches!(self.manner, Manner::ForgetsHalf) {
-            return Ok(Called::Refused);
+        if is_second || is_first && matches!(self.manner, Manner::ForgetsHalf) {
+            Ok(Called::Made)
+        } else {
+            Ok(Called::Refused)
         }
-        Ok(Called::Made)
     }
 
-    fn are_same(&self, lists: &Self::Subject, other: &Self::Subject) -> Result<bool, Fail> {
-        Ok(
-            lists.first.as_slice() == other.first.as_slice()
-                && lists.second.as_slice() == other.second.as_slice(),
-        )
+    fn are_same(&self, noted: &[bool; 2], other: &[bool; 2]) -> Result<bool, Fail> {
+        Ok(noted == other)
     }
 }
 
 #[test]
 fn a_trial_finds_what_is_wrong_with_a_call(rt: HostRuntime) -> Result<(), Fail> {
     let heap = Heap::new(rt.alloc());
-    let flaw = |request, kind| Err(Flaw { request, kind });
     for (manner, found) in [
         (Manner::Whole, Ok(2)),
         (Manner::KeepsHalf, flaw(2, FlawKind::LeavesOther)),
@@ -99,7 +87,11 @@ fn a_trial_finds_what_is_wrong_with_a_call(rt: HostRuntime) -> Result<(), Fail> 
         (Manner::GivesUp, flaw(0, FlawKind::WantsNothing)),
     ] {
         let heap = &heap;
-        assert!(rt; refuse_in_turn(heap, &Puts { heap, manner })? == found);
+        assert!(rt; refuse_in_turn(heap, &Asks { heap, manner })? == found);
     }
     Ok(())
+}
+
+fn flaw(request: u64, kind: FlawKind) -> Result<u64, Flaw> {
+    Err(Flaw { request, kind })
 }

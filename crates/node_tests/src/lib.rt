@@ -1,14 +1,8 @@
-//! Tests of the crates up to `node_core`, and of those that read, write and assemble: of what no contract says and no run of the program
-//! shows. They stand outside of the crates that they test, as users of what these export, since a crate that has tests is proved twice.
+//! Tests of `refusing_allocator` and `counted_io`: of what no contract says and no run of the program shows. They stand outside of the
+//! crates that they test, as users of what these export, since a crate that has tests is proved twice.
 #![tactic(auto)]
 
 #[cfg(test)]
 mod allocator;
 #[cfg(test)]
 mod counted;
-#[cfg(test)]
-mod files;
-#[cfg(test)]
-mod node;
-#[cfg(test)]
-mod shared;

@@ -1,0 +1,5 @@
+use Rattle.std.proofs.Common.{rules}
+use Rattle.node_memory.proofs.page.Page.share.Goals as goal
+
+pub returns-in_ok-new-in-Own-clause-shared : goal.returns-in_ok-new-in-Own-clause-shared
+returns-in_ok-new-in-Own-clause-shared g c = search rules

@@ -1,4 +1,4 @@
-use Rattle.std.proofs.Common.{◌≡◌, List, ap₂, ◌∙◌}
+use Rattle.std.proofs.Common.{◌≡◌, List, ap₂, ◌∙◌, rules}
 use Rattle.std.proofs.lemmas.Result.{err_from_is_err_and}
 use Rattle.node_core.specs.Node.{NodeState}
 use Rattle.bsp_exchange.specs.Exchange.{states}
@@ -23,3 +23,6 @@ returns-clause-ok g c =
 
 pub returns-clause-own : goal.returns-clause-own
 returns-clause-own g c = EachKeepsOwn-then c.args.nodes.now c.plan.new.nodes c.land_all.new.nodes c.in_ok-traffic.ensures.own c.land_all.ensures.own
+
+pub returns-clause-err : goal.returns-clause-err
+returns-clause-err g c = search rules

@@ -1,0 +1,8 @@
+use Rattle.std.proofs.Common.{rules}
+use Rattle.node_core.proofs.hart.Hart.prepare_land.Goals as goal
+
+pub returns-clause-more : goal.returns-clause-more
+returns-clause-more g c = search rules
+
+pub returns-clause-refused : goal.returns-clause-refused
+returns-clause-refused g c = search rules

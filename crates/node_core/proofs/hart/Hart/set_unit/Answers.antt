@@ -1,0 +1,5 @@
+use Rattle.std.proofs.Common.{rules}
+use Rattle.node_core.proofs.hart.Hart.set_unit.Goals as goal
+
+pub returns : goal.returns
+returns g c = search rules

@@ -1,6 +1,7 @@
 pub mod Floats
 pub mod Framed
 pub mod Kept
+pub mod KeptViews
 pub mod Lines
 pub mod Named
 pub mod Numbers

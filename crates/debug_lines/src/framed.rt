@@ -36,8 +36,7 @@ fn add_settings<A: Allocator>(text: &mut String<A>, settings: Settings) -> Resul
     let nodes = settings.nodes;
     let memory = settings.memory;
     let limit = settings.limit;
-    write!(text, "nodes {nodes} memory {memory} limit {limit}")?;
-    Ok(())
+    write!(text, "nodes {nodes} memory {memory} limit {limit}")
 }
 
 /// Adds to a text how costs are told.
@@ -50,8 +49,7 @@ fn add_prices<A: Allocator>(
     ensures { IfOk result (λ _. string_bytes text.new ≡ string_bytes text.old ++ prices_text version g l) }
 {
     let number = number_of_version(version);
-    writeln!(text, " g {g} l {l} ledger {number}")?;
-    Ok(())
+    writeln!(text, " g {g} l {l} ledger {number}")
 }
 
 /// The number of a version of the ledger.
@@ -76,8 +74,7 @@ pub fn add_place<A: Allocator>(
         ≡ string_bytes text.old ++ place_text rank pc superstep state) }
 {
     let place = PointText(Point::Address { rank, addr: pc });
-    writeln!(text, "{place} superstep {superstep} state {state}")?;
-    Ok(())
+    writeln!(text, "{place} superstep {superstep} state {state}")
 }
 
 /// The lines of the costs of a ledger from the superstep of a number on, and of the total of all supersteps, in a version of the ledger at
@@ -160,8 +157,7 @@ fn add_total<L: Allocator, A: Allocator>(
         ≡ string_bytes text.old ++ total_line version g l ledger.now.rows) }
 {
     let total = total_in(ledger, version, g, l);
-    writeln!(text, "total {total}")?;
-    Ok(())
+    writeln!(text, "total {total}")
 }
 
 /// The total of a ledger in a version.

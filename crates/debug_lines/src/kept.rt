@@ -1,13 +1,15 @@
 //! How the states that a debugger keeps are told.
 
-ghost use Rattle.std.specs.Prelude.{◌≡◌, ◌++◌, map, IfOk, string_bytes};
+ghost use Rattle.std.specs.Prelude.{◌≡◌, ◌++◌, List, map, IfOk, string_bytes};
 ghost use Rattle.std.specs.List.{flat_map};
 ghost use Rattle.node_core.specs.Node.{PreparedNode};
-ghost use Rattle.debug_lines.specs.Kept.{group_text, groups_of, kept_text, ranks_text, site as site_of_node};
+ghost use Rattle.debug_lines.specs.Kept.{Group as GroupValue, alone as alone_of_node, group_text, groups_of, joined, kept_text, ranks_text, site as site_of_node};
+ghost use Rattle.debug_lines.specs.KeptViews.{group_value};
 
 use node_core::Node;
 use rv_listing::EightDigits;
 use std::alloc::{AllocError, Allocator};
+use std::mem;
 
 /// Adds to a text the line of a state that is kept under a number: its superstep, and where its nodes are. Those of ranks in a row that
 /// are at one place are told as one. It is an error only where memory is refused.
@@ -23,11 +25,10 @@ pub fn add_kept<A: Allocator, B: Allocator + Copy>(
 {
     write!(text, "kept {number} superstep {superstep}")?;
     add_groups(alloc, text, nodes)?;
-    writeln!(text)?;
-    Ok(())
+    writeln!(text)
 }
 
-/// Adds to a text where nodes are, group by group. Their places are compared as they are written.
+/// Adds to a text where nodes are, group by group.
 fn add_groups<A: Allocator, B: Allocator + Copy>(
     alloc: B,
     text: &mut String<B>,
@@ -39,20 +40,54 @@ fn add_groups<A: Allocator, B: Allocator + Copy>(
     let Some((node, others)) = nodes.split_first() else {
         return Ok(());
     };
-    let mut first = node.rank();
-    let mut last = first;
-    let mut site = site_of(alloc, node)?;
+    let mut group = alone(alloc, node)?;
     for node in others {
-        let rank = node.rank();
-        let next = site_of(alloc, node)?;
-        if site != next {
-            add_group(text, first, last, &site)?;
-            first = rank;
-            site = next;
-        }
-        last = rank;
+        add_next(alloc, text, &mut group, node)?;
     }
-    add_group(text, first, last, &site)
+    add_group(text, &group)
+}
+
+/// Nodes of some ranks in a row, all of them at one place.
+#[derive(Drop)]
+struct Group<B: Allocator> {
+    first: u32,
+    last: u32,
+    /// Their place as it is written.
+    site: String<B>,
+}
+
+/// A node by itself.
+fn alone<A: Allocator, B: Allocator>(alloc: B, node: &Node<A>) -> Result<Group<B>, AllocError>
+    ensures { IfOk result (λ group. group_value group ≡ alone_of_node node.now.node) }
+{
+    let rank = node.rank();
+    let site = site_of(alloc, node)?;
+    Ok(Group {
+        first: rank,
+        last: rank,
+        site,
+    })
+}
+
+/// Has a group take a node in where that is at its place; else adds the group to a text, and the node begins the next one.
+fn add_next<A: Allocator, B: Allocator + Copy>(
+    alloc: B,
+    text: &mut String<B>,
+    group: &mut Group<B>,
+    node: &Node<A>,
+) -> Result<(), AllocError>
+    ensures { IfOk result (λ _. (others : List GroupValue)
+        → string_bytes text.new ++ flat_map group_text (joined (group_value group.new) others)
+        ≡ string_bytes text.old ++ flat_map group_text (joined (group_value group.old) (joined (alone_of_node node.now.node) others))) }
+{
+    let mut next = alone(alloc, node)?;
+    if group.site == next.site {
+        group.last = next.last;
+    } else {
+        add_group(text, group)?;
+        mem::swap(group, &mut next);
+    }
+    Ok(())
 }
 
 /// Where a node is, without its rank.
@@ -65,19 +100,21 @@ fn site_of<A: Allocator, B: Allocator>(alloc: B, node: &Node<A>) -> Result<Strin
 }
 
 /// Adds a group of nodes to a text: their ranks, and the place where they are.
-fn add_group<B: Allocator>(
-    text: &mut String<B>,
-    first: u32,
-    last: u32,
-    site: &String<B>,
-) -> Result<(), AllocError>
+fn add_group<B: Allocator>(text: &mut String<B>, group: &Group<B>) -> Result<(), AllocError>
     ensures { IfOk result (λ _. string_bytes text.new
-        ≡ string_bytes text.old ++ ranks_text first last ++ string_bytes site.now) }
+        ≡ string_bytes text.old ++ group_text (group_value group.now)) }
+{
+    add_ranks(text, group.first, group.last)?;
+    text.push_str(group.site.as_str())
+}
+
+/// Adds the ranks of a group to a text.
+fn add_ranks<B: Allocator>(text: &mut String<B>, first: u32, last: u32) -> Result<(), AllocError>
+    ensures { IfOk result (λ _. string_bytes text.new ≡ string_bytes text.old ++ ranks_text first last) }
 {
     if first == last {
-        write!(text, ", rank {first}{site}")?;
+        write!(text, ", rank {first}")
     } else {
-        write!(text, ", ranks {first} to {last}{site}")?;
+        write!(text, ", ranks {first} to {last}")
     }
-    Ok(())
 }

@@ -44,11 +44,7 @@ pub fn reply_text<A: Allocator, L: Allocator, B: Allocator>(
             ticks,
             state,
             x,
-        } => {
-            let mut text = node_line(alloc, *rank, *pc, *ticks, *state)?;
-            add_registers(&mut text, x)?;
-            Ok(text)
-        }
+        } => registers(alloc, *rank, *pc, *ticks, *state, x),
         Reply::Fregs { rank, fcsr, f } => float_registers(alloc, *rank, *fcsr, f),
         Reply::Bytes(bytes) => byte_lines(alloc, bytes.as_slice()),
         Reply::Queue(messages) => queue_lines(alloc, messages.as_slice()),
@@ -72,6 +68,22 @@ impl fmt::Display for PointText {
             Point::Superstep(k) => write!(f, "superstep {k}"),
         }
     }
+}
+
+/// A node, and its registers.
+fn registers<B: Allocator>(
+    alloc: B,
+    rank: u32,
+    pc: u32,
+    ticks: u64,
+    state: State,
+    x: &[u32],
+) -> Result<String<B>, AllocError>
+    ensures { IfOk result (λ text. string_bytes text ≡ node_line rank pc ticks state ++ register_lines x.now) }
+{
+    let mut text = node_line(alloc, rank, pc, ticks, state)?;
+    add_registers(&mut text, x)?;
+    Ok(text)
 }
 
 /// The first line of a node.
@@ -159,8 +171,7 @@ fn add_message<A: Allocator, B: Allocator>(
 {
     let tag = Octets(message.tag.as_slice());
     let payload = Octets(message.payload.as_slice());
-    writeln!(text, "from {} tag {tag} payload {payload}", message.sender)?;
-    Ok(())
+    writeln!(text, "from {} tag {tag} payload {payload}", message.sender)
 }
 
 /// The bytes of all payloads. No slice has so many that their sum passes 128 bits.

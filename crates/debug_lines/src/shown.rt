@@ -34,8 +34,7 @@ pub fn point_lines<A: Allocator>(alloc: A, points: &[Point]) -> Result<String<A>
 fn add_point<A: Allocator>(text: &mut String<A>, point: Point) -> Result<(), AllocError>
     ensures { IfOk result (λ _. string_bytes text.new ≡ string_bytes text.old ++ point_line point) }
 {
-    writeln!(text, "{}", PointText(point))?;
-    Ok(())
+    writeln!(text, "{}", PointText(point))
 }
 
 /// How many bytes to show for so many words, characters or codes, where so many bytes are left up to the end of the memory.
@@ -232,8 +231,7 @@ fn add_area<B: Allocator>(text: &mut String<B>, number: usize, area: Area) -> Re
 {
     let addr = EightDigits(area.addr);
     let size = area.size;
-    writeln!(text, "area {number} at {addr} size {size}")?;
-    Ok(())
+    writeln!(text, "area {number} at {addr} size {size}")
 }
 
 /// What a node has asked for, a line for each request. It is an error only where memory is refused.
@@ -276,8 +274,7 @@ fn add_request<A: Allocator, B: Allocator>(
 {
     write!(text, "request {number} ")?;
     add_asked(text, request)?;
-    writeln!(text)?;
-    Ok(())
+    writeln!(text)
 }
 
 /// Adds to a text what a request asks.
@@ -312,8 +309,7 @@ fn add_put<B: Allocator>(
     write!(
         text,
         "put to rank {target} area {slot} offset {offset} bytes {bytes}"
-    )?;
-    Ok(())
+    )
 }
 
 /// Adds to a text what a get asks.
@@ -326,8 +322,7 @@ fn add_get<B: Allocator>(text: &mut String<B>, get: Get) -> Result<(), AllocErro
     write!(
         text,
         "get from rank {target} area {slot} offset {offset} bytes {bytes} into {dst}"
-    )?;
-    Ok(())
+    )
 }
 
 /// Adds to a text what a message asks.
@@ -343,6 +338,5 @@ fn add_send<B: Allocator>(
     write!(
         text,
         "send to rank {target} bytes {payload} tag bytes {tag}"
-    )?;
-    Ok(())
+    )
 }

@@ -129,8 +129,7 @@ pub fn help_lines<A: Allocator>(alloc: A) -> Result<String<A>, AllocError>
 pub fn add_help<A: Allocator>(text: &mut String<A>, topic: Topic) -> Result<(), AllocError>
     ensures { IfOk result (λ _. string_bytes text.new ≡ string_bytes text.old ++ help_line topic) }
 {
-    writeln!(text, "{}: {}", usage_of(topic), purpose_of(topic))?;
-    Ok(())
+    writeln!(text, "{}: {}", usage_of(topic), purpose_of(topic))
 }
 
 /// The first word of its lines.

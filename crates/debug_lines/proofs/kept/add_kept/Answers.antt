@@ -3,6 +3,7 @@ use Rattle.std.proofs.Common.{◌≡◌, List, ℕ, ◌++◌, append_assoc, map,
 use Rattle.std.specs.Prelude.{codes}
 use Rattle.std.specs.Fmt.{decimal}
 use Rattle.std.specs.List.{flat_map}
+use Rattle.std.proofs.lemmas.Result.{IfOk-weaker}
 use Rattle.node_core.specs.Node.{PreparedNode}
 use Rattle.debug_lines.specs.Kept.{group_text, groups_of}
 use Rattle.debug_lines.proofs.kept.add_kept.Goals as goal
@@ -19,6 +20,7 @@ joined kept number word superstep groups end before one two three first second t
 
 pub returns : goal.returns
 returns g c =
-    joined (codes "kept ") (decimal c.args.number) (codes " superstep ") (decimal c.args.superstep)
+    IfOk-weaker c.writeln.result _ _
+    (λ u written. joined (codes "kept ") (decimal c.args.number) (codes " superstep ") (decimal c.args.superstep)
     (flat_map group_text (groups_of (map (λ (p : PreparedNode). p.node) c.args.nodes.now))) (codes "\n") (string_bytes c.args.text.now) _ _ _
-    c.in_ok-write.ensures.bytes (c.in_ok-add_groups.ensures {u = tt}) c.in_ok-writeln.ensures.bytes
+    c.in_ok-write.ensures.bytes (c.in_ok-add_groups.ensures {u = tt}) written) c.writeln.ensures.bytes

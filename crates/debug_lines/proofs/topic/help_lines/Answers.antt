@@ -1,0 +1,16 @@
+use Rattle.std.proofs.Common.{refl, ap, ◌∙◌}
+use Rattle.std.proofs.lemmas.List.{drop_all, drop_more}
+use Rattle.std.specs.List.{flat_map}
+use Rattle.debug_lines.specs.Topics.{help_line}
+use Rattle.debug_lines.proofs.Rows.{none-left, one-more}
+use Rattle.debug_lines.proofs.topic.help_lines.Goals as goal
+
+pub loop-topic-init : goal.loop-topic-init
+loop-topic-init g c = rw c.new-text.ensures.bytes refl
+
+pub loop-topic-preserved : goal.loop-topic-preserved
+loop-topic-preserved g c =
+    one-more help_line _ _ _ _ _ _ (drop_more _ _ _ c.loop-topic-test.true) (c.in_ok-add_help.ensures {u = tt}) c.loop-topic.invariant
+
+pub returns : goal.returns
+returns g c = none-left help_line _ _ _ (drop_all _ _ c.loop-topic-test.false) c.loop-topic.invariant ∙ ap (flat_map help_line) c.all_topics-topics.ensures

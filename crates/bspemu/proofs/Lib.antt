@@ -1,4 +1,5 @@
 mod Commands
 mod Getters
 mod Laws
+mod Sessions
 mod Tellings

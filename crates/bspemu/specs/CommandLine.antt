@@ -40,6 +40,10 @@ format_rule formats = checked_rule (codes "format") (Names formats) (codes "elf"
 abbrev pub in_32_bits : ValueParser
 in_32_bits = Signed (pos 0) (pos 4294967295)
 
+-- those of 64 bits
+abbrev pub in_64_bits : ValueParser
+in_64_bits = Unsigned 0 18446744073709551615
+
 abbrev pub nodes_rule : Rule
 nodes_rule = checked_rule (codes "nodes") in_32_bits (codes "1")
 
@@ -47,7 +51,7 @@ abbrev pub memory_rule : Rule
 memory_rule = checked_rule (codes "memory") in_32_bits (codes "1048576")
 
 abbrev pub limit_rule : Rule
-limit_rule = checked_rule (codes "limit") (Unsigned 0 18446744073709551615) (codes "1000000")
+limit_rule = checked_rule (codes "limit") in_64_bits (codes "1000000")
 
 abbrev pub g_rule : Rule
 g_rule = checked_rule (codes "g") in_32_bits (codes "1")
@@ -63,7 +67,7 @@ abbrev pub workers_rule : Rule
 workers_rule = checked_rule (codes "workers") in_32_bits (codes "1")
 
 abbrev pub slice_rule : Rule
-slice_rule = checked_rule (codes "slice") (Unsigned 0 18446744073709551615) (codes "65536")
+slice_rule = checked_rule (codes "slice") in_64_bits (codes "65536")
 
 -- `NAME IMAGE` with what a machine is made of, the prices of its costs, the version in which they are told, and whether there are clocks
 -- and units of floating point

@@ -50,6 +50,15 @@ TellsTo (WithCounts file) path = file ≡ path
 TellsTo (WithContested file) path = file ≡ path
 TellsTo _ path = ⊥
 
+-- the answer of a session, and of one that has no outcome
+abbrev pub answer_of_session : Result Outcome SessionError → Result Outcome RunError
+answer_of_session (Ok outcome) = Ok outcome
+answer_of_session (Err error) = Err (Session error)
+
+abbrev pub answer_of_end : Result (Unit {0}) SessionError → Result Outcome RunError
+answer_of_end (Ok done) = Ok Ended
+answer_of_end (Err error) = Err (Session error)
+
 -- an outcome that a session can have which tells of its run so
 abbrev pub IsOutcomeOf : Telling → BatchSession → Outcome → Type 0
 IsOutcomeOf AtEnd s outcome = Reports s outcome

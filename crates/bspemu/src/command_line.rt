@@ -1,11 +1,12 @@
 //! The rules of the command line: subcommands, their arguments and options, and their help.
 
-ghost use Rattle.std.specs.Prelude.{IfOk, codes};
+ghost use Rattle.std.specs.Prelude.{IfOk, IsOkAnd};
+ghost use Rattle.clap.specs.Words.{AddsSubcommand};
 ghost use Rattle.bspemu.specs.CommandLine.{HasApp, HasAppOfFormats, HasRule, asm_app, bspemu_app, checked_rule, debug_app, file_rule, flag_rule, format_rule};
-ghost use Rattle.bspemu.specs.CommandLine.{g_rule, l_rule, ledger_rule, limit_rule, list_app, machine_app, memory_rule, nodes_rule, option_rule, run_app, slice_rule, workers_rule};
+ghost use Rattle.bspemu.specs.CommandLine.{in_32_bits, in_64_bits, ledger_rule, list_app, machine_app, option_rule, run_app};
 
 use clap::builder::ValueParser;
-use clap::{Arg, ArgAction, Command, value_parser};
+use clap::{Arg, ArgAction, Command};
 use std::alloc::{AllocError, Global};
 
 /// The names of the formats.
@@ -18,6 +19,64 @@ const ABOUT: &str =
 
 const FORMAT: &str =
     "Format of IMAGE: elf, an ELF executable; raw, the bytes of memory from address 0; asm, an assembly text";
+
+const IMAGE: &str = "File with the program; - for standard input";
+
+const TEXT: &str = "File with the assembly text, at most 4194304 bytes";
+
+const SAVED_IMAGE: &str =
+    "File to save the program in; it is created, or emptied, once TEXT is open";
+
+const NODES: &str = "Nodes of the machine, 1 to 1024";
+
+const MEMORY: &str = "Bytes of memory of each node, a multiple of 4096 from 4096 to 16777216";
+
+const LIMIT: &str = "Most ticks of each node, one per instruction, 1 to 1099511627776";
+
+const INPUT: &str =
+    "File that each node reads as its input, at most 16777216 bytes [default: no input]";
+
+const REPORT: &str =
+    "After the output write the costs of the supersteps, their total and the outcome";
+
+const LIVE: &str = "Write each superstep's output as soon as it is over";
+
+const PROFILE: &str =
+    "File to write what each rank did in each superstep, as CSV; it is created, or emptied, before the run";
+
+const COUNTS: &str =
+    "Write how many steps each address made to FILE, as CSV; the run is made in one thread, whatever --workers says";
+
+const CONTESTED: &str =
+    "Write the bytes to which puts or gets of one superstep bring different values to FILE, as CSV; BSPlib leaves open which of them stay";
+
+const INTERACTIVE: &str = "Answer each line before the next one is read, as at a terminal";
+
+const FRAMED: &str =
+    "For programs: write a line before each reply, which says how many lines the reply has and whether it is a refusal";
+
+const BYTE_PRICE: &str = "Ticks that a byte of the h-relation costs in the total";
+
+const SUPERSTEP_PRICE: &str = "Ticks that the end of a superstep costs in the total";
+
+const LEDGER: &str =
+    "Version of the ledger: 2, in which h leaves out what a rank moves to itself and m counts messages, or 1, in which h counts it";
+
+const CLOCK: &str =
+    "Give each node a clock, which call 19 reads: the cost of the supersteps that are over, and its own ticks in this one";
+
+const FLOAT: &str = "Give each node a unit of floating point, for the instructions of F and D";
+
+const FLOAT_NAMES: &str =
+    "Name instructions of floating point, as on nodes with units for them; without it they are data";
+
+const FLOAT_STATEMENTS: &str = "Take statements of floating point, those of F and D";
+
+const WORKERS: &str =
+    "Most threads that run the nodes, 1 to 64; what is written does not depend on it";
+
+const SLICE: &str =
+    "Most steps of a node before another may have its thread, 1 to 1048576; what is written does not depend on it";
 
 const STATUSES: &str = "Exit status:
   0  every node ended; the debugger's lines were answered; a listing or an image was written; help or the version was
@@ -98,34 +157,47 @@ pub fn command<'a>(alloc: Global) -> Result<Command<'a>, AllocError>
     ensures { IfOk result (λ command. HasAppOfFormats command bspemu_app) }
 {
     let formats = FORMATS.as_slice();
-    Command::new(alloc, "bspemu")
+    let command = Command::new(alloc, "bspemu")
         .bin_name("bspemu")?
         .version(VERSION)
         .about(ABOUT)
         .after_help(STATUSES)
         .subcommand_required(true)
-        .arg_required_else_help(true)
-        .subcommand(run_command(alloc, formats)?)?
-        .subcommand(debug_command(alloc, formats)?)?
-        .subcommand(list_command(alloc, formats)?)?
-        .subcommand(asm_command(alloc)?)
+        .arg_required_else_help(true);
+    let command = with_subcommand(command, run_command(alloc, formats))?;
+    let command = with_subcommand(command, debug_command(alloc, formats))?;
+    let command = with_subcommand(command, list_command(alloc, formats))?;
+    with_subcommand(command, asm_command(alloc))
+}
+
+/// A command with one more subcommand, if there was memory for that.
+fn with_subcommand<'a>(
+    command: Command<'a>,
+    subcommand: Result<Command<'a>, AllocError>,
+) -> Result<Command<'a>, AllocError>
+    ensures { IfOk result (λ r. IsOkAnd subcommand.entry (λ s. AddsSubcommand command.entry s r)) }
+{
+    command.subcommand(subcommand?)
 }
 
 fn run_command<'a>(alloc: Global, formats: &'a [&'a str]) -> Result<Command<'a>, AllocError>
     ensures { IfOk result (λ command. HasApp command (run_app formats.entry)) }
 {
+    let arguments = vec![in alloc;
+        flag(alloc, "report", REPORT),
+        flag(alloc, "live", LIVE),
+        number(alloc, "workers", "N", "1", WORKERS),
+        long_number(alloc, "slice", "STEPS", "65536", SLICE),
+        file_option(alloc, "profile", PROFILE),
+        file_option(alloc, "counts", COUNTS),
+        file_option(alloc, "contested", CONTESTED),
+    ]?;
     machine_command(alloc, "run", formats)?
         .about(
             "Run a program on every node, superstep by superstep, and write what the nodes write",
         )
         .after_help(STATUSES)
-        .arg(report(alloc))?
-        .arg(live(alloc))?
-        .arg(workers(alloc))?
-        .arg(slice(alloc))?
-        .arg(profile(alloc))?
-        .arg(counts(alloc))?
-        .arg(contested(alloc))
+        .args(arguments)
 }
 
 fn debug_command<'a>(alloc: Global, formats: &'a [&'a str]) -> Result<Command<'a>, AllocError>
@@ -136,8 +208,8 @@ fn debug_command<'a>(alloc: Global, formats: &'a [&'a str]) -> Result<Command<'a
             "Run a program piece by piece: do what each line of standard input says, and write the answer",
         )
         .after_help(DEBUG_AFTER_HELP)
-        .arg(interactive(alloc))?
-        .arg(framed(alloc))
+        .arg(flag(alloc, "interactive", INTERACTIVE))?
+        .arg(flag(alloc, "framed", FRAMED))
 }
 
 /// A subcommand over a machine: the program, what the machine is made of, and the prices of its costs.
@@ -148,18 +220,20 @@ fn machine_command<'a>(
 ) -> Result<Command<'a>, AllocError>
     ensures { IfOk result (λ command. HasApp command (machine_app name.entry.now formats.entry)) }
 {
-    Command::new(alloc, name)
-        .arg(image(alloc))?
-        .arg(format(alloc, formats))?
-        .arg(nodes(alloc))?
-        .arg(memory(alloc))?
-        .arg(limit(alloc))?
-        .arg(input(alloc))?
-        .arg(byte_price(alloc))?
-        .arg(superstep_price(alloc))?
-        .arg(ledger(alloc))?
-        .arg(clock(alloc))?
-        .arg(float(alloc))
+    let arguments = vec![in alloc;
+        file(alloc, "image", "IMAGE", IMAGE),
+        format(alloc, formats),
+        number(alloc, "nodes", "N", "1", NODES),
+        number(alloc, "memory", "BYTES", "1048576", MEMORY),
+        long_number(alloc, "limit", "TICKS", "1000000", LIMIT),
+        file_option(alloc, "input", INPUT),
+        number(alloc, "g", "TICKS", "1", BYTE_PRICE),
+        number(alloc, "l", "TICKS", "0", SUPERSTEP_PRICE),
+        ledger(alloc),
+        flag(alloc, "clock", CLOCK),
+        flag(alloc, "float", FLOAT),
+    ]?;
+    Command::new(alloc, name).args(arguments)
 }
 
 fn list_command<'a>(alloc: Global, formats: &'a [&'a str]) -> Result<Command<'a>, AllocError>
@@ -167,12 +241,9 @@ fn list_command<'a>(alloc: Global, formats: &'a [&'a str]) -> Result<Command<'a>
 {
     Command::new(alloc, "list")
         .about("Write each word of a program with its address and its instruction")
-        .arg(image(alloc))?
+        .arg(file(alloc, "image", "IMAGE", IMAGE))?
         .arg(format(alloc, formats))?
-        .arg(float_names(
-            alloc,
-            "Name instructions of floating point, as on nodes with units for them; without it they are data",
-        ))
+        .arg(flag(alloc, "float", FLOAT_NAMES))
 }
 
 fn asm_command<'a>(alloc: Global) -> Result<Command<'a>, AllocError>
@@ -181,50 +252,81 @@ fn asm_command<'a>(alloc: Global) -> Result<Command<'a>, AllocError>
     Command::new(alloc, "asm")
         .about("Assemble a text and save it as an ELF file")
         .after_help(ASM_AFTER_HELP)
-        .arg(text(alloc))?
-        .arg(saved_image(alloc))?
-        .arg(float_names(alloc, "Take statements of floating point, those of F and D"))
+        .arg(file(alloc, "text", "TEXT", TEXT))?
+        .arg(file(alloc, "image", "IMAGE", SAVED_IMAGE))?
+        .arg(flag(alloc, "float", FLOAT_STATEMENTS))
 }
 
-fn image<'a>(alloc: Global) -> Arg<'a>
-    ensures { HasRule result (file_rule (codes "image")) }
+/// A file that has to be there, by its place.
+fn file<'a>(alloc: Global, name: &'a str, value_name: &'a str, help: &'a str) -> Arg<'a>
+    ensures { HasRule result (file_rule name.entry.now) }
 {
-    Arg::new(alloc, "image")
-        .value_name("IMAGE")
+    Arg::new(alloc, name)
+        .value_name(value_name)
         .required(true)
-        .help("File with the program; - for standard input")
+        .help(help)
 }
 
-fn text<'a>(alloc: Global) -> Arg<'a>
-    ensures { HasRule result (file_rule (codes "text")) }
+/// An option with a file.
+fn file_option<'a>(alloc: Global, name: &'a str, help: &'a str) -> Arg<'a>
+    ensures { HasRule result (option_rule name.entry.now) }
 {
-    Arg::new(alloc, "text")
-        .value_name("TEXT")
-        .required(true)
-        .help("File with the assembly text, at most 4194304 bytes")
+    Arg::new(alloc, name)
+        .long(name)
+        .value_name("FILE")
+        .help(help)
 }
 
-fn saved_image<'a>(alloc: Global) -> Arg<'a>
-    ensures { HasRule result (file_rule (codes "image")) }
+/// An option without a value.
+fn flag<'a>(alloc: Global, name: &'a str, help: &'a str) -> Arg<'a>
+    ensures { HasRule result (flag_rule name.entry.now) }
 {
-    Arg::new(alloc, "image")
-        .value_name("IMAGE")
-        .required(true)
-        .help("File to save the program in; it is created, or emptied, once TEXT is open")
+    Arg::new(alloc, name)
+        .long(name)
+        .action(ArgAction::SetTrue)
+        .help(help)
+}
+
+/// An option whose value is a number of 32 bits.
+fn number<'a>(
+    alloc: Global,
+    name: &'a str,
+    value_name: &'a str,
+    default: &'a str,
+    help: &'a str,
+) -> Arg<'a>
+    ensures { HasRule result (checked_rule name.entry.now in_32_bits default.entry.now) }
+{
+    let parser = ValueParser::Signed(0, u32::MAX as i64);
+    checked_option(alloc, name, value_name, parser, default, help)
+}
+
+/// An option whose value is a number of 64 bits.
+fn long_number<'a>(
+    alloc: Global,
+    name: &'a str,
+    value_name: &'a str,
+    default: &'a str,
+    help: &'a str,
+) -> Arg<'a>
+    ensures { HasRule result (checked_rule name.entry.now in_64_bits default.entry.now) }
+{
+    let parser = ValueParser::Unsigned(0, u64::MAX);
+    checked_option(alloc, name, value_name, parser, default, help)
 }
 
 fn format<'a>(alloc: Global, formats: &'a [&'a str]) -> Arg<'a>
     ensures { HasRule result (format_rule formats.entry) }
 {
-    checked_option(
-        alloc,
-        "format",
-        "FORMAT",
-        ValueParser::from(formats),
-        "elf",
-        FORMAT,
-    )
-    .hide_possible_values(true)
+    let parser = ValueParser::from(formats);
+    checked_option(alloc, "format", "FORMAT", parser, "elf", FORMAT).hide_possible_values(true)
+}
+
+fn ledger<'a>(alloc: Global) -> Arg<'a>
+    ensures { HasRule result ledger_rule }
+{
+    let parser = ValueParser::Signed(1, 2);
+    checked_option(alloc, "ledger", "VERSION", parser, "2", LEDGER)
 }
 
 /// An option whose values are checked, and that has a default.
@@ -244,218 +346,4 @@ fn checked_option<'a>(
         .value_parser(parser)
         .default_value(default)
         .help(help)
-}
-
-fn nodes<'a>(alloc: Global) -> Arg<'a>
-    ensures { HasRule result nodes_rule }
-{
-    checked_option(
-        alloc,
-        "nodes",
-        "N",
-        value_parser!(u32),
-        "1",
-        "Nodes of the machine, 1 to 1024",
-    )
-}
-
-fn memory<'a>(alloc: Global) -> Arg<'a>
-    ensures { HasRule result memory_rule }
-{
-    checked_option(
-        alloc,
-        "memory",
-        "BYTES",
-        value_parser!(u32),
-        "1048576",
-        "Bytes of memory of each node, a multiple of 4096 from 4096 to 16777216",
-    )
-}
-
-fn limit<'a>(alloc: Global) -> Arg<'a>
-    ensures { HasRule result limit_rule }
-{
-    checked_option(
-        alloc,
-        "limit",
-        "TICKS",
-        value_parser!(u64),
-        "1000000",
-        "Most ticks of each node, one per instruction, 1 to 1099511627776",
-    )
-}
-
-fn input<'a>(alloc: Global) -> Arg<'a>
-    ensures { HasRule result (option_rule (codes "input")) }
-{
-    Arg::new(alloc, "input")
-        .long("input")
-        .value_name("FILE")
-        .help("File that each node reads as its input, at most 16777216 bytes [default: no input]")
-}
-
-fn report<'a>(alloc: Global) -> Arg<'a>
-    ensures { HasRule result (flag_rule (codes "report")) }
-{
-    Arg::new(alloc, "report")
-        .long("report")
-        .action(ArgAction::SetTrue)
-        .help("After the output write the costs of the supersteps, their total and the outcome")
-}
-
-fn live<'a>(alloc: Global) -> Arg<'a>
-    ensures { HasRule result (flag_rule (codes "live")) }
-{
-    Arg::new(alloc, "live")
-        .long("live")
-        .action(ArgAction::SetTrue)
-        .help("Write each superstep's output as soon as it is over")
-}
-
-fn profile<'a>(alloc: Global) -> Arg<'a>
-    ensures { HasRule result (option_rule (codes "profile")) }
-{
-    Arg::new(alloc, "profile")
-        .long("profile")
-        .value_name("FILE")
-        .help(
-            "File to write what each rank did in each superstep, as CSV; it is created, or emptied, before the run",
-        )
-}
-
-fn counts<'a>(alloc: Global) -> Arg<'a>
-    ensures { HasRule result (option_rule (codes "counts")) }
-{
-    Arg::new(alloc, "counts")
-        .long("counts")
-        .value_name("FILE")
-        .help(
-            "Write how many steps each address made to FILE, as CSV; the run is made in one thread, whatever --workers says",
-        )
-}
-
-fn contested<'a>(alloc: Global) -> Arg<'a>
-    ensures { HasRule result (option_rule (codes "contested")) }
-{
-    Arg::new(alloc, "contested")
-        .long("contested")
-        .value_name("FILE")
-        .help(
-            "Write the bytes to which puts or gets of one superstep bring different values to FILE, as CSV; BSPlib leaves open which of them stay",
-        )
-}
-
-fn interactive<'a>(alloc: Global) -> Arg<'a>
-    ensures { HasRule result (flag_rule (codes "interactive")) }
-{
-    Arg::new(alloc, "interactive")
-        .long("interactive")
-        .action(ArgAction::SetTrue)
-        .help("Answer each line before the next one is read, as at a terminal")
-}
-
-fn framed<'a>(alloc: Global) -> Arg<'a>
-    ensures { HasRule result (flag_rule (codes "framed")) }
-{
-    Arg::new(alloc, "framed")
-        .long("framed")
-        .action(ArgAction::SetTrue)
-        .help(
-            "For programs: write a line before each reply, which says how many lines the reply has and whether it is a refusal",
-        )
-}
-
-fn byte_price<'a>(alloc: Global) -> Arg<'a>
-    ensures { HasRule result g_rule }
-{
-    checked_option(
-        alloc,
-        "g",
-        "TICKS",
-        value_parser!(u32),
-        "1",
-        "Ticks that a byte of the h-relation costs in the total",
-    )
-}
-
-fn superstep_price<'a>(alloc: Global) -> Arg<'a>
-    ensures { HasRule result l_rule }
-{
-    checked_option(
-        alloc,
-        "l",
-        "TICKS",
-        value_parser!(u32),
-        "0",
-        "Ticks that the end of a superstep costs in the total",
-    )
-}
-
-fn ledger<'a>(alloc: Global) -> Arg<'a>
-    ensures { HasRule result ledger_rule }
-{
-    checked_option(
-        alloc,
-        "ledger",
-        "VERSION",
-        ValueParser::Signed(1, 2),
-        "2",
-        "Version of the ledger: 2, in which h leaves out what a rank moves to itself and m counts messages, or 1, in which h counts it",
-    )
-}
-
-fn clock<'a>(alloc: Global) -> Arg<'a>
-    ensures { HasRule result (flag_rule (codes "clock")) }
-{
-    Arg::new(alloc, "clock")
-        .long("clock")
-        .action(ArgAction::SetTrue)
-        .help(
-            "Give each node a clock, which call 19 reads: the cost of the supersteps that are over, and its own ticks in this one",
-        )
-}
-
-fn float<'a>(alloc: Global) -> Arg<'a>
-    ensures { HasRule result (flag_rule (codes "float")) }
-{
-    Arg::new(alloc, "float")
-        .long("float")
-        .action(ArgAction::SetTrue)
-        .help("Give each node a unit of floating point, for the instructions of F and D")
-}
-
-/// The same flag where no machine is made.
-fn float_names<'a>(alloc: Global, help: &'a str) -> Arg<'a>
-    ensures { HasRule result (flag_rule (codes "float")) }
-{
-    Arg::new(alloc, "float")
-        .long("float")
-        .action(ArgAction::SetTrue)
-        .help(help)
-}
-
-fn workers<'a>(alloc: Global) -> Arg<'a>
-    ensures { HasRule result workers_rule }
-{
-    checked_option(
-        alloc,
-        "workers",
-        "N",
-        value_parser!(u32),
-        "1",
-        "Most threads that run the nodes, 1 to 64; what is written does not depend on it",
-    )
-}
-
-fn slice<'a>(alloc: Global) -> Arg<'a>
-    ensures { HasRule result slice_rule }
-{
-    checked_option(
-        alloc,
-        "slice",
-        "STEPS",
-        value_parser!(u64),
-        "65536",
-        "Most steps of a node before another may have its thread, 1 to 1048576; what is written does not depend on it",
-    )
 }

@@ -56,7 +56,7 @@ impl<F, I: IsTerminal> Source<F, I> {
 }
 
 /// The file at this path can't be opened.
-#[derive(Clone, Copy, Debug)]
+#[derive(Clone, Copy)]
 pub struct CannotOpen<'a>(pub &'a str);
 
 /// The image at `path`; `-` is standard input, and can always be opened.

@@ -32,7 +32,7 @@ const COUNTS_AND_CONTESTED: &str =
     "the argument '--counts <FILE>' cannot be used with '--contested <FILE>'";
 
 /// What `bspemu run` and `bspemu debug` have in common.
-#[derive(Debug, Drop)]
+#[derive(Drop)]
 pub struct MachineOptions<'a> {
     /// The file of the program; `-` is standard input.
     pub image: &'a str,
@@ -42,14 +42,14 @@ pub struct MachineOptions<'a> {
 }
 
 /// What `bspemu run` was asked to do.
-#[derive(Debug, Drop)]
+#[derive(Drop)]
 pub struct RunOptions<'a> {
     pub machine: MachineOptions<'a>,
     pub telling: Telling<'a>,
 }
 
 /// When a run writes its output, and what it writes beside it.
-#[derive(Clone, Copy, Debug)]
+#[derive(Clone, Copy)]
 pub enum Telling<'a> {
     /// All of the output, once the run has ended.
     AtEnd,
@@ -64,7 +64,7 @@ pub enum Telling<'a> {
 }
 
 /// What `bspemu debug` was asked to do.
-#[derive(Debug, Drop)]
+#[derive(Drop)]
 pub struct DebugOptions<'a> {
     pub machine: MachineOptions<'a>,
     /// Whether each line is answered before the next one is read, wherever the lines come from.
@@ -74,7 +74,7 @@ pub struct DebugOptions<'a> {
 }
 
 /// What `bspemu list` was asked to do.
-#[derive(Debug, Drop)]
+#[derive(Drop)]
 pub struct ListOptions<'a> {
     /// The file of the program; `-` is standard input.
     pub image: &'a str,
@@ -84,7 +84,7 @@ pub struct ListOptions<'a> {
 }
 
 /// What `bspemu asm` was asked to do.
-#[derive(Debug, Drop)]
+#[derive(Drop)]
 pub struct AsmOptions<'a> {
     /// The file of the text.
     pub text: &'a str,
@@ -95,7 +95,7 @@ pub struct AsmOptions<'a> {
 }
 
 /// What the command line asks for.
-#[derive(Debug, Drop)]
+#[derive(Drop)]
 pub enum Action<'a> {
     /// Run a program.
     Run(RunOptions<'a>),

@@ -3,10 +3,10 @@
 ghost use Rattle.std.specs.Prelude.{◌≡◌, ◌⊎◌, IfErr, OnOk, map};
 ghost use Rattle.clap.specs.Words.{kind_of};
 ghost use Rattle.bspemu.specs.Program.{AnswersLines, Ends, EndsOnItsWords, IsAnswer, IsAnswerOfAsm, IsAnswerOfDebug, IsAnswerOfList, IsDebugError};
-ghost use Rattle.bspemu.specs.Program.{IsAnswerOfRun, IsStatusOfKind, status_of_answer};
+ghost use Rattle.bspemu.specs.Program.{IsAnswerOfRun, IsStatusOfKind, NamesFile, answer_of_end, answer_of_session, status_of_answer};
 
 use crate::files::{
-    CannotOpen, create, create_beside, open_file, open_image, open_input, open_lines,
+    CannotOpen, Source, create, create_beside, open_file, open_image, open_input, open_lines,
 };
 use crate::options::{
     Action, AsmOptions, DebugOptions, ListOptions, MachineOptions, RunOptions, Telling, action_of,
@@ -35,7 +35,7 @@ const REFUSED: u8 = 1;
 const NOT_OPENED: u8 = 6;
 
 /// Why what was asked for was not done.
-#[derive(Clone, Copy, Debug)]
+#[derive(Clone, Copy)]
 pub enum RunError<'a> {
     /// The file at this path can't be opened.
     CannotOpen(&'a str),
@@ -62,16 +62,6 @@ impl<'a> From<CannotOpen<'a>> for RunError<'a> {
 
     fn from(error: CannotOpen<'a>) -> RunError<'a> {
         RunError::CannotOpen(error.0)
-    }
-}
-
-impl<'a> From<SessionError> for RunError<'a> {
-    ghost use Rattle.bspemu.specs.declared.program.RunError.TheVariants.{Session};
-
-    ghost from_gives = { λ e r. r ≡ Session e };
-
-    fn from(error: SessionError) -> RunError<'a> {
-        RunError::Session(error)
     }
 }
 
@@ -138,43 +128,74 @@ fn perform<'a, R: AllocGlobal + Files + Input<Reader: IsTerminal> + Print + Thre
     }
 }
 
-/// Runs a session, the one that tells of the run as the options say.
+/// What a machine is run on, opened.
+#[derive(Drop)]
+struct Streams<F, I> {
+    image: Counted<Source<F, I>>,
+    input: Counted<Source<F, I>>,
+}
+
+/// Opens what the options name, first the image.
+#[inline(never)]
+fn open_streams<'a, R: Files + Input>(
+    rt: &R,
+    options: &MachineOptions<'a>,
+) -> Result<Streams<R::File, R::Reader>, CannotOpen<'a>>
+    ensures { IfErr result (λ e. NamesFile options.now e.0) }
+{
+    let image = Counted::new(open_image(rt, options.image)?);
+    let input = Counted::new(open_input(rt, options.input)?);
+    Ok(Streams { image, input })
+}
+
+/// Opens what the options name, and runs the session that tells of the run as they say.
+#[inline(never)]
 fn run<'a, R: AllocGlobal + Files + Input + Print + Threads + Wait + Sync>(
     rt: &R,
     options: &RunOptions<'a>,
 ) -> Result<Outcome, RunError<'a>>
     ensures { IsAnswerOfRun options.now.machine options.now.telling result }
 {
+    let mut streams = open_streams(rt, &options.machine)?;
+    run_on(rt, options, &mut streams)
+}
+
+/// Runs the session that tells of the run as the options say, on what they name.
+fn run_on<'a, R: AllocGlobal + Files + Input + Print + Threads + Wait + Sync>(
+    rt: &R,
+    options: &RunOptions<'a>,
+    streams: &mut Streams<R::File, R::Reader>,
+) -> Result<Outcome, RunError<'a>>
+    ensures { IsAnswerOfRun options.now.machine options.now.telling result }
+{
     let machine = &options.machine;
     match options.telling {
-        Telling::AtEnd => run_to_end(rt, machine),
-        Telling::Live => run_live(rt, machine),
-        Telling::WithProfile(path) => run_profiled(rt, machine, path),
-        Telling::WithCounts(path) => run_counted(rt, machine, path),
-        Telling::WithContested(path) => run_contested(rt, machine, path),
+        Telling::AtEnd => run_to_end(rt, machine, streams),
+        Telling::Live => run_live(rt, machine, streams),
+        Telling::WithProfile(path) => run_profiled(rt, machine, path, streams),
+        Telling::WithCounts(path) => run_counted(rt, machine, path, streams),
+        Telling::WithContested(path) => run_contested(rt, machine, path, streams),
     }
 }
 
-/// Opens what the options name, first the image, and runs the session that writes at its end.
+/// Runs the session that writes at its end.
 #[inline(never)]
 fn run_to_end<'a, R: AllocGlobal + Files + Input + Print + Threads + Wait + Sync>(
     rt: &R,
     options: &MachineOptions<'a>,
+    streams: &mut Streams<R::File, R::Reader>,
 ) -> Result<Outcome, RunError<'a>>
     ensures { IsAnswerOfRun options.now Telling.AtEnd result }
 {
-    let mut image = Counted::new(open_image(rt, options.image)?);
-    let mut input = Counted::new(open_input(rt, options.input)?);
     let mut out = Counted::new(io::writer(rt));
-    let outcome = session(
+    answer_of(session(
         rt,
         rt.alloc(),
-        &mut image,
-        &mut input,
+        &mut streams.image,
+        &mut streams.input,
         &options.job,
         &mut out,
-    )?;
-    Ok(outcome)
+    ))
 }
 
 /// The same with the session that writes while the run goes on.
@@ -182,49 +203,47 @@ fn run_to_end<'a, R: AllocGlobal + Files + Input + Print + Threads + Wait + Sync
 fn run_live<'a, R: AllocGlobal + Files + Input + Print + Threads + Wait + Sync>(
     rt: &R,
     options: &MachineOptions<'a>,
+    streams: &mut Streams<R::File, R::Reader>,
 ) -> Result<Outcome, RunError<'a>>
     ensures { IsAnswerOfRun options.now Telling.Live result }
 {
-    let mut image = Counted::new(open_image(rt, options.image)?);
-    let mut input = Counted::new(open_input(rt, options.input)?);
     let mut out = Counted::new(io::writer(rt));
-    let outcome = live_session(
+    answer_of(live_session(
         rt,
         rt.alloc(),
-        &mut image,
-        &mut input,
+        &mut streams.image,
+        &mut streams.input,
         &options.job,
         &mut out,
-    )?;
-    Ok(outcome)
+    ))
 }
 
-/// Opens what the options name, first the image, creates the file of the profile, or empties it, and runs the session. That file may
-/// be neither of the others.
+/// Creates the file of the profile, or empties it, and runs the session. That file may be neither the image nor the input.
 #[inline(never)]
 fn run_profiled<'a, R: AllocGlobal + Files + Input + Print + Threads + Wait + Sync>(
     rt: &R,
     options: &MachineOptions<'a>,
     path: &'a str,
+    streams: &mut Streams<R::File, R::Reader>,
 ) -> Result<Outcome, RunError<'a>>
     ensures { IsAnswerOfRun options.now (Telling.WithProfile path.entry) result }
 {
-    let image = open_image(rt, options.image)?;
-    let input = open_input(rt, options.input)?;
-    let mut profile = Counted::new(create_beside(rt, path, &image, &input)?);
-    let mut image = Counted::new(image);
-    let mut input = Counted::new(input);
+    let mut profile = Counted::new(create_beside(
+        rt,
+        path,
+        streams.image.inner(),
+        streams.input.inner(),
+    )?);
     let mut out = Counted::new(io::writer(rt));
-    let outcome = profile_session(
+    answer_of(profile_session(
         rt,
         rt.alloc(),
-        &mut image,
-        &mut input,
+        &mut streams.image,
+        &mut streams.input,
         &options.job,
         &mut out,
         &mut profile,
-    )?;
-    Ok(outcome)
+    ))
 }
 
 /// The same with the counts of the run, which is made in this thread alone.
@@ -233,24 +252,25 @@ fn run_counted<'a, R: AllocGlobal + Files + Input + Print>(
     rt: &R,
     options: &MachineOptions<'a>,
     path: &'a str,
+    streams: &mut Streams<R::File, R::Reader>,
 ) -> Result<Outcome, RunError<'a>>
     ensures { IsAnswerOfRun options.now (Telling.WithCounts path.entry) result }
 {
-    let image = open_image(rt, options.image)?;
-    let input = open_input(rt, options.input)?;
-    let mut counts = Counted::new(create_beside(rt, path, &image, &input)?);
-    let mut image = Counted::new(image);
-    let mut input = Counted::new(input);
+    let mut counts = Counted::new(create_beside(
+        rt,
+        path,
+        streams.image.inner(),
+        streams.input.inner(),
+    )?);
     let mut out = Counted::new(io::writer(rt));
-    let outcome = counts_session(
+    answer_of(counts_session(
         rt.alloc(),
-        &mut image,
-        &mut input,
+        &mut streams.image,
+        &mut streams.input,
         &options.job,
         &mut out,
         &mut counts,
-    )?;
-    Ok(outcome)
+    ))
 }
 
 /// The same with what is contested in the run.
@@ -259,25 +279,46 @@ fn run_contested<'a, R: AllocGlobal + Files + Input + Print + Threads + Wait + S
     rt: &R,
     options: &MachineOptions<'a>,
     path: &'a str,
+    streams: &mut Streams<R::File, R::Reader>,
 ) -> Result<Outcome, RunError<'a>>
     ensures { IsAnswerOfRun options.now (Telling.WithContested path.entry) result }
 {
-    let image = open_image(rt, options.image)?;
-    let input = open_input(rt, options.input)?;
-    let mut contested = Counted::new(create_beside(rt, path, &image, &input)?);
-    let mut image = Counted::new(image);
-    let mut input = Counted::new(input);
+    let mut contested = Counted::new(create_beside(
+        rt,
+        path,
+        streams.image.inner(),
+        streams.input.inner(),
+    )?);
     let mut out = Counted::new(io::writer(rt));
-    let outcome = contested_session(
+    answer_of(contested_session(
         rt,
         rt.alloc(),
-        &mut image,
-        &mut input,
+        &mut streams.image,
+        &mut streams.input,
         &options.job,
         &mut out,
         &mut contested,
-    )?;
-    Ok(outcome)
+    ))
+}
+
+/// The answer of a session.
+fn answer_of<'a>(answer: Result<Outcome, SessionError>) -> Result<Outcome, RunError<'a>>
+    ensures { result ≡ answer_of_session answer }
+{
+    match answer {
+        Ok(outcome) => Ok(outcome),
+        Err(error) => Err(RunError::Session(error)),
+    }
+}
+
+/// The answer of a session that has no outcome: it counts as ended.
+fn ended<'a>(answer: Result<(), SessionError>) -> Result<Outcome, RunError<'a>>
+    ensures { result ≡ answer_of_end answer }
+{
+    match answer {
+        Ok(()) => Ok(Outcome::Ended),
+        Err(error) => Err(RunError::Session(error)),
+    }
 }
 
 /// Opens what the options name, first the image, and answers the lines of standard input: as they come where they are typed at a
@@ -292,19 +333,17 @@ fn debug<'a, R: AllocGlobal + Files + Input<Reader: IsTerminal> + Print>(
     let machine = &options.machine;
     let mut lines = Counted::new(open_lines(rt, machine.image));
     let at_terminal = lines.inner().is_terminal();
-    let mut image = Counted::new(open_image(rt, machine.image)?);
-    let mut input = Counted::new(open_input(rt, machine.input)?);
+    let mut streams = open_streams(rt, machine)?;
     let mut out = Counted::new(io::writer(rt));
-    answer_lines(
+    ended(answer_lines(
         rt.alloc(),
-        &mut image,
-        &mut input,
+        &mut streams.image,
+        &mut streams.input,
         options,
         &mut lines,
         &mut out,
         at_terminal,
-    )?;
-    Ok(Outcome::Ended)
+    ))
 }
 
 /// Answers lines with a debugger: in frames, as they come, or as a script.
@@ -342,14 +381,13 @@ fn list<'a, R: AllocGlobal + Files + Input + Print>(
 {
     let mut image = Counted::new(open_image(rt, options.image)?);
     let mut out = Counted::new(io::writer(rt));
-    list_session(
+    ended(list_session(
         rt.alloc(),
         options.format,
         options.float,
         &mut image,
         &mut out,
-    )?;
-    Ok(Outcome::Ended)
+    ))
 }
 
 /// Opens the text, creates the file of the image, or empties it, and saves the text's image there. The two may not be one file.
@@ -363,8 +401,7 @@ fn assemble<'a, R: AllocGlobal + Files + Input>(
     let text = open_file(rt, options.text)?;
     let mut image = Counted::new(create(rt, options.image, &text)?);
     let mut text = Counted::new(text);
-    asm_session(rt.alloc(), options.float, &mut text, &mut image)?;
-    Ok(Outcome::Ended)
+    ended(asm_session(rt.alloc(), options.float, &mut text, &mut image))
 }
 
 /// The status of an answer, after a line on standard error where it has no outcome.

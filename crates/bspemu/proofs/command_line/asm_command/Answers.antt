@@ -8,6 +8,6 @@ use Rattle.bspemu.proofs.command_line.asm_command.Goals as goal
 pub returns : goal.returns
 returns c =
     let named : HasApp c.after_help.result (new_app (codes "asm")) = record { is = search rules; local = search rules } in
-    let text = with_arg _ _ _ _ _ c.in_ok-arg.ensures named c.text.ensures in
-    let image = with_arg _ _ _ _ _ c.in_ok-arg-2.ensures text c.saved_image.ensures in
-    IfOk-weaker c.arg-3.result _ _ (λ r adds. with_arg _ _ _ _ _ adds image c.float_names.ensures) c.arg-3.ensures
+    let text = with_arg _ _ _ _ _ c.in_ok-arg.ensures named c.file.ensures in
+    let image = with_arg _ _ _ _ _ c.in_ok-arg-2.ensures text c.file-2.ensures in
+    IfOk-weaker c.arg-3.result _ _ (λ r adds. with_arg _ _ _ _ _ adds image c.flag.ensures) c.arg-3.ensures

@@ -8,6 +8,6 @@ use Rattle.bspemu.proofs.command_line.list_command.Goals as goal
 pub returns : goal.returns
 returns c =
     let named : HasApp c.about.result (new_app (codes "list")) = record { is = search rules; local = search rules } in
-    let image = with_arg _ _ _ _ _ c.in_ok-arg.ensures named c.image.ensures in
+    let image = with_arg _ _ _ _ _ c.in_ok-arg.ensures named c.file.ensures in
     let format = with_arg _ _ _ _ _ c.in_ok-arg-2.ensures image c.format.ensures in
-    IfOk-weaker c.arg-3.result _ _ (λ r adds. with_arg _ _ _ _ _ adds format c.float_names.ensures) c.arg-3.ensures
+    IfOk-weaker c.arg-3.result _ _ (λ r adds. with_arg _ _ _ _ _ adds format c.flag.ensures) c.arg-3.ensures

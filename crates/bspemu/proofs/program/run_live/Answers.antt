@@ -1,11 +1,6 @@
 use Rattle.std.proofs.Common.{refl}
-use Rattle.std.proofs.lemmas.Result.{err_from_is_err_and}
+use Rattle.bspemu.proofs.Sessions.{answer_of_live}
 use Rattle.bspemu.proofs.program.run_live.Goals as goal
 
-pub returns-in_err-outcome : goal.returns-in_err-outcome
-returns-in_err-outcome g c =
-    let p = err_from_is_err_and c.from_residual-in_err-outcome.result c.from_residual-in_err-outcome.ensures.1 in
-    rw (p.1, p.2) (_, refl, c.in_err-outcome.ensures.err)
-
 pub returns : goal.returns
-returns g c = (_, refl, c.in_ok-outcome.ensures.ok)
+returns g c = rw c.answer_of.ensures (answer_of_live _ _ _ refl c.live_session.ensures.ok c.live_session.ensures.err)

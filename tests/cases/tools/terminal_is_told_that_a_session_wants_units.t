@@ -13,5 +13,5 @@ Before a session with the debugger begins, since its status says nothing of node
   $ echo go | at-a-terminal "$REPO"/bspemu debug --framed image
   done 1
   rank 0 stopped: fault IllegalInstruction
-  $ at-a-terminal "$REPO"/bspemu debug image --help | head -n 1
+  $ at-a-terminal "$REPO"/bspemu debug image --help | sed -n 1p
   Run a program piece by piece: do what each line of standard input says, and write the answer

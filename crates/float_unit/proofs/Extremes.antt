@@ -7,7 +7,7 @@ use lib.Dec.{T}
 use lib.Ieee.{Format, hid, is_nan, of_bits, ones, to_bits, top}
 use lib.Ieee.Bits.{nan_bits_above, nan_bits_is, to_bits-of_bits}
 
-number : (f : Format) (a : ℕ) → a % top f ≤ ones f * hid f → is_nan (of_bits f a) ≡ false
+pub number : (f : Format) (a : ℕ) → a % top f ≤ ones f * hid f → is_nan (of_bits f a) ≡ false
 number f a l = sym (nan_bits_is f a) ∙ nan_bits_above f a ∙ le-ltb (ones f * hid f) (a % top f) l
 
 chosen : (f : Format) (a b : ℕ) (s : Bool) → a < 2 * top f → b < 2 * top f → a % top f ≤ ones f * hid f → b % top f ≤ ones f * hid f

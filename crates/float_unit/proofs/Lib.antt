@@ -1,3 +1,4 @@
+pub mod Classes
 pub mod Extremes
 pub mod FromWords
 pub mod Narrowing

@@ -2,7 +2,7 @@
 use Rattle.std.proofs.Common.{◌≡◌, ℕ, zero, suc, ◌+◌, ◌-◌, ◌*◌, ◌/◌, ◌%◌, ◌^◌, ◌<◌, ◌≤◌, Bool, true, false, cond, nat_eq, nat_lt, sym, ap, ◌∙◌, refl, arith, inl, inr}
 use Rattle.std.proofs.Math.Nat.{div-add-mod', div-lt_iff_lt-mul, eq_of_mul-eq-mul_right, lt_of_mul-lt-mul_right, mul-le-mul_right, mul-lt-mul_of_pos_right, zero-mul}
 use Rattle.std.proofs.Math.Pow.{pow_mono}
-use Rattle.std.proofs.lemmas.Bool.{eqb-true, le-ltb, lt-leb, lt-ltb, ltb-true, or_cases, true≢false}
+use Rattle.std.proofs.lemmas.Bool.{eqb-true, le-ltb, lt-leb, lt-ltb, ltb-true, true≢false}
 use Rattle.std.proofs.lemmas.Nat.{mod_below, pow-add, pow_pos}
 use Rattle.std.specs.Float.{float_is_finite, is_sign_negative}
 use Rattle.rv_float_flags.specs.Scaled.{amount, exponent, single_exponent, IsMagnitude}
@@ -201,21 +201,13 @@ positive f a s l h = true≢false (sym h ∙ s ∙ lt-leb (top f) a l)
 pub double_is_of : (kind : WordKind) (a n : ℕ) → is_double_in_range kind a ≡ true → IsCut (of_bits binary64 a) n → (exponent a < 1054 → n < 2147483648) → n < 4294967296 → (exponent a < 1023 → n ≡ 0)
     → IsOf kind (is_sign_negative (of_bits binary64 a)) n
 double_is_of Signed a n h cut below all small = let l = ltb-true _ _ h in below (omega (arith, l))
-double_is_of Unsigned a n h cut below all small = (
-  all,
-  λ s. elim (or_cases (nat_lt a 4751297606875873280) (nat_lt (a % 9223372036854775808) 4607182418800017408) h) [
-    | inl t ↦ let l : a < 4751297606875873280 = ltb-true a 4751297606875873280 t in absurd (positive binary64 a (sign_is binary64 a cut.finite) (let k : a < 9223372036854775808 = omega (arith, l) in k) s)
-    | inr t ↦ let l : a % 9223372036854775808 < 4607182418800017408 = ltb-true (a % 9223372036854775808) 4607182418800017408 t in small (omega (arith, l))
-  ],
-)
+double_is_of Unsigned a n h cut below all small =
+    let l : a < 4751297606875873280 = ltb-true a 4751297606875873280 h in
+    (all, λ s. absurd (positive binary64 a (sign_is binary64 a cut.finite) (let k : a < 9223372036854775808 = omega (arith, l) in k) s))
 
 pub single_is_of : (kind : WordKind) (a n : ℕ) → is_single_in_range kind a ≡ true → IsCut (of_bits binary32 a) n → n < 16777216 → (single_exponent a < 127 → n ≡ 0)
     → IsOf kind (is_sign_negative (of_bits binary32 a)) n
 single_is_of Signed a n h cut below small = omega (arith, below)
-single_is_of Unsigned a n h cut below small = (
-  omega (arith, below),
-  λ s. elim (or_cases (nat_lt a 1266679808) (nat_lt (a % 2147483648) 1065353216) h) [
-    | inl t ↦ let l : a < 1266679808 = ltb-true a 1266679808 t in absurd (positive binary32 a (sign_is binary32 a cut.finite) (let k : a < 2147483648 = omega (arith, l) in k) s)
-    | inr t ↦ let l : a % 2147483648 < 1065353216 = ltb-true (a % 2147483648) 1065353216 t in small (omega (arith, l))
-  ],
-)
+single_is_of Unsigned a n h cut below small =
+    let l : a < 1266679808 = ltb-true a 1266679808 h in
+    (omega (arith, below), λ s. absurd (positive binary32 a (sign_is binary32 a cut.finite) (let k : a < 2147483648 = omega (arith, l) in k) s))

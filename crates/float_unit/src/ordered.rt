@@ -1,38 +1,67 @@
-//! Minimum and maximum of numbers, which are no NaNs.
+//! Comparisons, minimum and maximum of numbers, which are no NaNs. Nothing asks whether an operand is a NaN.
 
-ghost use Rattle.std.specs.Prelude.{◌≡◌, ◌%◌, ◌^◌, ◌≤◌, ◌||◌, is_nan, not, nat_le};
-ghost use Rattle.std.specs.Float.{NotNan};
+ghost use Rattle.std.specs.Prelude.{◌≡◌, ◌%◌, ◌^◌, ◌≤◌, nat_le, if◌then◌else◌};
 ghost use Rattle.float_unit.specs.Values as Values;
-ghost use Rattle.rv_floats.specs.Comparisons as Comparisons;
-ghost use lib.Ieee.{binary32, binary64, of_bits};
+ghost use lib.Ieee.{binary32, binary64};
 
-use rv_float_tables::MinMaxOp;
+use rv_float_tables::{CompareOp, MinMaxOp};
+use rv_floats::{is_before_d, is_before_s};
 
-/// FMIN.D, FMAX.D. Nothing asks whether an operand is a NaN.
+/// FEQ.D, FLT.D, FLE.D.
 #[inline(always)]
-pub fn min_max_d(op: MinMaxOp, a: u64, b: u64) -> u64
+pub fn compares_d(op: CompareOp, a: u64, b: u64) -> bool
     requires first { a % 2 ^ 63 ≤ 0x7ff0_0000_0000_0000 }
     requires second { b % 2 ^ 63 ≤ 0x7ff0_0000_0000_0000 }
-    ensures { result ≡ Values.min_max op binary64 a b }
+    ensures { result ≡ Values.compares op binary64 a b }
 {
     let (x, y) = (f64::from_bits(a), f64::from_bits(b));
     match op {
-        MinMaxOp::Min => { if is_before_d(y, x) { b } else { a } }
-        MinMaxOp::Max => { if is_before_d(x, y) { b } else { a } }
+        CompareOp::Feq => x == y,
+        CompareOp::Flt => x < y,
+        CompareOp::Fle => x <= y,
     }
 }
 
-/// FMIN.S, FMAX.S, alike.
+/// FEQ.S, FLT.S, FLE.S.
 #[inline(always)]
-pub fn min_max_s(op: MinMaxOp, a: u32, b: u32) -> u32
+pub fn compares_s(op: CompareOp, a: u32, b: u32) -> bool
     requires first { a % 2 ^ 31 ≤ 0x7f80_0000 }
     requires second { b % 2 ^ 31 ≤ 0x7f80_0000 }
-    ensures { result ≡ Values.min_max op binary32 a b }
+    ensures { result ≡ Values.compares op binary32 a b }
 {
     let (x, y) = (f32::from_bits(a), f32::from_bits(b));
     match op {
-        MinMaxOp::Min => { if is_before_s(y, x) { b } else { a } }
-        MinMaxOp::Max => { if is_before_s(x, y) { b } else { a } }
+        CompareOp::Feq => x == y,
+        CompareOp::Flt => x < y,
+        CompareOp::Fle => x <= y,
+    }
+}
+
+/// Whether FMIN.D or FMAX.D is the second operand.
+#[inline(always)]
+pub fn is_second_d(op: MinMaxOp, a: u64, b: u64) -> bool
+    requires first { a % 2 ^ 63 ≤ 0x7ff0_0000_0000_0000 }
+    requires second { b % 2 ^ 63 ≤ 0x7ff0_0000_0000_0000 }
+    ensures { (if result then b else a) ≡ Values.min_max op binary64 a b }
+{
+    let (x, y) = (f64::from_bits(a), f64::from_bits(b));
+    match op {
+        MinMaxOp::Min => is_before_d(y, x),
+        MinMaxOp::Max => is_before_d(x, y),
+    }
+}
+
+/// Whether FMIN.S or FMAX.S is the second operand.
+#[inline(always)]
+pub fn is_second_s(op: MinMaxOp, a: u32, b: u32) -> bool
+    requires first { a % 2 ^ 31 ≤ 0x7f80_0000 }
+    requires second { b % 2 ^ 31 ≤ 0x7f80_0000 }
+    ensures { (if result then b else a) ≡ Values.min_max op binary32 a b }
+{
+    let (x, y) = (f32::from_bits(a), f32::from_bits(b));
+    match op {
+        MinMaxOp::Min => is_before_s(y, x),
+        MinMaxOp::Max => is_before_s(x, y),
     }
 }
 
@@ -49,22 +78,4 @@ pub fn is_number_s(a: u32) -> bool
     ensures { result ≡ nat_le (a % 2 ^ 31) 0x7f80_0000 }
 {
     a % 0x8000_0000 <= 0x7f80_0000
-}
-
-#[inline(always)]
-fn is_before_d(x: f64, y: f64) -> bool
-    requires x_is_number { NotNan x }
-    requires y_is_number { NotNan y }
-    ensures { result ≡ Comparisons.is_before x y }
-{
-    x < y || (x == y && x.is_sign_negative() && !y.is_sign_negative())
-}
-
-#[inline(always)]
-fn is_before_s(x: f32, y: f32) -> bool
-    requires x_is_number { NotNan x }
-    requires y_is_number { NotNan y }
-    ensures { result ≡ Comparisons.is_before x y }
-{
-    x < y || (x == y && x.is_sign_negative() && !y.is_sign_negative())
 }

@@ -20,7 +20,7 @@ pub fn word_of_double(kind: WordKind, flags: Flags, a: u64) -> Option<u32>
     ensures value { IfSome result (λ z. z ≡ Values.word kind TowardZero binary64 a) }
     ensures flags { IfSome result (λ z. accrued flags (Values.flags_of_word kind TowardZero binary64 a) ≡ flags) }
 {
-    if is_double_in_range(kind, a) && (flags.nx || is_whole_double(a)) {
+    if is_double_found(kind, flags, a) {
         Some(signed(0x8000_0000_0000_0000 <= a, whole_part_of_double(a)))
     } else {
         None
@@ -34,11 +34,40 @@ pub fn word_of_single(kind: WordKind, flags: Flags, a: u32) -> Option<u32>
     ensures value { IfSome result (λ z. z ≡ Values.word kind TowardZero binary32 a) }
     ensures flags { IfSome result (λ z. accrued flags (Values.flags_of_word kind TowardZero binary32 a) ≡ flags) }
 {
-    if is_single_in_range(kind, a) && (flags.nx || is_whole_single(a)) {
+    if is_single_found(kind, flags, a) {
         Some(signed(0x8000_0000 <= a, whole_part_of_single(a)))
     } else {
         None
     }
+}
+
+/// Whether a double is in range, and exact or beside NX.
+// For speed: what tests a flag and answers `true` is one jump, where `||` would answer the flag, which is tested once more.
+#[inline(always)]
+fn is_double_found(kind: WordKind, flags: Flags, a: u64) -> bool
+    ensures { result ≡ (Found.is_double_in_range kind a && (flags.nx || Found.is_whole_double a)) }
+{
+    if !is_double_in_range(kind, a) {
+        return false;
+    }
+    if flags.nx {
+        return true;
+    }
+    is_whole_double(a)
+}
+
+/// The same of a single.
+#[inline(always)]
+fn is_single_found(kind: WordKind, flags: Flags, a: u32) -> bool
+    ensures { result ≡ (Found.is_single_in_range kind a && (flags.nx || Found.is_whole_single a)) }
+{
+    if !is_single_in_range(kind, a) {
+        return false;
+    }
+    if flags.nx {
+        return true;
+    }
+    is_whole_single(a)
 }
 
 /// A word by its sign and size.
@@ -59,9 +88,7 @@ fn is_double_in_range(kind: WordKind, a: u64) -> bool
 {
     match kind {
         WordKind::Signed => a % 0x8000_0000_0000_0000 < 0x41e0_0000_0000_0000,
-        WordKind::Unsigned => {
-            a < 0x41f0_0000_0000_0000 || a % 0x8000_0000_0000_0000 < 0x3ff0_0000_0000_0000
-        }
+        WordKind::Unsigned => a < 0x41f0_0000_0000_0000,
     }
 }
 
@@ -71,7 +98,7 @@ fn is_single_in_range(kind: WordKind, a: u32) -> bool
 {
     match kind {
         WordKind::Signed => a % 0x8000_0000 < 0x4b80_0000,
-        WordKind::Unsigned => a < 0x4b80_0000 || a % 0x8000_0000 < 0x3f80_0000,
+        WordKind::Unsigned => a < 0x4b80_0000,
     }
 }
 

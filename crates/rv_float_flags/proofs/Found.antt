@@ -1,5 +1,5 @@
 -- What is found out at once of a sum or a product does raise nothing new.
-use Rattle.std.proofs.Common.{◌≡◌, ℕ, ◌*◌, ◌%◌, Bool, true, false, not, cond, ◌&&◌, ◌||◌, ◌⊎◌, ap, sym, ◌∙◌, refl, arith, inl, inr}
+use Rattle.std.proofs.Common.{◌≡◌, ℕ, ◌*◌, ◌%◌, ◌<◌, Bool, true, false, not, cond, ◌&&◌, ◌||◌, ◌⊎◌, ap, sym, ◌∙◌, refl, arith, inl, inr}
 use Rattle.std.proofs.Math.Nat.{zero-mul}
 use Rattle.std.proofs.lemmas.Bool.{and_parts, eqb-true, leb-true, ltb-true, or_cases}
 use Rattle.rv_float_flags.specs.Flags.{accrued, inexact_if, invalid, no_flags}
@@ -45,6 +45,14 @@ sum_so g a b p q h = elim (or_cases _ _ h) [
   | inr zero ↦ inr (by_zero p q (zero_so a b zero))
 ]
 
+-- neither of the two is a NaN
+pub sum_below : (g : Flags) (a b : ℕ) → is_sum_found g a b ≡ true → (a % 9223372036854775808 < 9218868437227405312) × (b % 9223372036854775808 < 9218868437227405312)
+sum_below g a b h =
+    let sizes = and_parts (is_moderate a) (is_moderate b) (and_parts _ _ h).0 in
+    let l = ltb-true (exponent a) 2045 sizes.0 in
+    let m = ltb-true (exponent b) 2045 sizes.1 in
+    (omega (arith, l), omega (arith, m))
+
 pub sum_found : (g : Flags) (a b z : ℕ) → is_sum_found g a b ≡ true → z ≡ to_bits binary64 (add binary64 (of_bits binary64 a) (of_bits binary64 b))
     → accrued g (add_flags binary64 a b) ≡ g
 sum_found g a b z h is =
@@ -62,6 +70,13 @@ difference_found g a b z h is =
     let p = moderate_so a sizes.0 in
     let q = moderate_so b sizes.1 in
     difference g a b z p q (sum_so g a b p q parts.1) is
+
+pub product_below : (g : Flags) (a b : ℕ) → is_product_found g a b ≡ true → (a % 9223372036854775808 < 9218868437227405312) × (b % 9223372036854775808 < 9218868437227405312)
+product_below g a b h =
+    let sizes = and_parts (is_finite a) (is_finite b) (and_parts _ _ h).0 in
+    let l = ltb-true (exponent a) 2047 sizes.0 in
+    let m = ltb-true (exponent b) 2047 sizes.1 in
+    (omega (arith, l), omega (arith, m))
 
 pub product_found : (g : Flags) (a b z : ℕ) → is_product_found g a b ≡ true → z ≡ to_bits binary64 (mul binary64 (of_bits binary64 a) (of_bits binary64 b))
     → accrued g (mul_flags binary64 a b) ≡ g

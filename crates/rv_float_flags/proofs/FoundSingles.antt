@@ -1,5 +1,5 @@
 -- What is found out at once of a sum, a product or a quotient of singles does raise nothing new.
-use Rattle.std.proofs.Common.{◌≡◌, ℕ, ◌*◌, ◌%◌, ◌≤◌, true, false, ap, ◌∙◌, arith, inl, inr}
+use Rattle.std.proofs.Common.{◌≡◌, ℕ, ◌*◌, ◌%◌, ◌<◌, true, false, ◌&&◌, ◌||◌, nat_eq, nat_le, ap, ◌∙◌, arith, inl, inr}
 use Rattle.std.proofs.Math.Nat.{zero-mul}
 use Rattle.std.proofs.lemmas.Bool.{and_parts, eqb-true, leb-true, ltb-true, or_cases}
 use Rattle.std.specs.Float.{float_zero}
@@ -21,8 +21,16 @@ moderate_so a h = moderate a (ltb-true (single_exponent a) 253 h)
 pub middling_so : (a : ℕ) → is_single_middling a ≡ true → Middling a
 middling_so a h = let each = and_parts _ _ h in middling a (leb-true _ _ each.0) (ltb-true _ _ each.1)
 
-pub middling_below : (a : ℕ) → is_single_middling a ≡ true → a % 2147483648 ≤ 2139095040
-middling_below a h = let l = ltb-true (single_exponent a) 190 (and_parts _ _ h).1 in omega (arith, l)
+pub middling_below : (a : ℕ) → is_single_middling a ≡ true → a % 2147483648 < 2139095040
+middling_below a h = let l = ltb-true (single_exponent a) 190 (and_parts (nat_le 64 (single_exponent a)) _ h).1 in omega (arith, l)
+
+-- neither of the two is a NaN
+pub sum_below : (g : Flags) (a b : ℕ) → is_single_sum_found g a b ≡ true → (a % 2147483648 < 2139095040) × (b % 2147483648 < 2139095040)
+sum_below g a b h =
+    let last = and_parts _ _ h in
+    let l = ltb-true (single_exponent a) 253 (and_parts _ _ last.0).1 in
+    let m = ltb-true (single_exponent b) 253 last.1 in
+    (omega (arith, l), omega (arith, m))
 
 pub sum_found : (g : Flags) (a b z : ℕ) → is_single_sum_found g a b ≡ true
     → z ≡ to_bits binary32 (add binary32 (of_bits binary32 a) (of_bits binary32 b)) → accrued g (add_flags binary32 a b) ≡ g
@@ -31,6 +39,21 @@ sum_found g a b z h is = let last = and_parts _ _ h in let first = and_parts _ _
 pub difference_found : (g : Flags) (a b z : ℕ) → is_single_sum_found g a b ≡ true
     → z ≡ to_bits binary32 (sub binary32 (of_bits binary32 a) (of_bits binary32 b)) → accrued g (sub_flags binary32 a b) ≡ g
 difference_found g a b z h is = let last = and_parts _ _ h in let first = and_parts _ _ last.0 in difference g a b z (moderate_so a first.1) (moderate_so b last.1) first.0 is
+
+pub product_below : (g : Flags) (a b : ℕ) → is_single_product_found g a b ≡ true → (a % 2147483648 < 2139095040) × (b % 2147483648 < 2139095040)
+product_below g a b h =
+    elim (or_cases (g.nx && is_single_middling a && is_single_middling b) (is_single_finite a && is_single_finite b && (nat_eq (a % 2147483648) 0 || nat_eq (b % 2147483648) 0)) h) [
+  | inl l ↦
+      let last = and_parts (g.nx && is_single_middling a) (is_single_middling b) l in
+      let m = middling_below a (and_parts g.nx (is_single_middling a) last.0).1 in
+      let n = middling_below b last.1 in
+      (m, n)
+  | inr r ↦
+      let first = and_parts (is_single_finite a) (is_single_finite b) (and_parts (is_single_finite a && is_single_finite b) _ r).0 in
+      let m = ltb-true (single_exponent a) 255 first.0 in
+      let n = ltb-true (single_exponent b) 255 first.1 in
+      (omega (arith, m), omega (arith, n))
+]
 
 pub product_found : (g : Flags) (a b z : ℕ) → is_single_product_found g a b ≡ true
     → z ≡ to_bits binary32 (mul binary32 (of_bits binary32 a) (of_bits binary32 b)) → accrued g (mul_flags binary32 a b) ≡ g
@@ -49,6 +72,9 @@ product_found g a b z h is = elim (or_cases _ _ h) [
       ])
       is
 ]
+
+pub both_middling : (g : Flags) (a b : ℕ) → is_single_quotient_found g a b ≡ true → (is_single_middling a ≡ true) × (is_single_middling b ≡ true)
+both_middling g a b h = let last = and_parts _ _ h in ((and_parts _ _ last.0).1, last.1)
 
 pub quotient_found : (g : Flags) (a b z : ℕ) → is_single_quotient_found g a b ≡ true
     → z ≡ to_bits binary32 (div binary32 (of_bits binary32 a) (of_bits binary32 b)) → accrued g (div_flags binary32 a b) ≡ g

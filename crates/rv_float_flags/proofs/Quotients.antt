@@ -154,3 +154,8 @@ quotient_no_nan a b h k =
 
 pub normal_below : (a : ℕ) → is_normal a ≡ true → a % 9223372036854775808 < 9218868437227405312
 normal_below a h = let l = leb-true _ _ (and_parts (nat_le 1 (exponent a)) _ h).1 in omega (arith, l)
+
+pub both_normal : (g : Flags) (a b : ℕ) → is_quotient_found g a b ≡ true → (is_normal a ≡ true) × (is_normal b ≡ true)
+both_normal g a b h =
+    let two = and_parts (g.nx && is_normal a) (is_normal b) (and_parts _ _ h).0 in
+    ((and_parts g.nx (is_normal a) two.0).1, two.1)

@@ -14,7 +14,8 @@ use rv_floats::sqrt_d;
 use std::num::f64_from_bits_with_nan;
 
 /// FADD.D, where all that it raises is there, and that is found out at once.
-// For speed: a finite sum of finite doubles raises nothing but NX, and not even that where it has few digits.
+// For speed: a finite sum of finite doubles raises nothing but NX, and not even that where it has few digits. Nothing asks whether one of
+// them is a NaN.
 #[inline(always)]
 pub fn add_unflagged_d(flags: Flags, a: u64, b: u64) -> Option<u64>
     ensures when { is_some result ≡ Found.is_sum_found flags a b }
@@ -22,7 +23,7 @@ pub fn add_unflagged_d(flags: Flags, a: u64, b: u64) -> Option<u64>
     ensures flags { IfSome result (λ z. accrued flags (Operations.add_flags binary64 a b) ≡ flags) }
 {
     if is_sum_found(flags, a, b) {
-        Some(finite_sum(a, b))
+        Some((f64::from_bits(a) + f64::from_bits(b)).to_bits())
     } else {
         None
     }
@@ -36,7 +37,7 @@ pub fn sub_unflagged_d(flags: Flags, a: u64, b: u64) -> Option<u64>
     ensures flags { IfSome result (λ z. accrued flags (Operations.sub_flags binary64 a b) ≡ flags) }
 {
     if is_sum_found(flags, a, b) {
-        Some(finite_difference(a, b))
+        Some((f64::from_bits(a) - f64::from_bits(b)).to_bits())
     } else {
         None
     }
@@ -50,7 +51,7 @@ pub fn mul_unflagged_d(flags: Flags, a: u64, b: u64) -> Option<u64>
     ensures flags { IfSome result (λ z. accrued flags (Operations.mul_flags binary64 a b) ≡ flags) }
 {
     if is_product_found(flags, a, b) {
-        Some(finite_product(a, b))
+        Some((f64::from_bits(a) * f64::from_bits(b)).to_bits())
     } else {
         None
     }
@@ -65,7 +66,7 @@ pub fn div_unflagged_d(flags: Flags, a: u64, b: u64) -> Option<u64>
     ensures flags { IfSome result (λ z. accrued flags (Operations.div_flags binary64 a b) ≡ flags) }
 {
     if is_quotient_found(flags, a, b) {
-        Some(normal_quotient(a, b))
+        Some((f64::from_bits(a) / f64::from_bits(b)).to_bits())
     } else {
         None
     }
@@ -104,7 +105,7 @@ fn is_sum_found(flags: Flags, a: u64, b: u64) -> bool
 fn is_product_found(flags: Flags, a: u64, b: u64) -> bool
     ensures { result ≡ Found.is_product_found flags a b }
 {
-    if are_middling(a, b) && (flags.nx || are_short(a, b)) {
+    if flags.nx && are_middling(a, b) {
         return true;
     }
     is_finite(a)
@@ -121,47 +122,6 @@ pub fn is_quotient_found(flags: Flags, a: u64, b: u64) -> bool
         return true;
     }
     flags.nx && is_normal(a) && is_normal(b) && are_within_range(a, b)
-}
-
-/// The sum of two doubles that are finite.
-// For speed: nothing asks whether one is a NaN.
-#[inline(always)]
-fn finite_sum(a: u64, b: u64) -> u64
-    requires first { a % 2 ^ 63 < 0x7ff0_0000_0000_0000 }
-    requires second { b % 2 ^ 63 < 0x7ff0_0000_0000_0000 }
-    ensures { result ≡ to_bits binary64 (Ieee.add binary64 (of_bits binary64 a) (of_bits binary64 b)) }
-{
-    (f64::from_bits(a) + f64::from_bits(b)).to_bits()
-}
-
-/// The difference.
-#[inline(always)]
-fn finite_difference(a: u64, b: u64) -> u64
-    requires first { a % 2 ^ 63 < 0x7ff0_0000_0000_0000 }
-    requires second { b % 2 ^ 63 < 0x7ff0_0000_0000_0000 }
-    ensures { result ≡ to_bits binary64 (Ieee.sub binary64 (of_bits binary64 a) (of_bits binary64 b)) }
-{
-    (f64::from_bits(a) - f64::from_bits(b)).to_bits()
-}
-
-/// The product.
-#[inline(always)]
-fn finite_product(a: u64, b: u64) -> u64
-    requires first { a % 2 ^ 63 < 0x7ff0_0000_0000_0000 }
-    requires second { b % 2 ^ 63 < 0x7ff0_0000_0000_0000 }
-    ensures { result ≡ to_bits binary64 (Ieee.mul binary64 (of_bits binary64 a) (of_bits binary64 b)) }
-{
-    (f64::from_bits(a) * f64::from_bits(b)).to_bits()
-}
-
-/// The quotient of two that are normal.
-#[inline(always)]
-fn normal_quotient(a: u64, b: u64) -> u64
-    requires first { Found.is_normal a ≡ true }
-    requires second { Found.is_normal b ≡ true }
-    ensures { result ≡ to_bits binary64 (Ieee.div binary64 (of_bits binary64 a) (of_bits binary64 b)) }
-{
-    (f64::from_bits(a) / f64::from_bits(b)).to_bits()
 }
 
 /// Whether both are between 2^-255 and 2^257 in size, as most are: then none of their sum, product and quotient is tiny or infinite.

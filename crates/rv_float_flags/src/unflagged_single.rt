@@ -21,7 +21,7 @@ pub fn add_unflagged_s(flags: Flags, a: u32, b: u32) -> Option<u32>
     ensures flags { IfSome result (λ z. accrued flags (Operations.add_flags binary32 a b) ≡ flags) }
 {
     if is_sum_found(flags, a, b) {
-        Some(finite_sum(a, b))
+        Some((f32::from_bits(a) + f32::from_bits(b)).to_bits())
     } else {
         None
     }
@@ -35,7 +35,7 @@ pub fn sub_unflagged_s(flags: Flags, a: u32, b: u32) -> Option<u32>
     ensures flags { IfSome result (λ z. accrued flags (Operations.sub_flags binary32 a b) ≡ flags) }
 {
     if is_sum_found(flags, a, b) {
-        Some(finite_difference(a, b))
+        Some((f32::from_bits(a) - f32::from_bits(b)).to_bits())
     } else {
         None
     }
@@ -49,7 +49,7 @@ pub fn mul_unflagged_s(flags: Flags, a: u32, b: u32) -> Option<u32>
     ensures flags { IfSome result (λ z. accrued flags (Operations.mul_flags binary32 a b) ≡ flags) }
 {
     if is_product_found(flags, a, b) {
-        Some(finite_product(a, b))
+        Some((f32::from_bits(a) * f32::from_bits(b)).to_bits())
     } else {
         None
     }
@@ -63,7 +63,7 @@ pub fn div_unflagged_s(flags: Flags, a: u32, b: u32) -> Option<u32>
     ensures flags { IfSome result (λ z. accrued flags (Operations.div_flags binary32 a b) ≡ flags) }
 {
     if is_quotient_found(flags, a, b) {
-        Some(middling_quotient(a, b))
+        Some((f32::from_bits(a) / f32::from_bits(b)).to_bits())
     } else {
         None
     }
@@ -115,46 +115,6 @@ fn is_quotient_found(flags: Flags, a: u32, b: u32) -> bool
         return true;
     }
     flags.nx && is_middling(a) && is_middling(b)
-}
-
-/// The sum of two singles that are finite.
-#[inline(always)]
-fn finite_sum(a: u32, b: u32) -> u32
-    requires first { a % 2 ^ 31 < 0x7f80_0000 }
-    requires second { b % 2 ^ 31 < 0x7f80_0000 }
-    ensures { result ≡ to_bits binary32 (Ieee.add binary32 (of_bits binary32 a) (of_bits binary32 b)) }
-{
-    (f32::from_bits(a) + f32::from_bits(b)).to_bits()
-}
-
-/// The difference.
-#[inline(always)]
-fn finite_difference(a: u32, b: u32) -> u32
-    requires first { a % 2 ^ 31 < 0x7f80_0000 }
-    requires second { b % 2 ^ 31 < 0x7f80_0000 }
-    ensures { result ≡ to_bits binary32 (Ieee.sub binary32 (of_bits binary32 a) (of_bits binary32 b)) }
-{
-    (f32::from_bits(a) - f32::from_bits(b)).to_bits()
-}
-
-/// The product.
-#[inline(always)]
-fn finite_product(a: u32, b: u32) -> u32
-    requires first { a % 2 ^ 31 < 0x7f80_0000 }
-    requires second { b % 2 ^ 31 < 0x7f80_0000 }
-    ensures { result ≡ to_bits binary32 (Ieee.mul binary32 (of_bits binary32 a) (of_bits binary32 b)) }
-{
-    (f32::from_bits(a) * f32::from_bits(b)).to_bits()
-}
-
-/// The quotient of two of middling size.
-#[inline(always)]
-fn middling_quotient(a: u32, b: u32) -> u32
-    requires first { Found.is_single_middling a ≡ true }
-    requires second { Found.is_single_middling b ≡ true }
-    ensures { result ≡ to_bits binary32 (Ieee.div binary32 (of_bits binary32 a) (of_bits binary32 b)) }
-{
-    (f32::from_bits(a) / f32::from_bits(b)).to_bits()
 }
 
 /// Whether a single is finite.

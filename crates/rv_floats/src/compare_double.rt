@@ -68,7 +68,9 @@ pub fn max_d(a: u64, b: u64) -> u64
     f64_to_bits_with_nan(greatest)
 }
 
-fn is_before_d(x: f64, y: f64) -> bool
+/// Whether the first of two doubles is less than the second, where a zero with a minus is less than one with a plus.
+#[inline(always)]
+pub fn is_before_d(x: f64, y: f64) -> bool
     requires x_is_number { NotNan x }
     requires y_is_number { NotNan y }
     ensures { result ≡ is_before x y }

@@ -68,7 +68,9 @@ pub fn max_s(a: u32, b: u32) -> u32
     f32_to_bits_with_nan(greatest)
 }
 
-fn is_before_s(x: f32, y: f32) -> bool
+/// Whether the first of two singles is less than the second, where a zero with a minus is less than one with a plus.
+#[inline(always)]
+pub fn is_before_s(x: f32, y: f32) -> bool
     requires x_is_number { NotNan x }
     requires y_is_number { NotNan y }
     ensures { result ≡ is_before x y }

@@ -79,7 +79,7 @@ pub fn word_unsigned_to_d(word: u32) -> u64
 }
 
 /// FCVT.S.W.
-#[inline]
+#[inline(always)]
 pub fn word_to_s(word: i32) -> u32
     ensures { result ≡ to_bits binary32 (of_int binary32 word) }
 {
@@ -87,7 +87,7 @@ pub fn word_to_s(word: i32) -> u32
 }
 
 /// FCVT.S.WU.
-#[inline]
+#[inline(always)]
 pub fn word_unsigned_to_s(word: u32) -> u32
     ensures { result ≡ to_bits binary32 (of_int binary32 (pos word)) }
 {

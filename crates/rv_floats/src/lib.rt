@@ -29,8 +29,8 @@ mod sign;
 mod single;
 
 pub use class::{class_d, class_s, is_signaling_d, is_signaling_s};
-pub use compare_double::{eq_d, le_d, lt_d, max_d, min_d};
-pub use compare_single::{eq_s, le_s, lt_s, max_s, min_s};
+pub use compare_double::{eq_d, is_before_d, le_d, lt_d, max_d, min_d};
+pub use compare_single::{eq_s, is_before_s, le_s, lt_s, max_s, min_s};
 pub use convert::{
     boxed, d_to_s, d_to_word, d_to_word_unsigned, rounded_whole_d, rounded_whole_s, s_to_d,
     s_to_word, s_to_word_unsigned, unboxed, word_to_d, word_to_s, word_unsigned_to_d,

@@ -1,27 +1,30 @@
-use Rattle.std.proofs.Common.{Bool, sym, ap, ◌∙◌, arith}
+use Rattle.std.proofs.Common.{Bool, ◌&&◌, ◌||◌, sym, ap, ◌∙◌, arith, inl, inr}
+use Rattle.std.proofs.lemmas.Bool.{and_parts, or_cases}
 use Rattle.std.specs.Float.{is_sign_negative}
+use Rattle.float_unit.specs.Found.{is_double_in_range, is_whole_double}
 use Rattle.float_unit.specs.Whole.{pattern}
 use Rattle.float_unit.proofs.Patterns.{sign_is, double_is_of}
 use Rattle.float_unit.proofs.Words.{raised_none, raised_there, word_is, IsOf}
 use Rattle.float_unit.proofs.whole.word_of_double.Goals as goal
-use Rattle.float_unit.proofs.whole.word_of_double.Goals.{then-flags, else-flags}
 use lib.Ieee.{binary64, of_bits}
 
-pub returns-then-is_whole_double-clause-value : goal.returns-then-is_whole_double-clause-value
-returns-then-is_whole_double-clause-value c =
+pub returns-then-is_double_found-clause-value : goal.returns-then-is_double_found-clause-value
+returns-then-is_double_found-clause-value c =
     let n = c.whole_part_of_double.result in
     let p = c.whole_part_of_double.ensures in
-    let of : IsOf c.args.kind (is_sign_negative (of_bits binary64 c.args.a)) n = double_is_of c.args.kind c.args.a n (sym c.if-is_double_in_range.ensures) p.cut p.below p.narrow p.small in
+    let found = and_parts (is_double_in_range c.args.kind c.args.a) (c.args.flags.nx || is_whole_double c.args.a) (sym c.if-is_double_found.ensures) in
+    let of : IsOf c.args.kind (is_sign_negative (of_bits binary64 c.args.a)) n = double_is_of c.args.kind c.args.a n found.0 p.cut p.below p.narrow p.small in
     c.signed.ensures
     ∙ ap (λ (s : Bool). pattern s n) (sym (sign_is binary64 c.args.a p.cut.finite))
     ∙ sym (word_is c.args.kind binary64 c.args.a n p.cut (omega (arith, p.narrow)) of)
 
-pub returns-then-is_whole_double-clause-flags : goal.returns-then-is_whole_double-clause-flags
-returns-then-is_whole_double-clause-flags c =
+pub returns-then-is_double_found-clause-flags : goal.returns-then-is_double_found-clause-flags
+returns-then-is_double_found-clause-flags c =
     let n = c.whole_part_of_double.result in
     let p = c.whole_part_of_double.ensures in
-    let of : IsOf c.args.kind (is_sign_negative (of_bits binary64 c.args.a)) n = double_is_of c.args.kind c.args.a n (sym c.if-is_double_in_range.ensures) p.cut p.below p.narrow p.small in
-    elim c.if-flags.branch [
-      | then-flags w ↦ raised_there c.args.kind binary64 c.args.a n c.args.flags p.cut (omega (arith, p.narrow)) of w.if-flags.true
-      | else-flags w ↦ raised_none c.args.kind binary64 c.args.a n c.args.flags p.cut (omega (arith, p.narrow)) of (p.whole (sym w.is_whole_double.ensures ∙ sym w.value-is ∙ c.if-is_whole_double.true))
+    let found = and_parts (is_double_in_range c.args.kind c.args.a) (c.args.flags.nx || is_whole_double c.args.a) (sym c.if-is_double_found.ensures) in
+    let of : IsOf c.args.kind (is_sign_negative (of_bits binary64 c.args.a)) n = double_is_of c.args.kind c.args.a n found.0 p.cut p.below p.narrow p.small in
+    elim (or_cases c.args.flags.nx (is_whole_double c.args.a) found.1) [
+      | inl there ↦ raised_there c.args.kind binary64 c.args.a n c.args.flags p.cut (omega (arith, p.narrow)) of there
+      | inr whole ↦ raised_none c.args.kind binary64 c.args.a n c.args.flags p.cut (omega (arith, p.narrow)) of (p.whole whole)
     ]

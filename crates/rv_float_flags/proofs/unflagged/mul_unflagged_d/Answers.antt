@@ -1,6 +1,19 @@
-use Rattle.std.proofs.Common.{sym}
-use Rattle.rv_float_flags.proofs.Found.{product_found}
+use Rattle.std.proofs.Common.{refl, sym}
+use Rattle.rv_float_flags.proofs.FiniteResults.{finite, pattern_no_nan, product_no_nan}
+use Rattle.rv_float_flags.proofs.Found.{product_below, product_found}
 use Rattle.rv_float_flags.proofs.unflagged.mul_unflagged_d.Goals as goal
+use lib.Ieee.{binary64}
+
+pub float_from_bits-result : goal.float_from_bits-result
+float_from_bits-result c = pattern_no_nan c.args.a (product_below c.args.flags c.args.a c.args.b (sym c.if-is_product_found.ensures)).0
+
+pub float_from_bits-result-then-is_product_found : goal.float_from_bits-result-then-is_product_found
+float_from_bits-result-then-is_product_found c = pattern_no_nan c.args.b (product_below c.args.flags c.args.a c.args.b (sym c.if-is_product_found.ensures)).1
+
+pub float_to_bits-result : goal.float_to_bits-result
+float_to_bits-result c =
+    let below = product_below c.args.flags c.args.a c.args.b (sym c.if-is_product_found.ensures) in
+    product_no_nan binary64 _ _ (finite c.args.a below.0).magnitude.finite (finite c.args.b below.1).magnitude.finite
 
 pub returns-then-is_product_found-clause-flags : goal.returns-then-is_product_found-clause-flags
-returns-then-is_product_found-clause-flags c = product_found c.args.flags c.args.a c.args.b _ (sym c.if-is_product_found.ensures) c.finite_product.ensures
+returns-then-is_product_found-clause-flags c = product_found c.args.flags c.args.a c.args.b _ (sym c.if-is_product_found.ensures) refl

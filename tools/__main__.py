@@ -1,8 +1,12 @@
 """Starts a tool of the package beside this file: `python3 -I -S -B tools NAME ARGUMENTS..`, which the starters at the top do."""
 
+import gc
 import os
 import signal
 import sys
+
+# What modules make stays; looking through all of it again and again, as it grows, would be a part of each start.
+gc.set_threshold(50_000)
 
 
 def _end(*_: object) -> None:
@@ -20,4 +24,8 @@ from bsptools import modules  # noqa: E402
 modules.keep()
 from bsptools import start  # noqa: E402
 
-sys.exit(start.process(sys.argv[1], sys.argv[2:]))
+status = start.process(sys.argv[1], sys.argv[2:])
+sys.stdout.flush()
+sys.stderr.flush()
+# All is written and cleared away, and the memory of a process is taken from it faster than it gives it back object by object.
+os._exit(status)

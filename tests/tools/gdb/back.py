@@ -281,7 +281,8 @@ def back_after_long(bench: Bench) -> None:
     source.write_text(LONG_LOOP)
     with bench.machines, _keeping(0.02, 32, 8):
         run = Counting([bench.bspemu, "debug", str(source), "--format", "asm", "--nodes", "2", "--limit", "1000000000"])
-        there = runner.Runner(run, lambda text: None, lambda: False, breakpoints={16})
+        there = runner.Runner(run, lambda text: None, lambda: False)
+        there.breakpoints = {16}
         try:
             there.go(0)
             place = run.place()
@@ -334,7 +335,8 @@ def back_in_a_superstep_that_has_just_begun(bench: Bench) -> None:
     source.write_text(MANY_SUPERSTEPS)
     with bench.machines, _keeping(0.02, 32, 8):
         run = Noting([bench.bspemu, "debug", str(source), "--format", "asm", "--nodes", "2", "--limit", "1000000000"])
-        there = runner.Runner(run, lambda text: None, lambda: False, supersteps={30})
+        there = runner.Runner(run, lambda text: None, lambda: False)
+        there.supersteps = {30}
         try:
             there.go(0)
             for rank, count in ((1, 5), (0, 9)):
@@ -388,7 +390,8 @@ def back_far_in_a_rank_that_runs(bench: Bench) -> None:
 
     with bench.machines:
         run = machine.Machine([bench.bspemu, "debug", str(program), "--format", "elf", "--nodes", "2", "--limit", "1000000000"])
-        there = runner.Runner(run, lambda text: None, lambda: False, supersteps={1})
+        there = runner.Runner(run, lambda text: None, lambda: False)
+        there.supersteps = {1}
         try:
             there.go(0)
             there.supersteps = set()

@@ -64,7 +64,7 @@ def job_control(words: Sequence[str], program: str, prompt: str, go: str) -> str
     shell = Terminal(["/bin/bash", "--norc", "--noediting", "-i"])
     shell.type("PS1='the ''shell: '\r")
     steps = [(shlex.join([*words, program]) + "\r", prompt), (go, ""), ("\x1a", "Stopped.*\nthe shell: $"), ("fg\r", ""), ("\x03", prompt)]
-    steps += [(go, ""), ("\x1a", "Stopped.*\nthe shell: $"), ("kill %1\r", "the shell: $")]
+    steps += [(go, ""), ("\x1a", "Stopped.*\nthe shell: $")]
     said = shell.wait("the shell: $")
     for typed, wanted in steps:
         if said.startswith(("no ", "the end")):
@@ -76,6 +76,10 @@ def job_control(words: Sequence[str], program: str, prompt: str, go: str) -> str
             return f"nothing runs behind {typed!r}"
         if typed == "\x1a" and not becomes_true(lambda: states_of(program) == {"T"}):
             return f"Ctrl-Z leaves emulators in {states_of(program)}"
+    if said.startswith(("no ", "the end")):
+        return said
+    # The shell's prompt is not waited for, since what ends may write behind it.
+    shell.type("kill %1\r")
     is_left = not becomes_true(lambda: not commands_with(program + " "))
     shell.type("exit\r")
     shell.status()

@@ -2,7 +2,6 @@
 
 from __future__ import annotations
 
-import difflib
 import re
 from typing import Callable, Dict, List, NamedTuple, Optional, Sequence
 
@@ -134,6 +133,9 @@ def _meant(verb: str) -> str:
     """What says which line is meant by a word that none begins with, if that is known."""
     if verb in IN_GDB:
         return f"; what gdb does by that is done by {IN_GDB[verb]}"
+    # Only what is mistyped wants it.
+    import difflib
+
     near = difflib.get_close_matches(verb.lower(), VERBS, 1)
     return f"; {near[0]} may be meant" if near else ""
 

@@ -3,7 +3,6 @@
 from __future__ import annotations
 
 import time
-from dataclasses import dataclass, field
 from typing import Callable, Iterable, List, Optional, Sequence, Set
 
 from ..debugger import Node
@@ -29,7 +28,6 @@ PIECE = 0.01
 ENDS = b"bspgdb: to stop here, from where one can go back, start bspgdb again and type monitor end before continue\n"
 
 
-@dataclass
 class Runner:
     """Makes a machine go on.
 
@@ -38,30 +36,25 @@ class Runner:
     shown. `spell` says which call a node is about to make.
     """
 
-    machine: Machine
-    show: Callable[[bytes], None]
-    is_interrupted: Callable[[], bool]
-    breakpoints: Set[int] = field(default_factory=set)
-    supersteps: Set[int] = field(default_factory=set)
-    calls: List[Awaited] = field(default_factory=list)
-    stops_at_end: bool = False
-    spell: Callable[[Node], str] = lambda node: "a call"
-    _shown: int = 0
-    # Of which watches it was said that they do not stop on the way back.
-    _told: Set[Watch] = field(default_factory=set)
-    # Until when an interrupt waits, and whether it is already known that some superstep takes longer.
-    _deadline: Optional[float] = None
-    _is_searching: bool = False
-    # How many seconds have gone by as it went on; of how many supersteps the last piece is, and when and in which of them it was begun.
-    _seconds: float = 0.0
-    _count: int = 1
-    _started: float = 0.0
-    _superstep: int = 0
-
-    def __post_init__(self) -> None:
-        self._history = History(self.machine, self.is_interrupted)
-        self.watches = Watches(self.machine)
-        self.names = Names(self.machine.command)
+    def __init__(self, machine: Machine, show: Callable[[bytes], None], is_interrupted: Callable[[], bool]) -> None:
+        self.machine, self.show, self.is_interrupted = machine, show, is_interrupted
+        self.breakpoints: Set[int] = set()
+        self.supersteps: Set[int] = set()
+        self.calls: List[Awaited] = []
+        self.stops_at_end = False
+        self.spell: Callable[[Node], str] = lambda node: "a call"
+        self._shown = 0
+        # Of which watches it was said that they do not stop on the way back.
+        self._told: Set[Watch] = set()
+        # Until when an interrupt waits, and whether it is already known that some superstep takes longer.
+        self._deadline: Optional[float] = None
+        self._is_searching = False
+        # How many seconds have gone by as it went on; of how many supersteps the last piece is, and when and in which of them it was begun.
+        self._seconds, self._started = 0.0, 0.0
+        self._count, self._superstep = 1, 0
+        self._history = History(machine, is_interrupted)
+        self.watches = Watches(machine)
+        self.names = Names(machine.command)
 
     # What gdb can say.
 

@@ -3,7 +3,6 @@
 from __future__ import annotations
 
 from typing import Iterable
-from xml.sax.saxutils import quoteattr
 
 # gdb's numbers of signals.
 NONE, INTERRUPTED, ILLEGAL, TRAP, ABORTED, BUS, SEGMENT, SYSTEM_CALL, LIMIT = 0, 2, 4, 5, 6, 10, 11, 12, 24
@@ -83,7 +82,7 @@ def thread_list(superstep: int, states: Iterable[str]) -> str:
     """What gdb is told of the ranks in these states: thread R + 1 is rank R, whose name says the superstep, too, as gdb shows it at each
     stop."""
     rows = "".join(
-        f'<thread id="{rank + 1:x}" name={quoteattr(f"rank {rank}, superstep {superstep}")}>{state}</thread>'
+        f'<thread id="{rank + 1:x}" name="rank {rank}, superstep {superstep}">{state}</thread>'
         for rank, state in enumerate(states)
     )
     return f'<?xml version="1.0"?><threads>{rows}</threads>'

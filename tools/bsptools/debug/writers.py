@@ -9,7 +9,7 @@ from __future__ import annotations
 import contextlib
 from typing import Dict, Iterator, List, NamedTuple, Optional, Sequence, Union
 
-from ..debugger import ALL, Node
+from ..debugger import Node
 from ..run.calls import CHANGES, GETS, PUTS, SEND, Areas
 from .arrivals import Asked, Place
 from .machine import Machine
@@ -141,10 +141,12 @@ class Search:
         written: Dict[int, Writer] = {}
         asked = self._asked(first, end)
         areas = self._areas(first, asked)
+        # A walk is told how many instructions the rank makes: each one more would be asked for, and answered, in vain.
+        counts = {it: self._begin(it + 1) - self._begin(it) for it in range(first, end)}
         with self._at(first) as machine:
             walk = Walk(machine, self._rank, self._must_break_off)
             for superstep in range(first, end):
-                written.update(self._walk(walk, superstep, ALL))
+                written.update(self._walk(walk, superstep, counts[superstep]))
                 has_landed = self._land(written, asked[superstep], areas)
                 machine.finish(self._must_break_off)
                 walk.begin(has_landed)

@@ -2,7 +2,6 @@
 
 from __future__ import annotations
 
-from dataclasses import dataclass, field
 from typing import NamedTuple
 
 from ..debugger import Node, signed
@@ -81,11 +80,11 @@ def spelled(code: Code, node: Node) -> str:
     return f"{name}({', '.join(texts)})"
 
 
-@dataclass
 class Areas:
     """A rank's registrations, oldest first: address and size of each."""
 
-    entries: list[tuple[int, int]] = field(default_factory=list)
+    def __init__(self, entries: list[tuple[int, int]] | None = None) -> None:
+        self.entries = [] if entries is None else entries
 
     def take(self, call: Call) -> None:
         """Replays a push or a pop."""

@@ -4,7 +4,6 @@ from __future__ import annotations
 
 import pathlib
 from collections.abc import Sequence
-from dataclasses import dataclass
 from functools import cached_property
 from typing import NamedTuple
 
@@ -142,16 +141,12 @@ def told(relation: Relation) -> str:
     return f"  superstep {relation.superstep}: h {relation.h}, {way} by rank {relation.rank}: {', '.join(texts)}"
 
 
-@dataclass
 class Measured:
     """A run with its counts, its report and its prices. `program` is its path."""
 
-    counts: pathlib.Path
-    nodes: int
-    trace: Tracer
-    report: Report
-    prices: tuple[int, int]
-    program: str
+    def __init__(self, counts: pathlib.Path, nodes: int, trace: Tracer, report: Report, prices: tuple[int, int], program: str) -> None:
+        self.counts, self.nodes, self.trace = counts, nodes, trace
+        self.report, self.prices, self.program = report, prices, program
 
     @cached_property
     def work(self) -> Work:

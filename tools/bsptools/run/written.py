@@ -5,7 +5,6 @@ from __future__ import annotations
 import contextlib
 import os
 import struct
-from dataclasses import dataclass, field
 
 from ..files import is_same
 from ..refusals import Refused, about, counted
@@ -17,13 +16,12 @@ MOST_FILES = 1000
 MOST_LINES = 20
 
 
-@dataclass
 class Written:
     """A file of one rank: the name by which the program knows it, and its bytes."""
 
-    rank: int
-    name: bytes
-    content: bytearray = field(default_factory=bytearray)
+    def __init__(self, rank: int, name: bytes) -> None:
+        self.rank, self.name = rank, name
+        self.content = bytearray()
 
     @property
     def last(self) -> str:

@@ -11,6 +11,7 @@ import subprocess
 import time
 from typing import Callable, Dict, List, NamedTuple, Optional, Tuple
 
+import forked
 from checks import CLASSES, COMPILER, PYELFTOOLS, REPO, SECONDS, SOON, Tally, Tool, becomes_true, commands_with
 
 BEGIN = "#include <bsp.h>\n#include <stdint.h>\n#include <stdio.h>\n#include <stdlib.h>\n"
@@ -155,9 +156,13 @@ class Longs:
 
     def run(self, *words: str, given: str = "", processors: Optional[List[int]] = None) -> "subprocess.CompletedProcess[str]":
         """A run by bsprun, on these processors of the host."""
-        before = ["taskset", "-c", ",".join(map(str, processors))] if processors else []
-        return subprocess.run([*before, str(REPO / "bsprun"), *words], input=given, capture_output=True, text=True, cwd=self.folder,
-            env=self.environment, check=False, timeout=SECONDS)  # fmt: skip
+        command = [str(REPO / "bsprun"), *words]
+        if not processors:
+            return forked.run(command, given, self.folder, self.environment)
+        before = ["taskset", "-c", ",".join(map(str, processors))]
+        return subprocess.run(
+            [*before, *command], input=given, capture_output=True, text=True, cwd=self.folder, env=self.environment, check=False, timeout=SECONDS
+        )
 
     def cubes(self) -> None:
         """A sum of cubes is told, in the words of --check, and the run is as it is without."""

@@ -15,6 +15,7 @@ import subprocess
 import zlib
 from typing import Callable, Dict, List, NamedTuple, Optional, Tuple
 
+import forked
 from checks import CLASSES, CMAKE, COMPILER, MAKE, REPO, SECONDS, Tally, Tool
 
 HERE = pathlib.Path(__file__).resolve().parent / "ported"
@@ -66,7 +67,7 @@ class Project(NamedTuple):
     build: List[List[str]]
     image: str
     arguments: List[str]
-    given: bytes
+    given: str
     wanted: str
     tools: Tuple[Tool, ...]
 
@@ -74,14 +75,14 @@ class Project(NamedTuple):
 BSPCC = str(REPO / "bspcc")
 NORM = "n = 200, norm = 813.434078, 0.0 s\n"
 NORMS = "norm 0: 20.994046775\nnorm 1: 1.470401877\nnorm 2: 1.483932661\nnorm 3: 1.490650865\n"
-LETTERS = b"Bulk Synchronous\n\nParallel\n"
+LETTERS = "Bulk Synchronous\n\nParallel\n"
 COUNTS = "".join(f"{it}: {n} {'#' * n}\n" for it, n in zip("abcehklnoprsuy", (2, 1, 1, 1, 1, 1, 4, 2, 2, 1, 2, 2, 2, 1)))
 # Each by the name of its folder, and of that of ways to build it behind a blank.
 PROJECTS: Dict[str, Project] = {
-    "project make": Project([["make", f"CC={BSPCC}"]], "norm", ["200"], b"", NORM, (*COMPILER, MAKE)),
+    "project make": Project([["make", f"CC={BSPCC}"]], "norm", ["200"], "", NORM, (*COMPILER, MAKE)),
     "project CMake": Project([["cmake", f"-DCMAKE_C_COMPILER={BSPCC}", "-B", "made", "."], ["cmake", "--build", "made"]],
-        f"made{os.sep}norm", ["200"], b"", NORM, (*COMPILER, MAKE, CMAKE)),  # fmt: skip
-    "archive make": Project([["make", f"CC={BSPCC}"]], "solver", ["n=30", "iters=4", "title=norm"], b"", NORMS, (*COMPILER, MAKE)),
+        f"made{os.sep}norm", ["200"], "", NORM, (*COMPILER, MAKE, CMAKE)),  # fmt: skip
+    "archive make": Project([["make", f"CC={BSPCC}"]], "solver", ["n=30", "iters=4", "title=norm"], "", NORMS, (*COMPILER, MAKE)),
     "classes CMake": Project([["cmake", f"-DCMAKE_CXX_COMPILER={BSPCC}", "-B", "made", "-S", "."], ["cmake", "--build", "made"]],
         f"made{os.sep}histo", [], LETTERS, COUNTS, (*COMPILER, CLASSES, MAKE, CMAKE)),  # fmt: skip
 }
@@ -92,13 +93,13 @@ def source_of(name: str) -> pathlib.Path:
     return next(HERE.glob(f"{name}.c*"))
 
 
-def told(output: bytes, folder: pathlib.Path, outputs: Tuple[str, ...]) -> str:
+def told(output: str, folder: pathlib.Path, outputs: Tuple[str, ...]) -> str:
     """What a program wrote: its output, and a line for each file."""
     lines = []
     for name in outputs:
         content = (folder / name).read_bytes() if (folder / name).exists() else b""
         lines.append(f"== {name}: {len(content)} bytes, sum {zlib.crc32(content):08x}\n")
-    return output.decode(errors="replace") + "".join(lines)
+    return output + "".join(lines)
 
 
 class Ported:
@@ -107,11 +108,11 @@ class Ported:
     def __init__(self, tally: Tally, folder: pathlib.Path) -> None:
         self.tally, self.folder = tally, folder
 
-    def run(self, nodes: int, name: str, arguments: List[str], given: bytes = b"") -> "subprocess.CompletedProcess[bytes]":
+    def run(self, nodes: int, name: str, arguments: List[str], given: str = "") -> "subprocess.CompletedProcess[str]":
         """A run by bsprun, which puts files into an empty folder."""
         shutil.rmtree(self.folder / OUT, ignore_errors=True)
         words = [str(REPO / "bsprun"), "-n", str(nodes), "--out", OUT, name, *arguments]
-        return subprocess.run(words, input=given, capture_output=True, cwd=self.folder, check=False, timeout=SECONDS)
+        return forked.run(words, given, self.folder)
 
     def program(self, name: str, nodes: Tuple[int, ...]) -> None:
         """A program on some numbers of nodes."""
@@ -120,12 +121,12 @@ class Ported:
             shutil.copy(it, self.folder)
         words = [str(REPO / "bspcc"), "-w", "-o", f"{name}.elf", str(source_of(name)), "-lm"]
         subprocess.run(words, cwd=self.folder, check=True, capture_output=True, text=True, timeout=SECONDS)
-        given = (self.folder / program.given).read_bytes() if program.given else b""
+        given = (self.folder / program.given).read_text() if program.given else ""
         wanted = (HERE / f"expected/{name}.txt").read_text()
         for p in nodes:
             done = self.run(p, f"{name}.elf", program.arguments, given)
             found = told(done.stdout, self.folder / OUT, program.outputs)
-            self.tally.expect(f"ported {name}, {p} nodes", (done.returncode, found) == (0, wanted), f"{found}{done.stderr.decode()}")
+            self.tally.expect(f"ported {name}, {p} nodes", (done.returncode, found) == (0, wanted), f"{found}{done.stderr}")
 
     def project(self, name: str) -> None:
         """A project of several files, built by its own commands."""
@@ -134,7 +135,7 @@ class Ported:
         for words in project.build:
             subprocess.run(words, cwd=self.folder, check=True, capture_output=True, text=True, timeout=SECONDS)
         done = self.run(3, project.image, project.arguments, project.given)
-        self.tally.expect(f"a project, {name}", (done.returncode, done.stdout.decode()) == (0, project.wanted), done)
+        self.tally.expect(f"a project, {name}", (done.returncode, done.stdout) == (0, project.wanted), done)
 
 
 def parts() -> List[Tuple[str, Callable[[Ported], None], Tuple[Tool, ...]]]:

@@ -1,6 +1,5 @@
 pub mod Clamps
 pub mod CommaParts
-pub mod DigitValues
 pub mod Facts
 pub mod FloatFacts
 pub mod Gathered

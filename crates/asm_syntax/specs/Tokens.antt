@@ -1,10 +1,10 @@
 -- The tokens of a line (own language): names, numbers, strings and signs; blanks part them, and `#` outside a string
 -- begins a comment.
-use Rattle.std.specs.Prelude.{ℕ, zero, suc, ◌+◌, ◌-◌, ◌&&◌, ◌==◌, nat_lt, nat_eq, if◌then◌else◌, List, [], ◌∷◌, length, drop, codes, Option, Some, None}
-use Rattle.std.specs.List.{list_all, take_while, prefix_len, starts_with}
+use Rattle.std.specs.Prelude.{ℕ, zero, suc, ◌+◌, ◌-◌, ◌==◌, if◌then◌else◌, List, [], ◌∷◌, Option, Some, None}
+use Rattle.std.specs.List.{take_while, prefix_len}
 use Rattle.std.specs.Option.{option_map, option_map_or, option_and_then}
-use Rattle.std.specs.Char.{is_ascii_digit, is_ascii_hexdigit}
-use Rattle.std.specs.Str.Parse.{digits_value}
+use Rattle.std.specs.Char.{is_ascii_digit}
+use Rattle.numerals.specs.Numbers.{number_value}
 use Rattle.asm_syntax.specs.Bytes.{is_blank, is_hash, is_quote, is_backslash, is_word_byte, is_plain, escape_value}
 
 -- a token
@@ -22,16 +22,6 @@ pub data Token : Type 0 where
   closing : Token
   plus : Token
   minus : Token
-
--- the value of `0x` and at least one hexadecimal digit
-abbrev pub hexadecimal_value : List ℕ → Option ℕ
-hexadecimal_value word =
-    if (starts_with nat_eq word (codes "0x") && nat_lt 2 (length word)) && list_all is_ascii_hexdigit (drop 2 word)
-    then Some (digits_value 16 (drop 2 word)) else None
-
--- the value of a number: decimal digits, or `0x` and hexadecimal digits; of any size
-abbrev pub number_value : List ℕ → Option ℕ
-number_value word = if list_all is_ascii_digit word then Some (digits_value 10 word) else hexadecimal_value word
 
 -- the token of a word that begins with a byte: a number where that is a digit, else a name
 abbrev pub word_token : ℕ → List ℕ → Option Token

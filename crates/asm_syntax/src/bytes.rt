@@ -1,7 +1,6 @@
 //! The bytes of a line by their kinds.
 
-ghost use Rattle.std.specs.Prelude.{◌≡◌, ◌<◌};
-ghost use Rattle.std.specs.Char.{digit_value};
+ghost use Rattle.std.specs.Prelude.{◌≡◌};
 ghost use Rattle.asm_syntax.specs.Bytes.{is_blank, is_word_byte, is_plain, escape_value};
 
 /// A space or a tab.
@@ -36,18 +35,5 @@ pub(crate) fn escape_value(byte: u8) -> Option<u8>
         b'\\' => Some(b'\\'),
         b'"' => Some(b'"'),
         _ => None,
-    }
-}
-
-/// The value of a digit or a letter, and 36 for any other byte.
-pub(crate) fn digit_value(byte: u8) -> u64
-    ensures value { result ≡ digit_value byte }
-    ensures small { result < 37 }
-{
-    match byte {
-        b'0'..=b'9' => u64::from(byte - b'0'),
-        b'A'..=b'Z' => u64::from(byte - b'A') + 10,
-        b'a'..=b'z' => u64::from(byte - b'a') + 10,
-        _ => 36,
     }
 }

@@ -13,9 +13,9 @@
 //! There are two languages: one with the statements of floating point, and one without them, in which their mnemonics are none. A caller
 //! says of each line in which it is.
 //!
-//! The names of instructions and registers are those of `rv_tables` and `rv_float_tables`. The language is this project's own; it is a part of
-//! what the RISC-V Assembly Programmer's Handbook has (The RISC-V Instruction Set Manual, Volume I: Unprivileged ISA,
-//! 20191213, chapter 25).
+//! The names of instructions and registers are those of `rv_tables` and `rv_float_tables`, and numbers those of `numerals`. The language is
+//! this project's own; it is a part of what the RISC-V Assembly Programmer's Handbook has (The RISC-V Instruction Set Manual, Volume I:
+//! Unprivileged ISA, 20191213, chapter 25).
 #![tactic(auto)]
 
 mod bytes;

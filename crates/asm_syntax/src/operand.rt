@@ -2,12 +2,12 @@
 
 ghost use Rattle.std.specs.Prelude.{true, ◌≡◌, ◌≤ℤ◌, ◌^◌, pos, neg_ℤ, min, map, unwrap_or, IfOk};
 ghost use Rattle.std.specs.Option.{option_map};
+ghost use Rattle.numerals.specs.Numbers.{number_value as value_of};
 ghost use Rattle.asm_syntax.specs.Faults.{judged, if_ok};
 ghost use Rattle.asm_syntax.specs.Limits.{clamped, clamped_based, clamped_target};
 ghost use Rattle.asm_syntax.specs.Operands.{register_in, number_in, in_parentheses, based_in, address_in, target_in, text_in, fits_target};
 ghost use Rattle.asm_syntax.specs.Ranges.{from_to, signed, is_within, IsWithin};
 ghost use Rattle.asm_syntax.specs.TokenViews.{address_value, token_value, unescaped, based_value};
-ghost use Rattle.asm_syntax.specs.Tokens.{number_value as value_of};
 ghost use Rattle.asm_syntax.specs.Views.{target_value};
 
 use crate::error::LineError;

@@ -8,7 +8,7 @@ use Rattle.debug_lines.specs.declared.topic.Topic.{Topic}
 use Rattle.debug_lines.specs.declared.line.Line.{Line}
 use Rattle.debug_lines.specs.declared.line.Line.TheVariants.{Command, Keep, Back, Forget, Kept, Points, Shown, Areas, Requests, StepNext, Over, Nodes, Place, Places, OutputFrom, CostsFrom, Help, HelpOn, Quit, Misused, NoLine}
 use Rattle.debug_lines.specs.Lines.{asks_help, line_of, line_of_words, dialogue_line_of, dialogue_of_words, form_named, framed_line_of, framed_of_words, help_line_of, mistake_of, or_mistake, or_unknown, rank_line_of, state_line_of}
-use Rattle.debug_lines.specs.Numbers.{number_in}
+use Rattle.numerals.specs.Numbers.{number_in}
 use Rattle.debug_lines.specs.Topics.{topic_named}
 use Rattle.debug_lines.specs.Words.{words}
 use Rattle.bsp_console.specs.declared.manner.Manner.{Manner}

@@ -68,7 +68,7 @@ impl<A: Allocator> Inbox<A> {
         requires short { All IsShort messages.items }
         ensures { result ≡ messages.items }
     {
-        let bytes = payload_sum(messages.as_slice());
+        let bytes = payload_bytes(messages.as_slice()) as u64;
         Inbox {
             messages: VecDeque::from_vec(messages),
             bytes,
@@ -129,11 +129,15 @@ impl<A: Allocator> Inbox<A> {
     }
 }
 
-fn payload_sum<A: Allocator>(messages: &[Message<A>]) -> u64
-    requires { payload_bytes messages.now < 2 ^ 64 }
+/// The bytes of all payloads, without the tags. No slice has so many that their sum passes 128 bits.
+pub fn payload_bytes<A: Allocator>(messages: &[Message<A>]) -> u128
     ensures { result ≡ payload_bytes messages.now }
 {
-    messages.iter().map(|m| m.payload.len() as u64).sum()
+    let mut bytes: u128 = 0;
+    for message in messages {
+        bytes += message.payload.len() as u128;
+    }
+    bytes
 }
 
 /// Appends the same messages.

@@ -20,6 +20,6 @@ mod inbox;
 mod request;
 mod requests;
 
-pub use inbox::{Inbox, Message};
+pub use inbox::{Inbox, Message, payload_bytes};
 pub use request::{Get, Outgoing, Put, Request};
 pub use requests::{AddError, MAX_BYTES, MAX_REQUESTS, Requests};

@@ -4,7 +4,7 @@ ghost use Rattle.std.specs.Prelude.{◌≡◌, ◌≢◌, ◌↔◌, ◌⊎◌, 
 ghost use Rattle.std.specs.Io.KnownBytes.{Appends};
 ghost use Rattle.counted_io.specs.Counted.{HasRisen};
 ghost use Rattle.machine_core.specs.Sound.{IsSoundMachine};
-ghost use Rattle.machine_core.specs.Turn.{end_of, superstep as superstep_of, with_phases, written as written_by};
+ghost use Rattle.machine_core.specs.Turn.{IsRunToEnd, superstep as superstep_of, with_phases, written as written_by};
 ghost use Rattle.phase_pool.specs.Numbers.{numbers_fault};
 ghost use Rattle.bsp_session.specs.declared.errors.BadSetting.{BadSetting as BadSettingCause};
 ghost use Rattle.bsp_session.specs.Live.{AppendsSome, FailsAt, IsErrorOfLive, IsErrorOfLiveRun, IsErrorOfSuperstep, MayComeLate};
@@ -78,8 +78,7 @@ fn run_live<T: Threads + Wait + Sync, A: Allocator + Copy + Send + Sync, W: Writ
 ) -> Result<(), SessionError>
     requires numbers { numbers_fault job.now.workers job.now.slice ≡ None }
     requires silent { machine.old.output ≡ [] }
-    ensures end { OnOk result (machine.new ≡ end_of machine.old) }
-    ensures over { OnOk result (IsSome machine.new.outcome) }
+    ensures ended { OnOk result (IsRunToEnd machine.old machine.new) }
     ensures written { OnOk result (Appends
         (W.contents out.old.inner) (W.contents out.new.inner) machine.new.output) }
     ensures err { IfErr result

@@ -1,7 +1,7 @@
 //! A run of which is told what is contested.
 
-ghost use Rattle.std.specs.Prelude.{◌≡◌, IfOk, IsSome, OnOk, OnErr, string_bytes};
-ghost use Rattle.machine_core.specs.Turn.{end_of};
+ghost use Rattle.std.specs.Prelude.{IfOk, OnOk, OnErr, string_bytes};
+ghost use Rattle.machine_core.specs.Turn.{IsRunToEnd};
 ghost use Rattle.phase_pool.specs.Answers.{RefusesInOrder};
 ghost use Rattle.phase_pool.specs.Phases.{LeadsTo};
 ghost use Rattle.contested_runs.specs.Runs.{TellsContested};
@@ -30,8 +30,7 @@ pub fn run<R: Threads + Wait + Sync, A: Allocator + Copy + Send + Sync>(
     slice: u64,
 ) -> Result<String<A>, PoolError>
     ensures refusals { RefusesInOrder workers slice machine.old machine.new result }
-    ensures ok { OnOk result (machine.new ≡ end_of machine.old) }
-    ensures over { OnOk result (IsSome machine.new.outcome) }
+    ensures ok { OnOk result (IsRunToEnd machine.old machine.new) }
     ensures told { IfOk result (λ text. TellsContested machine.old (string_bytes text)) }
     ensures err { OnErr result (LeadsTo machine.old machine.new) }
 {

@@ -1,9 +1,9 @@
 -- The first word of a line.
-use Rattle.std.proofs.Common.{◌≡◌, ℕ, suc, ◌+◌, ◌<◌, ◌≤◌, Bool, true, false, List, [], ◌∷◌, length, take, drop, refl, sym, ap, ◌∙◌, arith, inl, inr}
+use Rattle.std.proofs.Common.{◌≡◌, ℕ, suc, ◌+◌, ◌<◌, ◌≤◌, Bool, true, false, not, List, [], ◌∷◌, length, take, drop, refl, sym, ap, ◌∙◌, arith, inl, inr}
 use Rattle.std.proofs.lemmas.Bool.{cases_Bool}
 use Rattle.std.proofs.lemmas.List.Sums.{prefix_len-le-length}
-use Rattle.std.specs.List.{filter, slice_split, prefix_len}
-use Rattle.debug_lines.specs.Words.{is_space, is_word_byte, has_bytes, words}
+use Rattle.std.specs.List.{filter, position_or_len, slice_split, prefix_len}
+use Rattle.debug_lines.specs.Words.{is_space, has_bytes, words}
 
 pub prefix_is_within : (p : ℕ → Bool) (xs : List ℕ) → prefix_len p xs ≤ length xs
 prefix_is_within p xs = prefix_len-le-length p xs
@@ -14,15 +14,15 @@ one_more n = omega arith
 -- what stands before the first space is the first part, and the words behind it are those of the other parts
 record IsFirstPart (xs : List ℕ) : Type 0 where
   rest : List (List ℕ)
-  parts : slice_split is_space xs ≡ take (prefix_len is_word_byte xs) xs ∷ rest
-  others : filter has_bytes rest ≡ words (drop (prefix_len is_word_byte xs) xs)
+  parts : slice_split is_space xs ≡ take (position_or_len is_space xs) xs ∷ rest
+  others : filter has_bytes rest ≡ words (drop (position_or_len is_space xs) xs)
 
 at_space : (b : ℕ) (xs : List ℕ) → is_space b ≡ true → IsFirstPart (b ∷ xs)
 at_space b xs space = record { rest = slice_split is_space xs; parts = rw space refl; others = rw space (rw space refl) }
 
 onto : (b : ℕ) (xs : List ℕ) → is_space b ≡ false → IsFirstPart xs → IsFirstPart (b ∷ xs)
 onto b xs other part =
-    let next = one_more (prefix_len is_word_byte xs) in
+    let next = one_more (position_or_len is_space xs) in
     record { rest = part.rest; parts = rw other (rw part.parts (rw next refl)); others = rw other (rw next part.others) }
 
 first_part : (xs : List ℕ) → IsFirstPart xs
@@ -52,7 +52,7 @@ behind_spaces (b ∷ xs) =
 -- a line begins with a word
 begins_word : List ℕ → Bool
 begins_word [] = false
-begins_word (b ∷ xs) = is_word_byte b
+begins_word (b ∷ xs) = not (is_space b)
 
 begins_behind_spaces : (xs : List ℕ) → 0 < length (drop (prefix_len is_space xs) xs) → begins_word (drop (prefix_len is_space xs) xs) ≡ true
 unfolding begins_word
@@ -68,7 +68,7 @@ begins_behind_spaces (b ∷ xs) some =
 has_first : (b : ℕ) (xs : List ℕ) → has_bytes (b ∷ xs) ≡ true
 has_first b xs = grind arith
 
-word_first : (xs : List ℕ) → begins_word xs ≡ true → words xs ≡ take (prefix_len is_word_byte xs) xs ∷ words (drop (prefix_len is_word_byte xs) xs)
+word_first : (xs : List ℕ) → begins_word xs ≡ true → words xs ≡ take (position_or_len is_space xs) xs ∷ words (drop (position_or_len is_space xs) xs)
 unfolding begins_word
 word_first [] begins = absurd (no_true begins) where
   no_true : false ≡ true → ⊥
@@ -76,7 +76,7 @@ word_first [] begins = absurd (no_true begins) where
 word_first (b ∷ xs) begins =
     let other : is_space b ≡ false = grind arith in
     let part = onto b xs other (first_part xs) in
-    let longer : has_bytes (take (prefix_len is_word_byte (b ∷ xs)) (b ∷ xs)) ≡ true = rw other (rw (one_more (prefix_len is_word_byte xs)) (has_first b (take (prefix_len is_word_byte xs) xs))) in
+    let longer : has_bytes (take (position_or_len is_space (b ∷ xs)) (b ∷ xs)) ≡ true = rw other (rw (one_more (position_or_len is_space xs)) (has_first b (take (position_or_len is_space xs) xs))) in
     ap (filter has_bytes) part.parts ∙ rw longer (rw part.others refl)
 
 -- a line of spaces alone has no words
@@ -88,6 +88,6 @@ no_word xs none = behind_spaces xs ∙ of_none (drop (prefix_len is_space xs) xs
 
 -- behind the spaces that a line begins with stand its first word, which is as long as it can be, and the other words
 pub first_word : (xs : List ℕ) → 0 < length (drop (prefix_len is_space xs) xs)
-    → words xs ≡ take (prefix_len is_word_byte (drop (prefix_len is_space xs) xs)) (drop (prefix_len is_space xs) xs)
-    ∷ words (drop (prefix_len is_word_byte (drop (prefix_len is_space xs) xs)) (drop (prefix_len is_space xs) xs))
+    → words xs ≡ take (position_or_len is_space (drop (prefix_len is_space xs) xs)) (drop (prefix_len is_space xs) xs)
+    ∷ words (drop (position_or_len is_space (drop (prefix_len is_space xs) xs)) (drop (prefix_len is_space xs) xs))
 first_word xs some = behind_spaces xs ∙ word_first (drop (prefix_len is_space xs) xs) (begins_behind_spaces xs some)

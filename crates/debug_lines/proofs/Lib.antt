@@ -1,4 +1,3 @@
 pub mod FirstWords
 pub mod Groups
 pub mod Rows
-pub mod Values

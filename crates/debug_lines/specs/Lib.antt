@@ -4,7 +4,6 @@ pub mod Kept
 pub mod KeptViews
 pub mod Lines
 pub mod Named
-pub mod Numbers
 pub mod Replies
 pub mod Shown
 pub mod Topics

@@ -9,7 +9,7 @@ use Rattle.debug_lines.specs.declared.form.Form.{Form}
 use Rattle.debug_lines.specs.declared.form.Form.TheVariants.{Words, Text, Codes}
 use Rattle.debug_lines.specs.declared.line.Line.{Line}
 use Rattle.debug_lines.specs.declared.line.Line.TheVariants.{Break, Clear, Command, Output, Keep, Back, Forget, Kept, Points, Shown, Areas, Requests, StepNext, Over, Nodes, Place, Places, OutputFrom, CostsFrom, Help, HelpOn, Quit, Empty, Unknown, Misused, NoLine}
-use Rattle.debug_lines.specs.Numbers.{number_in}
+use Rattle.numerals.specs.Numbers.{number_in}
 use Rattle.debug_lines.specs.Topics.{topic_named}
 use Rattle.debug_lines.specs.Words.{words}
 

@@ -6,10 +6,6 @@ use Rattle.std.specs.List.{filter, slice_split}
 abbrev pub is_space : ℕ → Bool
 is_space b = b == 32
 
--- any other byte
-abbrev pub is_word_byte : ℕ → Bool
-is_word_byte b = not (is_space b)
-
 -- some bytes at least
 abbrev pub has_bytes : List ℕ → Bool
 has_bytes part = not (length part == 0)

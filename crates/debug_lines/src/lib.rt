@@ -15,8 +15,8 @@
 //!   no line.
 //! - Of words of no line a dialogue knows whether the first is that of some lines, and a refusal tells how these are spelled.
 //! - The words are parted by spaces alone, of any number, and those at the ends count for nothing. Any other byte is part of a word.
-//! - A number is decimal digits, or `0x` and hexadecimal digits of either case, of any number and without a sign. A line with a
-//!   number that its place has no room for is unknown: ranks, addresses and lengths have 32 bits, counts and numbers of supersteps 64.
+//! - Numbers are those of `numerals`. A line with a number that its place has no room for is unknown: ranks, addresses and lengths have
+//!   32 bits, counts and numbers of supersteps 64.
 //! - The text of a reply is that of the definitions, with a line feed at the end of each line, and is refused nothing but memory.
 //!
 //! The language is this project's own.
@@ -29,7 +29,6 @@ mod framed;
 mod kept;
 mod line;
 mod named;
-mod number;
 mod octets;
 mod reply;
 mod shown;

@@ -8,10 +8,10 @@ ghost use Rattle.debug_lines.specs.Lines.{framed_line_of, framed_of_words, frame
 ghost use Rattle.debug_lines.specs.Words.{words};
 
 use crate::form::Form;
-use crate::number::{u32_of, u64_of};
 use crate::topic::{Topic, topic_named};
 use crate::word::split_word;
 use bsp_debug::{Command, Point};
+use numerals::{u32_of, u64_of};
 
 /// What a line asks for.
 #[derive(Clone, Copy, Debug, PartialEq, Eq)]

@@ -10,7 +10,7 @@ ghost use Rattle.debug_lines.specs.Replies.{entry_end, message_line, node_line, 
 use crate::floats::float_registers;
 use crate::octets::Octets;
 use bsp_debug::{Point, Reply};
-use bsp_requests::Message;
+use bsp_requests::{Message, payload_bytes};
 use cost_ledger::{Ledger, LedgerText};
 use node_core::State;
 use rv_listing::{EightDigits, TwoDigits};
@@ -172,15 +172,4 @@ fn add_message<A: Allocator, B: Allocator>(
     let tag = Octets(message.tag.as_slice());
     let payload = Octets(message.payload.as_slice());
     writeln!(text, "from {} tag {tag} payload {payload}", message.sender)
-}
-
-/// The bytes of all payloads. No slice has so many that their sum passes 128 bits.
-fn payload_bytes<A: Allocator>(messages: &[Message<A>]) -> u128
-    ensures { result ≡ payload_bytes messages.now }
-{
-    let mut bytes: u128 = 0;
-    for message in messages {
-        bytes += message.payload.len() as u128;
-    }
-    bytes
 }

@@ -1,9 +1,9 @@
 //! The words of a line.
 
 ghost use Rattle.std.specs.Prelude.{◌≡◌, ◌≤◌, ◌∷◌, [], length, drop};
-ghost use Rattle.std.specs.List.{prefix_len};
+ghost use Rattle.std.specs.List.{position_or_len, prefix_len};
 ghost use Rattle.std.specs.Option.{option_map_or};
-ghost use Rattle.debug_lines.specs.Words.{is_space, is_word_byte, words};
+ghost use Rattle.debug_lines.specs.Words.{is_space, words};
 
 /// The first word of a line, and what stands behind it; none where there is no word.
 pub(crate) fn split_word(line: &[u8]) -> Option<(&[u8], &[u8])>
@@ -41,7 +41,7 @@ fn space_len(line: &[u8]) -> usize
 /// How many bytes of a line come before its first space.
 #[tactic(auto, using(crate::proofs::FirstWords::prefix_is_within))]
 fn word_len(line: &[u8]) -> usize
-    ensures value { result ≡ prefix_len is_word_byte line.now }
+    ensures value { result ≡ position_or_len is_space line.now }
     ensures within { result ≤ length line.now }
 {
     for (at, byte) in line.iter().enumerate() {

@@ -1,18 +1,20 @@
 -- Steps of one node of a machine.
-use Rattle.std.proofs.Common.{◌≡◌, ℕ, zero, suc, ◌<◌, ◌≤◌, false, List, length, replicate, Option, sym, ap, ap₂, ◌∙◌}
-use Rattle.std.specs.Prelude.{slice_get, IsSomeAnd}
+use Rattle.std.proofs.Common.{◌≡◌, ℕ, zero, suc, ◌<◌, ◌≤◌, Bool, false, List, length, replicate, Option, refl, sym, ap, ap₂, subst, ◌∙◌, arith}
+use Rattle.std.specs.Prelude.{slice_get, IfOk, IsSomeAnd}
 use Rattle.std.specs.Option.{option_map_or}
 use Rattle.std.proofs.lemmas.Option.{slice_get_past}
 use Rattle.std.specs.declared.alloc.AllocError.{AllocError}
 use Rattle.std.specs.declared.result.Result.{Result}
-use Rattle.std.proofs.Common.{Ok, Err, OnOk, OnErr}
-use Rattle.node_core.specs.Node.{NodeState, MayRefuseStep}
+use Rattle.std.proofs.Common.{Ok, Err}
+use Rattle.node_core.specs.Node.{NodeState, PreparedNode, MayRefuseStep}
+use Rattle.bsp_exchange.specs.Exchange.{states}
 use Rattle.machine_core.specs.declared.event.Event.{Event}
 use Rattle.machine_core.specs.declared.event.Event.TheVariants.{Step}
 use Rattle.machine_core.specs.Machine.{MachineState}
-use Rattle.machine_core.specs.Events.{AreStepsMade, runs, is_enabled, stepped, stepped_often, event, after}
+use Rattle.machine_core.specs.Events.{AreStepsMade, IsAnswered, MayRefuseEvent, runs, is_enabled, stepped, stepped_often, event, after}
+use Rattle.machine_core.specs.Inside.{AreRowSteps}
 use Rattle.machine_core.specs.Sound.{IsSoundMachine}
-use Rattle.machine_core.proofs.Sound.{IsSoundMachine-event, IsSoundMachine-after}
+use Rattle.machine_core.proofs.Sound.{IsSoundMachine-after}
 use Rattle.machine_core.proofs.Steps.{after-nil, after-cons, event-step, event-disabled}
 
 -- so many steps of one rank
@@ -37,33 +39,44 @@ steps-absent (suc k) m rank past =
 pub may_refuse : (input input' : List ℕ) (nodes nodes' : List NodeState) (rank : ℕ) → input ≡ input' → nodes' ≡ nodes → IsSomeAnd (slice_get nodes rank) (λ n. MayRefuseStep input n) → IsSomeAnd (slice_get nodes' rank) (λ n. MayRefuseStep input' n)
 may_refuse input input' nodes nodes' rank input_is nodes_is may = rw (nodes_is, ← input_is) may
 
--- a machine whose row and input were handed out, and which got `row` back
-module _ (m : MachineState) (input : List ℕ) (old new row : List NodeState) (rank : ℕ) (input_is : input ≡ m.input) (old_is : old ≡ m.nodes) (row_is : row ≡ new) where
-  pub with-step : new ≡ stepped input rank old → record m { nodes = row } ≡ event m (Step rank)
-  with-step made =
-      ap (λ (xs : List NodeState). record m { nodes = xs }) (row_is ∙ made ∙ ap₂ (λ (i : List ℕ) (xs : List NodeState). stepped i rank xs) input_is old_is)
-      ∙ sym (event-step m rank)
+-- one step of a row that is refused leaves it as it was
+none_of_one : (input : List ℕ) (rank k : ℕ) (old : List NodeState) → k < 1 → stepped_often input rank k old ≡ old
+none_of_one input rank zero old less = refl
+none_of_one input rank (suc k) old less = absurd (omega arith)
 
-  pub with-steps : (k : ℕ) → new ≡ stepped_often input rank k old → record m { nodes = row } ≡ after m (steps_of rank k)
+-- a machine whose row and input were handed out, and which got `row` back
+module _ (m : MachineState) (input : List ℕ) (old new : List PreparedNode) (row : List NodeState) (rank : ℕ) (input_is : input ≡ m.input) (old_is : states old ≡ m.nodes) (row_is : row ≡ states new) where
+  with-steps : (k : ℕ) → states new ≡ stepped_often input rank k (states old) → record m { nodes = row } ≡ after m (steps_of rank k)
   with-steps k made =
       ap (λ (xs : List NodeState). record m { nodes = xs }) (row_is ∙ made ∙ ap₂ (λ (i : List ℕ) (xs : List NodeState). stepped_often i rank k xs) input_is old_is)
       ∙ sym (after-often k m rank)
 
-  pub with-none : new ≡ old → record m { nodes = row } ≡ m
-  with-none same = ap (λ (xs : List NodeState). record m { nodes = xs }) (row_is ∙ same ∙ old_is)
+  pub sound-steps : {T : Type 0} (r : Result T AllocError) (most : ℕ) → IsSoundMachine m → AreRowSteps input rank most old new r → IsSoundMachine (record m { nodes = row })
+  sound-steps (Ok x) most sound made = rw (with-steps most made.ok) (IsSoundMachine-after m (steps_of rank most) sound)
+  sound-steps (Err e) most sound made = rw (with-steps made.err.0 made.err.2) (IsSoundMachine-after m (steps_of rank made.err.0) sound)
 
-  pub sound-step : {T E : Type 0} (r : Result T E) → IsSoundMachine m → OnOk r (new ≡ stepped input rank old) → OnErr r (new ≡ old) → IsSoundMachine (record m { nodes = row })
-  sound-step (Ok x) sound ok err = rw (with-step ok) (IsSoundMachine-event m (Step rank) sound)
-  sound-step (Err e) sound ok err = rw (with-none err) sound
-
-  pub sound-steps : {T E : Type 0} (r : Result T E) (most : ℕ) → IsSoundMachine m → OnOk r (new ≡ stepped_often input rank most old) → OnErr r ((k : ℕ) × (k < most) × (new ≡ stepped_often input rank k old)) → IsSoundMachine (record m { nodes = row })
-  sound-steps (Ok x) most sound ok err = rw (with-steps most ok) (IsSoundMachine-after m (steps_of rank most) sound)
-  sound-steps (Err e) most sound ok err = rw (with-steps err.0 err.2) (IsSoundMachine-after m (steps_of rank err.0) sound)
-
-  pub steps_made : {T : Type 0} (before : MachineState) (r : Result T AllocError) (most : ℕ) → m ≡ before → OnOk r (new ≡ stepped_often input rank most old) → OnErr r ((k : ℕ) × (k < most) × (new ≡ stepped_often input rank k old)) → OnErr r (IsSomeAnd (slice_get new rank) (λ n. MayRefuseStep input n)) → AreStepsMade rank most before (record m { nodes = row }) r
-  steps_made before (Ok x) most m_is ok err refuses = record { ok = with-steps most ok ∙ ap (λ (x : MachineState). after x (steps_of rank most)) m_is; err = tt; refuses = tt }
-  steps_made before (Err e) most m_is ok err refuses = record {
+  pub steps_made : {T : Type 0} (before : MachineState) (r : Result T AllocError) (most : ℕ) → m ≡ before → AreRowSteps input rank most old new r → AreStepsMade rank most before (record m { nodes = row }) r
+  steps_made before (Ok x) most m_is made = record { ok = with-steps most made.ok ∙ ap (λ (x : MachineState). after x (steps_of rank most)) m_is; err = tt; refuses = tt }
+  steps_made before (Err e) most m_is made = record {
     ok = tt;
-    err = (err.0, err.1, with-steps err.0 err.2 ∙ ap (λ (x : MachineState). after x (steps_of rank err.0)) m_is);
-    refuses = may_refuse input m.input new row rank input_is row_is refuses;
+    err = (made.err.0, made.err.1, with-steps made.err.0 made.err.2 ∙ ap (λ (x : MachineState). after x (steps_of rank made.err.0)) m_is);
+    refuses = may_refuse input m.input (states new) row rank input_is row_is made.refuses;
   }
+
+  -- one step, as an event
+  pub step_answered : (before : MachineState) (r : Result Bool AllocError) → m ≡ before → AreRowSteps input rank 1 old new r → IfOk r (λ made. made ≡ option_map_or runs (slice_get (states old) rank) false) → IsAnswered (Step rank) before (record m { nodes = row }) r
+  step_answered before (Ok x) m_is made is = record {
+    ok = ap (λ (xs : List NodeState). record m { nodes = xs }) (row_is ∙ made.ok ∙ ap₂ (λ (i : List ℕ) (xs : List NodeState). stepped i rank xs) input_is old_is)
+        ∙ sym (event-step m rank) ∙ ap (λ (m : MachineState). event m (Step rank)) m_is;
+    enabled = is ∙ ap (λ (xs : List NodeState). option_map_or runs (slice_get xs rank) false) (old_is ∙ ap (λ (m : MachineState). m.nodes) m_is);
+    err = tt;
+    refuses = tt;
+  }
+  step_answered before (Err e) m_is made is =
+      let same : states new ≡ states old = made.err.2 ∙ none_of_one input rank made.err.0 (states old) made.err.1 in
+      record {
+        ok = tt;
+        enabled = tt;
+        err = ap (λ (xs : List NodeState). record m { nodes = xs }) (row_is ∙ same ∙ old_is) ∙ m_is;
+        refuses = subst (λ (m : MachineState). MayRefuseEvent m (Step rank)) m_is (may_refuse input m.input (states new) m.nodes rank input_is (sym (same ∙ old_is)) made.refuses);
+      }

@@ -95,9 +95,6 @@ module _ (input : List ℕ) (ps : List PreparedNode) (rank : ℕ) (p q : Prepare
       ap (λ (xs : List NodeState). slice_get xs rank) (states-slice_set ps rank q)
       ∙ slice_get-slice_set (states ps) rank p.node q.node (state_at_place ps rank p within is)
 
-  pub found-old : slice_get (states ps) rank ≡ Some (get_or ps rank p).node
-  found-old = state_at_place ps rank p within is ∙ ap (λ (x : PreparedNode). Some x.node) is
-
 -- one more of a row of other nodes in the same states
 pub states-more : (ps before now : List PreparedNode) (i : ℕ) (p q : PreparedNode) → i < length ps → p ≡ get_or ps i p → states before ≡ states (take i ps) → now ≡ before ++ q ∷ [] → q.node ≡ p.node → states now ≡ states (take (i + 1) ps)
 states-more ps before now i p q within is so_far more same =

@@ -1,7 +1,7 @@
 -- The superstep and what it costs (BSP, Valiant 1990: the local work of every node, and then one exchange, an h-relation; BSPlib,
 -- Hill and others 1998: `bsp_sync`). How a machine ends, in which order that is found out, and that w counts ticks and h bytes, are
 -- own rules.
-use Rattle.std.specs.Prelude.{ℕ, ◌+◌, ◌-◌, max, Bool, true, false, List, [], ◌∷◌, ◌++◌, map, flat_map, find, zip, if◌then◌else◌, Option, Some, None, is_some, is_none, option_map}
+use Rattle.std.specs.Prelude.{◌≡◌, ℕ, ◌+◌, ◌-◌, max, Bool, true, false, List, [], ◌∷◌, ◌++◌, map, flat_map, find, zip, if◌then◌else◌, Option, Some, None, IsSome, is_some, is_none, option_map}
 use Rattle.std.specs.Fn.{iterate}
 use Rattle.std.specs.List.{fold}
 use Rattle.std.specs.Option.{option_or}
@@ -133,3 +133,8 @@ superstep m = if is_some m.outcome then m else turned (with_phases m)
 -- a machine at its end. Each exchange costs every node a tick, so that one superstep more than a node may make ticks is enough
 unfoldable pub end_of : MachineState → MachineState
 end_of m = iterate superstep (m.settings.limit + 1) m
+
+-- a machine was run to its end, and has its outcome there
+pub record IsRunToEnd (old new : MachineState) : Type 0 where
+  pub end : new ≡ end_of old
+  pub over : IsSome new.outcome

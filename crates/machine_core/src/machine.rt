@@ -6,7 +6,7 @@ ghost use Rattle.bsp_exchange.specs.Exchange.{states};
 ghost use Rattle.machine_core.specs.declared.event.Event.TheVariants.{Step as step_of, Turn as the_turn};
 ghost use Rattle.machine_core.specs.Faults.{NamesFault};
 ghost use Rattle.machine_core.specs.Machine.{fresh, machine_fault};
-ghost use Rattle.machine_core.specs.Turn.{lowest, makes_exchange as makes_exchange_of, with_phases, end_of};
+ghost use Rattle.machine_core.specs.Turn.{IsRunToEnd, lowest, makes_exchange as makes_exchange_of, with_phases};
 ghost use Rattle.machine_core.specs.Events.{AreStepsMade, IsAnswered, is_enabled};
 ghost use Rattle.machine_core.specs.Walk.{walked, IsOnPhase};
 ghost use Rattle.machine_core.specs.Sound.{IsSoundMachine};
@@ -200,8 +200,7 @@ impl<A: Allocator + Copy> Machine<A> {
     /// Where memory is refused in a step or a turn. What was made before it stands, and a call made again leaves what this one
     /// would have left.
     pub fn run_plain(&mut self) -> Result<(), AllocError>
-        ensures ok { OnOk result (self.new ≡ end_of self.old) }
-        ensures over { OnOk result (IsSome self.new.outcome) }
+        ensures ok { OnOk result (IsRunToEnd self.old self.new) }
         ensures err { OnErr result ((k : ℕ) × (self.new ≡ walked k self.old)) }
         ensures going { OnErr result (self.new.outcome ≡ None) }
     {

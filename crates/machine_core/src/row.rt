@@ -1,11 +1,12 @@
 //! The row of nodes, each at the place of its rank.
 
-ghost use Rattle.std.specs.Prelude.{◌≡◌, ℕ, ◌<◌, ◌≤◌, ◌++◌, length, map, take, false, slice_get, IfOk, OnOk, OnErr, IsSomeAnd};
+ghost use Rattle.std.specs.Prelude.{◌≡◌, ◌<◌, ◌++◌, length, map, false, slice_get, IfOk, OnOk, OnErr};
 ghost use Rattle.std.specs.Option.{option_map_or};
-ghost use Rattle.node_core.specs.Node.{NodeState, MayRefuseStep};
+ghost use Rattle.node_core.specs.Addresses.{HoldAddresses};
+ghost use Rattle.node_core.specs.Node.{NodeState};
 ghost use Rattle.bsp_exchange.specs.Exchange.{states};
-ghost use Rattle.bsp_exchange.specs.Parts.{EachKeepsOwn};
-ghost use Rattle.machine_core.specs.Events.{next_addresses_at, runs, some_runs as some_runs_of, stepped, stepped_often};
+ghost use Rattle.machine_core.specs.Events.{next_addresses_at, runs, some_runs as some_runs_of};
+ghost use Rattle.machine_core.specs.Inside.{AreRowSteps};
 ghost use Rattle.machine_core.specs.Turn.{written, most_ticks};
 
 use node_core::Node;
@@ -27,13 +28,9 @@ pub(crate) fn step_at<A: Allocator + Copy>(
     rank: usize,
     input: &[u8],
 ) -> Result<bool, AllocError>
-    ensures ok { OnOk result (states nodes.new ≡ stepped input.now rank (states nodes.old)) }
+    ensures step { AreRowSteps input.now rank 1 nodes.old nodes.new result }
     ensures made { IfOk result (λ made.
         made ≡ option_map_or runs (slice_get (states nodes.old) rank) false) }
-    ensures err { OnErr result (states nodes.new ≡ states nodes.old) }
-    ensures own { EachKeepsOwn nodes.old nodes.new }
-    ensures refuses { OnErr result
-        (IsSomeAnd (slice_get (states nodes.old) rank) (λ n. MayRefuseStep input.now n)) }
 {
     if rank >= nodes.len() {
         return Ok(false);
@@ -73,13 +70,7 @@ pub(crate) fn run_at<A: Allocator + Copy>(
     input: &[u8],
 ) -> Result<(), AllocError>
     requires { rank < length nodes.old }
-    ensures ok { OnOk result
-        (states nodes.new ≡ stepped_often input.now rank most (states nodes.old)) }
-    ensures err { OnErr result
-        ((k : ℕ) × (k < most) × (states nodes.new ≡ stepped_often input.now rank k (states nodes.old))) }
-    ensures own { EachKeepsOwn nodes.old nodes.new }
-    ensures refuses { OnErr result
-        (IsSomeAnd (slice_get (states nodes.new) rank) (λ n. MayRefuseStep input.now n)) }
+    ensures { AreRowSteps input.now rank most nodes.old nodes.new result }
 {
     nodes[rank].run(input, most)
 }
@@ -95,15 +86,8 @@ pub(crate) fn run_traced_at<A: Allocator + Copy>(
     input: &[u8],
 ) -> Result<usize, AllocError>
     requires { rank < length nodes.old }
-    ensures ok { OnOk result
-        (states nodes.new ≡ stepped_often input.now rank (length pcs.old) (states nodes.old)) }
-    ensures few { IfOk result (λ made. made ≤ length pcs.old) }
-    ensures addresses { IfOk result (λ made.
-        take made pcs.new ≡ next_addresses_at input.now rank (length pcs.old) (states nodes.old)) }
-    ensures err { OnErr result
-        ((k : ℕ) × (k < length pcs.old) × (states nodes.new ≡ stepped_often input.now rank k (states nodes.old))) }
-    ensures refuses { OnErr result
-        (IsSomeAnd (slice_get (states nodes.new) rank) (λ n. MayRefuseStep input.now n)) }
+    ensures steps { AreRowSteps input.now rank (length pcs.old) nodes.old nodes.new result }
+    ensures addresses { IfOk result (HoldAddresses (next_addresses_at input.now rank (length pcs.old) (states nodes.old)) pcs.new) }
 {
     nodes[rank].run_traced(input, pcs)
 }

@@ -1,11 +1,12 @@
 -- The fault of a text (own rules throughout). Lines are judged twice: by what can be known of them without the addresses
 -- of labels, and, where no line has a fault then, by their uses of labels.
-use Rattle.std.specs.Prelude.{ℕ, ◌^◌, Bool, false, ◌||◌, nat_lt, if◌then◌else◌, List, [], ◌∷◌, Option, Some, None, option_map, option_and_then, Result, Ok, Err}
+use Rattle.std.specs.Prelude.{◌≡◌, ◌≢◌, ℕ, ◌^◌, Bool, false, ◌||◌, nat_lt, if◌then◌else◌, List, [], ◌∷◌, Option, Some, None, option_map, option_and_then, Result, Ok, Err}
 use Rattle.std.specs.Str.{bytes_eq}
 use Rattle.std.specs.Option.{option_map_or, option_or}
 use Rattle.asm_syntax.specs.Statements.{Statement, Line}
 use Rattle.asm_syntax.specs.declared.error.LineError.{LineError}
 use Rattle.asm_syntax.specs.declared.error.LineError.TheVariants as own
+use Rattle.rv_asm.specs.declared.errors.AsmError.{AsmError}
 use Rattle.rv_asm.specs.declared.errors.AsmKind.{AsmKind}
 use Rattle.rv_asm.specs.declared.errors.AsmKind.TheVariants.{BadToken, UnknownMnemonic, BadOperand, OutOfRange, DuplicateLabel, UndefinedLabel, TooLarge, NoMemory}
 use Rattle.rv_asm.specs.Symbols.{Symbols, no_symbols}
@@ -19,6 +20,12 @@ kind_of own.UnknownMnemonic = UnknownMnemonic
 kind_of own.BadOperand = BadOperand
 kind_of own.OutOfRange = OutOfRange
 kind_of own.NoMemory = NoMemory
+
+-- what is wrong with the line of this number is of this kind; want of memory is no line's
+pub record IsErrorAt (number : ℕ) (what : AsmKind) (e : AsmError) : Type 0 where
+  pub kind : e.kind ≡ what
+  pub line : what ≢ NoMemory → e.line ≡ number
+  pub no_memory : what ≡ NoMemory → e.line ≡ 0
 
 -- a label of a line is a label of an earlier line, or stands twice in the line
 abbrev pub has_duplicate : (List ℕ → Bool) → List (List ℕ) → Bool

@@ -1,8 +1,8 @@
 //! What is wrong with a text.
 
-ghost use Rattle.std.specs.Prelude.{◌≡◌, ◌≢◌};
+ghost use Rattle.std.specs.Prelude.{◌≡◌};
 ghost use Rattle.rv_asm.specs.ErrorTexts.{kind_name};
-ghost use Rattle.rv_asm.specs.Faults.{kind_of};
+ghost use Rattle.rv_asm.specs.Faults.{IsErrorAt, kind_of};
 ghost use Rattle.rv_asm.specs.declared.errors.AsmKind.TheVariants.{NoMemory};
 
 use asm_syntax::LineError;
@@ -89,9 +89,7 @@ impl<T: Drop> From<AllocFailed<T>> for AsmKind {
 impl AsmError {
     /// What is wrong with the line of this number; want of memory is no line's.
     pub(crate) fn at(number: u32, kind: AsmKind) -> AsmError
-        ensures kind { result.kind ≡ kind }
-        ensures line { kind ≢ AsmKind.NoMemory → result.line ≡ number }
-        ensures no_memory { kind ≡ AsmKind.NoMemory → result.line ≡ 0 }
+        ensures { IsErrorAt number kind result }
     {
         let line = match kind {
             AsmKind::NoMemory => 0,

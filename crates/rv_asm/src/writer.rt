@@ -74,9 +74,8 @@ fn low_part(word: u32) -> i32
 
 /// Writes the two instructions that load a word.
 pub fn push_lui_addi<A: Allocator>(bytes: &mut Vec<u8, A>, rd: u8, word: u32) -> Result<(), AsmKind>
-    requires { IsRegister rd }
     ensures ok { OnOk result (Adds (Spell (lui_addi rd word)) bytes.old.items bytes.new.items) }
-    ensures err { IfErr result (λ kind. kind ≡ AsmKind.NoMemory) }
+    ensures err { IfErr result (λ kind. (kind ≡ AsmKind.NoMemory) ⊎ ((kind ≡ AsmKind.OutOfRange) × ¬ IsRegister rd)) }
 {
     let upper = Instr::Upper {
         op: UpperOp::Lui,
@@ -95,9 +94,8 @@ pub fn push_lui_addi<A: Allocator>(bytes: &mut Vec<u8, A>, rd: u8, word: u32) ->
 
 /// Writes the instructions of `li`.
 pub fn push_load<A: Allocator>(bytes: &mut Vec<u8, A>, rd: u8, word: u32) -> Result<(), AsmKind>
-    requires { IsRegister rd }
     ensures ok { OnOk result (Adds (Spell (load_of rd word)) bytes.old.items bytes.new.items) }
-    ensures err { IfErr result (λ kind. kind ≡ AsmKind.NoMemory) }
+    ensures err { IfErr result (λ kind. (kind ≡ AsmKind.NoMemory) ⊎ ((kind ≡ AsmKind.OutOfRange) × ¬ IsRegister rd)) }
 {
     if !is_short(word) {
         return push_lui_addi(bytes, rd, word);
@@ -142,10 +140,10 @@ pub fn push_branch<A: Allocator>(
 
 /// Writes a `jal`, unless its offset has no place in it.
 pub fn push_jal<A: Allocator>(bytes: &mut Vec<u8, A>, rd: u8, offset: i32) -> Result<(), AsmKind>
-    requires { IsRegister rd }
     ensures ok { OnOk result (Adds (Spell (Instr.Jal rd offset ∷ [])) bytes.old.items bytes.new.items) }
     ensures reached { OnOk result (is_reached 21 offset ≡ true) }
-    ensures err { IfErr result (λ kind. (kind ≡ AsmKind.NoMemory) ⊎ ((kind ≡ AsmKind.OutOfRange) × (is_reached 21 offset ≡ false))) }
+    ensures err { IfErr result (λ kind. (kind ≡ AsmKind.NoMemory)
+        ⊎ ((kind ≡ AsmKind.OutOfRange) × ((is_reached 21 offset ≡ false) ⊎ ¬ IsRegister rd))) }
 {
     if !reaches_jal(offset) {
         return Err(AsmKind::OutOfRange);

@@ -81,9 +81,7 @@ pub no_quadrant : (h : ℕ) → quadrant h ≢ 0 → quadrant h ≢ 2 → float_
 unfolding expansion_at float_compressed_rows
 no_quadrant h n0 n2 = at_fields h _ _ refl refl ∙ rw (ne_eqb (quadrant h) 0 n0, ne_eqb (quadrant h) 2 n2)
 
-pub ruleset quadrant_0 = (fld, flw, fsd, fsw, no_funct3_0)
-
-pub ruleset quadrant_2 = (fldsp, flwsp, fsdsp, fswsp, no_funct3_2)
+pub ruleset expansions = (fld, flw, fsd, fsw, no_funct3_0, fldsp, flwsp, fsdsp, fswsp, no_funct3_2, no_quadrant)
 
 -- ---- no halfword is of two rows
 

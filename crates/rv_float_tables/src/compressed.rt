@@ -10,46 +10,33 @@ use crate::halfword;
 use crate::instr::{FloatInstr, Format};
 
 /// The instruction of floating point that a halfword expands to, or none where it meets no row of these.
-///
-/// By matches on the quadrant and on funct3.
-#[tactic(auto, using(crate::proofs::CompressedRows::no_quadrant, crate::proofs::CompressedRows::found_halfword))]
+#[tactic(auto, using(crate::proofs::CompressedRows::found_halfword))]
 pub fn decode16(half: u16) -> Option<FloatInstr>
     ensures { IsFound IsEncodable (float_expansion_of half) result }
 {
-    let half = u32::from(half);
+    expansion(u32::from(half))
+}
+
+/// By matches on the quadrant and on funct3. The rows of quadrant 0 go through one of x8 to x15, those of quadrant 2 through the stack pointer.
+#[tactic(auto, using(crate::proofs::CompressedRows::expansions))]
+fn expansion(half: u32) -> Option<FloatInstr>
+    ensures { result ≡ float_expansion_of half }
+{
     match halfword::quadrant(half) {
-        0 => quadrant_0(half),
-        2 => quadrant_2(half),
-        _ => None,
-    }
-}
-
-/// The rows through one of x8 to x15.
-#[tactic(auto, using(crate::proofs::CompressedRows::quadrant_0))]
-fn quadrant_0(half: u32) -> Option<FloatInstr>
-    requires { Halfwords.quadrant half ≡ 0 }
-    ensures { result ≡ float_expansion_of half }
-{
-    match halfword::funct3(half) {
-        1 => Some(load(half, Format::Double, halfword::double_offset(half))),
-        3 => Some(load(half, Format::Single, halfword::word_offset(half))),
-        5 => Some(store(half, Format::Double, halfword::double_offset(half))),
-        7 => Some(store(half, Format::Single, halfword::word_offset(half))),
-        _ => None,
-    }
-}
-
-/// The rows through the stack pointer.
-#[tactic(auto, using(crate::proofs::CompressedRows::quadrant_2))]
-fn quadrant_2(half: u32) -> Option<FloatInstr>
-    requires { Halfwords.quadrant half ≡ 2 }
-    ensures { result ≡ float_expansion_of half }
-{
-    match halfword::funct3(half) {
-        1 => Some(load_sp(half, Format::Double, halfword::fldsp_offset(half))),
-        3 => Some(load_sp(half, Format::Single, halfword::lwsp_offset(half))),
-        5 => Some(store_sp(half, Format::Double, halfword::fsdsp_offset(half))),
-        7 => Some(store_sp(half, Format::Single, halfword::swsp_offset(half))),
+        0 => match halfword::funct3(half) {
+            1 => Some(load(half, Format::Double, halfword::double_offset(half))),
+            3 => Some(load(half, Format::Single, halfword::word_offset(half))),
+            5 => Some(store(half, Format::Double, halfword::double_offset(half))),
+            7 => Some(store(half, Format::Single, halfword::word_offset(half))),
+            _ => None,
+        },
+        2 => match halfword::funct3(half) {
+            1 => Some(load_sp(half, Format::Double, halfword::fldsp_offset(half))),
+            3 => Some(load_sp(half, Format::Single, halfword::lwsp_offset(half))),
+            5 => Some(store_sp(half, Format::Double, halfword::fsdsp_offset(half))),
+            7 => Some(store_sp(half, Format::Single, halfword::swsp_offset(half))),
+            _ => None,
+        },
         _ => None,
     }
 }

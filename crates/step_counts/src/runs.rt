@@ -1,7 +1,7 @@
 //! A run whose steps are counted.
 
-ghost use Rattle.std.specs.Prelude.{◌≡◌, ℕ, IfOk, IsSome, OnErr, OnOk, string_bytes};
-ghost use Rattle.machine_core.specs.Turn.{end_of};
+ghost use Rattle.std.specs.Prelude.{◌≡◌, ℕ, IfOk, OnErr, OnOk, string_bytes};
+ghost use Rattle.machine_core.specs.Turn.{IsRunToEnd};
 ghost use Rattle.machine_core.specs.Walk.{walked};
 ghost use Rattle.step_counts.specs.Counts.{counts_of};
 
@@ -18,8 +18,7 @@ const HEADER: &str = "superstep,rank,address,count\n";
 /// # Errors
 /// Where memory is refused. What was made before it stands, and any run can go on with the machine.
 pub fn run<A: Allocator + Copy>(alloc: A, machine: &mut Machine<A>) -> Result<String<A>, AllocError>
-    ensures ok { OnOk result (machine.new ≡ end_of machine.old) }
-    ensures over { OnOk result (IsSome machine.new.outcome) }
+    ensures ok { OnOk result (IsRunToEnd machine.old machine.new) }
     ensures counts { IfOk result (λ text. string_bytes text ≡ counts_of machine.old) }
     ensures err { OnErr result ((k : ℕ) × (machine.new ≡ walked k machine.old)) }
 {

@@ -1,6 +1,7 @@
 //! Steps of one node, with their addresses.
 
-ghost use Rattle.std.specs.Prelude.{◌≡◌, ◌<◌, ◌≤◌, IfOk, length, take};
+ghost use Rattle.std.specs.Prelude.{◌<◌, IfOk, length};
+ghost use Rattle.node_core.specs.Addresses.{HoldAddresses};
 ghost use Rattle.machine_core.specs.Events.{AreStepsMade, next_addresses_at};
 ghost use Rattle.machine_core.specs.Sound.{IsSoundMachine};
 
@@ -16,8 +17,7 @@ impl<A: Allocator + Copy> Machine<A> {
     /// Where memory is refused in a step, as [`Machine::run_node`] says.
     pub fn run_node_traced(&mut self, rank: u32, pcs: &mut [u32]) -> Result<usize, AllocError>
         ensures steps { AreStepsMade rank (length pcs.old) self.old self.new result }
-        ensures few { IfOk result (λ made. made ≤ length pcs.old) }
-        ensures addresses { IfOk result (λ made. take made pcs.new ≡ next_addresses_at self.old.input rank (length pcs.old) self.old.nodes) }
+        ensures addresses { IfOk result (HoldAddresses (next_addresses_at self.old.input rank (length pcs.old) self.old.nodes) pcs.new) }
     {
         if rank as usize >= self.nodes.len() {
             return Ok(0);
@@ -29,8 +29,7 @@ impl<A: Allocator + Copy> Machine<A> {
     fn run_traced_at(&mut self, rank: usize, pcs: &mut [u32]) -> Result<usize, AllocError>
         requires { rank < length self.old.nodes }
         ensures steps { AreStepsMade rank (length pcs.old) self.old self.new result }
-        ensures few { IfOk result (λ made. made ≤ length pcs.old) }
-        ensures addresses { IfOk result (λ made. take made pcs.new ≡ next_addresses_at self.old.input rank (length pcs.old) self.old.nodes) }
+        ensures addresses { IfOk result (HoldAddresses (next_addresses_at self.old.input rank (length pcs.old) self.old.nodes) pcs.new) }
     {
         row::run_traced_at(&mut self.nodes, rank, pcs, self.input.as_slice())
     }

@@ -1,7 +1,7 @@
 use Rattle.std.proofs.Common.{arith}
 use Rattle.std.specs.Prelude.{unwrap_or}
 use Rattle.std.proofs.lemmas.Int.{ints}
-use Rattle.asm_syntax.specs.Tokens.{number_value}
+use Rattle.numerals.specs.Numbers.{number_value}
 use Rattle.asm_syntax.specs.declared.number.TheConstants.{LIMIT}
 use Rattle.asm_syntax.proofs.Clamps.{clamped-neg}
 use Rattle.asm_syntax.proofs.operand.negated.Goals as goal

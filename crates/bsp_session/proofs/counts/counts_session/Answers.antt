@@ -49,7 +49,7 @@ returns-clause-ok g c =
     let told : Stream = stream g.C.Write.contents c.args.counts.now c.write_both.new.told in
     let s : Session = session_of i n out c.args.job.now in
     IfOk-weaker c.write_both.result (WritesBoth s.job c.run.new.machine c.as_bytes.result.now out told) (ReportsAndTells AreCounts s told)
-    (ReportsAndTells-both AreCounts s told c.in_ok-machine.machine c.run.new.machine c.as_bytes.result.now (c.in_ok-machine.ensures.ok out) c.in_ok-told.ensures.ok
+    (ReportsAndTells-both AreCounts s told c.in_ok-machine.machine c.run.new.machine c.as_bytes.result.now (c.in_ok-machine.ensures.ok out) c.in_ok-told.ensures.ok.end
     (c.as_bytes.ensures.value ∙ c.in_ok-told.ensures.counts)) c.write_both.ensures.ok
 
 pub returns-clause-err : goal.returns-clause-err
@@ -60,5 +60,5 @@ returns-clause-err g c =
     let told : Stream = stream g.C.Write.contents c.args.counts.now c.write_both.new.told in
     let s : Session = session_of i n out c.args.job.now in
     IfErr-weaker c.write_both.result (IsErrorOfBoth s.job c.run.new.machine c.as_bytes.result.now out told) (IsErrorOfTold AreCounts s told)
-    (IsErrorOfTold-both AreCounts s told c.in_ok-machine.machine c.run.new.machine c.as_bytes.result.now (c.in_ok-machine.ensures.ok out) c.in_ok-told.ensures.ok
+    (IsErrorOfTold-both AreCounts s told c.in_ok-machine.machine c.run.new.machine c.as_bytes.result.now (c.in_ok-machine.ensures.ok out) c.in_ok-told.ensures.ok.end
     (c.as_bytes.ensures.value ∙ c.in_ok-told.ensures.counts)) c.write_both.ensures.err

@@ -70,7 +70,7 @@ returns-in_err-write_lines-clause-err g c =
     let out = stream g.W.Write.contents c.args.out.now c.write_lines.new.out in
     let ran = c.in_ok-run_live.ensures in
     rw (p.1, p.2) (IsErrorOfLive-lines (session_of i n out c.args.job.now) c.in_ok-machine.machine c.run_live.new.machine
-    (stream g.W.Write.contents c.run_live.new.out c.write_lines.new.out) _ (c.in_ok-machine.ensures.ok out) ran.end refl refl c.run_live.ensures.never_falls ran.written
+    (stream g.W.Write.contents c.run_live.new.out c.write_lines.new.out) _ (c.in_ok-machine.ensures.ok out) ran.ended.end refl refl c.run_live.ensures.never_falls ran.written
     c.in_err-write_lines.ensures.err)
 
 pub returns-in_err-write_lines-clause-bad_settings : goal.returns-in_err-write_lines-clause-bad_settings
@@ -92,8 +92,8 @@ returns-clause-ok g c =
     record {
       start = c.in_ok-machine.machine;
       reports = ReportsFrom-end (session_of (stream g.I.Read.remaining c.args.image.now c.start.new.image) (stream g.R.Read.remaining c.args.input.now c.start.new.input) out c.args.job.now)
-          c.in_ok-machine.machine c.run_live.new.machine (c.in_ok-machine.ensures.ok out) ran.end (Appends-trans _ _ _ _ _ ran.written c.in_ok-write_lines.ensures.ok);
-      outcome = rw ran.end at c.outcome_of.ensures;
+          c.in_ok-machine.machine c.run_live.new.machine (c.in_ok-machine.ensures.ok out) ran.ended.end (Appends-trans _ _ _ _ _ ran.written c.in_ok-write_lines.ensures.ok);
+      outcome = rw ran.ended.end at c.outcome_of.ensures;
     }
 
 pub returns-clause-bad_settings : goal.returns-clause-bad_settings

@@ -62,7 +62,7 @@ loop-machine-preserved g c =
       rises = omega arith;
     }
 
-pub returns-clause-end : goal.returns-clause-end
-returns-clause-end g c =
+pub returns-clause-ended : goal.returns-clause-ended
+returns-clause-ended g c =
     let over = ap is_some (sym c.outcome.ensures.value) ∙ c.is_none.ensures ∙ ap not c.loop-machine-test.false in
-    sym (end_of-there c.loop-machine.machine over) ∙ c.loop-machine.invariant.same_end
+    record { end = sym (end_of-there c.loop-machine.machine over) ∙ c.loop-machine.invariant.same_end; over = over }

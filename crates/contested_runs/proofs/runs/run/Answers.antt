@@ -90,7 +90,7 @@ returns-in_err-turn-clause-err g c =
 pub returns-clause-ok : goal.returns-clause-ok
 returns-clause-ok g c =
     let over = ap is_some (sym c.outcome.ensures.value) ∙ c.is_none.ensures ∙ ap not c.loop-alloc-test.false in
-    sym (end_of-there c.loop-alloc.machine over) ∙ c.loop-alloc.invariant.same_end
+    record { end = sym (end_of-there c.loop-alloc.machine over) ∙ c.loop-alloc.invariant.same_end; over = over }
 
 pub returns-clause-told : goal.returns-clause-told
 returns-clause-told g c =

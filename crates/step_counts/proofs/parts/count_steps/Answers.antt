@@ -17,7 +17,7 @@ pub loop-place-init : goal.loop-place-init
 loop-place-init g c = record {
   counted =
       Counted-made c.args.machine.now c.loop-pcs.machine c.args.rank c.loop-pcs.table c.requires.sound c.loop-pcs.invariant.counting c.run_node_traced.new.self _ c.in_ok-made.ensures.steps.ok
-      (take c.in_ok-made.made c.run_node_traced.new.pcs) c.in_ok-made.ensures.addresses;
+      (take c.in_ok-made.made c.run_node_traced.new.pcs) c.in_ok-made.ensures.addresses.are;
   memory = c.loop-pcs.invariant.memory;
 }
 
@@ -29,7 +29,7 @@ loop-pcs-smaller g c =
 pub loop-pcs-preserved : goal.loop-pcs-preserved
 loop-pcs-preserved g c =
     let pcs = take c.in_ok-made.made c.run_node_traced.new.pcs in
-    let long = length-take-le c.in_ok-made.made c.run_node_traced.new.pcs (omega (arith, c.in_ok-made.ensures.few, c.run_node_traced.auto.pcs)) in
+    let long = length-take-le c.in_ok-made.made c.run_node_traced.new.pcs (omega (arith, c.in_ok-made.ensures.addresses.few, c.run_node_traced.auto.pcs)) in
     let none : drop c.loop-place.place pcs ≡ [] = drop_all c.loop-place.place pcs (omega (arith, long, c.loop-place-test.false)) in
     record {
       counting = Counting-more c.args.machine.now c.loop-pcs.machine c.args.rank c.loop-pcs.table c.requires.sound c.loop-pcs.invariant.counting c.run_node_traced.new.self _ c.loop-place.table c.in_ok-made.ensures.steps.ok
@@ -45,7 +45,7 @@ add-requires-clause-few g c =
     let steps = addresses_at c.args.machine.now c.args.rank in
     let after = addresses_at c.run_node_traced.new.self c.args.rank in
     let left = drop (place + 1) (take made pcs) ++ after in
-    let so_far = subst (λ xs. Counted steps xs c.loop-place.table) (next_left pcs after made place c.loop-place-test.true (omega (arith, c.in_ok-made.ensures.few, c.run_node_traced.auto.pcs))) c.loop-place.invariant.counted in
+    let so_far = subst (λ xs. Counted steps xs c.loop-place.table) (next_left pcs after made place c.loop-place-test.true (omega (arith, c.in_ok-made.ensures.addresses.few, c.run_node_traced.auto.pcs))) c.loop-place.invariant.counted in
     few-told steps left (get_or pcs place 0) c.loop-place.table so_far
 
 pub add-requires-clause-outside : goal.add-requires-clause-outside
@@ -56,7 +56,7 @@ add-requires-clause-outside g c =
     let steps = addresses_at c.args.machine.now c.args.rank in
     let after = addresses_at c.run_node_traced.new.self c.args.rank in
     let left = drop (place + 1) (take made pcs) ++ after in
-    let so_far = subst (λ xs. Counted steps xs c.loop-place.table) (next_left pcs after made place c.loop-place-test.true (omega (arith, c.in_ok-made.ensures.few, c.run_node_traced.auto.pcs))) c.loop-place.invariant.counted in
+    let so_far = subst (λ xs. Counted steps xs c.loop-place.table) (next_left pcs after made place c.loop-place-test.true (omega (arith, c.in_ok-made.ensures.addresses.few, c.run_node_traced.auto.pcs))) c.loop-place.invariant.counted in
     λ past. none-outside steps left (get_or pcs place 0) c.loop-place.table so_far
 
 pub returns-in_err-add-clause-made : goal.returns-in_err-add-clause-made
@@ -71,7 +71,7 @@ loop-place-preserved g c =
     let steps = addresses_at c.args.machine.now c.args.rank in
     let after = addresses_at c.run_node_traced.new.self c.args.rank in
     let left = drop (place + 1) (take made pcs) ++ after in
-    let so_far = subst (λ xs. Counted steps xs c.loop-place.table) (next_left pcs after made place c.loop-place-test.true (omega (arith, c.in_ok-made.ensures.few, c.run_node_traced.auto.pcs))) c.loop-place.invariant.counted in
+    let so_far = subst (λ xs. Counted steps xs c.loop-place.table) (next_left pcs after made place c.loop-place-test.true (omega (arith, c.in_ok-made.ensures.addresses.few, c.run_node_traced.auto.pcs))) c.loop-place.invariant.counted in
     record {
       counted = Counted-next steps left (get_or pcs place 0) c.loop-place.table so_far c.add.new.self c.in_ok-add.ensures.told c.in_ok-add.ensures.memory c.in_ok-add.ensures.inside;
       memory = c.in_ok-add.ensures.memory ∙ c.loop-place.invariant.memory;

@@ -65,7 +65,7 @@ returns-in_err-turn-clause-err g c =
 pub returns-clause-ok : goal.returns-clause-ok
 returns-clause-ok g c =
     let over = ap is_some (sym c.outcome.ensures.value) ∙ c.is_none.ensures ∙ ap not c.loop-machine-test.false in
-    sym (end_of-there c.loop-machine.machine over) ∙ c.loop-machine.invariant.same_end
+    record { end = sym (end_of-there c.loop-machine.machine over) ∙ c.loop-machine.invariant.same_end; over = over }
 
 pub returns-clause-counts : goal.returns-clause-counts
 returns-clause-counts g c =

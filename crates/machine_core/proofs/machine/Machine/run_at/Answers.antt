@@ -16,13 +16,13 @@ run_at-requires g c =
 pub invariant_of-self : goal.invariant_of-self
 invariant_of-self g c =
     let row = with_items_is c.self.inside.nodes c.run_at.new.nodes (omega arith) in
-    sound-steps (machine_view c.self.inside) c.as_slice.result.now (states c.deref_mut.result.now) (states c.run_at.new.nodes) _ c.args.rank
+    sound-steps (machine_view c.self.inside) c.as_slice.result.now c.deref_mut.result.now c.run_at.new.nodes _ c.args.rank
     c.as_slice.ensures (ap states c.deref_mut.ensures.value) (ap states row)
-    c.run_at.result c.args.most c.self.invariant c.run_at.ensures.ok c.run_at.ensures.err
+    c.run_at.result c.args.most c.self.invariant c.run_at.ensures
 
 pub returns-clause-steps : goal.returns-clause-steps
 returns-clause-steps g c =
     let row = with_items_is c.self.inside.nodes c.run_at.new.nodes (omega arith) in
-    steps_made (machine_view c.self.inside) c.as_slice.result.now (states c.deref_mut.result.now) (states c.run_at.new.nodes) _ c.args.rank
+    steps_made (machine_view c.self.inside) c.as_slice.result.now c.deref_mut.result.now c.run_at.new.nodes _ c.args.rank
     c.as_slice.ensures (ap states c.deref_mut.ensures.value) (ap states row)
-    _ c.run_at.result c.args.most c.self.view_is c.run_at.ensures.ok c.run_at.ensures.err c.run_at.ensures.refuses
+    _ c.run_at.result c.args.most c.self.view_is c.run_at.ensures

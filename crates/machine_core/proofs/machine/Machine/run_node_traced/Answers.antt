@@ -1,4 +1,4 @@
-use Rattle.std.proofs.Common.{◌≡◌, length, sym, ap, ◌∙◌, arith}
+use Rattle.std.proofs.Common.{◌≡◌, length, sym, ap, ◌∙◌, arith, zero-le}
 use Rattle.std.proofs.lemmas.List.{length-map}
 use Rattle.node_core.specs.Node.{PreparedNode}
 use Rattle.machine_core.specs.Machine.{MachineState}
@@ -25,7 +25,7 @@ pub returns-then-rank-len-clause-addresses : goal.returns-then-rank-len-clause-a
 returns-then-rank-len-clause-addresses g c =
     let long : c.len.result ≡ length c.args.self.now.nodes =
     c.len.ensures ∙ c.self.inside.nodes.ok.0 ∙ sym (length-map c.self.inside.nodes.items (λ (p : PreparedNode). p.node)) ∙ ap (λ (m : MachineState). length m.nodes) c.self.view_is in
-    sym (addresses-absent c.args.self.now.input c.args.rank (length c.args.pcs.now) c.args.self.now.nodes (omega (arith, long, c.if-rank-len.true)))
+    record { few = zero-le; are = sym (addresses-absent c.args.self.now.input c.args.rank (length c.args.pcs.now) c.args.self.now.nodes (omega (arith, long, c.if-rank-len.true))) }
 
 pub returns-clause-addresses : goal.returns-clause-addresses
 returns-clause-addresses g c = c.run_traced_at.ensures.addresses

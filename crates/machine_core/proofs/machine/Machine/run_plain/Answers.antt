@@ -50,10 +50,7 @@ pub returns-clause-ok : goal.returns-clause-ok
 returns-clause-ok g c =
     let m = c.loop-self.self in
     let over = ap (λ (x : MachineState). is_some x.outcome) (sym c.self.view_is) ∙ c.is_none.ensures ∙ ap not c.loop-self-test.false in
-    sym (end_of-there m over) ∙ c.loop-self.invariant.same_end
-
-pub returns-clause-over : goal.returns-clause-over
-returns-clause-over g c = ap (λ (x : MachineState). is_some x.outcome) (sym c.self.view_is) ∙ c.is_none.ensures ∙ ap not c.loop-self-test.false
+    record { end = sym (end_of-there m over) ∙ c.loop-self.invariant.same_end; over = over }
 
 pub returns-in_err-turn-clause-ok : goal.returns-in_err-turn-clause-ok
 returns-in_err-turn-clause-ok g c = IfOk-from_err c.from_residual-in_err-turn.result _ c.from_residual-in_err-turn.ensures.0

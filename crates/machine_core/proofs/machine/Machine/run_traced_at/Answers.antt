@@ -18,23 +18,26 @@ run_traced_at-requires g c =
 pub invariant_of-self : goal.invariant_of-self
 invariant_of-self g c =
     let row = with_items_is c.self.inside.nodes c.run_traced_at.new.nodes (omega arith) in
-    sound-steps (machine_view c.self.inside) c.as_slice.result.now (states c.deref_mut.result.now) (states c.run_traced_at.new.nodes) _ c.args.rank
+    sound-steps (machine_view c.self.inside) c.as_slice.result.now c.deref_mut.result.now c.run_traced_at.new.nodes _ c.args.rank
     c.as_slice.ensures (ap states c.deref_mut.ensures.value) (ap states row)
-    c.run_traced_at.result (length c.args.pcs.now) c.self.invariant c.run_traced_at.ensures.ok c.run_traced_at.ensures.err
+    c.run_traced_at.result (length c.args.pcs.now) c.self.invariant c.run_traced_at.ensures.steps
 
 pub returns-clause-steps : goal.returns-clause-steps
 returns-clause-steps g c =
     let row = with_items_is c.self.inside.nodes c.run_traced_at.new.nodes (omega arith) in
-    steps_made (machine_view c.self.inside) c.as_slice.result.now (states c.deref_mut.result.now) (states c.run_traced_at.new.nodes) _ c.args.rank
+    steps_made (machine_view c.self.inside) c.as_slice.result.now c.deref_mut.result.now c.run_traced_at.new.nodes _ c.args.rank
     c.as_slice.ensures (ap states c.deref_mut.ensures.value) (ap states row)
-    _ c.run_traced_at.result (length c.args.pcs.now) c.self.view_is c.run_traced_at.ensures.ok c.run_traced_at.ensures.err c.run_traced_at.ensures.refuses
+    _ c.run_traced_at.result (length c.args.pcs.now) c.self.view_is c.run_traced_at.ensures.steps
 
 pub returns-clause-addresses : goal.returns-clause-addresses
 returns-clause-addresses g c =
     let rank = c.args.rank in
     let k = length c.args.pcs.now in
     if_ok_weaker c.run_traced_at.result _ _
-    (λ made those. those
-    ∙ ap₂ (λ (i : List ℕ) (xs : List NodeState). next_addresses_at i rank k xs) c.as_slice.ensures (ap states c.deref_mut.ensures.value)
-    ∙ ap (λ (m : MachineState). next_addresses_at m.input rank k m.nodes) c.self.view_is)
+    (λ made those. record {
+      few = those.few;
+      are = those.are
+          ∙ ap₂ (λ (i : List ℕ) (xs : List NodeState). next_addresses_at i rank k xs) c.as_slice.ensures (ap states c.deref_mut.ensures.value)
+          ∙ ap (λ (m : MachineState). next_addresses_at m.input rank k m.nodes) c.self.view_is;
+    })
     c.run_traced_at.ensures.addresses

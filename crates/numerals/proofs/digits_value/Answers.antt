@@ -1,9 +1,9 @@
 use Rattle.std.proofs.Common.{◌≡◌, ◌∙◌, drop, sym, ap, None, ◌^◌}
 use Rattle.std.proofs.lemmas.List.{drop_all}
 use Rattle.std.specs.Str.Parse.{digits_value, digits_value_after}
-use Rattle.debug_lines.specs.Numbers.{below}
-use Rattle.debug_lines.proofs.Values.{too_much, below-some}
-use Rattle.debug_lines.proofs.number.digits_value.Goals as goal
+use Rattle.numerals.specs.Numbers.{below}
+use Rattle.numerals.proofs.Values.{too_much, below-some}
+use Rattle.numerals.proofs.digits_value.Goals as goal
 
 -- the digits so far are too much
 pub returns-in_err-value : goal.returns-in_err-value

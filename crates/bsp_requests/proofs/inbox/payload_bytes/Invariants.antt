@@ -1,7 +1,7 @@
 -- Each of the messages so far has fewer than 2^64 bytes.
 use Rattle.std.proofs.Common.{◌≡◌, ◌≤◌, ◌*◌, ◌-◌, ◌^◌, take}
 use Rattle.bsp_requests.specs.Inbox.{payload_bytes}
-use Rattle.debug_lines.proofs.reply.payload_bytes.Given as goal
+use Rattle.bsp_requests.proofs.inbox.payload_bytes.Given as goal
 
 abbrev pub invariant-loop-message : goal.invariant-loop-message
 invariant-loop-message g l =

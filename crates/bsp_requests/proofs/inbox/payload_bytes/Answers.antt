@@ -4,7 +4,7 @@ use Rattle.std.proofs.lemmas.List.{take_all}
 use Rattle.std.proofs.lemmas.List.Sums.{sum_by_more}
 use Rattle.bsp_requests.specs.Inbox.{payload_bytes}
 use Rattle.bsp_requests.specs.Message.{Message}
-use Rattle.debug_lines.proofs.reply.payload_bytes.Goals as goal
+use Rattle.bsp_requests.proofs.inbox.payload_bytes.Goals as goal
 
 pub loop-message-init : goal.loop-message-init
 loop-message-init g c = (omega arith, refl)

@@ -1,8 +1,8 @@
 -- A number that 64 bits hold, or do not, in 32 bits.
 use Rattle.std.proofs.Common.{◌∙◌, ◌^◌, Some, sym, ap}
-use Rattle.debug_lines.specs.Numbers.{number_value}
-use Rattle.debug_lines.proofs.Values.{narrower, narrower_none, below-some, below-none_past}
-use Rattle.debug_lines.proofs.number.u32_of.Goals as goal
+use Rattle.numerals.specs.Numbers.{number_value}
+use Rattle.numerals.proofs.Values.{narrower, narrower_none, below-some, below-none_past}
+use Rattle.numerals.proofs.u32_of.Goals as goal
 
 pub returns-in_err-u64_of : goal.returns-in_err-u64_of
 returns-in_err-u64_of c =

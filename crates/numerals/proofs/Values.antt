@@ -6,7 +6,7 @@ use Rattle.std.proofs.lemmas.List.{at_drop_more}
 use Rattle.std.specs.Char.{digit_value}
 use Rattle.std.specs.Option.{option_and_then}
 use Rattle.std.specs.Str.Parse.{digits_value_after}
-use Rattle.debug_lines.specs.Numbers.{below}
+use Rattle.numerals.specs.Numbers.{below}
 
 -- digits that follow a number make it no less
 digits_value_after-grows : (r v : ℕ) (ds : List ℕ) → 0 < r → v ≤ digits_value_after r v ds

@@ -1,14 +1,29 @@
-//! The numbers of a line.
+//! Numbers as users write them: decimal digits, or `0x` and hexadecimal digits of either case, of any number and without a sign.
+//!
+//! The model of a word is its bytes, and that of a number is the natural number. Callers may rely on this: a word is a number or none,
+//! whatever its size ([`is_number`]), and its value is answered just where the type has room for it ([`u32_of`], [`u64_of`]).
+#![tactic(auto)]
 
-ghost use Rattle.std.specs.Prelude.{◌≡◌, ◌≤◌, ◌<◌, ◌+◌, ◌*◌, ◌^◌};
+ghost use Rattle.std.specs.Prelude.{◌≡◌, ◌<◌, ◌+◌, ◌*◌, ◌^◌, is_some};
 ghost use Rattle.std.specs.Char.{digit_value, is_digit};
 ghost use Rattle.std.specs.List.{list_all};
 ghost use Rattle.std.specs.Option.{option_and_then};
 ghost use Rattle.std.specs.Str.Parse.{digits_value};
-ghost use Rattle.debug_lines.specs.Numbers.{below, numeral_value, number_in};
+ghost use Rattle.numerals.specs.Numbers.{below, is_numeral, number_in, number_value, numeral_value};
+
+/// Whether a word is a number, of any size.
+pub fn is_number(word: &[u8]) -> bool
+    ensures { result ≡ is_some (number_value word.now) }
+{
+    if word.starts_with(b"0x") {
+        is_numeral(16, &word[2..])
+    } else {
+        is_numeral(10, word)
+    }
+}
 
 /// The value of a word that is a number below 2^32.
-pub(crate) fn u32_of(word: &[u8]) -> Option<u32>
+pub fn u32_of(word: &[u8]) -> Option<u32>
     ensures { result ≡ number_in 32 word.now }
 {
     match u32::try_from(u64_of(word)?) {
@@ -18,7 +33,7 @@ pub(crate) fn u32_of(word: &[u8]) -> Option<u32>
 }
 
 /// The value of a word that is a number below 2^64.
-pub(crate) fn u64_of(word: &[u8]) -> Option<u64>
+pub fn u64_of(word: &[u8]) -> Option<u64>
     ensures { result ≡ number_in 64 word.now }
 {
     if word.starts_with(b"0x") {
@@ -33,11 +48,18 @@ fn numeral_value(radix: u64, word: &[u8]) -> Option<u64>
     requires { 0 < radix }
     ensures { result ≡ option_and_then (below (2 ^ 64)) (numeral_value radix word.now) }
 {
-    if word.is_empty() || !are_digits(radix, word) {
-        None
-    } else {
+    if is_numeral(radix, word) {
         digits_value(radix, word)
+    } else {
+        None
     }
+}
+
+/// Whether a word is digits in a base, one at least, and nothing else.
+fn is_numeral(radix: u64, word: &[u8]) -> bool
+    ensures { result ≡ is_numeral radix word.now }
+{
+    !word.is_empty() && are_digits(radix, word)
 }
 
 /// Whether all bytes are digits in a base.

@@ -1,14 +1,13 @@
--- The numbers of a line (own format): decimal digits, or `0x` and hexadecimal digits of either case, without a sign.
-use Rattle.std.specs.Prelude.{ℕ, ◌^◌, ◌&&◌, Bool, nat_lt, nat_eq, if◌then◌else◌, List, drop, codes, Option, Some, None}
+-- Numbers as they are written in lines (own format): decimal digits, or `0x` and hexadecimal digits of either case, without a sign.
+use Rattle.std.specs.Prelude.{ℕ, ◌^◌, ◌==◌, ◌&&◌, Bool, not, nat_lt, nat_eq, if◌then◌else◌, List, length, drop, codes, Option, Some, None}
 use Rattle.std.specs.Char.{is_digit}
 use Rattle.std.specs.List.{list_all, starts_with}
 use Rattle.std.specs.Option.{option_and_then}
 use Rattle.std.specs.Str.Parse.{digits_value}
-use Rattle.debug_lines.specs.Words.{has_bytes}
 
 -- digits, one at least, and nothing else
 abbrev pub is_numeral : ℕ → List ℕ → Bool
-is_numeral radix word = has_bytes word && list_all (λ b. is_digit b radix) word
+is_numeral radix word = not (length word == 0) && list_all (λ b. is_digit b radix) word
 
 -- the value of a numeral, of any number of digits
 abbrev pub numeral_value : ℕ → List ℕ → Option ℕ

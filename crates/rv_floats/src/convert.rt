@@ -9,9 +9,9 @@ ghost use lib.Ieee.{binary32, binary64, of_bits, of_int};
 use crate::rounding::Rounding;
 use std::num::{
     f32_from_bits_with_nan, f32_to_bits_with_nan, f32_to_f64_with_nan, f64_from_bits_with_nan,
-    f64_to_bits_with_nan, nearest_f64_to_f32_with_nan, nearest_i32_to_f32, nearest_i64_to_f64,
-    nearest_u32_to_f32, nearest_u64_to_f64, saturating_f32_to_i32, saturating_f32_to_u32,
-    saturating_f64_to_i32, saturating_f64_to_u32,
+    f64_to_bits_with_nan, nearest_f64_to_f32_with_nan, nearest_i64_to_f64, nearest_u32_to_f32,
+    nearest_u64_to_f64, saturating_f32_to_i32, saturating_f32_to_u32, saturating_f64_to_i32,
+    saturating_f64_to_u32,
 };
 
 /// FCVT.W.D.
@@ -79,11 +79,17 @@ pub fn word_unsigned_to_d(word: u32) -> u64
 }
 
 /// FCVT.S.W.
+// For speed: `nearest_i32_to_f32` is a call.
 #[inline(always)]
 pub fn word_to_s(word: i32) -> u32
     ensures { result ≡ to_bits binary32 (of_int binary32 word) }
 {
-    f32_to_bits_with_nan(nearest_i32_to_f32(word))
+    let size = nearest_u32_to_f32(word.unsigned_abs());
+    if word < 0 {
+        f32_to_bits_with_nan(-size)
+    } else {
+        f32_to_bits_with_nan(size)
+    }
 }
 
 /// FCVT.S.WU.

@@ -1,6 +1,6 @@
 -- Whole parts and signs of the values of patterns.
-use Rattle.std.proofs.Common.{◌≡◌, ℕ, zero, suc, ◌+◌, ◌-◌, ◌*◌, ◌/◌, ◌%◌, ◌^◌, ◌<◌, ◌≤◌, Bool, true, false, cond, nat_eq, nat_lt, sym, ap, ◌∙◌, refl, arith, inl, inr}
-use Rattle.std.proofs.Math.Nat.{div-add-mod', div-lt_iff_lt-mul, eq_of_mul-eq-mul_right, lt_of_mul-lt-mul_right, mul-le-mul_right, mul-lt-mul_of_pos_right, zero-mul}
+use Rattle.std.proofs.Common.{◌≡◌, ℕ, zero, suc, ◌+◌, ◌-◌, ◌*◌, ◌/◌, ◌%◌, ◌^◌, ◌<◌, ◌≤◌, Bool, true, false, cond, nat_eq, sym, ap, ◌∙◌, refl, arith}
+use Rattle.std.proofs.Math.Nat.{div-add-mod', div-div-eq-div-mul, div-lt_iff_lt-mul, eq_of_mul-eq-mul_right, lt_of_mul-lt-mul_right, mul-div_cancel, mul-le-mul_right, mul-lt-mul_of_pos_right, zero-mul}
 use Rattle.std.proofs.Math.Pow.{pow_mono}
 use Rattle.std.proofs.lemmas.Bool.{eqb-true, le-ltb, lt-leb, lt-ltb, ltb-true, true≢false}
 use Rattle.std.proofs.lemmas.Nat.{mod_below, pow-add, pow_pos}
@@ -211,3 +211,12 @@ single_is_of Signed a n h cut below small = omega (arith, below)
 single_is_of Unsigned a n h cut below small =
     let l : a < 1266679808 = ltb-true a 1266679808 h in
     (omega (arith, below), λ s. absurd (positive binary32 a (sign_is binary32 a cut.finite) (let k : a < 2147483648 = omega (arith, l) in k) s))
+
+-- digits at the upper end of a word, which are shifted by as much more
+pub shifted : (d e : ℕ) → e ≤ 1075 → d * 2048 / 2 ^ (1086 - e) ≡ d / 2 ^ (1075 - e)
+shifted d e h =
+    let k : 1086 - e ≡ 11 + (1075 - e) = omega (arith, h) in
+    ap (λ (n : ℕ). d * 2048 / 2 ^ n) k
+    ∙ ap (λ (n : ℕ). d * 2048 / n) (pow-add 2 11 (1075 - e))
+    ∙ sym (div-div-eq-div-mul (d * 2048) 2048 (2 ^ (1075 - e)))
+    ∙ ap (λ (n : ℕ). n / 2 ^ (1075 - e)) (mul-div_cancel d {n = 2048} (omega arith))

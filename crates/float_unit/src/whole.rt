@@ -130,7 +130,8 @@ fn whole_part_of_double(a: u64) -> u32
     if exponent < 1023 {
         0
     } else {
-        (double_digits(a) >> (1075 - exponent)) as u32
+        // The digits stand at the upper end of the word, where the exponent was, so that a host need not clear that first.
+        (double_digits(a) * 0x800 >> (1086 - exponent)) as u32
     }
 }
 

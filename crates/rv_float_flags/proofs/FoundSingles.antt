@@ -43,17 +43,17 @@ difference_found g a b z h is = let last = and_parts _ _ h in let first = and_pa
 pub product_below : (g : Flags) (a b : ℕ) → is_single_product_found g a b ≡ true → (a % 2147483648 < 2139095040) × (b % 2147483648 < 2139095040)
 product_below g a b h =
     elim (or_cases (g.nx && is_single_middling a && is_single_middling b) (is_single_finite a && is_single_finite b && (nat_eq (a % 2147483648) 0 || nat_eq (b % 2147483648) 0)) h) [
-  | inl l ↦
-      let last = and_parts (g.nx && is_single_middling a) (is_single_middling b) l in
-      let m = middling_below a (and_parts g.nx (is_single_middling a) last.0).1 in
-      let n = middling_below b last.1 in
-      (m, n)
-  | inr r ↦
-      let first = and_parts (is_single_finite a) (is_single_finite b) (and_parts (is_single_finite a && is_single_finite b) _ r).0 in
-      let m = ltb-true (single_exponent a) 255 first.0 in
-      let n = ltb-true (single_exponent b) 255 first.1 in
-      (omega (arith, m), omega (arith, n))
-]
+      | inl l ↦
+          let last = and_parts (g.nx && is_single_middling a) (is_single_middling b) l in
+          let m = middling_below a (and_parts g.nx (is_single_middling a) last.0).1 in
+          let n = middling_below b last.1 in
+          (m, n)
+      | inr r ↦
+          let first = and_parts (is_single_finite a) (is_single_finite b) (and_parts (is_single_finite a && is_single_finite b) _ r).0 in
+          let m = ltb-true (single_exponent a) 255 first.0 in
+          let n = ltb-true (single_exponent b) 255 first.1 in
+          (omega (arith, m), omega (arith, n))
+    ]
 
 pub product_found : (g : Flags) (a b z : ℕ) → is_single_product_found g a b ≡ true
     → z ≡ to_bits binary32 (mul binary32 (of_bits binary32 a) (of_bits binary32 b)) → accrued g (mul_flags binary32 a b) ≡ g

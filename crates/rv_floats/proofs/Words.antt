@@ -1,9 +1,9 @@
 -- The value of a word below zero is that of its size, with a minus.
-use Rattle.std.proofs.Common.{rules, ◌≡◌, ℕ, zero, suc, ◌+◌, ◌*◌, ◌^◌, Bool, true, false, cond, ℤ, pos, ◌<ℤ◌, sym, ap, ◌∙◌, refl, arith}
+use Rattle.std.proofs.Common.{rules, ◌≡◌, ℕ, zero, suc, ◌+◌, ◌*◌, ◌^◌, Bool, true, false, cond, ℤ, pos, ◌<ℤ◌, sym, ap, ◌∙◌, refl}
 use Rattle.std.specs.Prelude.{unsigned_abs}
 use lib.Dec.{ltb}
 use lib.IntN.{negsuc}
-use lib.Ieee.{Float, Format, inf, emax, low, neg, odd, of_int, prec, round, units}
+use lib.Ieee.{Format, inf, emax, low, neg, odd, of_int, prec, round, units}
 use lib.Ieee.Fits.{round_is}
 
 odd_below : (d q k l : ℕ) → neg (odd d false q k l) ≡ odd d true q k l

@@ -1,4 +1,4 @@
-use Rattle.std.proofs.Common.{rules, ◌≡◌, sym, refl}
+use Rattle.std.proofs.Common.{rules, ◌≡◌, refl}
 use Rattle.std.proofs.lemmas.Float.{not_nan_f32_bits}
 use Rattle.rv_floats.specs.Comparisons.{is_before}
 use Rattle.float_unit.proofs.Extremes.{greatest, least}

@@ -1,4 +1,4 @@
-use Rattle.std.proofs.Common.{Bool, ◌&&◌, ◌||◌, sym, ap, ◌∙◌, arith, inl, inr}
+use Rattle.std.proofs.Common.{Bool, ◌||◌, sym, ap, ◌∙◌, arith, inl, inr}
 use Rattle.std.proofs.lemmas.Bool.{and_parts, or_cases}
 use Rattle.std.specs.Float.{is_sign_negative}
 use Rattle.float_unit.specs.Found.{is_single_in_range, is_whole_single}

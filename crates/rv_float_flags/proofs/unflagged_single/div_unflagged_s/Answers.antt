@@ -5,7 +5,7 @@ use Rattle.rv_float_flags.proofs.Singles.{quotient_no_nan}
 use Rattle.rv_float_flags.proofs.unflagged_single.div_unflagged_s.Goals as goal
 
 pub float_from_bits-result : goal.float_from_bits-result
-float_from_bits-result c = 
+float_from_bits-result c =
     let below = middling_below c.args.a (both_middling c.args.flags c.args.a c.args.b (sym c.if-is_quotient_found.ensures)).0 in
     not_nan_f32_bits c.args.a (omega (arith, below))
 

@@ -1,6 +1,10 @@
 -- Which pages are own, as a list of flags.
-use Rattle.std.proofs.Common.{◌≡◌, ℕ, ◌+◌, ◌-◌, ◌*◌, ◌/◌, ◌%◌, ◌<◌, ◌≤◌, ◌⊎◌, ◌≢◌, ⊎_elim, inl, inr, Bool, true, false, List, [], ◌∷◌, length, set, refl, sym, ◌∙◌, arith, zero, suc, Some}
-use Rattle.std.specs.Prelude.{slice_get}
+use Rattle.std.proofs.Common.{◌≡◌, ℕ, ◌+◌, ◌-◌, ◌*◌, ◌/◌, ◌%◌, ◌<◌, ◌≤◌, ◌⊎◌, ◌≢◌, ⊎_elim, inl, inr, Bool, true, false, List, [], ◌∷◌, length, set, refl, sym, ◌∙◌, arith, zero, suc, Some, Ok, Err}
+use Rattle.std.specs.Prelude.{slice_get, OnErr}
+use Rattle.std.specs.Result.{IsErrAnd}
+use Rattle.std.specs.declared.result.Result.{Result}
+use Rattle.node_memory.specs.declared.memory.WriteError.{WriteError}
+use Rattle.node_memory.specs.declared.memory.WriteError.TheVariants.{Outside, NoMemory}
 use Rattle.std.proofs.lemmas.List.{length-set}
 use Rattle.std.proofs.lemmas.Option.{slice_get_within}
 use Rattle.std.proofs.lemmas.Bool.{cases_eq, cases_lt}
@@ -124,6 +128,9 @@ OwnsMore-same addr len old new e = rw e (record { keeps = record { pages = refl;
 pub Owns-empty : (own : List Bool) (addr len : ℕ) → len ≡ 0 → addr + len ≤ length own * 4096 → Owns own addr len
 Owns-empty own addr len none within = record { within = within; pages = λ k has. absurd (let s = has.some in omega arith) }
 
+pub Owns-none : (own now : List Bool) (size addr len : ℕ) → length own * 4096 ≡ size → length now ≡ length own → addr + len ≤ size → len ≤ 0 → Owns now addr len
+Owns-none own now size addr len paged same within none = Owns-empty now addr len (omega arith) (rw (same, paged) within)
+
 -- part of an owned range
 pub Owns-part : (own : List Bool) (addr len at n : ℕ) → Owns own addr len → addr ≤ at → at + n ≤ addr + len → Owns own at n
 Owns-part own addr len at n h from to =
@@ -132,6 +139,9 @@ Owns-part own addr len at n h from to =
 -- the page of a byte of an owned range
 pub IsOwn-at : (own : List Bool) (addr len at : ℕ) → Owns own addr len → addr ≤ at → at < addr + len → IsOwn own (at / 4096)
 IsOwn-at own addr len at h from to = h.pages (at / 4096) (record { some = omega arith; begins_before_end = omega arith; ends_after_begin = omega arith })
+
+pub IsOwn-past : (own now : List Bool) (addr len done : ℕ) → Owns own addr len → now ≡ own → done < len → IsOwn now ((addr + done) / 4096)
+IsOwn-past own now addr len done owns same lt = rw same (IsOwn-at own addr len (addr + done) owns (omega arith) (omega arith))
 
 -- what was own is own still, over two changes and for a range
 pub KeepsOwn-same : (own : List Bool) → KeepsOwn own own
@@ -146,3 +156,19 @@ Owns-kept old new addr len keeps owns = record { within = rw keeps.pages owns.wi
 -- an owned range lies in the memory
 pub Owns-fits : (own : List Bool) (size addr len : ℕ) → length own * 4096 ≡ size → size < addr + len → Owns own addr len → ⊥
 Owns-fits own size addr len paged past owns = let w = owns.within in omega arith
+
+-- what holds anyway holds of an error
+pub on_err-given : {T E P : Type 0} (answer : Result T E) → P → OnErr answer P
+on_err-given (Ok x) p = tt
+on_err-given (Err e) p = p
+
+-- what was written is no error, a range outside is no refused memory, and this is no range outside
+pub ok-no_err : {T E : Type 0} (x : T) (e : E) → ◌≡◌ {A = Result T E} (Ok x) (Err e) → ⊥
+ok-no_err x e h = cc
+
+pub outside-not_refused : {T : Type 0} → ◌≡◌ {A = Result T WriteError} (Err Outside) (Err NoMemory) → ⊥
+outside-not_refused h = cc
+
+pub refused-not_outside : {T : Type 0} (answer : Result T WriteError) → IsErrAnd answer (λ e. e ≡ NoMemory) → answer ≡ Err Outside → ⊥
+refused-not_outside (Ok x) refused h = absurd refused
+refused-not_outside (Err e) refused h = cc

@@ -1,5 +1,5 @@
 -- Memories whose shared pages are all zeros.
-use Rattle.std.proofs.Common.{◌≡◌, ℕ, ◌+◌, ◌-◌, ◌*◌, ◌/◌, ◌%◌, min, max, ◌<◌, ◌≤◌, ◌⊎◌, ◌≢◌, ⊎_elim, inl, inr, Bool, true, false, List, length, get_or, set, replicate, refl, sym, ap, ◌∙◌, arith, Some}
+use Rattle.std.proofs.Common.{◌≡◌, ℕ, ◌+◌, ◌-◌, ◌*◌, ◌/◌, ◌%◌, ◌^◌, min, max, ◌<◌, ◌≤◌, ◌⊎◌, ◌≢◌, ⊎_elim, inl, inr, Bool, true, false, List, length, get_or, set, replicate, refl, sym, ap, ◌∙◌, arith, Some, Fits, w64}
 use Rattle.std.specs.Prelude.{slice_get}
 use Rattle.std.specs.List.{flat_map}
 use Rattle.std.proofs.lemmas.List.{places, length-replicate}
@@ -64,6 +64,36 @@ cleared_shared m now addr len page was zeros shared low high some within =
     let same : k / 4096 ≡ page = omega arith in
     zeros k (rw same shared)) in
     cleared_more m.bytes now.bytes now.bytes addr len page (max addr (page * 4096)) (min (addr + len) (page * 4096 + 4096)) was refl refl already low high some within
+
+-- no bytes of a range are below its first page, and all below the page after its last
+pub below_first : (addr len : ℕ) → below_page addr len (addr / 4096) ≡ 0
+below_first addr len = omega arith
+
+pub below_end : (addr len page : ℕ) → (addr + len - 1) / 4096 + 1 ≤ page → below_page addr len page ≡ len
+below_end addr len page past = omega arith
+
+pub cleared_none : (m : List ℕ) (addr n : ℕ) → n ≡ 0 → addr ≤ length m → m ≡ with_bytes m addr (replicate n 0)
+cleared_none m addr n none within = cleared_already m addr n (omega arith) (λ k from to. absurd (omega arith))
+
+-- the pages of a range, of which none begins past 2 ^ 24
+pub end_page-fits : (end size : ℕ) → end ≤ size → size ≤ 2 ^ 24 → Fits w64 ((end - 1) / 4096 + 1)
+end_page-fits end size within most = omega arith
+
+pub page_start-fits : (end size page : ℕ) → page < (end - 1) / 4096 + 1 → end ≤ size → size ≤ 2 ^ 24 → Fits w64 (page * 4096)
+page_start-fits end size page before within most = omega arith
+
+-- the part of a range that lies in a page
+pub part-ordered : (addr len page from to : ℕ) → from ≡ max addr (page * 4096) → to ≡ min (addr + len) (page * 4096 + 4096) → addr / 4096 ≤ page → page < (addr + len - 1) / 4096 + 1 → (len ≡ 0 → ⊥) → from ≤ to
+part-ordered addr len page from to begins ends low high some = omega arith
+
+pub part-in_page : (addr len page from to : ℕ) → from ≡ max addr (page * 4096) → to ≡ min (addr + len) (page * 4096 + 4096) → addr / 4096 ≤ page → page < (addr + len - 1) / 4096 + 1 → (len ≡ 0 → ⊥) → from % 4096 + (to - from) ≤ 4096
+part-in_page addr len page from to begins ends low high some = omega arith
+
+pub start-within : (addr len size : ℕ) → addr + len ≤ size → addr ≤ size
+start-within addr len size within = omega arith
+
+pub some-end : (addr len : ℕ) → (len ≡ 0 → ⊥) → 1 ≤ addr + len
+some-end addr len some = omega arith
 
 pub own_or_shared : (own : List Bool) (page : ℕ) → page < length own → (IsShared own page → ⊥) → IsOwn own page
 own_or_shared own page in' unshared = own_by_flag own page _ (slice_get-get_or own page false in') unshared

@@ -1,13 +1,61 @@
-use Rattle.std.proofs.Common.{◌≡◌, ◌/◌, ◌<◌, ℕ, length, replicate, sym, ap, ◌∙◌, arith}
+use Rattle.std.proofs.Common.{◌≡◌, ◌/◌, ◌<◌, ℕ, length, replicate, refl, sym, ap, ◌∙◌, arith}
 use Rattle.std.proofs.lemmas.List.{length-replicate}
 use Rattle.std.proofs.lemmas.Bool.{false≢true}
+use Rattle.node_memory.specs.Bytes.{with_bytes}
 use Rattle.node_memory.specs.Pages.{IsOwn, IsShared}
+use borrow.Author.Count.{falls}
 use Rattle.node_memory.proofs.Shown.{size-shown, pages-shown, most-shown}
 use Rattle.node_memory.proofs.Table.{table}
 use Rattle.node_memory.proofs.Writes.{length-with_bytes}
-use Rattle.node_memory.proofs.Zeros.{below_page, cleared_more, cleared_shared, own_or_shared}
+use Rattle.node_memory.proofs.Zeros.{below_page, below_first, below_end, cleared_none, end_page-fits, page_start-fits, part-ordered, part-in_page, some-end, start-within, cleared_more, cleared_shared, own_or_shared}
 use Rattle.node_memory.proofs.memory.Memory.clear.Goals.{then-not-shares+in_ok-clear_window, else-not-shares}
 use Rattle.node_memory.proofs.memory.Memory.clear.Goals as goal
+
+pub returns-then-len-eq0-clause-bytes : goal.returns-then-len-eq0-clause-bytes
+returns-then-len-eq0-clause-bytes g c = cleared_none _ c.args.addr _ c.if-len-eq0.true (start-within _ _ _ c.requires.within)
+
+pub returns-then-len-eq0-clause-rest : goal.returns-then-len-eq0-clause-rest
+returns-then-len-eq0-clause-rest g c = c.requires.rest
+
+pub overflow_sub-page-end : goal.overflow_sub-page-end
+overflow_sub-page-end g c = some-end _ _ c.if-len-eq0.false
+
+pub overflow_add-page-end : goal.overflow_add-page-end
+overflow_add-page-end g c = end_page-fits _ _ c.requires.within (most-shown (table _ _ c.self.view_is c.self.invariant))
+
+pub loop-page-init : goal.loop-page-init
+loop-page-init g c = (
+  cleared_none _ c.args.addr _ (below_first c.args.addr c.args.len) (start-within _ _ _ c.requires.within),
+  c.requires.rest,
+  refl,
+)
+
+pub overflow_mul-page-then-not-shares : goal.overflow_mul-page-then-not-shares
+overflow_mul-page-then-not-shares g c = page_start-fits _ _ c.loop-page.page c.loop-page-test.true c.requires.within (most-shown (table _ _ c.self.view_is c.self.invariant))
+
+pub overflow_sub-to : goal.overflow_sub-to
+overflow_sub-to g c = part-ordered _ _ _ _ _ c.max-from.ensures c.min-to.ensures c.loop-page.auto.page c.loop-page-test.true c.if-len-eq0.false
+
+pub clear_window-requires-clause-one_page : goal.clear_window-requires-clause-one_page
+clear_window-requires-clause-one_page g c =
+    part-in_page _ _ _ _ _ c.max-from.ensures c.min-to.ensures c.loop-page.auto.page c.loop-page-test.true c.if-len-eq0.false
+
+pub clear_window-requires-clause-zeros : goal.clear_window-requires-clause-zeros
+clear_window-requires-clause-zeros g c = c.requires.zeros
+
+pub clear_window-requires-clause-rest : goal.clear_window-requires-clause-rest
+clear_window-requires-clause-rest g c = c.loop-page.invariant.1
+
+pub loop-page-smaller : goal.loop-page-smaller
+loop-page-smaller g c = falls _ c.loop-page.page c.loop-page-test.true
+
+pub returns-clause-bytes : goal.returns-clause-bytes
+returns-clause-bytes g c =
+    c.loop-page.invariant.0
+    ∙ ap (λ n. with_bytes c.args.self.now.bytes c.args.addr (replicate n 0)) (below_end c.args.addr c.args.len c.loop-page.page c.loop-page-test.false)
+
+pub returns-clause-rest : goal.returns-clause-rest
+returns-clause-rest g c = c.loop-page.invariant.1
 
 pub overflow_add-end : goal.overflow_add-end
 overflow_add-end g c =

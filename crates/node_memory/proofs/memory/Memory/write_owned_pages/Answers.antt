@@ -1,14 +1,53 @@
-use Rattle.std.proofs.Common.{◌≡◌, ◌+◌, ◌*◌, ◌≤◌, length, take, refl, ap, ◌∙◌, arith}
+use Rattle.std.proofs.Common.{◌≡◌, ◌+◌, ◌≤◌, length, take, refl, ap, ◌∙◌, arith}
 use Rattle.node_memory.proofs.Table.{table}
-use Rattle.node_memory.proofs.Shown.{size-shown, pages-shown}
-use Rattle.std.proofs.lemmas.List.{length-take-le}
-use Rattle.node_memory.proofs.Writes.{write_more, length-with_bytes}
+use Rattle.node_memory.proofs.Shown.{paged-shown, owned_place-fits, owned_part-fits}
+use Rattle.std.proofs.lemmas.List.{length-take-le, take_all}
+use Rattle.node_memory.proofs.Writes.{write_more, step-within, step-in_page, step-less_left, place-mod-le, length-with_bytes}
+use Rattle.node_memory.proofs.Owned.{IsOwn-past}
+use Rattle.node_memory.specs.Bytes.{with_bytes}
+use Rattle.std.proofs.Math.Nat.{le-add_right}
 use Rattle.node_memory.proofs.memory.Memory.write_owned_pages.Goals as goal
+
+pub overflow_add-at : goal.overflow_add-at
+overflow_add-at g c = owned_place-fits (table _ _ c.self.view_is c.self.invariant) c.args.addr _ c.loop-done.done c.requires c.loop-done.invariant.2
+
+pub overflow_sub-at : goal.overflow_sub-at
+overflow_sub-at g c = place-mod-le _
+
+pub overflow_sub-bytes : goal.overflow_sub-bytes
+overflow_sub-bytes g c = c.loop-done.invariant.2
+
+pub overflow_add-done : goal.overflow_add-done
+overflow_add-done g c =
+    owned_part-fits (table _ _ c.self.view_is c.self.invariant) c.args.addr _ _ c.requires (step-within _ _ _ _ c.min-len.ensures c.loop-done.invariant.2)
+
+pub slice_bounds-write_window-count : goal.slice_bounds-write_window-count
+slice_bounds-write_window-count g c = le-add_right _ _
+
+pub write_window-requires-clause-one_page : goal.write_window-requires-clause-one_page
+write_window-requires-clause-one_page g c = step-in_page c.args.bytes.now _ _ _ c.min-len.ensures c.loop-done.invariant.2
+
+pub write_window-requires-clause-own : goal.write_window-requires-clause-own
+write_window-requires-clause-own g c = IsOwn-past _ _ c.args.addr _ c.loop-done.done c.requires c.loop-done.invariant.1 c.loop-done-test.true
+
+pub overflow_add-done-in-loop-done : goal.overflow_add-done-in-loop-done
+overflow_add-done-in-loop-done g c =
+    owned_part-fits (table _ _ c.self.view_is c.self.invariant) c.args.addr _ _ c.requires (step-within _ _ _ _ c.min-len.ensures c.loop-done.invariant.2)
+
+pub loop-done-smaller : goal.loop-done-smaller
+loop-done-smaller g c = step-less_left _ _ _ _ c.min-len.ensures c.loop-done-test.true
+
+pub returns-clause-bytes : goal.returns-clause-bytes
+returns-clause-bytes g c =
+    c.loop-done.invariant.0 ∙ ap (with_bytes c.args.self.now.bytes c.args.addr) (take_all c.loop-done.done c.args.bytes.now c.loop-done-test.false)
+
+pub returns-clause-same_own : goal.returns-clause-same_own
+returns-clause-same_own g c = c.loop-done.invariant.1
 
 pub loop-done-preserved : goal.loop-done-preserved
 loop-done-preserved g c =
     let t = table _ _ c.self.view_is c.self.invariant in
-    let paged : length c.args.self.now.own * 4096 ≡ length c.args.self.now.bytes = ap (λ k. k * 4096) (pages-shown t) ∙ size-shown t in
+    let paged = paged-shown t in
     let within : c.args.addr + length c.args.bytes.now ≤ length c.args.self.now.bytes = omega (arith, paged, c.requires.within) in
     let h = c.loop-done.invariant in
     let len = c.min-len.result in (
@@ -20,7 +59,7 @@ loop-done-preserved g c =
 pub returns-clause-same_size : goal.returns-clause-same_size
 returns-clause-same_size g c =
     let t = table _ _ c.self.view_is c.self.invariant in
-    let paged : length c.args.self.now.own * 4096 ≡ length c.args.self.now.bytes = ap (λ k. k * 4096) (pages-shown t) ∙ size-shown t in
+    let paged = paged-shown t in
     let done = c.loop-done.done in
     let written = take done c.args.bytes.now in
     let len : length written ≡ done = length-take-le done c.args.bytes.now c.loop-done.invariant.2 in

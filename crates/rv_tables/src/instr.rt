@@ -1,7 +1,7 @@
 //! Instructions, and the rows of the listings.
 
 /// How the operands of an instruction lie in its word.
-#[derive(Clone, Copy, Debug, PartialEq, Eq)]
+#[derive(Clone, Copy)]
 pub enum Form {
     /// `rd`, `rs1` and `rs2`.
     R,
@@ -26,7 +26,7 @@ pub enum Form {
 }
 
 /// A row of the listings: the bits that it fixes, as a mask, the value that a word of it has in them, and the form of its operands.
-#[derive(Clone, Copy, Debug, PartialEq, Eq)]
+#[derive(Clone, Copy)]
 pub struct Row<F> {
     pub mask: u32,
     pub value: u32,
@@ -34,7 +34,7 @@ pub struct Row<F> {
 }
 
 /// The rows on three registers.
-#[derive(Clone, Copy, Debug, PartialEq, Eq)]
+#[derive(Clone, Copy)]
 pub enum ROp {
     Add,
     Sub,
@@ -57,7 +57,7 @@ pub enum ROp {
 }
 
 /// The rows on a register and an immediate.
-#[derive(Clone, Copy, Debug, PartialEq, Eq)]
+#[derive(Clone, Copy)]
 pub enum IOp {
     Addi,
     Slti,
@@ -68,7 +68,7 @@ pub enum IOp {
 }
 
 /// The rows that shift by an amount in the word.
-#[derive(Clone, Copy, Debug, PartialEq, Eq)]
+#[derive(Clone, Copy)]
 pub enum ShiftOp {
     Slli,
     Srli,
@@ -76,7 +76,7 @@ pub enum ShiftOp {
 }
 
 /// The rows that read memory.
-#[derive(Clone, Copy, Debug, PartialEq, Eq)]
+#[derive(Clone, Copy)]
 pub enum LoadOp {
     Lb,
     Lh,
@@ -86,7 +86,7 @@ pub enum LoadOp {
 }
 
 /// The rows that write memory.
-#[derive(Clone, Copy, Debug, PartialEq, Eq)]
+#[derive(Clone, Copy)]
 pub enum StoreOp {
     Sb,
     Sh,
@@ -94,7 +94,7 @@ pub enum StoreOp {
 }
 
 /// The rows that compare two registers and jump.
-#[derive(Clone, Copy, Debug, PartialEq, Eq)]
+#[derive(Clone, Copy)]
 pub enum BranchOp {
     Beq,
     Bne,
@@ -105,7 +105,7 @@ pub enum BranchOp {
 }
 
 /// The rows with a field of 20 bits.
-#[derive(Clone, Copy, Debug, PartialEq, Eq)]
+#[derive(Clone, Copy)]
 pub enum UpperOp {
     Lui,
     Auipc,
@@ -113,7 +113,7 @@ pub enum UpperOp {
 
 /// The rows without operands. `Fence` and `FenceI` are so for this machine: the other fields of their words say nothing
 /// to it.
-#[derive(Clone, Copy, Debug, PartialEq, Eq)]
+#[derive(Clone, Copy)]
 pub enum PlainOp {
     Fence,
     FenceI,
@@ -123,7 +123,7 @@ pub enum PlainOp {
 
 /// An instruction. Registers are 0 to 31; immediates are the values that they stand for, sign-extended where the
 /// manual extends them, and `Upper`'s is the field itself.
-#[derive(Clone, Copy, Debug, PartialEq, Eq)]
+#[derive(Clone, Copy)]
 pub enum Instr {
     R {
         op: ROp,

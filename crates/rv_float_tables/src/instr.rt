@@ -4,7 +4,7 @@
 //! register, x0 to x31.
 
 /// How the operands of an instruction lie in its word.
-#[derive(Clone, Copy, Debug, PartialEq, Eq)]
+#[derive(Clone, Copy)]
 pub enum FloatForm {
     /// `rd`, an integer `rs1` and a signed immediate of 12 bits: the address is `rs1` plus the immediate.
     Load,
@@ -41,7 +41,7 @@ pub enum FloatForm {
 }
 
 /// The two formats: of F and of D.
-#[derive(Clone, Copy, Debug, PartialEq, Eq)]
+#[derive(Clone, Copy, PartialEq, Eq)]
 pub enum Format {
     /// 32 bits, as `.s`, and `flw` and `fsw`, have it.
     Single,
@@ -50,7 +50,7 @@ pub enum Format {
 }
 
 /// The rounding mode that an instruction asks for, in its field `rm`.
-#[derive(Clone, Copy, Debug, PartialEq, Eq)]
+#[derive(Clone, Copy)]
 pub enum RoundingField {
     /// To the nearest, and of two to the even one.
     Rne,
@@ -67,7 +67,7 @@ pub enum RoundingField {
 }
 
 /// The rows that round the result of two operands.
-#[derive(Clone, Copy, Debug, PartialEq, Eq)]
+#[derive(Clone, Copy)]
 pub enum ArithmeticOp {
     Add,
     Sub,
@@ -76,7 +76,7 @@ pub enum ArithmeticOp {
 }
 
 /// The fused rows, which multiply, add and round once.
-#[derive(Clone, Copy, Debug, PartialEq, Eq)]
+#[derive(Clone, Copy)]
 pub enum FusedOp {
     /// rs1 * rs2 + rs3.
     Madd,
@@ -89,7 +89,7 @@ pub enum FusedOp {
 }
 
 /// The rows that inject a sign.
-#[derive(Clone, Copy, Debug, PartialEq, Eq)]
+#[derive(Clone, Copy)]
 pub enum SignOp {
     /// That of `rs2`.
     Sgnj,
@@ -100,14 +100,14 @@ pub enum SignOp {
 }
 
 /// The rows that choose one of two operands.
-#[derive(Clone, Copy, Debug, PartialEq, Eq)]
+#[derive(Clone, Copy)]
 pub enum MinMaxOp {
     Min,
     Max,
 }
 
 /// The rows that compare.
-#[derive(Clone, Copy, Debug, PartialEq, Eq)]
+#[derive(Clone, Copy)]
 pub enum CompareOp {
     Feq,
     Flt,
@@ -115,14 +115,14 @@ pub enum CompareOp {
 }
 
 /// A word as a whole number.
-#[derive(Clone, Copy, Debug, PartialEq, Eq)]
+#[derive(Clone, Copy)]
 pub enum WordKind {
     Signed,
     Unsigned,
 }
 
 /// What becomes of the bits of a control and status register.
-#[derive(Clone, Copy, Debug, PartialEq, Eq)]
+#[derive(Clone, Copy)]
 pub enum CsrOp {
     /// CSRRW, CSRRWI: they are written.
     Write,
@@ -133,7 +133,7 @@ pub enum CsrOp {
 }
 
 /// The control and status registers of floating point. An instruction on another one is of no row here.
-#[derive(Clone, Copy, Debug, PartialEq, Eq)]
+#[derive(Clone, Copy)]
 pub enum FloatCsr {
     /// The accrued exceptions: bits 4 to 0 of `Fcsr`.
     Fflags,
@@ -143,7 +143,7 @@ pub enum FloatCsr {
 }
 
 /// An instruction. Registers are 0 to 31, integer ones where [`FloatForm`] says so; an immediate is the value that it stands for.
-#[derive(Clone, Copy, Debug, PartialEq, Eq)]
+#[derive(Clone, Copy)]
 pub enum FloatInstr {
     Load {
         format: Format,

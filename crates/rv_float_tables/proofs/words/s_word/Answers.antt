@@ -1,0 +1,5 @@
+use Rattle.std.proofs.Common.{rules}
+use Rattle.rv_float_tables.proofs.words.s_word.Goals as goal
+
+pub returns : goal.returns
+returns c = record { encodable = search rules; word = search rules }

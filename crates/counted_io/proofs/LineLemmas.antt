@@ -1,9 +1,12 @@
 -- Lemmas on where a line ends.
 use Rattle.std.proofs.Common.{◌≡◌, ◌≢◌, ℕ, ◌+◌, ◌-◌, ◌<◌, ◌≤◌, ◌⊎◌, inl, inr, List, ◌∷◌, ◌++◌, length, drop, get_or, sym, ap, ◌∙◌, arith, subst, take-append-drop, length-drop}
+use Rattle.std.proofs.Common.{Result, Ok, Err}
+use Rattle.std.specs.Result.{IsErr}
 use Rattle.std.specs.List.{slice_range}
 use Rattle.std.proofs.lemmas.List.{length-take-le, take_rest, drop-drop, drop_more, get_or-take, get_or-drop, get_or_default}
 use Rattle.std.proofs.lemmas.Bool.{cases_lt}
 use Rattle.counted_io.specs.Lines.{GivesLast, GivesLine, HasFeed, IsFirstFeed, LacksFeed, LacksFeedWithin, LineReaderState}
+use Rattle.counted_io.specs.declared.ReadError.{ReadError}
 
 -- a part of a text lacks what the text lacks there
 LacksFeed-within : (text : List ℕ) (start end : ℕ) → LacksFeedWithin text start end → end ≤ length text → LacksFeed (slice_range text start end)
@@ -70,3 +73,16 @@ gives_last old new given same lacks line after some =
       some = omega (arith, ap length rest, length-drop given new.read);
       given = after;
     }
+
+-- what was found is no error
+pub found-no_err : {T : Type 0} (x : T) (e : ReadError) → ◌≡◌ {A = Result T ReadError} (Ok x) (Err e) → ⊥
+found-no_err x e h = cc
+
+-- a count that rises twice
+pub rises : (a b c : ℕ) → a ≤ b → b ≤ c → a ≤ c
+rises a b c first second = omega arith
+
+-- what was refused is no answer
+pub refused-no_ok : {T E : Type 0} (answer : Result T E) (x : T) → IsErr answer → answer ≡ Ok x → ⊥
+refused-no_ok (Ok y) x refused is = cc
+refused-no_ok (Err e) x refused is = cc

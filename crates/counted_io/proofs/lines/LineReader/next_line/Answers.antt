@@ -1,13 +1,65 @@
 -- The line feed that was found, or the end, ends the line.
 use Rattle.std.proofs.Common.{refl, ◌⊎◌, ◌≡◌, ◌<◌, ◌≤◌, ◌+◌, ◌∙◌, Ok, nat_lt, ap, inl, inr, drop, length, subst, sym, true, arith}
 use Rattle.std.proofs.lemmas.Bool.{ltb-true, lt-ltb}
-use Rattle.std.proofs.lemmas.Result.{err_from_is_err_and}
+use Rattle.std.proofs.lemmas.Result.{err_from_is_err_and, IfOk-from_err}
 use Rattle.std.specs.Io.KnownBytes.{IsAtEnd}
 use Rattle.std.specs.List.{slice_index, slice_range}
-use Rattle.counted_io.specs.Lines.{HasFeed, IsFirstFeed, LineReaderState}
-use Rattle.counted_io.proofs.LineLemmas.{LacksFeed-rest, feed_of_rest, gives_last, gives_line}
+use Rattle.counted_io.specs.Lines.{HasFeed, IsFirstFeed, LineReaderState, ReadsOn}
+use Rattle.counted_io.proofs.LineLemmas.{found-no_err, refused-no_ok, rises, LacksFeed-rest, feed_of_rest, gives_last, gives_line}
 use Rattle.counted_io.proofs.lines.LineReader.next_line.Goals as goal
 use Rattle.counted_io.proofs.lines.LineReader.next_line.Goals.{in-Some, in-None}
+
+pub find_line_feed-requires-clause-given : goal.find_line_feed-requires-clause-given
+find_line_feed-requires-clause-given g c = c.self.invariant.0
+
+pub find_line_feed-requires-clause-limit : goal.find_line_feed-requires-clause-limit
+find_line_feed-requires-clause-limit g c = c.self.invariant.1
+
+pub returns-in_err-found-clause-line : goal.returns-in_err-found-clause-line
+returns-in_err-found-clause-line g c = λ is. absurd (refused-no_ok _ _ c.from_residual.ensures.0 is)
+
+pub returns-in_err-found-clause-end : goal.returns-in_err-found-clause-end
+returns-in_err-found-clause-end g c = λ is. absurd (refused-no_ok _ _ c.from_residual.ensures.0 is)
+
+pub returns-in_err-found-clause-ends : goal.returns-in_err-found-clause-ends
+returns-in_err-found-clause-ends g c = λ ended. inl (sym (ap (λ s. s.ended) c.self.view_is) ∙ ended)
+
+pub returns-in_err-found-clause-bytes : goal.returns-in_err-found-clause-bytes
+returns-in_err-found-clause-bytes g c = IfOk-from_err _ _ c.from_residual.ensures.0
+
+pub returns-in_err-found-clause-within : goal.returns-in_err-found-clause-within
+returns-in_err-found-clause-within g c = rises _ _ _ c.self.invariant.0 c.find_line_feed.ensures.grows
+
+pub returns-in_err-found-clause-most : goal.returns-in_err-found-clause-most
+returns-in_err-found-clause-most g c = ap (λ s. s.most) c.self.view_is
+
+pub returns-in_err-found-clause-limit : goal.returns-in_err-found-clause-limit
+returns-in_err-found-clause-limit g c = c.find_line_feed.ensures.limit
+
+pub returns-in_err-found-clause-never_falls : goal.returns-in_err-found-clause-never_falls
+returns-in_err-found-clause-never_falls g c = c.find_line_feed.ensures.never_falls
+
+pub returns-clause-most : goal.returns-clause-most
+returns-clause-most g c = ap (λ s. s.most) c.self.view_is
+
+pub returns-clause-limit : goal.returns-clause-limit
+returns-clause-limit g c = c.find_line_feed.ensures.limit
+
+pub returns-clause-never_falls : goal.returns-clause-never_falls
+returns-clause-never_falls g c = c.find_line_feed.ensures.never_falls
+
+pub returns-clause-bytes : goal.returns-clause-bytes
+returns-clause-bytes g c =
+    subst (λ read. ReadsOn (g.R.Read.remaining c.args.from.now.inner) (g.R.Read.remaining c.find_line_feed.new.from.inner) read c.find_line_feed.new.text.items) (ap (λ s. s.read) c.self.view_is) c.in_ok-found.ensures.bytes
+
+pub returns-clause-too_long : goal.returns-clause-too_long
+returns-clause-too_long g c = λ returned. absurd (found-no_err _ _ returned)
+
+pub returns-clause-fault : goal.returns-clause-fault
+returns-clause-fault g c = λ returned. absurd (found-no_err _ _ returned)
+
+pub returns-clause-no_memory : goal.returns-clause-no_memory
+returns-clause-no_memory g c = λ returned. absurd (found-no_err _ _ returned)
 
 pub returns-in_err-found-clause-waiting : goal.returns-in_err-found-clause-waiting
 returns-in_err-found-clause-waiting g c = λ feed.

@@ -1,3 +1,4 @@
+pub mod FloatOperands
 pub mod Floats
 pub mod Lines
 pub mod Listing

@@ -2,12 +2,17 @@
 
 ghost use Rattle.std.specs.Prelude.{◌≡◌, ◌++◌, codes};
 ghost use Rattle.std.specs.List.{flat_map};
-ghost use Rattle.rv_listing.specs.Floats.{unless_dyn, unless_rne, rounding_to};
+ghost use Rattle.rv_listing.specs.FloatOperands.{float_operand_texts, rounding_operands};
+ghost use Rattle.rv_listing.specs.Floats.{float_operands_of, unless_dyn, unless_rne, rounding_to};
 
 use crate::lines::Line;
 use crate::numerals::{EightDigits, FourDigits};
-use crate::statement::Statement;
-use rv_float_tables::{FloatInstr, Format, RoundingField, csr_name, decode_code, mnemonic};
+use crate::statement::{Operand, Statement};
+use FloatOperand::{Csr, Float, Other};
+use FloatOperands::{Four, Three, Two};
+use rv_float_tables::{
+    FloatCsr, FloatInstr, Format, RoundingField, csr_name, decode_code, mnemonic,
+};
 use rv_tables::Code;
 use std::fmt;
 
@@ -83,72 +88,123 @@ impl fmt::Display for Instruction {
 
     fn fmt<W: fmt::Write>(&self, f: &mut fmt::Formatter<W>) -> fmt::Result {
         let name = mnemonic(&self.0);
-        let operands = Operands(self.0);
-        write!(f, "{name}{operands}")
+        let operands = float_operands_of(self.0);
+        let rounding = rounding_of(self.0);
+        write!(f, "{name}{operands}{rounding}")
     }
 }
 
-/// The operands of an instruction. Its text begins with a blank.
+/// The operands of an instruction, but for its rounding mode. Their text begins with a blank.
 #[derive(Clone, Copy)]
-struct Operands(FloatInstr);
+enum FloatOperands {
+    Two(FloatOperand, FloatOperand),
+    Three(FloatOperand, FloatOperand, FloatOperand),
+    Four(FloatOperand, FloatOperand, FloatOperand, FloatOperand),
+}
 
-impl fmt::Display for Operands {
+impl fmt::Display for FloatOperands {
     ghost use Rattle.std.specs.Prelude.{Some};
-    ghost use Rattle.rv_listing.specs.Floats.{float_operands_of};
+    ghost use Rattle.rv_listing.specs.FloatOperands.{float_operand_texts};
     ghost use Rattle.rv_listing.specs.Statement.{operand_list};
 
-    ghost output = { λ operands. Some (operand_list (float_operands_of operands.0)) };
+    ghost output = { λ operands. Some (operand_list (float_operand_texts operands)) };
 
     fn fmt<W: fmt::Write>(&self, f: &mut fmt::Formatter<W>) -> fmt::Result {
-        match self.0 {
-            FloatInstr::Load { rd, rs1, imm, .. } => write!(f, " f{rd},{imm}(x{rs1})"),
-            FloatInstr::Store { rs1, rs2, imm, .. } => write!(f, " f{rs2},{imm}(x{rs1})"),
-            FloatInstr::Fused {
-                rd,
-                rs1,
-                rs2,
-                rs3,
-                rm,
-                ..
-            } => write!(f, " f{rd},f{rs1},f{rs2},f{rs3}{}", unless_dyn(rm)),
-            FloatInstr::Arithmetic {
-                rd,
-                rs1,
-                rs2,
-                rm,
-                ..
-            } => { write!(f, " f{rd},f{rs1},f{rs2}{}", unless_dyn(rm)) }
-            FloatInstr::SquareRoot { rd, rs1, rm, .. } => write!(
-                f,
-                " f{rd},f{rs1}{}",
-                unless_dyn(rm)
-            ),
-            FloatInstr::Sign { rd, rs1, rs2, .. } | FloatInstr::MinMax { rd, rs1, rs2, .. } => {
-                write!(f, " f{rd},f{rs1},f{rs2}")
-            }
-            FloatInstr::Compare { rd, rs1, rs2, .. } => write!(f, " x{rd},f{rs1},f{rs2}"),
-            FloatInstr::Class { rd, rs1, .. } | FloatInstr::MoveToInteger { rd, rs1 } => {
-                write!(f, " x{rd},f{rs1}")
-            }
-            FloatInstr::ToWord { rd, rs1, rm, .. } => write!(f, " x{rd},f{rs1}{}", unless_dyn(rm)),
-            FloatInstr::FromWord {
-                format,
-                rd,
-                rs1,
-                rm,
-                ..
-            } => write!(f, " f{rd},x{rs1}{}", rounding_to(format, rm)),
-            FloatInstr::ToFormat {
-                format,
-                rd,
-                rs1,
-                rm,
-            } => write!(f, " f{rd},f{rs1}{}", rounding_to(format, rm)),
-            FloatInstr::MoveFromInteger { rd, rs1 } => write!(f, " f{rd},x{rs1}"),
-            FloatInstr::Csr { csr, rd, rs1, .. } => write!(f, " x{rd},{},x{rs1}", csr_name(csr)),
-            FloatInstr::CsrImmediate { csr, rd, imm, .. } => {
-                write!(f, " x{rd},{},{imm}", csr_name(csr))
-            }
+        match *self {
+            Two(first, last) => write!(f, " {first},{last}"),
+            Three(first, second, last) => write!(f, " {first},{second},{last}"),
+            Four(first, second, third, last) => write!(f, " {first},{second},{third},{last}"),
+        }
+    }
+}
+
+/// The operands of an instruction, but for its rounding mode.
+fn float_operands_of(instr: FloatInstr) -> FloatOperands
+    ensures { float_operand_texts result ++ rounding_operands instr ≡ float_operands_of instr }
+{
+    match instr {
+        FloatInstr::Load { rd, rs1, imm, .. } => {
+            Two(Float(rd), Other(Operand::Relative { imm, base: rs1 }))
+        }
+        FloatInstr::Store { rs1, rs2, imm, .. } => {
+            Two(Float(rs2), Other(Operand::Relative { imm, base: rs1 }))
+        }
+        FloatInstr::Fused {
+            rd,
+            rs1,
+            rs2,
+            rs3,
+            ..
+        } => { Four(Float(rd), Float(rs1), Float(rs2), Float(rs3)) }
+        FloatInstr::Arithmetic { rd, rs1, rs2, .. }
+        | FloatInstr::Sign { rd, rs1, rs2, .. }
+        | FloatInstr::MinMax { rd, rs1, rs2, .. } => Three(Float(rd), Float(rs1), Float(rs2)),
+        FloatInstr::SquareRoot { rd, rs1, .. } | FloatInstr::ToFormat { rd, rs1, .. } => {
+            Two(Float(rd), Float(rs1))
+        }
+        FloatInstr::Compare { rd, rs1, rs2, .. } => {
+            Three(Other(Operand::Register(rd)), Float(rs1), Float(rs2))
+        }
+        FloatInstr::Class { rd, rs1, .. }
+        | FloatInstr::ToWord { rd, rs1, .. }
+        | FloatInstr::MoveToInteger { rd, rs1 } => Two(Other(Operand::Register(rd)), Float(rs1)),
+        FloatInstr::FromWord { rd, rs1, .. } | FloatInstr::MoveFromInteger { rd, rs1 } => {
+            Two(Float(rd), Other(Operand::Register(rs1)))
+        }
+        FloatInstr::Csr { csr, rd, rs1, .. } => {
+            Three(
+                Other(Operand::Register(rd)),
+                Csr(csr),
+                Other(Operand::Register(rs1)),
+            )
+        }
+        FloatInstr::CsrImmediate { csr, rd, imm, .. } => {
+            Three(
+                Other(Operand::Register(rd)),
+                Csr(csr),
+                Other(Operand::Number(i32::from(imm))),
+            )
+        }
+    }
+}
+
+/// What stands behind the other operands for the rounding mode of an instruction, if it is written.
+fn rounding_of(instr: FloatInstr) -> &'static str
+    ensures { result.now ≡ flat_map (λ operand. codes "," ++ operand) (rounding_operands instr) }
+{
+    match instr {
+        FloatInstr::Fused { rm, .. }
+        | FloatInstr::Arithmetic { rm, .. }
+        | FloatInstr::SquareRoot { rm, .. }
+        | FloatInstr::ToWord { rm, .. } => unless_dyn(rm),
+        FloatInstr::FromWord { format, rm, .. } | FloatInstr::ToFormat { format, rm, .. } => {
+            rounding_to(format, rm)
+        }
+        _ => "",
+    }
+}
+
+/// An operand of an instruction of floating point.
+#[derive(Clone, Copy)]
+enum FloatOperand {
+    /// A register of floating point.
+    Float(u8),
+    Csr(FloatCsr),
+    /// One as other instructions have them.
+    Other(Operand),
+}
+
+impl fmt::Display for FloatOperand {
+    ghost use Rattle.std.specs.Prelude.{Some};
+    ghost use Rattle.rv_listing.specs.FloatOperands.{float_operand_text};
+
+    ghost output = { λ operand. Some (float_operand_text operand) };
+
+    fn fmt<W: fmt::Write>(&self, f: &mut fmt::Formatter<W>) -> fmt::Result {
+        match *self {
+            FloatOperand::Float(number) => write!(f, "f{number}"),
+            FloatOperand::Csr(csr) => write!(f, "{}", csr_name(csr)),
+            FloatOperand::Other(operand) => write!(f, "{operand}"),
         }
     }
 }

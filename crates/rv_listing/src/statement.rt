@@ -117,7 +117,7 @@ fn target(addr: u32, offset: i32) -> u32
 
 /// An operand.
 #[derive(Clone, Copy)]
-enum Operand {
+pub(crate) enum Operand {
     Register(u8),
     Number(i32),
     /// The upper 20 bits of a word: `0x12345`.

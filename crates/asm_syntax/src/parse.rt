@@ -2,9 +2,9 @@
 
 ghost use Rattle.std.specs.Prelude.{◌≡◌, ◌≢◌, ◌∷◌, [], map, Some, None, Ok, Err, IfOk, IfErr, IfSome};
 ghost use Rattle.std.specs.Option.{option_map};
-ghost use Rattle.asm_syntax.specs.Forms.{reading};
+ghost use Rattle.asm_syntax.specs.Forms.{form_named, reading};
 ghost use Rattle.asm_syntax.specs.Operands.{operands_in};
-ghost use Rattle.asm_syntax.specs.Parse.{line_of, labels_in, behind_labels, statement_in};
+ghost use Rattle.asm_syntax.specs.Parse.{line_of, labels_in, behind_labels, statement_in, statement_of_form};
 ghost use Rattle.asm_syntax.specs.Statements.{IsInRange};
 ghost use Rattle.asm_syntax.specs.TokenViews.{token_value, operand_values};
 ghost use Rattle.asm_syntax.specs.Views.{statement_value, line_value};
@@ -71,13 +71,28 @@ fn statement<'a, A: Allocator + Copy>(
     match tokens {
         [] => Ok(None),
         [Token::Name(mnemonic), rest @ ..] => {
-            let form = form_named(float, mnemonic).ok_or(LineError::UnknownMnemonic)?;
-            let operands = operands(alloc, rest)?;
-            let statement = read(alloc, form, &operands)?;
+            let statement = statement_named(alloc, float, mnemonic, rest)?;
             Ok(Some(statement))
         }
         _ => Err(LineError::UnknownMnemonic),
     }
+}
+
+/// The statement that a mnemonic and the tokens behind it spell.
+fn statement_named<'a, A: Allocator + Copy>(
+    alloc: A,
+    float: bool,
+    mnemonic: &[u8],
+    tokens: &[Token<'a>],
+) -> Result<Statement<'a, A>, LineError>
+    ensures ok { IfOk result (λ s.
+        statement_of_form (form_named float mnemonic.now) (operands_in (map token_value tokens.now)) ≡ Ok (statement_value s)) }
+    ensures err { IfErr result (λ e. e ≢ LineError.NoMemory
+        → statement_of_form (form_named float mnemonic.now) (operands_in (map token_value tokens.now)) ≡ Err e) }
+{
+    let form = form_named(float, mnemonic).ok_or(LineError::UnknownMnemonic)?;
+    let operands = operands(alloc, tokens)?;
+    read(alloc, form, &operands)
 }
 
 /// The operands in the tokens behind a mnemonic: what stands between the commas.

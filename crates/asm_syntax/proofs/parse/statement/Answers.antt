@@ -1,0 +1,7 @@
+-- What the search finds in the end, which tries other ways first.
+use Rattle.std.proofs.Common.{arith}
+use Rattle.std.proofs.lemmas.Grind.{common_steps}
+use Rattle.asm_syntax.proofs.parse.statement.Goals as goal
+
+pub returns-in_default-clause-err : goal.returns-in_default-clause-err
+returns-in_default-clause-err g c = grind (arith, common_steps)

@@ -14,7 +14,7 @@ use bsp_debug::{Command, Point};
 use numerals::{u32_of, u64_of};
 
 /// What a line asks for.
-#[derive(Clone, Copy, Debug, PartialEq, Eq)]
+#[derive(Clone, Copy)]
 pub enum Line {
     /// To set a point: `break RANK ADDR` or `break superstep K`.
     Break(Point),

@@ -8,7 +8,7 @@ use bsp_debug::DebugError;
 use std::fmt;
 
 /// What a line is answered that no [`Reply`](bsp_debug::Reply) answers. It displays as a line, with the line feed that ends it.
-#[derive(Clone, Copy, Debug, PartialEq, Eq)]
+#[derive(Clone, Copy)]
 pub enum Verdict {
     /// It was done, as a point was set or the machine brought back: `ok`.
     Done,

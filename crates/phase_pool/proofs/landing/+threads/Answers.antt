@@ -1,4 +1,5 @@
 use Rattle.std.proofs.Common.{rules, ◌≡◌, ◌++◌, length, sym, ap, ◌∙◌, arith, length-append}
+use Rattle.std.proofs.lemmas.Bool.{false≢true}
 use Rattle.phase_pool.specs.Landings.{IsReadyFor}
 use Rattle.phase_pool.proofs.Landings.{IsDone-halves, IsDone-nodes, IsDone-parts, ready_as_many, ready_first, ready_second}
 use Rattle.phase_pool.proofs.landing.+threads.Goals as goal
@@ -106,3 +107,118 @@ make_in_threads-make_beside-requires-after_bounds g t c κs within =
       ready = ready_first stage here.parts.items last.parts.items here.nodes.items last.nodes.items same ready;
       last_ready = ready_second stage here.parts.items last.parts.items here.nodes.items last.nodes.items same ready;
     }
+
+pub make_beside-scope-overflow_sub-threads : goal.make_beside-scope-overflow_sub-threads
+make_beside-scope-overflow_sub-threads g t c = omega (arith, c.requires.4.some)
+
+pub make_beside-scope-overflow_sub-threads-in-Err :
+    goal.make_beside-scope-overflow_sub-threads-in-Err
+make_beside-scope-overflow_sub-threads-in-Err g t c = omega (arith, c.requires.4.some)
+
+pub make_beside-scope-spawn_with-requires-clause-runs :
+    goal.make_beside-scope-spawn_with-requires-clause-runs
+make_beside-scope-spawn_with-requires-clause-runs g t c κs within = c.requires.4.last_ready
+
+pub make_beside-scope-spawn_with-requires-clause-keeps :
+    goal.make_beside-scope-spawn_with-requires-clause-keeps
+make_beside-scope-spawn_with-requires-clause-keeps g t c κs within = λ r done. rw c.of.ensures done
+
+pub make_beside-scope-make_in_threads-first-requires-clause-ready :
+    goal.make_beside-scope-make_in_threads-first-requires-clause-ready
+make_beside-scope-make_in_threads-first-requires-clause-ready g t c κs within = c.requires.4.ready
+
+pub make_beside-scope-make_in_threads-first-requires-clause-enough :
+    goal.make_beside-scope-make_in_threads-first-requires-clause-enough
+make_beside-scope-make_in_threads-first-requires-clause-enough g t c κs within =
+    λ more. omega (arith, c.requires.4.enough, c.captures.here.nodes.ok.0)
+
+pub make_beside-scope-make_in_threads-first-requires-in-Err-clause-ready :
+    goal.make_beside-scope-make_in_threads-first-requires-in-Err-clause-ready
+make_beside-scope-make_in_threads-first-requires-in-Err-clause-ready g t c κs within =
+    c.requires.4.ready
+
+pub make_beside-scope-make_in_threads-first-requires-in-Err-clause-enough :
+    goal.make_beside-scope-make_in_threads-first-requires-in-Err-clause-enough
+make_beside-scope-make_in_threads-first-requires-in-Err-clause-enough g t c κs within =
+    λ more. omega (arith, c.requires.4.enough, c.captures.here.nodes.ok.0)
+
+pub make_beside-scope-other-requires : goal.make_beside-scope-other-requires
+make_beside-scope-other-requires g t c κs within =
+    (search rules, rw c.in-Err.ensures.err c.requires.4.last_ready)
+
+pub make_in_threads-make_here-requires : goal.make_in_threads-make_here-requires
+make_in_threads-make_here-requires g t c = c.requires.ready
+
+pub make_in_threads-returns-then-threads-lt2-clause-done :
+    goal.make_in_threads-returns-then-threads-lt2-clause-done
+make_in_threads-returns-then-threads-lt2-clause-done g t c = c.make_here.ensures.done
+
+pub make_in_threads-returns-then-threads-lt2-clause-no_worker :
+    goal.make_in_threads-returns-then-threads-lt2-clause-no_worker
+make_in_threads-returns-then-threads-lt2-clause-no_worker g t c =
+    λ refused. absurd (false≢true (sym c.make_here.ensures.thread ∙ refused))
+
+pub make_in_threads-returns-then-threads-lt2-clause-node_room :
+    goal.make_in_threads-returns-then-threads-lt2-clause-node_room
+make_in_threads-returns-then-threads-lt2-clause-node_room g t c =
+    omega (arith, c.make_here.ensures.node_room)
+
+pub make_in_threads-returns-then-threads-lt2-clause-part_room :
+    goal.make_in_threads-returns-then-threads-lt2-clause-part_room
+make_in_threads-returns-then-threads-lt2-clause-part_room g t c =
+    omega (arith, c.make_here.ensures.part_room)
+
+pub make_in_threads-start_of_last_run-start-requires-clause-some :
+    goal.make_in_threads-start_of_last_run-start-requires-clause-some
+make_in_threads-start_of_last_run-start-requires-clause-some g t c =
+    omega (arith, c.if-threads-lt2.false)
+
+pub make_in_threads-split-requires-clause-nodes : goal.make_in_threads-split-requires-clause-nodes
+make_in_threads-split-requires-clause-nodes g t c =
+    omega (arith, c.start_of_last_run-start.ensures.within, c.len.ensures)
+
+pub make_in_threads-make_here-requires-in-Err : goal.make_in_threads-make_here-requires-in-Err
+make_in_threads-make_here-requires-in-Err g t c =
+    let same = c.in-Err.ensures.err in
+    rw (same.1, same.0) c.requires.ready
+
+pub make_in_threads-returns-in-Ok-clause-done : goal.make_in_threads-returns-in-Ok-clause-done
+make_in_threads-returns-in-Ok-clause-done g t c =
+    let split = c.in-Ok.ensures in
+    rw (split.parts, split.nodes) at c.make_beside.ensures.done
+
+pub make_in_threads-returns-in-Ok-clause-no_worker :
+    goal.make_in_threads-returns-in-Ok-clause-no_worker
+make_in_threads-returns-in-Ok-clause-no_worker g t c =
+    λ refused. omega (arith, c.if-threads-lt2.false)
+
+pub make_in_threads-returns-in-Ok-clause-node_room :
+    goal.make_in_threads-returns-in-Ok-clause-node_room
+make_in_threads-returns-in-Ok-clause-node_room g t c =
+    omega (arith, c.in-Ok.ensures.room.0, c.make_beside.ensures.node_room)
+
+pub make_in_threads-returns-in-Ok-clause-part_room :
+    goal.make_in_threads-returns-in-Ok-clause-part_room
+make_in_threads-returns-in-Ok-clause-part_room g t c =
+    omega (arith, c.in-Ok.ensures.room.1, c.make_beside.ensures.part_room)
+
+pub make_in_threads-returns-in-Err-clause-done : goal.make_in_threads-returns-in-Err-clause-done
+make_in_threads-returns-in-Err-clause-done g t c =
+    let same = c.in-Err.ensures.err in
+    let end = c.in_spite_of.ensures in
+    rw (end.share, end.complete) (rw (same.1, same.0) at c.make_here-in-Err.ensures.done)
+
+pub make_in_threads-returns-in-Err-clause-no_worker :
+    goal.make_in_threads-returns-in-Err-clause-no_worker
+make_in_threads-returns-in-Err-clause-no_worker g t c =
+    λ refused. omega (arith, c.if-threads-lt2.false)
+
+pub make_in_threads-returns-in-Err-clause-node_room :
+    goal.make_in_threads-returns-in-Err-clause-node_room
+make_in_threads-returns-in-Err-clause-node_room g t c =
+    rw c.in_spite_of.ensures.share (omega (arith, c.in-Err.ensures.err.2, c.make_here-in-Err.ensures.node_room))
+
+pub make_in_threads-returns-in-Err-clause-part_room :
+    goal.make_in_threads-returns-in-Err-clause-part_room
+make_in_threads-returns-in-Err-clause-part_room g t c =
+    rw c.in_spite_of.ensures.share (omega (arith, c.in-Err.ensures.err.3, c.make_here-in-Err.ensures.part_room))

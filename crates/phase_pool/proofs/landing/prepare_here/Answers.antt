@@ -13,3 +13,6 @@ returns-clause-done g c =
           let can = rw c.deref.ensures.value at (on_ok_where c.prepare_all.result (sym c.is_ok-complete.ensures.value ∙ complete) c.prepare_all.ensures.ok) in
           rw row can,
     )
+
+pub prepare_all-requires : goal.prepare_all-requires
+prepare_all-requires g c = rw (c.deref.ensures.value, c.deref_mut.ensures.value) c.requires

@@ -1,9 +1,11 @@
 use Rattle.std.proofs.Common.{◌<◌, length, arith, refl, ap, sym, ◌∙◌}
 use Rattle.std.proofs.lemmas.Option.{slice_get_read}
+use Rattle.std.proofs.lemmas.Result.{IfOk-from_err}
 use Rattle.node_core.specs.Node.{PreparedNode}
 use Rattle.bsp_exchange.specs.Exchange.{states}
 use Rattle.bsp_exchange.proofs.KeepsOwn.{EachKeepsOwn-same, EachKeepsOwn-set}
 use Rattle.bsp_exchange.proofs.Preparing.{as_many_states, can_prepare_at, states_kept, prepared_none, prepared_more, prepared_all}
+use borrow.Author.Rules.{scaled_Fits}
 use Rattle.bsp_exchange.proofs.planning.prepare_all.Goals as goal
 
 pub loop-place-init : goal.loop-place-init
@@ -70,3 +72,15 @@ returns-clause-ok g c =
     let nodes = c.loop-place.nodes in
     let long = as_many_states c.args.parts.now nodes (states c.args.nodes.now) c.loop-place.invariant.same c.requires in
     prepared_all c.args.parts.now nodes c.loop-place.place long (rw c.loop-place.auto.nodes c.loop-place-test.false) c.loop-place.invariant.prepared
+
+pub returns-in_err-prepare-clause-ok : goal.returns-in_err-prepare-clause-ok
+returns-in_err-prepare-clause-ok g c = IfOk-from_err c.from_residual.result _ c.from_residual.ensures.0
+
+pub returns-clause-same : goal.returns-clause-same
+returns-clause-same g c = c.loop-place.invariant.same
+
+pub returns-clause-own : goal.returns-clause-own
+returns-clause-own g c = c.loop-place.invariant.own
+
+pub offset_bounds-nodes-place : goal.offset_bounds-nodes-place
+offset_bounds-nodes-place g c = scaled_Fits c.loop-place.place (length c.args.nodes.now) _ c.loop-place-test.true (search c.well_formed)

@@ -1,5 +1,7 @@
+use Rattle.std.proofs.Common.{length}
 use Rattle.std.proofs.lemmas.Result.{on_ok_weaker, on_err_weaker}
 use Rattle.machine_core.proofs.States.{kept-own, states-often, found-new}
+use borrow.Author.Rules.{scaled_Fits}
 use Rattle.machine_core.proofs.row.run_at.Goals as goal
 
 pub bounds-nodes-rank : goal.bounds-nodes-rank
@@ -17,3 +19,6 @@ returns g c =
       refuses = on_err_weaker c.run.result (λ may. rw (found-new input nodes c.args.rank node run c.requires c.index-nodes-rank.is) may) c.run.ensures.refuses;
       own = kept-own input nodes c.args.rank node run c.requires c.index-nodes-rank.is c.run.ensures.own;
     }
+
+pub offset_bounds-nodes-rank : goal.offset_bounds-nodes-rank
+offset_bounds-nodes-rank g c = scaled_Fits c.args.rank (length c.args.nodes.now) _ c.requires (search c.well_formed)

@@ -1,4 +1,4 @@
-use Rattle.std.proofs.Common.{◌≡◌, ◌++◌, [], ◌∷◌, List, length, true, refl, sym, ap, ap₂, subst, ◌∙◌}
+use Rattle.std.proofs.Common.{◌≡◌, ℕ, ◌<◌, ◌^◌, ◌++◌, [], ◌∷◌, List, length, true, refl, sym, ap, ap₂, subst, ◌∙◌, arith}
 use Rattle.std.specs.List.{AllZip}
 use Rattle.std.proofs.lemmas.List.{length-map}
 use Rattle.node_core.specs.Node.{PreparedNode}
@@ -17,6 +17,9 @@ use Rattle.machine_core.proofs.Sound.{AreAtSync-from, turn_stopped}
 use Rattle.machine_core.proofs.Steps.{event-enabled}
 use Rattle.machine_core.proofs.Turns.{cost-over, cost-exchanged, turned-over, as_before, awaits, bounds, rows-lt, length-started, IsSoundMachine-turn}
 use Rattle.machine_core.proofs.machine.Machine.begin_enabled.Goals as goal
+
+none_fits : (n : ℕ) → n ≡ 0 → n < 2 ^ 48
+none_fits n is = omega (arith, is)
 
 pub work-w-requires : goal.work-w-requires
 work-w-requires g c =
@@ -111,3 +114,15 @@ returns-in-Ok-Drafted g c =
       gathered = drafted.gathered ∙ ap parts_of nodes;
       ready = subst (λ (ps : List PreparedNode). AllZip CanPrepare c.in-Ok-Drafted.field-0-0.parts.items (states ps)) c.deref-3.ensures.value drafted.ready;
     }
+
+pub add_prepared-requires-clause-relation : goal.add_prepared-requires-clause-relation
+add_prepared-requires-clause-relation g c = none_fits c.last_row.result.h (ap (λ (r : CostRow). r.h) c.last_row.ensures)
+
+pub add_prepared-requires-clause-whole_relation : goal.add_prepared-requires-clause-whole_relation
+add_prepared-requires-clause-whole_relation g c = none_fits c.last_row.result.h_all (ap (λ (r : CostRow). r.h_all) c.last_row.ensures)
+
+pub add_prepared-requires-clause-messages : goal.add_prepared-requires-clause-messages
+add_prepared-requires-clause-messages g c = none_fits c.last_row.result.messages (ap (λ (r : CostRow). r.messages) c.last_row.ensures)
+
+pub add_prepared-requires-clause-ready : goal.add_prepared-requires-clause-ready
+add_prepared-requires-clause-ready g c = c.in-Ok-Over.ensures.ready

@@ -1,9 +1,10 @@
-use Rattle.std.proofs.Common.{◌≡◌, length, sym, ap, ◌∙◌, arith}
+use Rattle.std.proofs.Common.{◌≡◌, length, sym, ap, subst, ◌∙◌, arith}
 use Rattle.std.proofs.lemmas.List.{length-map, with_items_is}
 use Rattle.node_core.specs.Node.{PreparedNode}
 use Rattle.bsp_exchange.specs.Exchange.{states}
 use Rattle.machine_core.specs.Inside.{machine_view}
 use Rattle.machine_core.specs.Machine.{MachineState}
+use Rattle.machine_core.specs.Sound.{IsSoundMachine}
 use Rattle.machine_core.proofs.Runs.{sound-steps, steps_made}
 use Rattle.machine_core.proofs.machine.Machine.run_at.Goals as goal
 
@@ -26,3 +27,6 @@ returns-clause-steps g c =
     steps_made (machine_view c.self.inside) c.as_slice.result.now c.deref_mut.result.now c.run_at.new.nodes _ c.args.rank
     c.as_slice.ensures (ap states c.deref_mut.ensures.value) (ap states row)
     _ c.run_at.result c.args.most c.self.view_is c.run_at.ensures
+
+pub returns-clause-sound : goal.returns-clause-sound
+returns-clause-sound g c = subst IsSoundMachine c.self.view_is c.self.invariant

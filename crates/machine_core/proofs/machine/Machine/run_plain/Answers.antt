@@ -54,3 +54,11 @@ returns-clause-ok g c =
 
 pub returns-in_err-turn-clause-ok : goal.returns-in_err-turn-clause-ok
 returns-in_err-turn-clause-ok g c = IfOk-from_err c.from_residual-in_err-turn.result _ c.from_residual-in_err-turn.ensures.0
+
+pub returns-in_err-run_phase_plain-clause-ok : goal.returns-in_err-run_phase_plain-clause-ok
+returns-in_err-run_phase_plain-clause-ok g c = IfOk-from_err c.from_residual.result _ c.from_residual.ensures.0
+
+pub returns-in_err-run_phase_plain-clause-going : goal.returns-in_err-run_phase_plain-clause-going
+returns-in_err-run_phase_plain-clause-going g c =
+    let p = err_from_is_err_and c.from_residual.result c.from_residual.ensures.1 in
+    rw p.1 c.in_err-run_phase_plain.ensures.going

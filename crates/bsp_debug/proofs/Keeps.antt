@@ -1,17 +1,20 @@
 -- What a debugger keeps, and its machine, are reached from the machine with which it began.
-use Rattle.std.proofs.Common.{◌≡◌, ℕ, ◌<◌, true, List, [], ◌∷◌, ◌++◌, length, Option, Some, None, refl, sym, ap, subst, ◌∙◌}
-use Rattle.std.specs.Prelude.{All, IfSome, is_some, option_copied, slice_get}
+use Rattle.std.proofs.Common.{◌≡◌, ℕ, ◌+◌, ◌<◌, true, List, [], ◌∷◌, ◌++◌, length, Option, Some, None, refl, sym, ap, subst, ◌∙◌}
+use Rattle.std.specs.Prelude.{All, IfSome, if◌then◌else◌, is_some, option_copied, slice_get}
 use Rattle.std.specs.Option.{option_flatten}
+use Rattle.std.specs.Slice.{IsItemAt}
 use Rattle.std.proofs.lemmas.List.Elements.{All-append, All-cons, All-get_or, All-nil, All-set}
-use Rattle.std.proofs.lemmas.Option.{get_or_from_slice_get, slice_get_within}
+use Rattle.std.proofs.lemmas.Option.{get_or_from_slice_get, slice_get_past, slice_get_read, slice_get_within}
 use denote.Ref.{Bor}
 use Rattle.machine_core.specs.declared.event.Event.{Event}
 use Rattle.machine_core.specs.Machine.{MachineState}
 use Rattle.machine_core.specs.Events.{after}
 use Rattle.machine_core.proofs.Steps.{after-nil}
+use Rattle.bsp_debug.specs.declared.point.Point.{Point}
 use Rattle.bsp_debug.specs.Debugger.{DebuggerState}
 use Rattle.bsp_debug.specs.Kept.{state_at, kept_fault, keeping, without}
 use Rattle.bsp_debug.specs.Made.{events_of}
+use Rattle.bsp_debug.specs.Points.{is_set}
 use Rattle.bsp_debug.specs.Reached.{IsReached, HasReachedStates}
 use Rattle.bsp_debug.specs.Trace.{Traced, IsTrace}
 use Rattle.bsp_debug.proofs.Entries.{after-append}
@@ -89,3 +92,42 @@ pub found-faultless : (found : Option (Bor MachineState)) (kept : List (Option M
 found-faultless found kept number there is =
     let some = some-found found kept number there is in
     rw some.1 refl
+
+-- what `get` lends of the states that are kept is at its place
+pub got-kept : (d now : DebuggerState) (xs : List (Option MachineState)) (number : ℕ) (r : Option (Bor (Option MachineState)))
+    → IsItemAt xs number r → xs ≡ d.kept → d ≡ now → option_copied r ≡ slice_get now.kept number
+got-kept d now xs number r is kept view =
+    element_got xs number r is ∙ ap (λ ys. slice_get ys number) kept ∙ ap (λ (x : DebuggerState). slice_get x.kept number) view
+  where
+    element_got : {X : Type 0} (ys : List X) (i : ℕ) (r : Option (Bor X)) → IsItemAt ys i r → option_copied r ≡ slice_get ys i
+    element_got ys i None is = sym (slice_get_past ys i is.3)
+    element_got ys i (Some x) is = sym (slice_get_read ys (length ys) i x.now refl is.3.0 is.1)
+
+module _ (r : Option (Bor (Option MachineState))) (there : Option (Option MachineState)) where
+  pub state-found : (b : Bor (Option MachineState)) (m : MachineState) → r ≡ Some b → b.now ≡ Some m → option_copied r ≡ there
+      → Some m ≡ option_flatten there
+  state-found b m is now got =
+      let some : option_copied r ≡ Some (Some m) = ap option_copied is ∙ ap Some now in
+      ap option_flatten (sym some ∙ got)
+
+  pub state-forgotten : (b : Bor (Option MachineState)) → r ≡ Some b → b.now ≡ None → option_copied r ≡ there → None ≡ option_flatten there
+  state-forgotten b is now got =
+      let some : option_copied r ≡ Some None = ap option_copied is ∙ ap Some now in
+      ap option_flatten (sym some ∙ got)
+
+  pub state-none : r ≡ None → option_copied r ≡ there → None ≡ option_flatten there
+  state-none is got =
+      let none : option_copied r ≡ None = ap option_copied is in
+      ap option_flatten (sym none ∙ got)
+
+-- a debugger with other points
+pub same-points : (d now : DebuggerState) (points : List Point) → d ≡ now
+    → let a : DebuggerState = record d { points = points } in
+    let b : DebuggerState = record now { points = points } in
+    a ≡ b
+same-points d now points view = ap (λ (x : DebuggerState). let y : DebuggerState = record x { points = points } in y) view
+
+pub points-counted : (d now : DebuggerState) (points : List Point) (p : Point)
+    → length points ≡ length d.points + (if is_set d.points p then 0 else 1) → d ≡ now
+    → length points ≡ length now.points + (if is_set now.points p then 0 else 1)
+points-counted d now points p count view = count ∙ ap (λ (x : DebuggerState). length x.points + (if is_set x.points p then 0 else 1)) view

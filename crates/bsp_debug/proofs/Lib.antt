@@ -1,5 +1,6 @@
 pub mod Again
 pub mod Arrivals
+pub mod Commands
 pub mod Counts
 pub mod Entries
 pub mod Going

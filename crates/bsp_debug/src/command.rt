@@ -1,7 +1,7 @@
 //! What a debugger is asked for.
 
 /// What a debugger does with its machine, or reads of it.
-#[derive(Clone, Copy, Debug, PartialEq, Eq)]
+#[derive(Clone, Copy)]
 pub enum Command {
     /// At most `count` steps of the node of a rank, while it runs. Points are not looked at.
     Step { rank: u32, count: u64 },

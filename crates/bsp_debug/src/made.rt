@@ -1,7 +1,7 @@
 //! What a command made of a machine's events.
 
 /// Some events of a machine, one after another.
-#[derive(Clone, Copy, Debug, PartialEq, Eq)]
+#[derive(Clone, Copy)]
 pub enum Made {
     /// So many steps of the node of a rank, at least one.
     Steps { rank: u32, count: u64 },

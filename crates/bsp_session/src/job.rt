@@ -4,7 +4,7 @@ use cost_ledger::LedgerText;
 use machine_core::Settings;
 
 /// How the bytes of an image file are read.
-#[derive(Clone, Copy, Debug, PartialEq, Eq)]
+#[derive(Clone, Copy)]
 pub enum Format {
     /// An ELF file: a static executable of 32 bits for RISC-V; at most 2^25 bytes.
     Elf,
@@ -31,7 +31,7 @@ impl Format {
 }
 
 /// How the image is read, the machine that runs it, by how many threads, and what is told of the run.
-#[derive(Clone, Copy, Debug, PartialEq, Eq)]
+#[derive(Clone, Copy)]
 pub struct Job {
     pub format: Format,
     /// Settings may be out of their ranges; a session then refuses them.

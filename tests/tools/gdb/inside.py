@@ -11,7 +11,7 @@ from back import NO_MORE
 from bsptools.debug.arrivals import Place
 from bsptools.debugger import Node, Reply, Session, node_of
 from checks import units
-from sessions import SHOW_REGISTERS, Bench, expect, in_order, registers_in
+from sessions import SHOW_REGISTERS, Bench, Wrong, expect, in_order, registers_in
 
 PROGRAM = "tests/tools/gdb/rounds.c"
 RANKS = 3
@@ -320,10 +320,10 @@ def check(bench: Bench, program: str, plain: Plain, script: Script) -> None:
     shown = dict(zip(map(int, parts[1::2]), parts[2::2]))
     for at, place in script.places:
         found = (re.findall(r"superstep (\d+)", shown.get(at, "")), registers_in(shown.get(at + 1, ""), RANKS))
-        made = [(number, command) for number, command in enumerate(script.commands[:at]) if command != SHOW_REGISTERS]
-        commands = "\n".join(f"{number}: {command}\n{shown.get(number, '')}" for number, command in made)
-        wanted = ([str(place.superstep)], plain.registers(place))
-        expect(found == wanted, f"{place}\n{commands}\nis {_differing(plain, found[1])}, superstep {found[0]}")
+        if found != ([str(place.superstep)], plain.registers(place)):
+            made = [(number, command) for number, command in enumerate(script.commands[:at]) if command != SHOW_REGISTERS]
+            commands = "\n".join(f"{number}: {command}\n{shown.get(number, '')}" for number, command in made)
+            raise Wrong(f"{place}\n{commands}\nis {_differing(plain, found[1])}, superstep {found[0]}")
 
 
 def _differing(plain: Plain, shown: List[List[int]]) -> List[List[int]]:

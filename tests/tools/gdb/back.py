@@ -243,9 +243,9 @@ def _keeping(every: float, most: int, latest: int) -> Iterator[None]:
         kept.EVERY, kept.MOST_KEPT, kept.LATEST = before
 
 
-# A rank that makes 300 million instructions in a superstep.
+# A rank that makes 100 million instructions in a superstep.
 LONG_LOOP = """\
-        li s0, 150000000
+        li s0, 50000000
 loop:   addi s0, s0, -1
         bnez s0, loop
         li a7, 1

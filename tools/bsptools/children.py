@@ -231,7 +231,7 @@ def folder(name: str) -> Iterator[pathlib.Path]:
 @contextlib.contextmanager
 def _waiting(command: str, what: str) -> Iterator[None]:
     """A block during which a shell waits, which does this to something where this process is killed."""
-    words = ["sh", "-c", f'read -r word; [ -n "$word" ] || exec {command} -- "$1"', "sh", what]
+    words = ["sh", "-c", f'read -r word; [ -n "$word" ] || {command} -- "$1"', "sh", what]
     with subprocess.Popen(words, stdin=subprocess.PIPE, stderr=subprocess.DEVNULL, start_new_session=True) as keeper:
         try:
             yield
@@ -241,8 +241,9 @@ def _waiting(command: str, what: str) -> Iterator[None]:
 
 
 def kept(child: subprocess.Popen[bytes]) -> contextlib.AbstractContextManager[None]:
-    """A block at whose end nothing of a child's group is left also where this process is killed: a compiler has children."""
-    return _waiting("kill -KILL", f"-{child.pid}")
+    """A block at whose end nothing of a child's group is left also where this process is killed: a compiler has children. The shell's own
+    `kill` does it, since a small system has no other one."""
+    return _waiting("kill -s KILL", f"-{child.pid}")
 
 
 def removed(path: str) -> contextlib.AbstractContextManager[None]:

@@ -35,7 +35,7 @@ exec sh -c "$*"
 # Stands for an emulator, and kills who makes a run on two nodes.
 KILLING = """\
 #!/bin/sh
-case "$*" in *" --nodes 2 "*) kill -KILL "$(ps -o ppid= -p "$PPID" | tr -d " ")" ;; esac
+case "$*" in *" --nodes 2 "*) read -r _ _ _ maker _ <"/proc/$PPID/stat" && kill -KILL "$maker" ;; esac
 exec "$PROVED" "$@"
 """
 SOURCE = """\

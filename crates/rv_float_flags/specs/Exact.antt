@@ -1,6 +1,6 @@
 -- Exact results, and what rounding makes of them (IEEE 754-2008, sections 7.4 "Overflow", 7.5 "Underflow" and 7.6 "Inexact"; RISC-V
 -- Unprivileged ISA 20191213, section 11.4 "Subnormal Arithmetic"). Of a finite value `lib.Ieee.Positive.num` and `den` are the
--- magnitude, as a fraction. No flag turns on a sign.
+-- magnitude, as a fraction. To the nearest no flag turns on a sign.
 use Rattle.std.specs.Prelude.{ℕ, ◌+◌, ◌-◌, ◌*◌, ◌^◌, ◌==◌, Bool, false, not, ◌&&◌, nat_lt, if◌then◌else◌}
 use Rattle.std.specs.Int.{abs_diff}
 use Rattle.std.specs.Float.{float_is_finite, float_is_infinite, is_sign_negative}

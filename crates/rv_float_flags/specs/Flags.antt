@@ -22,7 +22,7 @@ inexact_if b = record { nv = false; dz = false; of = false; uf = false; nx = b }
 abbrev pub overflow_if : Bool → Flags
 overflow_if b = record { nv = false; dz = false; of = b; uf = false; nx = false }
 
--- the flags of rounding an exact result (IEEE 754-2008, sections 7.4 to 7.6, with the default handling of exceptions)
+-- the flags of rounding an exact result to the nearest (IEEE 754-2008, sections 7.4 to 7.6, with the default handling of exceptions)
 abbrev pub rounding_flags : Format → Ratio → Flags
 rounding_flags f r = record {
   nv = false;

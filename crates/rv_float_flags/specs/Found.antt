@@ -15,7 +15,8 @@ is_finite a = nat_lt (exponent a) 2047
 abbrev pub is_moderate : ℕ → Bool
 is_moderate a = nat_lt (exponent a) 2045
 
--- By their exponents the product of two is neither tiny nor infinite.
+-- By their exponents, which are 1023 above the powers of two, the product of two is neither tiny nor infinite: it is at least 2 ^ -970, and
+-- less than 2 ^ 1022.
 abbrev pub is_product_moderate : ℕ → ℕ → Bool
 is_product_moderate a b = nat_le 1076 (exponent a + exponent b) && nat_le (exponent a + exponent b) 3066
 

@@ -28,7 +28,7 @@ rs2_is_0 = 6 to 2 is 0 ∷ []
 abbrev pub small_is_0 : List Fixed
 small_is_0 = bit 12 is 0 ∷ 6 to 2 is 0 ∷ []
 
--- an amount above 31
+-- an amount above 31, which has no meaning on 32 bits, and is left to extensions that are no standard (section 16.8, "NSE")
 abbrev pub amount_has_bit_5 : List Fixed
 amount_has_bit_5 = bit 12 is 1 ∷ []
 

@@ -13,7 +13,8 @@ use Rattle.rv_tables.specs.declared.instr.UpperOp.{UpperOp}
 use Rattle.rv_tables.specs.Rows.{Encoding}
 use Rattle.rv_tables.specs.Fields as Fields
 
--- rows by the value of the bits that they fix
+-- Rows by the value of the bits that they fix. In a mask 0x7F is the opcode, bits 6 to 0; 0x7000 is funct3, bits 14 to 12; and 0xFE000000 is
+-- funct7, bits 31 to 25.
 abbrev pub r_row_of : ℕ → ROp → Encoding
 r_row_of v op = record { row = record { mask = 0xFE00707F; value = v; form = form.R }; read = λ w. R op (Fields.rd w) (Fields.rs1 w) (Fields.rs2 w) }
 

@@ -5,7 +5,7 @@ ghost use Rattle.node_core.specs.Calls.{call_of};
 
 /// An environment call, after BSPlib's function of that name (Hill and others, 1998). `Write` and `Read`, output and
 /// input, are this machine's own.
-#[derive(Clone, Copy, Debug, PartialEq, Eq)]
+#[derive(Clone, Copy)]
 pub enum Call {
     End,
     Nprocs,

@@ -1,9 +1,7 @@
 """Lanes: how many parts of checks are made at a time, over all the checks that run side by side.
 
 The gate makes a pipe with a name, which has a byte for each lane that is free, and gives each check that it starts one lane. Whatever else
-the check makes at the same time takes another one, and gives it back. A check that is run by itself has as many of its own.
-
-There are more lanes than processors, since a part waits now and then: for a time to be up, for what does not come, for a process to end.
+the check makes at the same time takes another one, and gives it back. A check that is run by itself has a lane for each processor.
 """
 
 from __future__ import annotations
@@ -30,20 +28,15 @@ def processors() -> int:
     return len(os.sched_getaffinity(0))
 
 
-def most() -> int:
-    """How many lanes there are."""
-    return processors() * 3 // 2
-
-
 class Lanes:
-    """The gate's lanes."""
+    """The gate's lanes: as many as there are processors."""
 
     def __init__(self, folder: pathlib.Path) -> None:
         self.path = folder / "lanes"
         os.mkfifo(self.path, 0o600)
         # Open for both, so that the bytes stay while no check is there.
         self.pipe = os.open(self.path, os.O_RDWR)
-        os.write(self.pipe, BYTE * most())
+        os.write(self.pipe, BYTE * processors())
 
     def environment(self) -> Mapping[str, str]:
         """What the checks have in their environment."""
@@ -74,7 +67,7 @@ class Queue(Generic[Thing]):
 
     def run(self) -> None:
         """Makes all. What the first of them raised that raises anything is raised when all are over."""
-        count = min(most(), len(self.left)) - 1
+        count = min(processors(), len(self.left)) - 1
         beside = [threading.Thread(target=self._beside) for _ in range(count)]
         for thread in beside:
             thread.start()

@@ -34,8 +34,6 @@ _NODE = re.compile(r"rank (\d+) pc ([0-9a-f]{8}) ticks (\d+) state (.+)")
 _REGISTER = re.compile(r"=([0-9a-f]{8})")
 _FCSR = re.compile(r"rank \d+ fcsr ([0-9a-f]{8}) .+")
 _FLOAT = re.compile(r"=([0-9a-f]{16})")
-# What a step and a look behind it answer, of which the second answer is shown, and how many lines these are.
-_STEPPED, _LINES_OF_STEP = re.compile(rb"done 1\n[^\n]*\ndone 9\n((?:[^\n]*\n){9})"), 12
 
 
 class DebuggerEnded(Refused):
@@ -207,18 +205,6 @@ class Session:
             replies += [self.reply() for _ in part]
         return replies
 
-    def trail(self, rank: int, count: int) -> list[Shown]:
-        """A rank makes so many instructions one by one. The node after each."""
-        most = self._batch // 2
-        trail: list[Shown] = []
-        for start in range(0, count, most):
-            part = min(most, count - start)
-            self.send(*[f"step {rank} 1", f"regs {rank}"] * part)
-            trail += [Shown(Reply(True, it)) for it in _STEPPED.findall(self._take_all(_LINES_OF_STEP * part))]
-        if len(trail) != count:
-            raise Refused("the debugger shows no node")
-        return trail
-
     def settings(self) -> dict[str, int]:
         """The number of nodes and the other settings, by the names of their options."""
         words = self.ask("nodes").accepted()[0].split()
@@ -281,17 +267,6 @@ class Session:
             read.clear()
             self._taken = 0
         return data
-
-    def _take_all(self, count: int) -> bytes:
-        """All lines that are still to come, of which there are so many."""
-        parts = [bytes(self._read[self._taken :])]
-        self._read.clear()
-        self._taken = 0
-        left = count - parts[0].count(b"\n")
-        while left > 0:
-            parts.append(self._more())
-            left -= parts[-1].count(b"\n")
-        return b"".join(parts)
 
     def _more(self) -> bytes:
         """More of what it answers."""

@@ -131,9 +131,9 @@ class Process(abc.ABC):
         self.settle()
         self._make_room()
         self._is_at_begin = False
-        trail = self._session.trail(rank, count)
-        self._nodes[rank] = trail[-1].node
-        return trail
+        replies = self._session.ask_all([f"step {rank} 1", f"regs {rank}"] * count)
+        self._keep(replies[-1])
+        return [Shown(reply) for reply in replies[1::2]]
 
     def turn(self) -> str:
         """Makes the turn, if no rank runs. Answers the debugger's line."""

@@ -2,6 +2,7 @@
 
 from __future__ import annotations
 
+import contextlib
 import os
 import pathlib
 import re
@@ -10,7 +11,7 @@ import sys
 import tempfile
 import threading
 from dataclasses import dataclass, field
-from typing import Dict, List, Mapping, Optional, Sequence, Tuple
+from typing import Callable, Dict, List, Mapping, Optional, Sequence, Tuple
 
 from lanes import Lanes
 
@@ -61,11 +62,13 @@ class Bench:
     top: str
     done: List[Done] = field(default_factory=list)
 
-    def run(self, check: Check, environment: Optional[Mapping[str, str]] = None) -> Tally:
-        """Runs a check, shows what it says, and counts it."""
+    def run(
+        self, check: Check, environment: Optional[Mapping[str, str]] = None, hear: Optional[Callable[[str], None]] = None
+    ) -> Tally:
+        """Runs a check, shows what it says, and counts it. Each of its lines is heard, if somebody is to hear it."""
         print(f"== {check.name}", flush=True)
         spent = processor_seconds()
-        status, last, tests = shown(check.command, self.top, environment)
+        status, last, tests = shown(check.command, self.top, environment, hear)
         tally = counted(check, status, last)
         tally.passed += tests
         self.done.append(Done(check, tally, processor_seconds() - spent))
@@ -137,6 +140,50 @@ class Beside:
             self.done.append(Done(check, tally, spent))
 
 
+class Fed:
+    """A check that runs beside another one, of which it is told by lines of its standard input. What it says is shown when it is over."""
+
+    def __init__(self, bench: Bench, check: Check, environment: Mapping[str, str]) -> None:
+        self.bench, self.check = bench, check
+        self.said = tempfile.TemporaryFile("w+", errors="replace")  # pylint: disable=consider-using-with
+        self.process: subprocess.Popen[str] = subprocess.Popen(
+            check.command,
+            cwd=bench.top,
+            env={**os.environ, "PYTHONUNBUFFERED": "1", **environment},
+            stdin=subprocess.PIPE,
+            stdout=self.said,
+            stderr=subprocess.STDOUT,
+            text=True,
+        )
+
+    def tell(self, line: str) -> None:
+        """Tells it a line."""
+        assert self.process.stdin is not None
+        with contextlib.suppress(BrokenPipeError):  # it has ended, which join() tells of
+            self.process.stdin.write(f"{line}\n")
+            self.process.stdin.flush()
+
+    def join(self) -> Tally:
+        """Tells it that there is no more, waits for its end, shows what it has said, and counts it."""
+        assert self.process.stdin is not None
+        with contextlib.suppress(BrokenPipeError):
+            self.process.stdin.close()
+        spent = ended(self.process)
+        self.said.seek(0)
+        said = self.said.read()
+        self.said.close()
+        print(f"== {self.check.name}, {spent:.0f} seconds of processors\n{said}", end="", flush=True)
+        tally = counted(self.check, self.process.returncode, last_of(said))
+        self.bench.done.append(Done(self.check, tally, spent))
+        return tally
+
+    def stop(self) -> None:
+        """Ends it."""
+        if self.process.returncode is None:
+            self.process.terminate()
+            self.process.wait()
+
+
 def processor_seconds() -> float:
     """The seconds of processors that all processes took which this one has waited for."""
     spent = os.times()
@@ -163,9 +210,11 @@ def last_of(said: str) -> str:
     return next((line.strip() for line in reversed(said.splitlines()) if line.strip()), "")
 
 
-def shown(command: Sequence[str], top: str, environment: Optional[Mapping[str, str]]) -> Tuple[int, str, int]:
-    """Runs a command, shows each of its lines at once, and gives its status, its last line that is not empty, and how many tests of
-    crates passed in it."""
+def shown(
+    command: Sequence[str], top: str, environment: Optional[Mapping[str, str]], hear: Optional[Callable[[str], None]]
+) -> Tuple[int, str, int]:
+    """Runs a command, shows each of its lines at once, has it heard, and gives the command's status, its last line that is not empty, and
+    how many tests of crates passed in it."""
     last, tests = "", 0
     with started(command, top, environment) as running:
         assert running.stdout is not None
@@ -174,6 +223,8 @@ def shown(command: Sequence[str], top: str, environment: Optional[Mapping[str, s
                 sys.stdout.write(line)
                 sys.stdout.flush()
                 last = line.strip() or last
+                if hear is not None:
+                    hear(line)
                 found = TESTS_LINE.match(line)
                 tests += int(found[1]) if found else 0
         except BaseException:

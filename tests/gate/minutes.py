@@ -16,6 +16,8 @@ MARK = "BSPEMU_GATE"
 SECONDS_BETWEEN_LOOKS = 0.2
 TICKS = os.sysconf("SC_CLK_TCK")
 PARTS = ("proof", "tests", "edits")
+# How the folders begin in which tests/edits has the prover work.
+EDITS = "edits-"
 BEGIN, END = "<!-- what the gate costs -->", "<!-- end of what the gate costs -->"
 
 Part = Tuple[str, str]
@@ -84,14 +86,14 @@ def part_of(place: pathlib.Path) -> Optional[Part]:
     if "--crate-name" not in words:
         return None
     crate = words[words.index("--crate-name") + 1]
-    if os.path.basename(os.readlink(place / "cwd")).startswith("rt-edit"):
+    if os.path.basename(os.readlink(place / "cwd")).startswith(EDITS):
         return crate, "edits"
     return crate, "tests" if "--test" in words else "proof"
 
 
 def edits_of(crates: pathlib.Path, crate: str) -> int:
     """How many edits a crate has."""
-    return len(list((crates / crate / "must-fail").glob("*.edit")))
+    return len(list((crates / crate / "edits").glob("*.edit")))
 
 
 def total(prover: float, checks: Sequence[Done], clock: float) -> str:

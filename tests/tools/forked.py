@@ -2,8 +2,9 @@
 
 A check that looks at what a tool tells, and not at how it starts and ends, makes its runs so. One process, which has loaded the tools, is
 asked for a run over a socket, and splits off a child that makes it, with the standard streams, the folder and the environment that it was
-given. All runs of a tool have the order of sets in common, so that who looks for the same bytes twice starts it. `tests/tools/guards`, but
-for its outputs, `starts`, `statuses` and `watched`, the pages and the cases start the tools as people do.
+given. All runs of a tool have the order of sets in common, so that who looks for the same bytes twice starts it. The bridge that gdb starts at
+the other end of its pipe is split off, too, for a process that stands in its place (`asking.py`). `tests/tools/guards`, but for its outputs,
+`starts`, `statuses` and `watched`, the pages and the cases start the tools as people do.
 """
 
 from __future__ import annotations
@@ -12,14 +13,16 @@ import array
 import atexit
 import contextlib
 import functools
+import gc
 import importlib
 import importlib.util
 import io
-import json
+import marshal
 import os
 import pathlib
 import pkgutil
 import select
+import shlex
 import signal
 import socket
 import subprocess
@@ -39,6 +42,10 @@ STREAMS = 3
 # No number of a stream of the process is higher.
 MOST_STREAMS = 1 << 10
 LENGTH = 8
+# The tool that has gdb start it once more, in the folder of such a process: a script, which asks that one.
+BRIDGED, STARTER = "bspgdb", "#!/bin/sh\nexec "
+# In the environment of a run, and so of what it starts: numbers of the tools' modules, as `bsptools.debug.writers.MOST=99`.
+NUMBERS = "BSPTOOLS_NUMBERS"
 # Only what hangs takes so long, also on a busy machine.
 SECONDS = 600
 
@@ -63,7 +70,7 @@ class Server:
 
     def ask(self, asked: Mapping[str, object], streams: Sequence[int]) -> int:
         """The status of a run with these streams, or the signal that has ended it below 0."""
-        text = json.dumps(asked).encode()
+        text = marshal.dumps(dict(asked))
         with socket.socket(socket.AF_UNIX) as peer:
             peer.settimeout(SECONDS)
             peer.connect(self.place)
@@ -140,6 +147,16 @@ def load(tools: Sequence[str]) -> None:
             importlib.import_module(other)
 
 
+def bridge_from_here(place: str) -> None:
+    """Has the other end of gdb's pipe split off from this process, too."""
+    from bsptools import emulator  # pylint: disable=import-outside-toplevel
+
+    starter, asking, program = pathlib.Path(place).with_name(BRIDGED), pathlib.Path(__file__).with_name("asking.py"), emulator.program
+    starter.write_text(STARTER + shlex.join([sys.executable, "-I", "-S", "-B", str(asking), place, BRIDGED]) + ' "$@"\n')
+    starter.chmod(0o700)
+    emulator.program = lambda name: str(starter) if name == BRIDGED else program(name)
+
+
 def received(peer: socket.socket) -> Tuple[Dict[str, object], List[int]]:
     """What is asked for, and the streams."""
     streams = array.array("i")
@@ -147,8 +164,16 @@ def received(peer: socket.socket) -> Tuple[Dict[str, object], List[int]]:
     for _, _, numbers in rights:
         streams.frombytes(numbers)
     with peer.makefile("rb") as file:
-        asked: Dict[str, object] = json.loads(file.read(int.from_bytes(data, "big")))
+        asked: Dict[str, object] = marshal.loads(file.read(int.from_bytes(data, "big")))
     return asked, list(streams)
+
+
+def set_numbers() -> None:
+    """Takes the numbers of the environment for those that the modules have: what is shown by few of something need not be made of many."""
+    for it in os.environ.get(NUMBERS, "").split():
+        name, _, value = it.partition("=")
+        module, _, number = name.rpartition(".")
+        setattr(importlib.import_module(module), number, int(value))
 
 
 def make(peer: socket.socket) -> NoReturn:
@@ -166,6 +191,7 @@ def make(peer: socket.socket) -> NoReturn:
         os.chdir(str(asked["folder"]))
         os.environ.clear()
         os.environ.update(asked["environment"])  # type: ignore[call-overload]
+        set_numbers()
         status = start.process(str(asked["name"]), [str(it) for it in asked["words"]])  # type: ignore[attr-defined]
         sys.stdout.flush()
         sys.stderr.flush()
@@ -184,6 +210,9 @@ def serve(place: str) -> None:
     listener.bind(place)
     listener.listen(64)
     os.write(1, b".")
+    # What is loaded stays, and is looked through by no run; nor is what a run makes, more often than by a tool that was started.
+    gc.freeze()
+    gc.set_threshold(50_000)
     while True:
         ready, _, _ = select.select([0, woken, listener], [], [])
         if 0 in ready:
@@ -212,4 +241,6 @@ def reap(running: Dict[int, socket.socket]) -> None:
 if __name__ == "__main__":
     sys.path.insert(0, str(REPO / "tools"))
     load(sys.argv[2:])
+    if BRIDGED in sys.argv[2:]:
+        bridge_from_here(sys.argv[1])
     serve(sys.argv[1])

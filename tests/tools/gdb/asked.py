@@ -128,7 +128,7 @@ def floats(bench: Bench) -> None:
     in_order(text, "fa0 ", "double = 1.5}", "(raw 0x3ff8000000000000)", "fa1 ", "double = 1}", "ft11 ", "fflags ", "NX:0", "frm ", "fcsr ")
     expect("Writing to registers is not allowed" in text, text)
     # What the debugger says of the same state: `plus` is called for the second time, and has made its sum.
-    addr = int(re.findall(r"0x[0-9a-f]+", bench.gdb(program, ["info address plus"]))[-1], 16)
+    addr = bench.pointers(program, ["plus"])[0]
     told_there = bench.debug(program, [f"break 0 {addr}", "go", "go", "step 0 1", "fregs 0"], "--nodes", "2", "--clock")
     in_order("\n".join(told_there), "rank 0 fcsr 00000000 frm 0 flags -", "f10=3ff8000000000000 f11=3ff0000000000000")
 
@@ -159,7 +159,7 @@ def who_wrote_by_pieces(bench: Bench) -> None:
     """In pieces of any size the same is found, wherever the run stands."""
     program = bench.build(SOURCE, "-DREST=50")
     command = [bench.bspemu, "debug", program, *units(program), "--format", "elf", "--nodes", "3"]
-    addr = int(re.findall(r"0x[0-9a-f]+", bench.gdb(program, ["info address first"]))[-1], 16)
+    addr = bench.pointers(program, ["first"])[0]
     with bench.machines:
         kept = writers.PIECE, writers.MOST_PIECE
         run = machine.Machine(command)
@@ -182,7 +182,7 @@ def who_wrote_by_changes(bench: Bench) -> None:
     """No byte was written last before it changed last, as a look at the memory after each instruction and each turn tells."""
     program = bench.build(SOURCE, "-DREST=50")
     command = [bench.bspemu, "debug", program, *units(program), "--format", "elf", "--nodes", "3"]
-    addr = int(re.findall(r"0x[0-9a-f]+", bench.gdb(program, ["info address first"]))[-1], 16) - 32
+    addr = bench.pointers(program, ["first"])[0] - 32
     changed: Dict[int, Tuple[int, float]] = {}
     run = machine.Machine(command)
     before = run.memory(0, addr, SIZE)

@@ -243,9 +243,8 @@ def back_inside(bench: Bench) -> None:
     """From wherever the ranks stand in a superstep, back to the last breakpoint, change or beginning before."""
     program = bench.build(PROGRAM)
     names = ["note", "twice", "*bsp_sync", "44", "*bsp_sync+134"]
-    addresses = [bench.address(program, place) for place in names]
-    text = bench.gdb(program, [f"output/x (int)&{name}" for name in ("seen", "received.numbers[1]", "mine.numbers[2]", "received.from")])
-    words = [int(it, 16) for it in re.findall(r"(?<=\(gdb\) )0x[0-9a-f]+", text)]
+    addresses = bench.addresses(program, names)
+    words = bench.pointers(program, ["seen", "received.numbers[1]", "mine.numbers[2]", "received.from"])
     watched = [(rank, addr) for rank in range(RANKS) for addr in words]
     plain = Plain([bench.bspemu, "debug", program, *units(program), "--nodes", str(RANKS), "--memory", str(1 << 24)], watched)
     for seed in SEEDS:

@@ -3,6 +3,7 @@
 from __future__ import annotations
 
 import functools
+import os
 import pathlib
 import re
 import subprocess
@@ -60,12 +61,12 @@ class Bench:
                 subprocess.run([*words, "-o", str(target), source], cwd=REPO, check=True, timeout=SECONDS)
         return str(target)
 
-    def gdb(self, program: str, commands: Sequence[str], *options: str) -> str:
-        """What gdb prints that is given these commands."""
+    def gdb(self, program: str, commands: Sequence[str], *options: str, numbers: str = "") -> str:
+        """What gdb prints that is given these commands; with other numbers in the tools' modules, where `forked` is told some."""
         # Without what the user has gdb do when it starts.
         words = [str(REPO / "bspgdb"), "--bspemu", self.bspemu, *options, program, "--", "-nx"]
         text = "".join(command + "\n" for command in ["set width 0", *commands])
-        return forked.run(words, text, REPO, merged=True).stdout
+        return forked.run(words, text, REPO, {**os.environ, forked.NUMBERS: numbers}, merged=True).stdout
 
     def debug(self, program: str, commands: Sequence[str], *options: str) -> List[str]:
         """What the debugger answers to these lines."""
@@ -94,9 +95,24 @@ class Bench:
     @functools.lru_cache(maxsize=None)
     def address(self, program: str, place: str) -> int:
         """Where gdb sets a breakpoint, which it finds in the executable alone."""
-        words = [GDB.name, "-q", "-nx", "-batch", "-ex", f"break {place}", program]
-        done = subprocess.run(words, stdin=subprocess.DEVNULL, capture_output=True, text=True, cwd=REPO, timeout=SECONDS, check=False)
-        found = re.search(r"reakpoint 1 at (0x[0-9a-f]+)", done.stdout)
-        if found is None:
-            raise Wrong(f"no breakpoint at {place}")
-        return int(found[1], 16)
+        return self.addresses(program, [place])[0]
+
+    def addresses(self, program: str, places: Sequence[str]) -> List[int]:
+        """The same of some places, by one gdb."""
+        found = re.findall(r"reakpoint \d+ at (0x[0-9a-f]+)", self._of_file(program, [f"break {it}" for it in places]))
+        if len(found) != len(places):
+            raise Wrong(f"no breakpoints at {places}")
+        return [int(it, 16) for it in found]
+
+    def pointers(self, program: str, names: Sequence[str]) -> List[int]:
+        """Where variables and functions are, or parts of them, which gdb finds there too."""
+        found = re.findall(r"(?m)^\$\d+ = (0x[0-9a-f]+)$", self._of_file(program, [f"print/x (int)&{it}" for it in names]))
+        if len(found) != len(names):
+            raise Wrong(f"not all of {names} are in {program}")
+        return [int(it, 16) for it in found]
+
+    @staticmethod
+    def _of_file(program: str, commands: Sequence[str]) -> str:
+        """What a gdb says that looks at an executable, and starts nothing."""
+        words = [GDB.name, "-q", "-nx", "-batch", *(it for command in commands for it in ("-ex", command)), program]
+        return subprocess.run(words, stdin=subprocess.DEVNULL, capture_output=True, text=True, cwd=REPO, timeout=SECONDS, check=False).stdout

@@ -2,7 +2,6 @@
 
 from __future__ import annotations
 
-import re
 from typing import Callable, List, Tuple
 
 from back import SOON_INTERRUPTED
@@ -112,11 +111,11 @@ def watch_steps(bench: Bench) -> None:
 
 @case
 def watch_far_back(bench: Bench) -> None:
-    """To a store behind more instructions than are looked at in one go: there it stops, and goes on from there."""
-    program = bench.build(PROGRAM, "-DLOOP=4500")
-    commands = ["monitor superstep 4500", "continue", "watch seen", *["reverse-continue"] * 2]
-    text = bench.gdb(program, commands, "-n", "2")
-    in_order(text, "superstep 4500 begins", "what is watched was not written from here on; reverse-continue looks further back", "stopped.")
+    """To a store behind more supersteps than are looked at in one go, of which there are fewer here: there it stops, and goes on from there."""
+    program = bench.build(PROGRAM, "-DLOOP=450")
+    commands = ["monitor superstep 450", "continue", "watch seen", *["reverse-continue"] * 2]
+    text = bench.gdb(program, commands, "-n", "2", numbers="bsptools.debug.writers.MOST_SUPERSTEPS=400")
+    in_order(text, "superstep 450 begins", "what is watched was not written from here on; reverse-continue looks further back", "stopped.")
     in_order(text, "stopped.", "hit Hardware watchpoint 1: seen", "44\t")
 
 
@@ -135,8 +134,7 @@ def watch_by_changes(bench: Bench) -> None:
     program = bench.build(PROGRAM)
     command = [bench.bspemu, "debug", program, *units(program), "--format", "elf", "--nodes", "3"]
     for place, rank in (("received.numbers[1]", 1), ("mine.numbers[2]", 2), ("seen", 0)):
-        text = bench.gdb(program, [f"output/x (int)&{place}"])
-        addr = int(re.findall(r"0x[0-9a-f]+(?=\(gdb\))", text)[-1], 16)
+        addr = bench.pointers(program, [place])[0]
         wanted = looked_at(command, rank, addr)
         run = machine.Machine(command)
         goes = runner.Runner(run, lambda _: None, lambda: False)

@@ -323,15 +323,14 @@ def are_points(picture: svg.Drawing, wanted: Dict[str, float], is_of_powers: boo
 def same_bytes(check: Check) -> None:
     """Each kind of picture is written, and has the same bytes each time, by another process too."""
     beginnings = {"t.svg": b"<?xml", "t.png": b"\x89PNG", "t.pdf": b"%PDF", "t.html": b"<!DOCTYPE html>"}
-    for words in (["--timeline", "t.svg", "--html", "t.html"], ["--timeline", "t.png"], ["--timeline", "t.pdf"]):
-        contents: List[Dict[str, bytes]] = []
-        for _ in range(2):
-            check.started("bspplot", *words, *WORDS, str(STORED / "inner.csv"))
-            contents.append({name: (check.folder / name).read_bytes() for name in words[1::2]})
-        for name in words[1::2]:
-            begun = contents[0][name].startswith(beginnings[name])
-            check.expect(f"the kind of {name}", begun, contents[0][name][:20])
-            check.expect(f"{name} twice", contents[0][name] == contents[1][name], "the bytes differ")
+    words = ["--timeline", "t.svg", "--costs", "t.png", "--matrix", "t.pdf", "--html", "t.html"]
+    contents: List[Dict[str, bytes]] = []
+    for _ in range(2):
+        check.started("bspplot", *words, *WORDS, str(STORED / "inner.csv"))
+        contents.append({name: (check.folder / name).read_bytes() for name in words[1::2]})
+    for name, beginning in beginnings.items():
+        check.expect(f"the kind of {name}", contents[0][name].startswith(beginning), contents[0][name][:20])
+        check.expect(f"{name} twice", contents[0][name] == contents[1][name], "the bytes differ")
 
 
 def answers(check: Check, commands: List[Tuple[str, ...]]) -> List[Tuple[int, str]]:

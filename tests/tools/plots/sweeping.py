@@ -13,7 +13,7 @@ import signal
 import subprocess
 import threading
 import time
-from typing import Any, Callable, Dict, List, Mapping, Optional, Set
+from typing import Any, Callable, Dict, List, Mapping, Optional, Sequence, Set
 
 import cluster
 from base import PARALLEL, REPO, Check, Parts
@@ -23,6 +23,8 @@ from bsptools.sweep.store import Place
 
 PROGRAMS = [str(REPO / "examples/broadcast.s"), str(REPO / "examples/broadcast2.s")]
 TWELVE = ["--nodes", "2,3,8", "--prices", "1:100,4:1000", *PROGRAMS]
+# Two runs, which are what another way of the same engine is shown by.
+TWO = ["--nodes", "2,3", PROGRAMS[0]]
 # Stands for ssh: it notes the host, and runs the command here.
 STUB = """\
 #!/bin/sh
@@ -89,29 +91,30 @@ def kept(check: Check) -> None:
     differing(check)
 
 
-TABLES: List[str] = []
+TABLES: Dict[str, str] = {}
 LOCK = threading.Lock()
 
 
-def table(check: Check) -> str:
+def table(check: Check, points: Sequence[str] = TWELVE) -> str:
     """The table of the plain engine, which is made once."""
     with LOCK:
-        if not TABLES:
-            TABLES.append(check.tool("bspsweep", "--engine", "plain", "--folder", "plain", *TWELVE).stdout)
-        return TABLES[0]
+        asked = shlex.join(points)
+        if asked not in TABLES:
+            TABLES[asked] = check.tool("bspsweep", "--engine", "plain", "--folder", "plain", *points).stdout
+        return TABLES[asked]
 
 
 def parallel(check: Check) -> None:
     """The same sweep by GNU parallel, here and on hosts."""
-    text = table(check)
-    by_engine(check, text, "parallel", ["--engine", "parallel"])
-    by_engine(check, text, "a host of parallel", ["--hosts", ":", "--check"])
+    by_engine(check, table(check), "parallel", ["--engine", "parallel"])
+    text = table(check, TWO)
+    by_engine(check, text, "a host of parallel", ["--hosts", ":", "--check"], points=TWO)
     stub = check.folder.parent / "ssh"
     stub.write_text(STUB)
     stub.chmod(0o755)
     two = ["--hosts", "one,two"]
-    by_engine(check, text, "two hosts of parallel", [*two, "--check"], {"PARALLEL_SSH": str(stub), "SHELL": "/bin/false"})
-    by_engine(check, text, "two hosts of parallel where no SHELL is set", two, {"PARALLEL_SSH": str(stub), "SHELL": None})
+    by_engine(check, text, "two hosts of parallel", [*two, "--check"], {"PARALLEL_SSH": str(stub), "SHELL": "/bin/false"}, TWO)
+    by_engine(check, text, "two hosts of parallel where no SHELL is set", two, {"PARALLEL_SSH": str(stub), "SHELL": None}, TWO)
     told = set((stub.parent / "told").read_text().split())
     check.expect("both hosts were asked", told == {"one", "two"}, told)
 
@@ -173,14 +176,16 @@ def uncompiled(check: Check) -> None:
     check.expect("no program", done.returncode == 1 and done.stdout == "" and "was not compiled" in done.stderr, done)
 
 
-def by_engine(check: Check, text: str, name: str, words: List[str], environment: Optional[Mapping[str, Optional[str]]] = None) -> None:
+def by_engine(
+    check: Check, text: str, name: str, words: List[str], environment: Optional[Mapping[str, Optional[str]]] = None, points: Sequence[str] = TWELVE
+) -> None:
     """The same sweep by another engine, from nothing."""
     folder = name.replace(" ", "-")
-    done = check.tool("bspsweep", *words, "--folder", folder, "-o", f"{folder}.csv", *TWELVE, environment=environment)
+    done = check.tool("bspsweep", *words, "--folder", folder, "-o", f"{folder}.csv", *points, environment=environment)
     path = check.folder / f"{folder}.csv"
     right = done.returncode == 0 and path.exists() and path.read_text() == text
     if "--check" in words:
-        right = right and "6 runs gave the same once more" in done.stderr
+        right = right and f"{6 if points is TWELVE else 2} runs gave the same once more" in done.stderr
     check.expect(f"a sweep by {name}", right, done.stderr)
 
 
@@ -347,10 +352,10 @@ def machines(check: Check) -> None:
 
 def odd(check: Check) -> None:
     """Folders with a line feed, and arguments and names that begin with a dash."""
-    text = table(check)
+    text = table(check, TWO)
     for engine in ("plain", "parallel"):
         if engine == "plain" or not check.tally.lacks(PARALLEL, "a folder of an odd name by GNU parallel"):
-            done = check.tool("bspsweep", "--engine", engine, "--folder", f"{engine}\n'a'", *TWELVE)
+            done = check.tool("bspsweep", "--engine", engine, "--folder", f"{engine}\n'a'", *TWO)
             check.expect(f"a folder with a line feed by {engine}", done.returncode == 0 and done.stdout == text, done.stderr)
     (check.folder / "-x").write_text("7\n")
     words = ["--engine", "plain", "--file=-x", "--input=-x", "--args=-n 3 --report", str(REPO / "tests/tools/c/found/words.elf")]

@@ -1,0 +1,62 @@
+"""What an area is: a program that makes calls, and what they are made by."""
+
+from __future__ import annotations
+
+import enum
+from dataclasses import dataclass
+from typing import Callable, List, Tuple
+
+from .chance import Chance
+
+
+class Build(enum.Enum):
+    """How a program is compiled for the node."""
+
+    FLOATS = "floats"
+    SOFT = "soft"
+    SMALL = "small"
+
+    def options(self) -> List[str]:
+        """What bspcc is given."""
+        return {Build.FLOATS: [], Build.SOFT: ["-march=rv32imc"], Build.SMALL: ["--small", "-DSMALL"]}[self]
+
+
+BOTH = (Build.FLOATS, Build.SOFT)
+ALL = (*BOTH, Build.SMALL)
+
+
+@dataclass(frozen=True)
+class Answer:
+    """What came of a call: the call's words, and those of the lines that the host and the node wrote."""
+
+    call: List[str]
+    host: List[str]
+    node: List[str]
+
+    def text(self, at: int) -> bytes:
+        """The text that stands in the call at a place."""
+        return bytes.fromhex(self.call[at][1:])
+
+
+@dataclass(frozen=True)
+class Difference:
+    """A difference between host and node that is no mistake: why, with the section of C or POSIX that leaves it open, and when it is this."""
+
+    reason: str
+    is_this: Callable[[Answer], bool]
+
+
+@dataclass(frozen=True)
+class Area:
+    """An area: its name, its program beside this folder, a maker of calls, the builds for the node, and the differences that may be."""
+
+    name: str
+    program: str
+    call: Callable[[Chance, Build], str]
+    builds: Tuple[Build, ...] = BOTH
+    differences: Tuple[Difference, ...] = ()
+    # Whether files are written, for which bsprun runs the program, and whether each call is a run with an input of its own.
+    has_files: bool = False
+    is_alone: bool = False
+    # How many calls are made in one run.
+    at_once: int = 20000

@@ -1,0 +1,10 @@
+"""All areas."""
+
+from __future__ import annotations
+
+from typing import Dict
+
+from . import printing
+from .area import Area
+
+AREAS: Dict[str, Area] = {it.AREA.name: it.AREA for it in (printing,)}

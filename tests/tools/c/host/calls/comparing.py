@@ -1,0 +1,181 @@
+"""Makes calls on the host and on the node, and compares their lines."""
+
+from __future__ import annotations
+
+import collections
+import functools
+import os
+import pathlib
+import platform
+import shlex
+import shutil
+import subprocess
+import tempfile
+import threading
+from typing import Counter, Iterator, List, Optional, Sequence, Tuple
+
+from checks import COMPILER, REPO, SECONDS, Part, Tally, Tool, units
+
+from .area import Answer, Area, Build
+from .chance import Chance
+
+HERE = pathlib.Path(__file__).resolve().parent.parent
+HOST = Tool("gcc", "gcc")
+X86 = Tool("x86-64", "none", lambda name: platform.machine() in ("x86_64", "AMD64"))
+TOOLS = (HOST, Tool("g++", "g++"), X86, *COMPILER)
+# The host computes as C has it: each operation is rounded by itself. As on nodes, a char has a sign. Calls are not made when they are compiled.
+WARNINGS = ["-Wall", "-Wextra", "-Werror"]
+OPTIONS = ["-O1", "-fno-builtin", "-fsigned-char", "-ffp-contract=off", "-frounding-math", *WARNINGS]
+MEMORY, LIMIT = str(1 << 24), str(1 << 36)
+# How many differences of an area are shown.
+MOST_SHOWN = 8
+
+
+class Program:
+    """The program of an area, for the host and for each build."""
+
+    def __init__(self, bench: "Bench", area: Area) -> None:
+        self.bench, self.area = bench, area
+        self.folder = pathlib.Path(tempfile.mkdtemp(dir=bench.folder))
+        self.source = HERE / area.program
+
+    def compile(self, words: Sequence[str], target: pathlib.Path) -> pathlib.Path:
+        """The program by a compiler."""
+        done = subprocess.run(
+            [*words, *OPTIONS, "-o", str(target), str(self.source), *([] if "--small" in words else ["-lm"])], stderr=subprocess.PIPE, text=True, check=False, timeout=SECONDS
+        )
+        if done.returncode != 0:
+            raise RuntimeError(f"{self.source.name} was not built: {done.stderr}")
+        return target
+
+    @functools.lru_cache(maxsize=None)  # pylint: disable=method-cache-max-size-none
+    def host(self) -> pathlib.Path:
+        """The program for the host."""
+        is_class = self.source.suffix == ".cpp"
+        words = ["g++", "-std=c++17"] if is_class else ["gcc", "-D_GNU_SOURCE"]
+        return self.compile(words, self.folder / "host")
+
+    @functools.lru_cache(maxsize=None)  # pylint: disable=method-cache-max-size-none
+    def node(self, build: Build) -> pathlib.Path:
+        """The program for the node."""
+        is_class = self.source.suffix == ".cpp"
+        language = ["-std=c++17"] if is_class else ["-D_GNU_SOURCE"]
+        return self.compile([str(REPO / "bspcc"), *language, *build.options()], self.folder / f"{build.value}.elf")
+
+    def scratch(self) -> pathlib.Path:
+        """An empty folder."""
+        return pathlib.Path(tempfile.mkdtemp(dir=self.folder))
+
+    def run_host(self, given: bytes) -> List[str]:
+        """What the host writes, in lines."""
+        place = self.scratch()
+        environment = {"TZ": "UTC", "LC_ALL": "C", "PATH": os.environ["PATH"]}
+        (place / "given").write_bytes(given)
+        with (place / "given").open("rb") as source:
+            done = subprocess.run(
+                [str(self.host())], stdin=source, stdout=subprocess.PIPE, check=False, cwd=place, env=environment, timeout=SECONDS
+            )
+        shutil.rmtree(place)
+        if done.returncode != 0:
+            raise RuntimeError(f"{self.source.name} ended with status {done.returncode} on the host, after {len(lines_of(done.stdout))} calls")
+        return lines_of(done.stdout)
+
+    def run_node(self, build: Build, given: bytes) -> Tuple[List[str], str]:
+        """What the node writes, in lines, and why it stopped, or nothing."""
+        place = self.scratch()
+        image = self.node(build)
+        (place / "given").write_bytes(given)
+        if self.area.has_files:
+            words = [str(REPO / "bsprun"), "--no-check", "--memory", "16M", "--limit", LIMIT, "--out", "out", "--input", "given", str(image)]
+        else:
+            words = [self.bench.emulator, "run", str(image), *units(image), "--memory", MEMORY, "--limit", LIMIT, "--input", "given"]
+        done = subprocess.run(words, stdout=subprocess.PIPE, stderr=subprocess.PIPE, check=False, cwd=place, timeout=SECONDS)
+        shutil.rmtree(place)
+        if done.returncode == 0:
+            return lines_of(done.stdout), ""
+        lines = [it for it in lines_of(done.stdout) if not it.startswith("bsp: ")]
+        told = [it for it in lines_of(done.stdout + done.stderr) if it.startswith(("bsp: ", "bsprun: "))]
+        return lines, "; ".join([f"the node stopped with status {done.returncode}", *told[:2]])
+
+
+def lines_of(written: bytes) -> List[str]:
+    """Lines, of any bytes. What stands behind the last end of a line is none."""
+    return written.decode("latin-1").split("\n")[:-1]
+
+
+def readable(call: str) -> str:
+    """A call with its texts as Python spells them."""
+    words = [repr(bytes.fromhex(it[1:])) if it.startswith(".") else it for it in call.split(" ")]
+    return " ".join(words)
+
+
+class Bench:
+    """The programs, and what was found."""
+
+    def __init__(self, tally: Tally, emulator: str, folder: pathlib.Path) -> None:
+        self.tally, self.emulator, self.folder = tally, emulator, folder
+        self.lock = threading.Lock()
+        self.open: Counter[Tuple[str, str]] = collections.Counter()
+
+    def parts(self, area: Area, each: int, seed: int, only: Optional[str]) -> Iterator[Part]:
+        """An area's parts, one for each build, with its share of the calls."""
+        program = Program(self, area)
+        builds = [it for it in area.builds if only in (None, it.value)]
+        for at, build in enumerate(builds):
+            count = each * (at + 1) // len(builds) - each * at // len(builds)
+            yield Part(f"{area.name}, {build.value}", functools.partial(self.compare, program, build, count, seed), TOOLS)
+
+    def compare(self, program: Program, build: Build, count: int, seed: int) -> None:
+        """So many calls of an area by one build."""
+        chance = Chance(f"{seed} {program.area.name} {build.value}")
+        wrong = done = 0
+        while done < count:
+            calls = [program.area.call(chance, build) for _ in range(min(count - done, program.area.at_once))]
+            done += len(calls)
+            for call, host, node in self.answers(program, build, calls):
+                if host != node and not self.is_open(program.area, call, host, node):
+                    wrong += 1
+                    if wrong <= MOST_SHOWN:
+                        self.tell(program.area, build, call, host, node)
+        self.tally.tell(f"{program.area.name}, {build.value}, {done} calls", f"{wrong} differ" if wrong else "")
+
+    def answers(self, program: Program, build: Build, calls: List[str]) -> Iterator[Tuple[str, str, str]]:
+        """Each call with the lines of host and node. Where the node stops, that is its line, and it goes on with the next call."""
+        host = program.run_host("".join(f"{it}\n" for it in calls).encode())
+        if len(host) != len(calls):
+            raise RuntimeError(f"{program.area.name}: the host wrote {len(host)} lines for {len(calls)} calls")
+        node: List[str] = []
+        while len(node) < len(calls):
+            lines, why = program.run_node(build, "".join(f"{it}\n" for it in calls[len(node) :]).encode())
+            node += lines
+            if len(node) < len(calls):
+                node.append(why or "the node wrote no line")
+        yield from zip(calls, host, node)
+
+    def is_open(self, area: Area, call: str, host: str, node: str) -> bool:
+        """Whether a difference is one that C leaves open."""
+        answer = Answer(call.split(" "), host.split(" "), node.split(" "))
+        for it in area.differences:
+            if it.is_this(answer):
+                with self.lock:
+                    self.open[area.name, it.reason] += 1
+                return True
+        return False
+
+    def tell(self, area: Area, build: Build, call: str, host: str, node: str) -> None:
+        """Shows a difference, and how to see it again."""
+        again = f"tests/tools/c/host/run --show {build.value} {area.name} {shlex.quote(call)}"
+        with self.lock:
+            print(f"{area.name}, {build.value}: {readable(call)}\n  host: {host}\n  node: {node}\n  again: {again}", flush=True)
+
+    def tell_differences(self) -> None:
+        """How often each difference came that is open."""
+        for (area, reason), count in sorted(self.open.items()):
+            print(f"{area}: {count} times: {reason}")
+
+
+def show(bench: Bench, area: Area, build: Build, call: str) -> int:
+    """Makes one call, and shows both answers."""
+    ((_, host, node),) = bench.answers(Program(bench, area), build, [call])
+    print(f"{readable(call)}\n  host: {host}\n  node: {node}")
+    return 0 if host == node else 1

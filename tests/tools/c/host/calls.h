@@ -227,6 +227,10 @@ static inline void end_call(void)
     said[said_count++] = '\n';
     said[said_count] = '\0';
     fputs(said, stdout);
+#ifndef __riscv
+    /* A node writes each line as it ends. */
+    fflush(stdout);
+#endif
     said_count = 0;
 }
 

@@ -46,6 +46,11 @@ class Difference:
     is_this: Callable[[Answer], bool]
 
 
+def line(call: str) -> bytes:
+    """A call as its program reads it: as a line."""
+    return f"{call}\n".encode()
+
+
 @dataclass(frozen=True)
 class Area:
     """An area: its name, its program beside this folder, a maker of calls, the builds for the node, and the differences that may be."""
@@ -55,6 +60,7 @@ class Area:
     call: Callable[[Chance, Build], str]
     builds: Tuple[Build, ...] = BOTH
     differences: Tuple[Difference, ...] = ()
+    spelled: Callable[[str], bytes] = line
     # Whether files are written, for which bsprun runs the program, and whether each call is a run with an input of its own.
     has_files: bool = False
     is_alone: bool = False

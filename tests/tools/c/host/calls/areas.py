@@ -4,7 +4,7 @@ from __future__ import annotations
 
 from typing import Dict
 
-from . import printing
+from . import numbers, printing, scanning, texts
 from .area import Area
 
-AREAS: Dict[str, Area] = {it.AREA.name: it.AREA for it in (printing,)}
+AREAS: Dict[str, Area] = {it.AREA.name: it.AREA for it in (printing, scanning, numbers, texts)}

@@ -28,7 +28,7 @@ WARNINGS = ["-Wall", "-Wextra", "-Werror"]
 OPTIONS = ["-O1", "-fno-builtin", "-fsigned-char", "-ffp-contract=off", "-frounding-math", *WARNINGS]
 MEMORY, LIMIT = str(1 << 24), str(1 << 36)
 # How many differences of an area are shown.
-MOST_SHOWN = 8
+MOST_SHOWN = 6
 
 
 class Program:
@@ -38,6 +38,7 @@ class Program:
         self.bench, self.area = bench, area
         self.folder = pathlib.Path(tempfile.mkdtemp(dir=bench.folder))
         self.source = HERE / area.program
+        self.lock = threading.Lock()
 
     def compile(self, words: Sequence[str], target: pathlib.Path) -> pathlib.Path:
         """The program by a compiler."""
@@ -48,19 +49,26 @@ class Program:
             raise RuntimeError(f"{self.source.name} was not built: {done.stderr}")
         return target
 
-    @functools.lru_cache(maxsize=None)  # pylint: disable=method-cache-max-size-none
+    def language(self) -> List[str]:
+        """What is said of the language."""
+        return ["-std=c++17"] if self.source.suffix == ".cpp" else ["-D_GNU_SOURCE"]
+
     def host(self) -> pathlib.Path:
         """The program for the host."""
-        is_class = self.source.suffix == ".cpp"
-        words = ["g++", "-std=c++17"] if is_class else ["gcc", "-D_GNU_SOURCE"]
-        return self.compile(words, self.folder / "host")
+        target = self.folder / "host"
+        with self.lock:
+            if not target.exists():
+                compiler = "g++" if self.source.suffix == ".cpp" else "gcc"
+                self.compile([compiler, *self.language()], target)
+        return target
 
-    @functools.lru_cache(maxsize=None)  # pylint: disable=method-cache-max-size-none
     def node(self, build: Build) -> pathlib.Path:
         """The program for the node."""
-        is_class = self.source.suffix == ".cpp"
-        language = ["-std=c++17"] if is_class else ["-D_GNU_SOURCE"]
-        return self.compile([str(REPO / "bspcc"), *language, *build.options()], self.folder / f"{build.value}.elf")
+        target = self.folder / f"{build.value}.elf"
+        with self.lock:
+            if not target.exists():
+                self.compile([str(REPO / "bspcc"), *self.language(), *build.options()], target)
+        return target
 
     def scratch(self) -> pathlib.Path:
         """An empty folder."""
@@ -141,12 +149,12 @@ class Bench:
 
     def answers(self, program: Program, build: Build, calls: List[str]) -> Iterator[Tuple[str, str, str]]:
         """Each call with the lines of host and node. Where the node stops, that is its line, and it goes on with the next call."""
-        host = program.run_host("".join(f"{it}\n" for it in calls).encode())
+        host = program.run_host(b"".join(map(program.area.spelled, calls)))
         if len(host) != len(calls):
             raise RuntimeError(f"{program.area.name}: the host wrote {len(host)} lines for {len(calls)} calls")
         node: List[str] = []
         while len(node) < len(calls):
-            lines, why = program.run_node(build, "".join(f"{it}\n" for it in calls[len(node) :]).encode())
+            lines, why = program.run_node(build, b"".join(map(program.area.spelled, calls[len(node) :])))
             node += lines
             if len(node) < len(calls):
                 node.append(why or "the node wrote no line")

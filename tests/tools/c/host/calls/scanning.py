@@ -1,0 +1,120 @@
+"""Calls of scanf and all that are like it."""
+
+from __future__ import annotations
+
+from typing import List, Tuple
+
+from . import chance as made
+from .area import ALL, Answer, Area, Build, Difference
+from .chance import Chance, often
+from .numbers import real_text, whole_text
+
+# The length of a whole number, and the letter of what it is stored in.
+WHOLE_SIZES = {"hh": "H", "h": "h", "": "i", "l": "l", "ll": "q", "j": "q", "z": "l", "t": "l"}
+REAL_SIZES = {"": "f", "l": "r", "L": "R"}
+SETS = ("[a-z]", "[^a-z]", "[0-9]", "[]]", "[]a]", "[^]]", "[^]a]", "[a-]", "[-a]", "[^\n]", "[^ ,;]", "[abc]", "[A-Za-z_0-9]", "[^-]", "[%d]", "[+-]", "[ \t]", "[^^]", "[\x80-\xff]")
+OF_SET = b"abcdefgz,;]- 019^%+_ABZ\t\x80\xc3\xff"
+
+
+def conversion(chance: Chance, build: Build) -> Tuple[str, str]:
+    """The length with the letter of a conversion, and the type of the place."""
+    if build == Build.SMALL:
+        letter = chance.choice("ddixucs")
+        if letter in "cs":
+            return letter, "s"
+        size = chance.choice(("hh", "h", "", "", "l", "ll", "z", "t"))
+        return size + letter, WHOLE_SIZES[size]
+    kind = chance.randrange(12)
+    if kind < 5:
+        size, letter = chance.choice(list(WHOLE_SIZES)), chance.choice("ddiuoxX")
+        return size + letter, WHOLE_SIZES[size]
+    if kind < 8:
+        size = chance.choice(("", "l", "l", "L"))
+        return size + chance.choice("fegaEFGA"), REAL_SIZES[size]
+    if kind == 8:
+        return chance.choice(("hhn", "hn", "n", "ln", "lln")), ""
+    if kind == 9:
+        return chance.choice(SETS), "s"
+    if kind == 10 and often(chance, 0.2):
+        return chance.choice(("ls", "lc", "p")), ""
+    return chance.choice("ssc"), "s"
+
+
+def input_of(chance: Chance, letter: str) -> str:
+    """What may be read by a conversion."""
+    if often(chance, 0.07):
+        return chance.choice(("", "x", "-", "0x", "0xg", "+", ".", "1e", "1e+", "0x1p", "in", "nan(", "\x80"))
+    if letter[-1] in "diuoxX":
+        base = {"d": 10, "u": 10, "i": 0, "o": 8}.get(letter[-1], 16)
+        bits = 64 if letter[0] in "jl" and letter[:2] != "ld" else 31
+        # C11 7.21.6.2p10 leaves open what comes of a number that its place cannot hold; docs/manual/c.md promises the low bits of one with 64.
+        return whole_text(chance, base, min(bits, chance.choice((8, 16, 31, 63))), 62)
+    if letter[-1] in "fegaEFGA":
+        return real_text(chance)
+    if letter[-1] == "]":
+        return bytes(chance.choice(OF_SET) for _ in range(chance.randint(0, 9))).decode("latin-1")
+    if letter[-1] == "p":
+        return f"0x{chance.getrandbits(31):x}"
+    blanks = "".join(made.some(chance, " \t\n", 2))
+    return blanks + made.word(chance, 8).decode("latin-1")
+
+
+def piece(chance: Chance, build: Build) -> Tuple[str, str, List[str]]:
+    """A conversion in a format, its part of the text, and the type of its place if it has one."""
+    letter, place = conversion(chance, build)
+    if letter[-1] == "n":
+        return f"%{letter}", "", [{"hhn": "H", "hn": "h", "n": "i", "ln": "l", "lln": "q"}[letter]]
+    if letter in ("ls", "lc"):
+        place = "w"
+    if letter == "p":
+        place = "p"
+    is_left_out = often(chance, 0.12)
+    width = str(chance.choice((1, 2, 3, 4, 5, 7, 10, 17, 30))) if often(chance, 0.35) else ""
+    if letter in ("c", "lc"):
+        width = str(chance.randint(1, 6)) if often(chance, 0.4) else ""
+    return f"%{'*' if is_left_out else ''}{width}{letter}", input_of(chance, letter), [] if is_left_out else [place]
+
+
+def between(chance: Chance) -> Tuple[str, str]:
+    """What stands between two conversions in the format, and in the text."""
+    kind = chance.randrange(10)
+    if kind < 4:
+        return "", ""
+    if kind < 7:
+        return chance.choice((" ", "\n", "\t ")), "".join(made.some(chance, " \t\n\v", 3))
+    literal = chance.choice((",", ":", "%%", "ab", "-", ", ", "x", "\xc3"))
+    return literal, (literal.replace("%%", "%") if often(chance, 0.8) else "?")
+
+
+def call(chance: Chance, build: Build) -> str:
+    """A call."""
+    function = "i" if build == Build.SMALL else chance.choice("sssvff")
+    form, given, places = "", "", []
+    for _ in range(chance.randint(1, 5)):
+        written, content, types = piece(chance, build)
+        middle, parted = between(chance)
+        form, given, places = form + middle + written, given + parted + content, places + types
+    form, given = form + between(chance)[0], given + between(chance)[1]
+    if often(chance, 0.1):
+        given = given[: chance.randint(0, len(given))]
+    if often(chance, 0.2):
+        form += "%n"
+        places.append("i")
+    given = given.replace("\0", "")[:500]
+    if len(places) > 6:
+        return call(chance, build)
+    line = " ".join((function, made.text(form.encode("latin-1")), made.text(given.encode("latin-1")), *places))
+    if function == "i":
+        clean = given.replace("\1", "!").replace("\2", "!")
+        line = " ".join((function, made.text(form.encode("latin-1")), made.text(clean.encode("latin-1")), *places))
+    return line
+
+
+def spelled(line: str) -> bytes:
+    """A call as the program reads it: the text of one that reads the input stands behind it."""
+    function, _, given, *_ = line.split(" ")
+    content = line.encode() + b"\n"
+    return content + (bytes.fromhex(given[1:]) + b"\n" + b"\1\n" * 16 + b"\2\n" if function == "i" else b"")
+
+
+AREA = Area("scanning", "scanning.c", call, ALL, spelled=spelled)

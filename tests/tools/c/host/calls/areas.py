@@ -4,7 +4,7 @@ from __future__ import annotations
 
 from typing import Dict
 
-from . import numbers, printing, scanning, texts
+from . import files, numbers, printing, scanning, texts
 from .area import Area
 
-AREAS: Dict[str, Area] = {it.AREA.name: it.AREA for it in (printing, scanning, numbers, texts)}
+AREAS: Dict[str, Area] = {it.AREA.name: it.AREA for it in (printing, scanning, numbers, texts, files)}

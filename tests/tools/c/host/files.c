@@ -1,6 +1,6 @@
 /* Files and their streams. A call is a script of steps, over four names and four streams. Each step is a word, with its operands behind
-   colons in it: the function's name, the number of a stream, and what it is given. Behind each step stands what it answers. At the end
-   all streams are closed, and the bytes of all files are said. */
+   colons in it: the function's name, the number of a stream, and what it is given. A number of a name from 4 on is that of a file that bsprun
+   gives. Behind each step stands what it answers. At the end all streams are closed, and the bytes of all files are said. */
 #include <fcntl.h>
 #include <sys/stat.h>
 #include <unistd.h>
@@ -9,13 +9,14 @@
 
 enum { STREAMS = 4, NAMES = 4, ROOM = 9000 };
 
-static const char *const names[NAMES] = {"one", "two", "three.txt", "given"};
+static const char *const names[NAMES] = {"one", "two", "three.txt", "folder.d"};
+static char given_name[16];
 static char room[ROOM];
 /* What was done last with a stream, since C wants fseek or fflush between reading and writing. */
 static struct {
     FILE *file;
     char last;
-    int pushed;
+    int pushed, is_readable;
     fpos_t kept;
     int has_kept;
 } streams[STREAMS];
@@ -82,9 +83,23 @@ static void turn_to(int i, char way)
         streams[i].pushed = 0;
 }
 
+static const char *name_operand(void)
+{
+    char digits[12] = "";
+    long number = number_operand();
+    int at = sizeof digits - 1;
+    if (number < NAMES)
+        return names[number];
+    for (; number > 0; number /= 10)
+        digits[--at] = (char)('0' + number % 10);
+    strcpy(given_name, "g");
+    return strcat(given_name, digits + at);
+}
+
 static void open_or_close(const char *step, int i)
 {
-    const char *name = names[number_operand()], *mode = operand();
+    const char *name = name_operand(), *mode = operand();
+    streams[i].is_readable = strchr(mode, '+') != NULL || *mode == 'r';
     if (strcmp(step, "fopen") == 0)
         say_opened(i, fopen(name, mode));
     else if (strcmp(step, "freopen") == 0)
@@ -167,7 +182,7 @@ static void read_some(const char *step, int i)
 static void push_back(int i)
 {
     int byte = (int)number_operand();
-    if (streams[i].last == 'w' || streams[i].pushed) {
+    if (streams[i].last == 'w' || streams[i].pushed || !streams[i].is_readable) {
         say("-");
         return;
     }
@@ -284,21 +299,27 @@ static void make_step(char *step)
         ask(step, i);
 }
 
+static void say_file(const char *name)
+{
+    FILE *file = fopen(name, "r");
+    struct stat about;
+    if (file == NULL) {
+        say("none");
+        return;
+    }
+    say_bytes(room, fread(room, 1, sizeof room, file));
+    fclose(file);
+    say_number(stat(name, &about));
+    say_number((int64_t)about.st_size);
+}
+
 static void say_files(void)
 {
     say("|");
-    for (int i = 0; i < NAMES; i++) {
-        FILE *file = fopen(names[i], "r");
-        struct stat about;
-        if (file == NULL) {
-            say("none");
-            continue;
-        }
-        say_bytes(room, fread(room, 1, sizeof room, file));
-        fclose(file);
-        say_number(stat(names[i], &about));
-        say_number((int64_t)about.st_size);
-    }
+    for (int i = 0; i < NAMES; i++)
+        say_file(names[i]);
+    if (*given_name != '\0')
+        say_file(given_name);
 }
 
 int main(void)
@@ -306,6 +327,7 @@ int main(void)
     while (read_call()) {
         for (int i = 0; i < NAMES; i++)
             remove(names[i]);
+        *given_name = '\0';
         while (has_word())
             make_step(read_word());
         for (int i = 0; i < STREAMS; i++)

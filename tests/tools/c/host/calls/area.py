@@ -4,7 +4,7 @@ from __future__ import annotations
 
 import enum
 from dataclasses import dataclass
-from typing import Callable, List, Tuple
+from typing import Callable, Dict, List, Optional, Sequence, Tuple
 
 from .chance import Chance
 
@@ -18,7 +18,9 @@ class Build(enum.Enum):
 
     def options(self) -> List[str]:
         """What bspcc is given."""
-        return {Build.FLOATS: [], Build.SOFT: ["-march=rv32imc"], Build.SMALL: ["--small", "-DSMALL"]}[self]
+        if self == Build.SMALL:
+            return ["--small", "-DSMALL"]
+        return ["-march=rv32imc"] if self == Build.SOFT else []
 
 
 BOTH = (Build.FLOATS, Build.SOFT)
@@ -61,8 +63,9 @@ class Area:
     builds: Tuple[Build, ...] = BOTH
     differences: Tuple[Difference, ...] = ()
     spelled: Callable[[str], bytes] = line
-    # Whether files are written, for which bsprun runs the program, and whether each call is a run with an input of its own.
-    has_files: bool = False
-    is_alone: bool = False
+    # The files that the program is given for these calls, where it reads and writes files, for which bsprun runs it.
+    given: Optional[Callable[[Sequence[str]], Dict[str, bytes]]] = None
+    # Whether a call is a script, of which steps may be left out.
+    is_script: bool = False
     # How many calls are made in one run.
     at_once: int = 20000

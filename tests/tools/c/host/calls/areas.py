@@ -4,7 +4,7 @@ from __future__ import annotations
 
 from typing import Dict
 
-from . import files, numbers, printing, scanning, texts
+from . import files, heap, numbers, printing, scanning, texts, times
 from .area import Area
 
-AREAS: Dict[str, Area] = {it.AREA.name: it.AREA for it in (printing, scanning, numbers, texts, files)}
+AREAS: Dict[str, Area] = {it.AREA.name: it.AREA for it in (printing, scanning, numbers, texts, files, heap, times)}

@@ -81,7 +81,7 @@ def double(chance: Chance) -> float:
     if kind == 8:
         return of_bits((chance.getrandbits(12) << 52) | chance.getrandbits(chance.randint(1, 8)))
     if kind == 9:
-        return struct.unpack("<f", struct.pack("<I", chance.getrandbits(31) % 0x7F800000))[0] * chance.choice((-1.0, 1.0))
+        return float(struct.unpack("<f", struct.pack("<I", chance.getrandbits(31) % 0x7F800000))[0]) * chance.choice((-1.0, 1.0))
     if kind == 10:
         return of_bits((chance.randint(1023 - 70, 1023 + 70) << 52) | chance.getrandbits(52))
     return of_bits(chance.getrandbits(64))

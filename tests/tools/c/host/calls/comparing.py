@@ -28,7 +28,7 @@ WARNINGS = ["-Wall", "-Wextra", "-Werror"]
 OPTIONS = ["-O1", "-fno-builtin", "-fsigned-char", "-ffp-contract=off", "-frounding-math", *WARNINGS]
 MEMORY, LIMIT = str(1 << 24), str(1 << 36)
 # How many differences of an area are shown.
-MOST_SHOWN = 6
+MOST_SHOWN = 3
 
 
 class Program:
@@ -74,29 +74,37 @@ class Program:
         """An empty folder."""
         return pathlib.Path(tempfile.mkdtemp(dir=self.folder))
 
-    def run_host(self, given: bytes) -> List[str]:
-        """What the host writes, in lines."""
+    def place_for(self, calls: Sequence[str]) -> pathlib.Path:
+        """A folder with the input of these calls, and with the files that they are given."""
         place = self.scratch()
+        (place / "input").write_bytes(b"".join(map(self.area.spelled, calls)))
+        (place / "files").mkdir()
+        for name, content in (self.area.given(calls) if self.area.given else {}).items():
+            (place / "files" / name).write_bytes(content)
+        return place
+
+    def run_host(self, calls: Sequence[str]) -> List[str]:
+        """What the host writes, in lines."""
+        place = self.place_for(calls)
         environment = {"TZ": "UTC", "LC_ALL": "C", "PATH": os.environ["PATH"]}
-        (place / "given").write_bytes(given)
-        with (place / "given").open("rb") as source:
+        with (place / "input").open("rb") as source:
             done = subprocess.run(
-                [str(self.host())], stdin=source, stdout=subprocess.PIPE, check=False, cwd=place, env=environment, timeout=SECONDS
+                [str(self.host())], stdin=source, stdout=subprocess.PIPE, check=False, cwd=place / "files", env=environment, timeout=SECONDS
             )
         shutil.rmtree(place)
-        if done.returncode != 0:
-            raise RuntimeError(f"{self.source.name} ended with status {done.returncode} on the host, after {len(lines_of(done.stdout))} calls")
-        return lines_of(done.stdout)
+        lines = lines_of(done.stdout)
+        if done.returncode != 0 or len(lines) != len(calls):
+            raise RuntimeError(f"{self.source.name} on the host: status {done.returncode}, {len(lines)} lines for {len(calls)} calls")
+        return lines
 
-    def run_node(self, build: Build, given: bytes) -> Tuple[List[str], str]:
+    def run_node(self, build: Build, calls: Sequence[str]) -> Tuple[List[str], str]:
         """What the node writes, in lines, and why it stopped, or nothing."""
-        place = self.scratch()
-        image = self.node(build)
-        (place / "given").write_bytes(given)
-        if self.area.has_files:
-            words = [str(REPO / "bsprun"), "--no-check", "--memory", "16M", "--limit", LIMIT, "--out", "out", "--input", "given", str(image)]
+        image, place = self.node(build), self.place_for(calls)
+        limits = ["--memory", MEMORY, "--limit", LIMIT, "--input", "input"]
+        if self.area.given:
+            words = [str(REPO / "bsprun"), "--no-check", *limits, "--files", "files", "--out", "out", str(image)]
         else:
-            words = [self.bench.emulator, "run", str(image), *units(image), "--memory", MEMORY, "--limit", LIMIT, "--input", "given"]
+            words = [self.bench.emulator, "run", *limits, *units(image), str(image)]
         done = subprocess.run(words, stdout=subprocess.PIPE, stderr=subprocess.PIPE, check=False, cwd=place, timeout=SECONDS)
         shutil.rmtree(place)
         if done.returncode == 0:
@@ -144,17 +152,15 @@ class Bench:
                 if host != node and not self.is_open(program.area, call, host, node):
                     wrong += 1
                     if wrong <= MOST_SHOWN:
-                        self.tell(program.area, build, call, host, node)
+                        self.tell(program, build, call, host, node)
         self.tally.tell(f"{program.area.name}, {build.value}, {done} calls", f"{wrong} differ" if wrong else "")
 
     def answers(self, program: Program, build: Build, calls: List[str]) -> Iterator[Tuple[str, str, str]]:
         """Each call with the lines of host and node. Where the node stops, that is its line, and it goes on with the next call."""
-        host = program.run_host(b"".join(map(program.area.spelled, calls)))
-        if len(host) != len(calls):
-            raise RuntimeError(f"{program.area.name}: the host wrote {len(host)} lines for {len(calls)} calls")
+        host = program.run_host(calls)
         node: List[str] = []
         while len(node) < len(calls):
-            lines, why = program.run_node(build, b"".join(map(program.area.spelled, calls[len(node) :])))
+            lines, why = program.run_node(build, calls[len(node) :])
             node += lines
             if len(node) < len(calls):
                 node.append(why or "the node wrote no line")
@@ -170,8 +176,23 @@ class Bench:
                 return True
         return False
 
-    def tell(self, area: Area, build: Build, call: str, host: str, node: str) -> None:
+    def shortened(self, program: Program, build: Build, call: str) -> Tuple[str, str, str]:
+        """The script with as few steps as there is still a difference, and the lines of both."""
+        ((_, host, node),) = self.answers(program, build, [call])
+        while True:
+            steps = call.split(" ")
+            tried = [" ".join(steps[:at] + steps[at + 1 :]) for at in range(len(steps))]
+            found = self.answers(program, build, tried) if len(steps) > 1 else iter(())
+            less = next((it for it in found if it[1] != it[2] and not self.is_open(program.area, *it)), None)
+            if less is None:
+                return call, host, node
+            call, host, node = less
+
+    def tell(self, program: Program, build: Build, call: str, host: str, node: str) -> None:
         """Shows a difference, and how to see it again."""
+        area = program.area
+        if area.is_script:
+            call, host, node = self.shortened(program, build, call)
         again = f"tests/tools/c/host/run --show {build.value} {area.name} {shlex.quote(call)}"
         with self.lock:
             print(f"{area.name}, {build.value}: {readable(call)}\n  host: {host}\n  node: {node}\n  again: {again}", flush=True)

@@ -2,13 +2,16 @@
 
 from __future__ import annotations
 
-from typing import Dict, List
+import re
+from typing import Dict, List, Sequence
 
 from . import chance as made
 from .area import BOTH, Area, Build
 from .chance import Chance, often
 
 MODES = ("r", "r", "w", "w", "a", "r+", "r+", "w+", "w+", "a+", "rb", "wb", "ab", "r+b", "rb+", "w+b", "wb+", "a+b", "wx", "w+x", "wbx")
+# Numbers of names from here on are those of files that bsprun gives.
+FIRST_GIVEN = 4
 SIZES = (0, 1, 2, 3, 10, 100, 255, 256, 257, 511, 512, 513, 600, 1000, 1023, 1024, 1025, 1500, 2048, 2600)
 
 
@@ -19,6 +22,7 @@ class Script:
         self.chance = chance
         self.steps: List[str] = []
         self.opened: Dict[int, int] = {}
+        self.given = chance.randint(FIRST_GIVEN, 2**31)
 
     def add(self, *words: object) -> None:
         """A step."""
@@ -31,7 +35,11 @@ class Script:
     def free_name(self, stream: int) -> int:
         """A name that no other stream has open."""
         taken = {name for at, name in self.opened.items() if at != stream}
-        return self.chance.choice([it for it in range(4) if it not in taken] or [0])
+        return self.chance.choice([it for it in range(FIRST_GIVEN) if it not in taken] or [0])
+
+    def has_given(self, stream: int) -> bool:
+        """Whether the stream is to have the file that bsprun gives. Each script has its own, whose bytes follow from its number."""
+        return often(self.chance, 0.25) and self.given not in [name for at, name in self.opened.items() if at != stream]
 
     def content(self, name: int) -> None:
         """A file with bytes in it."""
@@ -45,7 +53,7 @@ class Script:
             self.opened.pop(stream, None)
             self.add("tmpfile", stream, 0, "w")
             return
-        name = self.free_name(stream)
+        name = self.given if self.has_given(stream) else self.free_name(stream)
         self.opened[stream] = name
         way = "freopen" if often(self.chance, 0.15) else "fopen"
         self.add(way, stream, name, self.chance.choice(MODES))
@@ -110,8 +118,8 @@ class Script:
 def call(chance: Chance, _: Build) -> str:
     """A script."""
     script = Script(chance)
-    for name in range(4):
-        if often(chance, 0.5):
+    for name in range(FIRST_GIVEN):
+        if often(chance, 0.4):
             script.content(name)
     for _ in range(chance.choice((4, 8, 12, 20))):
         stream = chance.randrange(2) if often(chance, 0.8) else chance.randrange(4)
@@ -134,4 +142,17 @@ def call(chance: Chance, _: Build) -> str:
     return " ".join(script.steps)
 
 
-AREA = Area("files", "files.c", call, BOTH, has_files=True, at_once=1000)
+def content_of(number: int) -> bytes:
+    """The bytes of a file that bsprun gives, by its number."""
+    chance = Chance(number)
+    size = chance.choice(SIZES) if often(chance, 0.7) else chance.randint(0, 3000)
+    return bytes(chance.choice(b"abcdefghij klmno\n") if chance.randrange(20) else chance.randrange(256) for _ in range(size))
+
+
+def given(calls: Sequence[str]) -> Dict[str, bytes]:
+    """The files that scripts want to be given."""
+    numbers = {int(it) for call in calls for it in re.findall(r"open:\d:(\d+)", call) if int(it) >= FIRST_GIVEN}
+    return {f"g{it}": content_of(it) for it in numbers}
+
+
+AREA = Area("files", "files.c", call, BOTH, given=given, is_script=True, at_once=1000)

@@ -89,7 +89,8 @@ def between(chance: Chance) -> Tuple[str, str]:
 def call(chance: Chance, build: Build) -> str:
     """A call."""
     function = "i" if build == Build.SMALL else chance.choice("sssvff")
-    form, given, places = "", "", []
+    places: List[str] = []
+    form = given = ""
     for _ in range(chance.randint(1, 5)):
         written, content, types = piece(chance, build)
         middle, parted = between(chance)

@@ -56,12 +56,14 @@ SECTIONS
     .tbss (NOLOAD) : { *(.tbss .tbss.* .gnu.linkonce.tb.* .tcommon) } :data :tls
     /* The linker gives .tbss no room of its own. */
     .tbss_room (NOLOAD) : { . = . + SIZEOF(.tbss); . = ALIGN(16); } :data
+    /* Has room where a function is linked that asks for a place in the input: src/streams.c. */
+    .goes_back (NOLOAD) : { *(.bss.bsp_goes_back) } :data
     .bss (NOLOAD) : {
         *(.sbss .sbss.* .gnu.linkonce.sb.* .scommon)
         *(.bss .bss.* .gnu.linkonce.b.* COMMON)
         . = ALIGN(16);
     } :data
-    bsp_goes_back = DEFINED(fseek) || DEFINED(fseeko) ? 1 : 0;
+    bsp_goes_back = SIZEOF(.goes_back) > 0 ? 1 : 0;
     __heap_start = .;
     _end = .;
     end = .;

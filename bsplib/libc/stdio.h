@@ -14,6 +14,7 @@ extern "C" {
 ssize_t getline(char **__restrict line, size_t *__restrict size, FILE *__restrict file);
 ssize_t getdelim(char **__restrict line, size_t *__restrict size, int last, FILE *__restrict file);
 int dprintf(int file, const char *__restrict format, ...) __attribute__((format(printf, 2, 3)));
+int vdprintf(int file, const char *__restrict format, va_list arguments) __attribute__((format(printf, 2, 0)));
 
 /* picolibc declares some of these in other headers, or by macros alone. */
 FILE *tmpfile(void);

@@ -20,6 +20,9 @@
 enum { FIRST_FILE = 3, MOST_FILES = 64 };
 static struct bsp_open opened[MOST_FILES];
 
+/* The places in a file are numbers of the type off_t. */
+enum { MOST_BYTES = 0x7fffffff };
+
 static struct bsp_file *files = NULL;
 static unsigned number_of_files = 0;
 
@@ -123,11 +126,12 @@ static void tell_size(struct bsp_file *file)
         bsp_record(RECORD_SIZE, words, 2, "", 0);
 }
 
-/* Room for so many bytes, of which those behind the old ones are 0. Where there is none, the bytes are not kept any longer. */
+/* Room for so many bytes and for the old ones. Those between both are 0. Where there is none, the bytes are not kept any longer. */
 static int make_room(struct bsp_file *file, size_t size)
 {
-    if (size > file->room && !file->is_lost) {
-        size_t room = size < 256 ? 512 : 2 * size;
+    size_t wanted = size > file->size ? size : file->size;
+    if (wanted > file->room && !file->is_lost) {
+        size_t room = wanted < 256 ? 512 : 2 * wanted;
         char *larger = file->room > 0 ? realloc(file->bytes, room) : malloc(room);
         if (larger == NULL) {
             file->is_lost = 1;
@@ -265,14 +269,18 @@ WEAK ssize_t read(int number, void *bytes, size_t count)
 WEAK off_t lseek(int number, off_t offset, int whence)
 {
     struct bsp_open *open = bsp_open_of(number);
-    off_t from;
+    off_t from, place;
     if (open == NULL || open->file->device != DEVICE_NONE)
         return refuse(open != NULL || (number >= 0 && number <= 2) ? ESPIPE : EBADF);
-    from = whence == SEEK_SET ? 0 : (off_t)(whence == SEEK_CUR ? open->next : open->file->size);
-    if (offset < -from)
+    if (whence != SEEK_SET && whence != SEEK_CUR && whence != SEEK_END)
         return refuse(EINVAL);
-    open->next = (size_t)(from + offset);
-    return from + offset;
+    from = whence == SEEK_SET ? 0 : (off_t)(whence == SEEK_CUR ? open->next : open->file->size);
+    if (__builtin_add_overflow(from, offset, &place))
+        return refuse(EOVERFLOW);
+    if (place < 0)
+        return refuse(EINVAL);
+    open->next = (size_t)place;
+    return place;
 }
 
 /* Puts bytes into a file: into what the node keeps of it, and into that of bsprun. */
@@ -280,6 +288,8 @@ static ssize_t put_bytes(struct bsp_open *open, const char *bytes, size_t count)
 {
     struct bsp_file *file = open->file;
     size_t place = open->flags & O_APPEND ? file->size : open->next;
+    if (count > MOST_BYTES - place)
+        return refuse(EFBIG);
     if (make_room(file, place + count))
         memcpy(file->bytes + place, bytes, count);
     else if (file->number == 0)
@@ -307,9 +317,10 @@ WEAK ssize_t write(int number, const void *bytes, size_t count)
 WEAK int ftruncate(int number, off_t size)
 {
     struct bsp_open *open = bsp_open_of(number);
-    if (open == NULL || open->file->device != DEVICE_NONE || (open->flags & O_ACCMODE) == O_RDONLY)
+    if (open == NULL || open->file->device != DEVICE_NONE || (open->flags & O_ACCMODE) == O_RDONLY || size < 0)
         return refuse(EINVAL);
-    make_room(open->file, (size_t)size);
+    if (!make_room(open->file, (size_t)size) && open->file->number == 0)
+        return refuse(ENOSPC);
     open->file->size = (size_t)size;
     tell_size(open->file);
     return 0;

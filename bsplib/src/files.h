@@ -1,4 +1,4 @@
-/* Files and streams, as files.c and streams.c share them. */
+/* Files and streams, as files.c, buffered.c and streams.c share them. */
 #ifndef BSP_FILES_H
 #define BSP_FILES_H
 
@@ -35,5 +35,12 @@ struct bsp_file *bsp_file_named(const char *name);
 int bsp_is_number(int number);
 struct bsp_open *bsp_open_of(int number);
 int bsp_open_nameless(void);
+
+/* What a stream that is read alone puts by, and one that is written alone gets by: errors. */
+int bsp_put_refused(char byte, FILE *file);
+int bsp_get_refused(FILE *file);
+
+/* freopen of a stream over a file. */
+FILE *bsp_reopen_buffered(const char *name, const char *mode, FILE *file);
 
 #endif

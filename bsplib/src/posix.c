@@ -201,14 +201,45 @@ WEAK int lstat(const char *restrict name, struct stat *restrict to)
     return stat(name, to);
 }
 
+/* Formats into a file by its number: a stream that stands for it as long as that takes. */
+struct numbered {
+    FILE stream;
+    int number;
+    size_t count;
+    char bytes[64];
+};
+
+static int flush_numbered(FILE *stream)
+{
+    struct numbered *to = (struct numbered *)stream;
+    size_t count = to->count;
+    to->count = 0;
+    return count == 0 || write(to->number, to->bytes, count) == (ssize_t)count ? 0 : _FDEV_ERR;
+}
+
+static int put_numbered(char byte, FILE *stream)
+{
+    struct numbered *to = (struct numbered *)stream;
+    to->bytes[to->count++] = byte;
+    return to->count < sizeof to->bytes ? 0 : flush_numbered(stream);
+}
+
+WEAK int vdprintf(int file, const char *restrict format, va_list arguments)
+{
+    struct numbered to = {FDEV_SETUP_STREAM(put_numbered, NULL, flush_numbered, _FDEV_SETUP_WRITE), file, 0, {0}};
+    int count;
+    if (file == STDOUT_FILENO || file == STDERR_FILENO)
+        return vfprintf(file == STDERR_FILENO ? stderr : stdout, format, arguments);
+    count = vfprintf(&to.stream, format, arguments);
+    return flush_numbered(&to.stream) < 0 ? EOF : count;
+}
+
 WEAK int dprintf(int file, const char *restrict format, ...)
 {
     int count;
     va_list arguments;
-    if (file != STDOUT_FILENO && file != STDERR_FILENO)
-        return refuse(EBADF);
     va_start(arguments, format);
-    count = vfprintf(file == STDERR_FILENO ? stderr : stdout, format, arguments);
+    count = vdprintf(file, format, arguments);
     va_end(arguments);
     return count;
 }

@@ -14,6 +14,7 @@
 struct sink {
     FILE *file;
     int count, is_bad;
+    char last; /* the last byte that was put */
 };
 
 /* What stands between % and the letter of a conversion. */
@@ -24,11 +25,22 @@ struct format {
     int size;
 };
 
+/* picolibc was compiled with a char that has no sign. Of one that has a sign its functions answer a byte above 127 as it came, which is no
+   error: a stream that has one says so. */
+__attribute__((cold, noinline)) static void look_at_answer(struct sink *to, int answer)
+{
+    if (answer != to->last || (to->file->flags & __SERR) != 0)
+        to->is_bad = 1;
+}
+
 static void put(struct sink *to, char byte)
 {
-    if (to->file->put(byte, to->file) < 0)
-        to->is_bad = 1;
+    int answer;
+    to->last = byte;
     to->count++;
+    answer = to->file->put(byte, to->file);
+    if (answer < 0)
+        look_at_answer(to, answer);
 }
 
 static void put_many(struct sink *to, char byte, int count)
@@ -406,7 +418,7 @@ static void put_converted(struct sink *to, struct format *how, va_list *argument
 
 int vfprintf(FILE *file, const char *format, va_list arguments)
 {
-    struct sink to = {file, 0, 0};
+    struct sink to = {file, 0, 0, '\0'};
     va_list rest;
     if (file->put == NULL)
         return EOF;

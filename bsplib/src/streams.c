@@ -1,13 +1,32 @@
-/* The standard streams of picolibc, and streams over files. */
+/* The standard streams, which picolibc leaves to a system, and its functions of streams that know none of these. */
 #include <errno.h>
-#include <fcntl.h>
+#include <limits.h>
 #include <stdio-bufio.h>
 #include <stdio.h>
-#include <stdlib.h>
 #include <string.h>
 #include <unistd.h>
 
 #include "files.h"
+
+static int fail(FILE *file)
+{
+    file->flags |= __SERR;
+    return _FDEV_ERR;
+}
+
+/* What picolibc calls for a stream that is read alone, and for one that is written alone. It would tell neither ferror nor errno. */
+int bsp_put_refused(char byte, FILE *file)
+{
+    (void)byte;
+    errno = EBADF;
+    return fail(file);
+}
+
+int bsp_get_refused(FILE *file)
+{
+    errno = EBADF;
+    return fail(file);
+}
 
 static int put(char byte, FILE *file)
 {
@@ -21,9 +40,17 @@ static int put_error(char byte, FILE *file)
     return bsp_error_put(byte);
 }
 
-/* A node reads its input once, from the first byte on. A program that goes back in it has the whole of it in its memory. The
-   address of this name is 1 where the program was linked with a function that goes back, and else 0. */
+/* A node reads its input once, from the first byte on. A program that goes back in it, or asks for a place in it, has the whole of it in its
+   memory. The address of this name is 1 where the program was linked with a function that does so, and else 0: the linker tells by the room
+   of `goes_back`, which such functions name. */
 extern char bsp_goes_back[] __attribute__((weak));
+static char goes_back __attribute__((section(".bss.bsp_goes_back")));
+
+static void say_it_goes_back(void)
+{
+    (void)*(volatile char *)&goes_back;
+}
+
 static struct {
     char *bytes;
     long next, end;
@@ -58,9 +85,9 @@ static int get(FILE *file)
     return _FDEV_EOF;
 }
 
-static __off_t seek(FILE *file, __off_t offset, int whence)
+static off_t seek(FILE *file, off_t offset, int whence)
 {
-    __off_t from;
+    off_t from;
     (void)file;
     if (whole.bytes == NULL)
         read_whole();
@@ -69,7 +96,7 @@ static __off_t seek(FILE *file, __off_t offset, int whence)
         errno = EINVAL;
         return -1;
     }
-    whole.next = (long)(from + offset);
+    whole.next = from + offset;
     return whole.next;
 }
 
@@ -86,9 +113,9 @@ static int keep_open(FILE *file)
     return 0;
 }
 
-static struct __file_ext input = FDEV_SETUP_EXT(NULL, get, NULL, keep_open, seek, NULL, _FDEV_SETUP_READ);
-static FILE output = FDEV_SETUP_STREAM(put, NULL, flush, _FDEV_SETUP_WRITE);
-static FILE errors = FDEV_SETUP_STREAM(put_error, NULL, flush, _FDEV_SETUP_WRITE);
+static struct __file_ext input = FDEV_SETUP_EXT(bsp_put_refused, get, NULL, keep_open, seek, NULL, _FDEV_SETUP_RW);
+static FILE output = FDEV_SETUP_STREAM(put, bsp_get_refused, flush, _FDEV_SETUP_RW);
+static FILE errors = FDEV_SETUP_STREAM(put_error, bsp_get_refused, flush, _FDEV_SETUP_RW);
 
 FILE *const stdin = &input.cfile.file;
 FILE *const stdout = &output;
@@ -110,93 +137,29 @@ char *fgets(char *to, int size, FILE *file)
     return to;
 }
 
-/* The flags of open for a mode of fopen, or -1. */
-static int flags_of(const char *mode)
-{
-    int flags = *mode == 'r' ? O_RDONLY : *mode == 'w' ? O_WRONLY | O_CREAT | O_TRUNC : *mode == 'a' ? O_WRONLY | O_CREAT | O_APPEND : -1;
-    if (flags >= 0 && strchr(mode, '+') != NULL)
-        flags = (flags & ~O_ACCMODE) | O_RDWR;
-    return flags >= 0 && strchr(mode, 'x') != NULL ? flags | O_EXCL : flags;
-}
-
-static void flush_files(void)
-{
-    enum { FIRST = 3 };
-    for (int i = FIRST; bsp_is_number(i); i++) {
-        const struct bsp_open *open = bsp_open_of(i);
-        if (open != NULL && open->stream != NULL)
-            fflush(open->stream);
-    }
-}
-
-/* A stream over an open file, which is closed where there is none. */
-static FILE *stream_over(int number, int flags)
-{
-    enum { ROOM = 1024 };
-    struct bsp_open *open = bsp_open_of(number);
-    struct __file_bufio *stream;
-    int way = (flags & O_ACCMODE) == O_RDONLY ? __SRD : (flags & O_ACCMODE) == O_WRONLY ? __SWR : __SRD | __SWR;
-    if (number < 0)
-        return NULL;
-    stream = malloc(sizeof *stream + ROOM);
-    if (stream == NULL) {
-        close(number);
-        return NULL;
-    }
-    *stream = (struct __file_bufio)FDEV_SETUP_BUFIO(number, (char *)(stream + 1), ROOM, read, write, lseek, close, (uint8_t)way, 0);
-    if (flags & O_APPEND)
-        stream->pos = lseek(number, 0, SEEK_END);
-    if (open != NULL)
-        open->stream = &stream->xfile.cfile.file;
-    bsp_flush_files = flush_files;
-    return &stream->xfile.cfile.file;
-}
-
-FILE *fopen(const char *name, const char *mode)
-{
-    int flags = flags_of(mode);
-    if (flags < 0) {
-        errno = EINVAL;
-        return NULL;
-    }
-    return stream_over(open(name, flags, 0666), flags);
-}
-
-FILE *fdopen(int number, const char *mode)
-{
-    int flags = flags_of(mode);
-    if (flags < 0 || (number > 2 && bsp_open_of(number) == NULL)) {
-        errno = flags < 0 ? EINVAL : EBADF;
-        return NULL;
-    }
-    return stream_over(number, flags);
-}
-
-FILE *tmpfile(void)
-{
-    return stream_over(bsp_open_nameless(), O_RDWR);
-}
-
 /* What freopen has put in the place of the standard streams, which stay where they are. */
 static FILE *instead_of_input, *instead_of_output;
 
+/* An end is told by the standard stream alone, so that clearerr of it counts. */
 static int get_instead(FILE *file)
 {
-    int byte = getc(instead_of_input);
+    int byte = getc(instead_of_input), is_bad = ferror(instead_of_input);
     (void)file;
-    return byte == EOF ? _FDEV_EOF : byte;
+    if (byte != EOF)
+        return byte;
+    clearerr(instead_of_input);
+    return is_bad ? _FDEV_ERR : _FDEV_EOF;
 }
 
-static __off_t seek_instead(FILE *file, __off_t offset, int whence)
+static off_t seek_instead(FILE *file, off_t offset, int whence)
 {
     (void)file;
-    return fseek(instead_of_input, offset, whence) == 0 ? ftell(instead_of_input) : -1;
+    return fseeko(instead_of_input, offset, whence) == 0 ? ftello(instead_of_input) : -1;
 }
 
 static int put_instead(char byte, FILE *file)
 {
-    (void)file;
-    return putc(byte, instead_of_output);
+    return putc((unsigned char)byte, instead_of_output) == EOF ? fail(file) : 0;
 }
 
 static int flush_instead(FILE *file)
@@ -207,26 +170,22 @@ static int flush_instead(FILE *file)
 
 FILE *freopen(const char *name, const char *mode, FILE *file)
 {
-    FILE *stream = name == NULL ? NULL : fopen(name, mode);
+    FILE *stream;
     fflush(file);
+    if (file->flags & __SBUF)
+        return bsp_reopen_buffered(name, mode, file);
+    stream = name == NULL ? NULL : fopen(name, mode);
     if (stream == NULL)
         return NULL;
+    file->unget = 0;
+    clearerr(file);
     if (file == stdin) {
+        if (instead_of_input != NULL)
+            fclose(instead_of_input);
         instead_of_input = stream;
         bsp_has_input = 1;
         file->get = get_instead;
         input.seek = seek_instead;
-        clearerr(file);
-    } else if (file->flags & __SBUF) {
-        struct __file_bufio *old = (struct __file_bufio *)file, *new = (struct __file_bufio *)stream;
-        struct bsp_open *open = bsp_open_of(new->fd);
-        char *buffer = old->buf;
-        close(old->fd);
-        *old = *new;
-        old->buf = buffer;
-        if (open != NULL)
-            open->stream = file;
-        free(new);
     } else {
         instead_of_output = stream;
         file->put = put_instead;
@@ -235,20 +194,13 @@ FILE *freopen(const char *name, const char *mode, FILE *file)
     return file;
 }
 
-/* picolibc's takes a buffer of no bytes where it is given none. A stream keeps its own then. */
+/* picolibc's takes a buffer of no bytes where it is given none, and a standard stream has its own. */
 int setvbuf(FILE *file, char *buffer, int mode, size_t size)
 {
-    struct __file_bufio *stream = (struct __file_bufio *)file;
+    const struct __file_ext *stream = (const struct __file_ext *)file;
     if (!(file->flags & __SBUF))
-        return 0;
-    fflush(file);
-    if (buffer != NULL && size > 0) {
-        stream->buf = buffer;
-        stream->size = (int)size;
-    } else if (mode == _IONBF)
-        stream->size = 1;
-    stream->bflags = mode == _IOLBF ? __BLBF : 0;
-    return 0;
+        return mode == _IOFBF || mode == _IOLBF || mode == _IONBF ? 0 : -1;
+    return stream->setvbuf(file, buffer, mode, size);
 }
 
 /* picolibc's do nothing for NULL, and know no standard streams. */
@@ -262,15 +214,62 @@ int fflush(FILE *file)
     return 0;
 }
 
+/* Places in a stream: picolibc's know nothing of a byte that was put back, and of an origin that there is not. */
+
+/* How a stream seeks, or NULL with a reason. */
+static off_t (*seeker_of(const FILE *file))(FILE *, off_t, int)
+{
+    const struct __file_ext *stream = (const struct __file_ext *)file;
+    if ((file->flags & __SEXT) != 0 && stream->seek != NULL)
+        return stream->seek;
+    errno = ESPIPE;
+    return NULL;
+}
+
+off_t ftello(FILE *file)
+{
+    off_t (*how)(FILE *, off_t, int) = seeker_of(file);
+    off_t place = how == NULL ? -1 : how(file, 0, SEEK_CUR);
+    say_it_goes_back();
+    return place > 0 && file->unget != 0 ? place - 1 : place;
+}
+
+int fseeko(FILE *file, off_t offset, int whence)
+{
+    off_t (*how)(FILE *, off_t, int) = seeker_of(file);
+    say_it_goes_back();
+    if (whence != SEEK_SET && whence != SEEK_CUR && whence != SEEK_END) {
+        errno = EINVAL;
+        return -1;
+    }
+    if (whence == SEEK_CUR && file->unget != 0 && offset > LONG_MIN)
+        offset--;
+    if (how == NULL || how(file, offset, whence) < 0)
+        return -1;
+    file->unget = 0;
+    file->flags &= (uint8_t)~__SEOF;
+    return 0;
+}
+
+long ftell(FILE *file)
+{
+    return ftello(file);
+}
+
+int fseek(FILE *file, long offset, int whence)
+{
+    return fseeko(file, offset, whence);
+}
+
 int fgetpos(FILE *file, fpos_t *to)
 {
-    *to = ftell(file);
+    *to = ftello(file);
     return *to < 0 ? -1 : 0;
 }
 
 int fsetpos(FILE *file, fpos_t *to)
 {
-    return fseek(file, (long)*to, SEEK_SET);
+    return fseeko(file, (off_t)*to, SEEK_SET);
 }
 
 int fileno(FILE *file)

@@ -164,9 +164,9 @@ static inline void say_escaped(unsigned char byte)
 /* Bytes in quotation marks. Of many the first stand there, and a sum of all. */
 static inline void say_bytes(const void *bytes, size_t count)
 {
-    const unsigned char *byte = bytes;
+    const unsigned char *byte = (const unsigned char *)bytes;
     uint32_t sum = 2166136261u;
-    size_t shown = count > SHOWN_BYTES ? SHOWN_BYTES : count;
+    size_t shown = count > SHOWN_BYTES ? (size_t)SHOWN_BYTES : count;
     say("\"");
     for (size_t i = 0; i < shown; i++)
         say_escaped(byte[i]);

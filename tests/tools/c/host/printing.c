@@ -173,11 +173,13 @@ static int make_call(char function, size_t size, char *to, const char *format, i
     }
 }
 
+/* What was written, if the call did not fail: C does not say what stands there then. */
 static void say_room(size_t size, int answer)
 {
     size_t count = answer < 0 ? 0 : (size_t)answer;
     count = count < size ? count + 1 : size;
-    say_bytes(room, count);
+    if (answer >= 0)
+        say_bytes(room, count);
     for (size_t i = count > size ? count : size; i < ROOM + FENCE; i++)
         if (room[i] != '\x55') {
             say("touched");
@@ -189,11 +191,11 @@ static void say_room(size_t size, int answer)
 static void say_file(int answer)
 {
 #ifndef SMALL
-    size_t count;
-    say_number(ftell(file));
-    rewind(file);
-    count = fread(room, 1, ROOM, file);
-    say_bytes(room, count);
+    if (answer >= 0) {
+        say_number(ftell(file));
+        rewind(file);
+        say_bytes(room, fread(room, 1, ROOM, file));
+    }
     fclose(file);
 #endif
     (void)answer;

@@ -4,7 +4,7 @@ from __future__ import annotations
 
 from typing import Dict
 
-from . import files, heap, numbers, printing, scanning, texts, times
+from . import files, heap, numbers, options, printing, scanning, sorting, streams, texts, times, wide
 from .area import Area
 
-AREAS: Dict[str, Area] = {it.AREA.name: it.AREA for it in (printing, scanning, numbers, texts, files, heap, times)}
+AREAS: Dict[str, Area] = {it.AREA.name: it.AREA for it in (printing, scanning, numbers, texts, files, heap, times, streams, options, sorting, wide)}

@@ -5,7 +5,7 @@ from __future__ import annotations
 from typing import List, Tuple
 
 from . import chance as made
-from .area import ALL, Answer, Area, Build, Difference
+from .area import ALL, Area, Build
 from .chance import Chance, often
 
 WHOLE_SIZES = ("hh", "h", "", "", "", "l", "ll", "j", "z", "t")
@@ -22,7 +22,9 @@ def conversion(chance: Chance, build: Build) -> Tuple[str, str]:
         size = chance.choice(WHOLE_SIZES)
         return ("", "p") if often(chance, 0.05) else (size, letter)
     if kind == "real":
-        return chance.choice(("", "", "", "l", "L")), chance.choice("fFeEgGgaA")
+        # Not %La: C11 7.21.6.1p8 leaves the first figure open, and a long double of the host has other bits than one of the node.
+        letter = chance.choice("fFeEgGgaA")
+        return chance.choice(("", "", "", "l", "l" if letter in "aA" else "L")), letter
     if kind == "count":
         return chance.choice(("hh", "h", "", "l", "ll", "j")), "n"
     wide = "l" if build != Build.SMALL and often(chance, 0.15) else ""

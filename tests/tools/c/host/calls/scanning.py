@@ -2,6 +2,7 @@
 
 from __future__ import annotations
 
+import re
 from typing import List, Tuple
 
 from . import chance as made
@@ -118,4 +119,19 @@ def spelled(line: str) -> bytes:
     return content + (bytes.fromhex(given[1:]) + b"\n" + b"\1\n" * 16 + b"\2\n" if function == "i" else b"")
 
 
-AREA = Area("scanning", "scanning.c", call, ALL, spelled=spelled)
+# A beginning of a number with a point that is none, as `1e+`, `0x` and `nan(?`.
+UNFINISHED = re.compile(rb"""[0-9.]e[-+]?(?![0-9]) | 0x\.?(?![0-9a-f.]) | 0x\.(?![0-9a-f]) | 0x[0-9a-f.]*p[-+]?(?![0-9]) | nan\((?![0-9a-z_]*\))""", re.I | re.X)
+REAL = re.compile(rb"%\*?[0-9]*[lL]?[fegaEFGA]")
+
+
+def is_unfinished(answer: Answer) -> bool:
+    """What glibc takes for a number with a point, and C for the beginning of one."""
+    return bool(REAL.search(answer.text(1)) and UNFINISHED.search(answer.text(2)))
+
+
+DIFFERENCES = (
+    Difference("C11 7.21.6.2p9 and p10: an item is the longest beginning of a number, and of `1e+`, `0x` or `nan(?` it is none: nothing is stored. "
+               "glibc stores a number (the example of p21, `100ergs`)", is_unfinished),
+)  # fmt: skip
+
+AREA = Area("scanning", "scanning.c", call, ALL, DIFFERENCES, spelled=spelled)

@@ -67,5 +67,7 @@ class Area:
     given: Optional[Callable[[Sequence[str]], Dict[str, bytes]]] = None
     # Whether a call is a script, of which steps may be left out.
     is_script: bool = False
-    # How many calls are made in one run.
+    # What the compiler is given besides; how many calls are made in one run, and as how many a script counts.
+    options: Tuple[str, ...] = ()
     at_once: int = 20000
+    steps: int = 1

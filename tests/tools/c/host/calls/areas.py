@@ -4,7 +4,9 @@ from __future__ import annotations
 
 from typing import Dict
 
-from . import files, heap, numbers, options, printing, scanning, sorting, streams, texts, times, wide
+from . import files, heap, inputs, jumps, modes, numbers, options, printing, scanning, sorting, streams, texts, times, wide
 from .area import Area
 
-AREAS: Dict[str, Area] = {it.AREA.name: it.AREA for it in (printing, scanning, numbers, texts, files, heap, times, streams, options, sorting, wide)}
+MADE = (printing.AREA, scanning.AREA, numbers.AREA, texts.AREA, files.AREA, inputs.INPUT, inputs.SEEKS, heap.AREA, times.AREA, streams.AREA,
+        options.AREA, sorting.AREA, wide.AREA, modes.AREA, jumps.AREA)  # fmt: skip
+AREAS: Dict[str, Area] = {it.name: it for it in MADE}

@@ -43,7 +43,7 @@ class Program:
     def compile(self, words: Sequence[str], target: pathlib.Path) -> pathlib.Path:
         """The program by a compiler."""
         done = subprocess.run(
-            [*words, *OPTIONS, "-o", str(target), str(self.source), *([] if "--small" in words else ["-lm"])], stderr=subprocess.PIPE, text=True, check=False, timeout=SECONDS
+            [*words, *OPTIONS, *self.area.options, "-o", str(target), str(self.source), *([] if "--small" in words else ["-lm"])], stderr=subprocess.PIPE, text=True, check=False, timeout=SECONDS
         )
         if done.returncode != 0:
             raise RuntimeError(f"{self.source.name} was not built: {done.stderr}")
@@ -147,7 +147,7 @@ class Bench:
         wrong = done = 0
         while done < count:
             calls = [program.area.call(chance, build) for _ in range(min(count - done, program.area.at_once))]
-            done += len(calls)
+            done += len(calls) * program.area.steps
             for call, host, node in self.answers(program, build, calls):
                 if host != node and not self.is_open(program.area, call, host, node):
                     wrong += 1
@@ -178,12 +178,13 @@ class Bench:
 
     def shortened(self, program: Program, build: Build, call: str) -> Tuple[str, str, str]:
         """The script with as few steps as there is still a difference, and the lines of both."""
+        area = program.area
         ((_, host, node),) = self.answers(program, build, [call])
         while True:
             steps = call.split(" ")
-            tried = [" ".join(steps[:at] + steps[at + 1 :]) for at in range(len(steps))]
-            found = self.answers(program, build, tried) if len(steps) > 1 else iter(())
-            less = next((it for it in found if it[1] != it[2] and not self.is_open(program.area, *it)), None)
+            tried = [" ".join(steps[:at] + steps[at + 1 :]) for at in range(len(steps))] if len(steps) > 1 else []
+            found = (it for at in range(0, len(tried), area.at_once) for it in self.answers(program, build, tried[at : at + area.at_once]))
+            less = next((it for it in found if it[1] != it[2] and not self.is_open(area, *it)), None)
             if less is None:
                 return call, host, node
             call, host, node = less

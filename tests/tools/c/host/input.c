@@ -5,7 +5,9 @@
 enum { ROOM = 3000 };
 
 static char room[ROOM];
+#ifdef SEEKS
 static long begin;
+#endif
 
 static long operand(char **at)
 {

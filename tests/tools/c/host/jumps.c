@@ -20,7 +20,7 @@ __attribute__((noinline)) static int descend(int depth, int first, double real)
     /* C keeps what has not changed since setjmp. */
     int second = first * 3 + depth, third = first ^ depth * 77, fourth = second - third, fifth = fourth * 5 + 1;
     double half = real / 2, more = mixed(real, depth), other = half + more, last = other * 1.25;
-    volatile int counted = 0;
+    volatile int counted = 0, below = 0;
     int came = setjmp(places[depth]);
     counted++;
     if (came != 0) {
@@ -34,10 +34,10 @@ __attribute__((noinline)) static int descend(int depth, int first, double real)
     } else if (depth == deepest)
         longjmp(places[target], value);
     else
-        first += descend(depth + 1, first + 1, real + 0.5);
+        below = descend(depth + 1, first + 1, real + 0.5);
     say_number(second + third + fourth + fifth);
     say_real(half + more + other + last);
-    return first + second + third + fourth + fifth;
+    return below + first + second + third + fourth + fifth;
 }
 
 int main(void)

@@ -67,9 +67,9 @@ def double(chance: Chance) -> float:
     if kind == 1:
         return chance.randint(-1000, 1000) / chance.choice((1, 2, 4, 8, 10, 100, 1000))
     if kind == 2:
-        return (2 * chance.randint(0, 10**chance.randint(1, 6)) + 1) / 2 ** chance.randint(0, 30)
+        return (2 * chance.randint(0, int(10 ** chance.randint(1, 6))) + 1) / 2 ** chance.randint(0, 30)
     if kind == 3:
-        return chance.choice((-1, 1)) * 10.0 ** chance.randint(-30, 30)
+        return float(f"{chance.choice(('', '-'))}1e{chance.randint(-30, 30)}")
     if kind == 4:
         return float(f"{chance.choice(('', '-'))}{'9' * chance.randint(1, 17)}e{chance.randint(-25, 20)}")
     if kind == 5:

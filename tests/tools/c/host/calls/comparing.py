@@ -177,17 +177,22 @@ class Bench:
         return False
 
     def shortened(self, program: Program, build: Build, call: str) -> Tuple[str, str, str]:
-        """The script with as few steps as there is still a difference, and the lines of both."""
+        """The script with as few steps as there is still a difference, and the lines of both: parts are left out, the longest first."""
         area = program.area
         ((_, host, node),) = self.answers(program, build, [call])
-        while True:
+        size = len(call.split(" ")) // 2
+        while size > 0:
             steps = call.split(" ")
-            tried = [" ".join(steps[:at] + steps[at + 1 :]) for at in range(len(steps))] if len(steps) > 1 else []
+            tried = [" ".join(steps[:at] + steps[at + size :]) for at in range(0, len(steps), size)]
+            tried = [it for it in tried if it]
             found = (it for at in range(0, len(tried), area.at_once) for it in self.answers(program, build, tried[at : at + area.at_once]))
             less = next((it for it in found if it[1] != it[2] and not self.is_open(area, *it)), None)
             if less is None:
-                return call, host, node
-            call, host, node = less
+                size //= 2
+            else:
+                call, host, node = less
+                size = min(size, len(call.split(" ")) // 2)
+        return call, host, node
 
     def tell(self, program: Program, build: Build, call: str, host: str, node: str) -> None:
         """Shows a difference, and how to see it again."""

@@ -115,7 +115,7 @@ class Script:
             self.add("rename", 0, self.free_name(-1), self.free_name(-1))
 
 
-def call(chance: Chance, _: Build) -> str:
+def call(chance: Chance, _build: Build) -> str:
     """A script."""
     script = Script(chance)
     for name in range(FIRST_GIVEN):

@@ -70,7 +70,8 @@ def call_with_seeks(chance: Chance, _: Build) -> str:
 
 def spelled(line: str) -> bytes:
     """The script, and behind it what it reads."""
-    return line.encode() + b"\n" + content(int(line.rpartition("n")[2]))
+    numbers = [int(it[1:]) for it in line.split(" ") if it.startswith("n")]
+    return line.encode() + b"\n" + (content(numbers[0]) if numbers else b"")
 
 
 INPUT = Area("input", "input.c", call, BOTH, spelled=spelled, is_script=True, at_once=1, steps=STEPS)

@@ -7,7 +7,7 @@ from .area import Area, Build
 from .chance import Chance, often
 
 
-def call(chance: Chance, _: Build) -> str:
+def call(chance: Chance, _build: Build) -> str:
     """A script."""
     steps = []
     for _ in range(chance.randint(1, 12)):

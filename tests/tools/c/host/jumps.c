@@ -43,11 +43,13 @@ __attribute__((noinline)) static int descend(int depth, int first, double real)
 int main(void)
 {
     while (read_call()) {
+        int first;
         deepest = (int)read_number();
         target = (int)read_number();
         value = (int)read_number();
         turns = (int)read_number();
-        say_number(descend(0, (int)read_number(), (double)read_number() / 8));
+        first = (int)read_number();
+        say_number(descend(0, first, (double)read_number() / 8));
         end_call();
     }
     return 0;

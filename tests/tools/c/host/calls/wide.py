@@ -5,7 +5,7 @@ from __future__ import annotations
 from typing import List
 
 from . import chance as made
-from .area import BOTH, Area, Build
+from .area import BOTH, Answer, Area, Build, Difference
 from .chance import Chance, often
 from .numbers import real_text, whole_text
 
@@ -46,10 +46,27 @@ def call(chance: Chance, _: Build) -> str:
     elif function == "isw":
         first = [chance.choice((chance.randint(0, 127), chance.randint(0, 127), chance.randint(128, 70000), -1))]
     elif function == "btowc":
-        first = [chance.choice((chance.randint(0, 127), chance.randint(-1, 300)))]
+        first = [chance.choice((chance.randint(0, 127), chance.randint(-1, 255)))]
+    elif function in ("mbtowc", "mblen"):
+        # Of no bytes at all C11 7.22.7.1p3 and 7.22.7.2p3 do not say what they are.
+        count = max(count, 1)
     elif function in ("wcstok", "wcschr", "wcsrchr", "wmemchr"):
         second = second or [97]
     return " ".join((function, made.text(content), wide(first), wide(second), str(count)))
 
 
-AREA = Area("wide", "wide.c", call, BOTH)
+def is_byte_above(answer: Answer) -> bool:
+    """A byte or a character of 128 to 255, which a node takes as it is, and glibc does not."""
+    name, count = answer.call[0], int(answer.call[2])
+    if name not in CONVERSIONS and name != "btowc":
+        return False
+    codes_of = [int(it) for it in answer.call[3 : 3 + count]]
+    return any(it >= 128 for it in answer.text(1)) or any(128 <= it <= 255 for it in codes_of)
+
+
+DIFFERENCES = (
+    Difference("C11 5.2.1p1 and 5.2.1.2: which bytes above 127 are characters of the locale C is of the implementation: here all are, as in the "
+               "locale POSIX, and in glibc none", is_byte_above),
+)  # fmt: skip
+
+AREA = Area("wide", "wide.c", call, BOTH, DIFFERENCES)

@@ -358,8 +358,10 @@ int scanf(const char *format, ...)
             continue;
         }
         if (*format != '%') {
-            if (look() != (unsigned char)*format)
+            if (look() != (unsigned char)*format) {
+                stored = stored > 0 || look() != EOF ? stored : EOF;
                 break;
+            }
             getchar();
             continue;
         }
@@ -396,6 +398,18 @@ int scanf(const char *format, ...)
             if (look() == '-' || look() == '+') {
                 getchar();
                 width--;
+            }
+            /* A zero in front may begin 0x, and says of %i that the number is octal or hexadecimal. */
+            if (width > 0 && look() == '0' && (base == 16 || *format == 'i')) {
+                getchar();
+                width--;
+                digits++;
+                base = base == 16 ? 16 : 8;
+                if (width > 0 && (look() | 32) == 'x') {
+                    getchar();
+                    width--;
+                    base = 16;
+                }
             }
             while (width-- > 0 && digit_of(look(), base) >= 0) {
                 int digit = digit_of(getchar(), base);

@@ -23,7 +23,7 @@ int fputs(const char *text, FILE *file);
 int putchar(int byte);
 int fflush(FILE *file);
 
-/* Width, *, lengths hh h l ll z t j; d i u x c s %, from the input. */
+/* Width, *, lengths hh h l ll z t j; d i u x c s %, from the input; a number of i or x may begin with 0x. */
 __attribute__((format(scanf, 1, 2))) int scanf(const char *format, ...);
 int getchar(void);
 char *fgets(char *to, int size, FILE *file);

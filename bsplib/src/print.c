@@ -1,6 +1,7 @@
 /* vfprintf, below printf and all that are like it, in the place of picolibc's: every digit of a double is as the number has it, and a
    long double is printed as the double that is nearest to it. */
 #include <errno.h>
+#include <limits.h>
 #include <stdarg.h>
 #include <stddef.h>
 #include <stdint.h>
@@ -9,6 +10,9 @@
 #include <wchar.h>
 
 #include "digits.h"
+
+/* The letters of conversions. */
+static const char LETTERS[] = "diuxXopscn%aefgAEFGSC";
 
 /* Where a conversion goes to, and how many bytes went there. */
 struct sink {
@@ -19,11 +23,46 @@ struct sink {
 
 /* What stands between % and the letter of a conversion. */
 struct format {
+    int position; /* of its argument, from 1 on */
     int is_left, is_zero, is_other, width, precision;
     char sign, letter;
     /* The bytes of a whole number, or 16 for a long double. */
     int size;
 };
+
+/* The arguments: those that are left, or where a format has positions, as %2$d, all of them by these. */
+enum kind { WORD, LONG, DOUBLE, LONG_DOUBLE };
+union argument {
+    uint32_t word;
+    uint64_t whole;
+    double number;
+};
+struct arguments {
+    va_list rest;
+    const union argument *all;
+};
+
+static uint32_t take_word(struct arguments *from, int position)
+{
+    return from->all == NULL ? va_arg(from->rest, uint32_t) : from->all[position].word;
+}
+
+static uint64_t take_long(struct arguments *from, int position)
+{
+    return from->all == NULL ? va_arg(from->rest, uint64_t) : from->all[position].whole;
+}
+
+static void *take_place(struct arguments *from, int position)
+{
+    return (void *)take_word(from, position);
+}
+
+static double take_double(struct arguments *from, const struct format *how)
+{
+    if (from->all != NULL)
+        return from->all[how->position].number;
+    return how->size == 16 ? bsp_nearest_double(va_arg(from->rest, long double)) : va_arg(from->rest, double);
+}
 
 /* picolibc was compiled with a char that has no sign. Of one that has a sign its functions answer a byte above 127 as it came, which is no
    error: a stream that has one says so. */
@@ -107,17 +146,17 @@ static void put_whole(struct sink *to, struct format *how, uint64_t number)
     put_many(to, ' ', behind);
 }
 
-static void put_signed(struct sink *to, struct format *how, va_list *arguments)
+static void put_signed(struct sink *to, struct format *how, struct arguments *from)
 {
-    int64_t number = how->size == 8 ? va_arg(*arguments, int64_t) : va_arg(*arguments, int32_t);
+    int64_t number = how->size == 8 ? (int64_t)take_long(from, how->position) : (int32_t)take_word(from, how->position);
     number = how->size == 1 ? (int8_t)number : how->size == 2 ? (int16_t)number : number;
     how->sign = number < 0 ? '-' : how->sign;
     put_whole(to, how, number < 0 ? 0 - (uint64_t)number : (uint64_t)number);
 }
 
-static void put_unsigned(struct sink *to, struct format *how, va_list *arguments)
+static void put_unsigned(struct sink *to, struct format *how, struct arguments *from)
 {
-    uint64_t number = how->size == 8 ? va_arg(*arguments, uint64_t) : va_arg(*arguments, uint32_t);
+    uint64_t number = how->size == 8 ? take_long(from, how->position) : take_word(from, how->position);
     number = how->size == 1 ? (uint8_t)number : how->size == 2 ? (uint16_t)number : number;
     how->sign = '\0';
     put_whole(to, how, number);
@@ -294,16 +333,32 @@ static void store_count(void *to, int size, int count)
     }
 }
 
-/* What stands between % and the letter. Answers where the letter is. */
-static const char *read_number(const char *at, int *number, va_list *arguments)
+/* Formats. */
+
+/* Numbers of a format, without those that leave no room for what stands beside them. */
+enum { MOST_NUMBER = INT_MAX - 2 * MOST_DIGITS };
+
+static inline const char *read_digits(const char *at, int *number)
 {
-    if (*at == '*') {
-        *number = va_arg(*arguments, int);
-        return at + 1;
-    }
     for (*number = 0; *at >= '0' && *at <= '9'; at++)
-        *number = *number * 10 + *at - '0';
+        *number = *number > MOST_NUMBER / 10 ? MOST_NUMBER + 1 : *number * 10 + *at - '0';
     return at;
+}
+
+/* A width or a precision that is an argument, behind its star. */
+__attribute__((noinline)) static const char *read_argument(const char *at, int *number, struct arguments *from)
+{
+    int position = 0;
+    if (from->all != NULL)
+        at = read_digits(at, &position) + 1;
+    *number = (int)take_word(from, position);
+    return at;
+}
+
+/* A width or a precision. Answers what stands behind it. */
+static inline const char *read_number(const char *at, int *number, struct arguments *from)
+{
+    return *at == '*' ? read_argument(at + 1, number, from) : read_digits(at, number);
 }
 
 static const char *read_flags(struct format *how, const char *at)
@@ -358,71 +413,162 @@ static const char *read_size(struct format *how, const char *at)
     }
 }
 
-static const char *read_format(struct format *how, const char *at, va_list *arguments)
+/* Reads what stands behind %, up to the letter. A position of the first argument that has one is left to be read again. */
+static const char *read_format(struct format *how, const char *at, struct arguments *from)
 {
     memset(how, 0, sizeof *how);
-    at = read_flags(how, at);
-    at = read_number(at, &how->width, arguments);
+    for (;; at++) {
+        at = read_flags(how, at);
+        at = read_number(at, &how->width, from);
+        if (*at != '$')
+            break;
+        how->position = how->width;
+        if (from->all == NULL)
+            return at;
+    }
     if (how->width < 0) {
         how->is_left = 1;
-        how->width = -how->width;
+        how->width = how->width < -MOST_NUMBER ? MOST_NUMBER + 1 : -how->width;
     }
     how->precision = -1;
     if (*at == '.') {
-        at = read_number(at + 1, &how->precision, arguments);
+        at = read_number(at + 1, &how->precision, from);
         how->precision = how->precision < 0 ? -1 : how->precision;
     }
     return read_size(how, at);
 }
 
-static void put_converted(struct sink *to, struct format *how, va_list *arguments)
+/* Positions of arguments. */
+
+enum { MOST_POSITIONS = 32 };
+
+static enum kind kind_of(char letter, int size)
 {
-    char byte = '%';
-    wchar_t wide;
+    if (strchr("aefgAEFG", letter) != NULL)
+        return size == 16 ? LONG_DOUBLE : DOUBLE;
+    return size == 8 && strchr("diuxXo", letter) != NULL ? LONG : WORD;
+}
+
+/* What stands from one place of a conversion on: a position, which a width or a precision may have too, or something else. Answers what is
+   behind it. */
+static const char *pass(const char *at, int *position, int *is_star)
+{
+    const char *behind;
+    *is_star = *at == '*';
+    behind = read_digits(at + *is_star, position);
+    if (behind > at && *behind == '$')
+        return behind + 1;
+    *position = *is_star ? MOST_POSITIONS + 1 : 0;
+    return behind > at ? behind : at + 1;
+}
+
+/* The kinds of the arguments that a format names, and the greatest position; 0 where one has none, or it is too great. */
+static int find_kinds(unsigned char *kinds, const char *at)
+{
+    int most = 0;
+    while ((at = strchr(at, '%')) != NULL) {
+        int own = 0, size = 4;
+        for (at++; *at != '\0' && strchr(LETTERS, *at) == NULL;) {
+            const char *begin = at;
+            int position, is_star;
+            at = pass(at, &position, &is_star);
+            if (position > MOST_POSITIONS)
+                return 0;
+            most = position > most ? position : most;
+            own = position > 0 && !is_star ? position : own;
+            size = *begin == 'L' ? 16 : *begin == 'j' || *begin == 'q' || (*begin == 'l' && *at == 'l') ? 8 : size;
+        }
+        if (*at == '\0' || (own == 0 && *at != '%'))
+            return 0;
+        kinds[own] = (unsigned char)kind_of(*at++, size);
+    }
+    return most;
+}
+
+/* Takes all arguments of a format whose conversions name them. */
+__attribute__((cold, noinline)) static void take_all(struct sink *to, union argument *all, struct arguments *from, const char *format)
+{
+    unsigned char kinds[MOST_POSITIONS + 1] = {0};
+    int count = find_kinds(kinds, format);
+    if (count == 0) {
+        errno = EINVAL;
+        to->is_bad = 1;
+    }
+    for (int i = 1; i <= count; i++)
+        switch ((enum kind)kinds[i]) {
+        case WORD:
+            all[i].word = va_arg(from->rest, uint32_t);
+            break;
+        case LONG:
+            all[i].whole = va_arg(from->rest, uint64_t);
+            break;
+        case DOUBLE:
+            all[i].number = va_arg(from->rest, double);
+            break;
+        case LONG_DOUBLE:
+            all[i].number = bsp_nearest_double(va_arg(from->rest, long double));
+        }
+    from->all = all;
+}
+
+static void put_character(struct sink *to, struct format *how, struct arguments *from)
+{
+    wchar_t wide = (wchar_t)take_word(from, how->position);
+    char byte = (char)wide;
+    if (how->size == 4 && wide != L'\0')
+        put_wide(to, how, &wide, 1);
+    else
+        put_text(to, how, &byte, 1);
+}
+
+static void put_converted(struct sink *to, struct format *how, struct arguments *from)
+{
     switch (how->letter) {
     case 'd':
     case 'i':
-        put_signed(to, how, arguments);
+        put_signed(to, how, from);
         return;
     case 'u':
     case 'x':
     case 'X':
     case 'o':
     case 'p':
-        put_unsigned(to, how, arguments);
+        put_unsigned(to, how, from);
         return;
+    case 'S':
+        how->size = 4;
+        /* fallthrough */
     case 's':
         if (how->size == 4)
-            put_wide(to, how, va_arg(*arguments, const wchar_t *), how->precision);
+            put_wide(to, how, take_place(from, how->position), how->precision);
         else
-            put_string(to, how, va_arg(*arguments, const char *));
+            put_string(to, how, take_place(from, how->position));
         return;
+    case 'C':
+        how->size = 4;
+        /* fallthrough */
     case 'c':
-        wide = va_arg(*arguments, int);
-        byte = (char)wide;
-        if (how->size == 4 && byte != '\0')
-            put_wide(to, how, &wide, 1);
-        else
-            put_text(to, how, &byte, 1);
+        put_character(to, how, from);
         return;
     case '%':
-        put(to, byte);
+        put(to, '%');
         return;
     case 'n':
-        store_count(va_arg(*arguments, void *), how->size, to->count);
+        store_count(take_place(from, how->position), how->size, to->count);
         return;
     default:
-        put_double(to, how, how->size == 16 ? bsp_nearest_double(va_arg(*arguments, long double)) : va_arg(*arguments, double));
+        put_double(to, how, take_double(from, how));
     }
 }
 
 int vfprintf(FILE *file, const char *format, va_list arguments)
 {
     struct sink to = {file, 0, 0, '\0'};
-    va_list rest;
+    struct arguments from = {.all = NULL};
+    union argument all[MOST_POSITIONS + 1];
     if (file->put == NULL)
         return EOF;
-    va_copy(rest, arguments);
+    va_copy(from.rest, arguments);
     while (*format != '\0' && !to.is_bad) {
         struct format how;
         const char *begin = format;
@@ -430,17 +576,23 @@ int vfprintf(FILE *file, const char *format, va_list arguments)
             put(&to, *format++);
             continue;
         }
-        format = read_format(&how, format + 1, &rest);
+        format = read_format(&how, format + 1, &from);
         how.letter = *format;
-        if (how.letter == '\0' || strchr("diuxXopscn%aefgAEFG", how.letter) == NULL) {
+        if (how.letter == '$') {
+            take_all(&to, all, &from, begin);
+            format = begin;
+        } else if (how.width > MOST_NUMBER || how.precision > MOST_NUMBER) {
+            errno = EOVERFLOW;
+            to.is_bad = 1;
+        } else if (how.letter == '\0' || strchr(LETTERS, how.letter) == NULL) {
             /* No conversion: it stands as it is. */
             put(&to, '%');
             format = begin + 1;
-            continue;
+        } else {
+            put_converted(&to, &how, &from);
+            format++;
         }
-        put_converted(&to, &how, &rest);
-        format++;
     }
-    va_end(rest);
+    va_end(from.rest);
     return to.is_bad ? EOF : to.count;
 }

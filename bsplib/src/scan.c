@@ -307,23 +307,41 @@ double atof(const char *text)
 
 /* What scanf does. */
 
-/* A conversion: its letter, whether what it reads is dropped, and the bytes of a number. */
+/* A conversion: its letter, the position of its argument from 1 on where it has one, whether what it reads is dropped, whether memory is taken
+   for it, the most bytes that it takes, or 0, and the bytes of a number. */
 struct conversion {
     char letter;
-    int is_dropped, size;
+    int position, is_dropped, is_kept, width, size;
 };
 
-static const char *read_conversion(struct conversion *how, const char *at, int *width)
+static const char *read_digits(const char *at, int *number)
+{
+    enum { MOST = 100000000 };
+    for (*number = 0; *at >= '0' && *at <= '9'; at++)
+        *number = *number < MOST ? *number * 10 + *at - '0' : *number;
+    return at;
+}
+
+static const char *read_conversion(struct conversion *how, const char *at)
 {
     memset(how, 0, sizeof *how);
+    at = read_digits(at, &how->width);
+    if (*at == '$') {
+        how->position = how->width;
+        how->width = 0;
+        at++;
+    }
     if (*at == '*') {
         how->is_dropped = 1;
         at++;
     }
-    for (*width = 0; *at >= '0' && *at <= '9'; at++)
-        *width = *width * 10 + *at - '0';
-    for (; *at != '\0' && strchr("hljqztL", *at) != NULL; at++)
+    if (how->width == 0)
+        at = read_digits(at, &how->width);
+    for (; *at != '\0' && strchr("hljqztLm", *at) != NULL; at++)
         switch (*at) {
+        case 'm':
+            how->is_kept = 1;
+            break;
         case 'h':
             how->size = how->size == 2 ? 1 : 2;
             break;
@@ -341,7 +359,25 @@ static const char *read_conversion(struct conversion *how, const char *at, int *
             how->size = 4;
         }
     how->letter = *at;
+    if (how->letter == 'S' || how->letter == 'C') {
+        how->letter = how->letter == 'S' ? 's' : 'c';
+        how->size = 4;
+    }
     return at;
+}
+
+/* Where a conversion stores: the next argument, or the one that it names. */
+static void *place_of(const struct conversion *how, va_list *rest, va_list *first)
+{
+    void *place = NULL;
+    va_list from;
+    if (how->position == 0)
+        return va_arg(*rest, void *);
+    va_copy(from, *first);
+    for (int i = 0; i < how->position; i++)
+        place = va_arg(from, void *);
+    va_end(from);
+    return place;
 }
 
 static void store_whole(void *to, int size, uint64_t number)
@@ -442,25 +478,48 @@ static int belongs(const struct conversion *how, const struct set *set, int byte
     return how->letter == 's' ? !is_blank(byte) : set->has[(unsigned char)byte];
 }
 
+/* Room for one character more than there are, in memory that a conversion takes: NULL where there is none. */
+static void *room_for(void *text, int count, size_t size)
+{
+    enum { FIRST = 32 };
+    void *larger = text;
+    if (count == 0 || (count >= FIRST && (count & (count - 1)) == 0))
+        larger = realloc(text, (size_t)(count == 0 ? FIRST : 2 * count) * size);
+    if (larger == NULL)
+        free(text);
+    return larger;
+}
+
+static void store_character(void *text, int at, int size, int character)
+{
+    if (size == 4)
+        ((wchar_t *)text)[at] = character;
+    else
+        ((char *)text)[at] = (char)character;
+}
+
+/* Bytes, up to the width, or a text that ends with a zero. EOF where there is no memory for it. */
 static int scan_text(struct source *from, const struct conversion *how, const struct set *set, void *to)
 {
-    char *bytes = to;
-    wchar_t *wide = to;
-    int count = 0;
+    size_t size = how->size == 4 ? sizeof(wchar_t) : 1;
+    void *text = how->is_kept ? NULL : to;
+    int count = 0, has_end = how->letter != 'c';
     for (; belongs(how, set, look(from)); count++) {
-        int byte = take(from);
-        if (to != NULL && how->size == 4)
-            wide[count] = byte;
-        else if (to != NULL)
-            bytes[count] = (char)byte;
+        if (how->is_kept && to != NULL && (text = room_for(text, count, size)) == NULL)
+            return EOF;
+        if (text != NULL)
+            store_character(text, count, how->size, look(from));
+        take(from);
     }
-    if (count > 0 && to != NULL && how->letter != 'c') {
-        if (how->size == 4)
-            wide[count] = L'\0';
-        else
-            bytes[count] = '\0';
-    }
-    return count > 0;
+    if (count == 0 || to == NULL)
+        return count > 0;
+    if (how->is_kept && has_end && (text = room_for(text, count, size)) == NULL)
+        return EOF;
+    if (has_end)
+        store_character(text, count, how->size, '\0');
+    if (how->is_kept)
+        *(void **)to = text;
+    return 1;
 }
 
 /* One conversion: 1 where something was read, 0 where it does not match. */
@@ -495,31 +554,30 @@ static int match(struct source *from, int byte)
     return 1;
 }
 
-/* A conversion of the format: 1 where something was read, 0 where it does not match, EOF at the end of the input. */
-static int convert(struct source *from, struct conversion *how, const char **format, int width, va_list *arguments)
+/* A conversion of the format, whose argument is `to`: 1 where something was read, 0 where it does not match, EOF at the end of the input. */
+static int convert(struct source *from, const struct conversion *how, const struct set *set, void *to)
 {
-    struct set set;
-    void *to;
-    if (how->letter == '[')
-        *format = read_set(&set, *format + 1);
-    else if (how->letter != 'c')
+    if (how->letter != '[' && how->letter != 'c')
         skip_blanks(from);
     if (how->letter == '%')
         return match(from, '%');
     if (look(from) == EOF)
         return EOF;
-    from->width = width > 0 ? width : how->letter == 'c' ? 1 : -1;
-    to = how->is_dropped ? NULL : va_arg(*arguments, void *);
-    return scan_one(from, how, &set, to);
+    from->width = how->width > 0 ? how->width : how->letter == 'c' ? 1 : -1;
+    return scan_one(from, how, set, to);
 }
 
 /* Up to the end of the format, or what does not match it: how many were stored, or EOF where the input ends before the first. */
 static int scan(struct source *from, const char *format, va_list *arguments)
 {
     int stored = 0;
+    va_list first;
+    va_copy(first, *arguments);
     for (; *format != '\0'; format++) {
-        struct conversion how = {'%', 1, 0};
-        int width = 0, found;
+        struct conversion how = {.letter = '%', .is_dropped = 1};
+        struct set set;
+        void *to = NULL;
+        int found;
         from->width = -1;
         if (is_blank(*format)) {
             skip_blanks(from);
@@ -528,20 +586,25 @@ static int scan(struct source *from, const char *format, va_list *arguments)
         if (*format != '%')
             found = match(from, (unsigned char)*format);
         else {
-            format = read_conversion(&how, format + 1, &width);
+            format = read_conversion(&how, format + 1);
+            if (how.letter != '%' && !how.is_dropped)
+                to = place_of(&how, arguments, &first);
             if (how.letter == 'n') {
-                if (!how.is_dropped)
-                    store_whole(va_arg(*arguments, void *), how.size, (uint64_t)from->taken);
+                if (to != NULL)
+                    store_whole(to, how.size, (uint64_t)from->taken);
                 continue;
             }
-            found = convert(from, &how, &format, width, arguments);
+            if (how.letter == '[')
+                format = read_set(&set, format + 1);
+            found = convert(from, &how, &set, to);
         }
         if (found == EOF && stored == 0)
-            return EOF;
+            stored = EOF;
         if (found != 1)
             break;
         stored += how.letter != '%' && !how.is_dropped;
     }
+    va_end(first);
     return stored;
 }
 

@@ -99,11 +99,14 @@ static void copies(void)
 static void input(void)
 {
     char word[16], line[16];
-    int number = 0, fields;
+    int number = 0, fields, other = 0, last = 0;
+    unsigned first = 0;
     long long large = 0;
 
     fields = scanf("%d %15s %lld", &number, word, &large);
     printf("%d: %d %s %lld\n", fields, number, word, large);
+    fields = scanf("%4x%i,%i %i", &first, &number, &other, &last);
+    printf("%d: %u %d %d %d\n", fields, first, number, other, last);
     printf("%d\n", getchar());
     while (fgets(line, sizeof line, stdin) != NULL)
         printf("(%s)", line);

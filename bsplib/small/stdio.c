@@ -421,8 +421,9 @@ int scanf(const char *format, ...)
             if (!is_dropped)
                 store(&arguments, length, is_negative ? 0 - number : number);
         } else if (*format == '%') {
-            if (getchar() != '%')
+            if (look() != '%')
                 break;
+            getchar();
             continue;
         } else
             bsp_stop("this conversion of scanf wants the C library: build without --small");

@@ -1,9 +1,9 @@
-/* What the programs of this folder share. Each reads calls from standard input, a line each, makes them, and writes a line for each with what
-   came of it. The host and the node are given the same lines, and have to write the same. What is read and written here goes through getchar
-   and fputs alone, which the small library has too.
+/* What the programs of this folder share. Each reads calls from standard input, a line each, makes them, and writes a line for each with
+   what came of it. The host and the node are given the same lines, and have to write the same. What is read and written here goes through
+   getchar and fputs alone, which the small library has too.
 
-   A line is words with a blank between them: numbers in decimal digits, doubles by the 16 hexadecimal digits of their bits, texts as a point
-   and the hexadecimal digits of their bytes, and `-` for NULL. */
+   A line is words with a blank between them: numbers in decimal digits, doubles by the 16 hexadecimal digits of their bits, texts as a
+   point and the hexadecimal digits of their bytes, and `-` for NULL. */
 #ifndef CALLS_H
 #define CALLS_H
 
@@ -209,8 +209,8 @@ static inline void say_errno(void)
     static const struct {
         int number;
         const char *name;
-    } names[] = {{0, "none"}, {ERANGE, "ERANGE"}, {EINVAL, "EINVAL"}, {EDOM, "EDOM"}, {EILSEQ, "EILSEQ"}, {ENOENT, "ENOENT"}, {EBADF, "EBADF"},
-        {EEXIST, "EEXIST"}, {ENOMEM, "ENOMEM"}, {EOVERFLOW, "EOVERFLOW"}, {ESPIPE, "ESPIPE"}};
+    } names[] = {{0, "none"}, {ERANGE, "ERANGE"}, {EINVAL, "EINVAL"}, {EDOM, "EDOM"}, {EILSEQ, "EILSEQ"}, {ENOENT, "ENOENT"},
+        {EBADF, "EBADF"}, {EEXIST, "EEXIST"}, {ENOMEM, "ENOMEM"}, {EOVERFLOW, "EOVERFLOW"}, {ESPIPE, "ESPIPE"}};
     for (size_t i = 0; i < sizeof names / sizeof *names; i++)
         if (names[i].number == errno) {
             say(names[i].name);

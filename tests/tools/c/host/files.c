@@ -1,6 +1,6 @@
 /* Files and their streams. A call is a script of steps, over four names and four streams. Each step is a word, with its operands behind
-   colons in it: the function's name, the number of a stream, and what it is given. A number of a name from 4 on is that of a file that bsprun
-   gives. Behind each step stands what it answers. At the end all streams are closed, and the bytes of all files are said. */
+   colons in it: the function's name, the number of a stream, and what it is given. A number of a name from 4 on is that of a file that
+   bsprun gives. Behind each step stands what it answers. At the end all streams are closed, and the bytes of all files are said. */
 #include <fcntl.h>
 #include <sys/stat.h>
 #include <unistd.h>

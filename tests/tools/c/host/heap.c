@@ -1,7 +1,7 @@
-/* The heap under a checking allocator. A call is a script of steps over 32 blocks: each word is a letter, a block, and sizes behind colons.
-   Each block is filled with bytes of its own, and looked at whenever it is touched: that it lies at a multiple of 8 and beside all others,
-   that its bytes are as they were, and that those of calloc are 0. What is said are faults, and how many blocks were made; both are the same
-   whichever heap there is, as long as there is memory for all. */
+/* The heap under a checking allocator. A call is a script of steps over 32 blocks: each word is a letter, a block, and sizes behind
+   colons. Each block is filled with bytes of its own, and looked at whenever it is touched: that it lies at a multiple of 8 and beside
+   all others, that its bytes are as they were, and that those of calloc are 0. What is said are faults, and how many blocks were made;
+   both are the same whichever heap there is, as long as there is memory for all. */
 #include "calls.h"
 
 enum { BLOCKS = 32 };

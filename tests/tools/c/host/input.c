@@ -1,5 +1,5 @@
-/* Standard input. A call is a script of steps in the first line, and what is read by them stands behind it: each call is a run. The whole line
-   is taken by getchar, up to its end. */
+/* Standard input. A call is a script of steps in the first line, and what is read by them stands behind it: each call is a run. The whole
+   line is taken by getchar, up to its end. */
 #include "calls.h"
 
 enum { ROOM = 3000 };

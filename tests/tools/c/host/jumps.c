@@ -1,5 +1,5 @@
-/* setjmp and longjmp. A call is numbers: how deep functions call one another before one goes back, to which of them, and with which value; then
-   how often that is done again. What stands in registers of the functions that are left must be as it was. */
+/* setjmp and longjmp. A call is numbers: how deep functions call one another before one goes back, to which of them, and with which
+   value; then how often that is done again. What stands in registers of the functions that are left must be as it was. */
 #include <setjmp.h>
 
 #include "calls.h"

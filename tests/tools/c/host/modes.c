@@ -1,5 +1,5 @@
-/* Rounding modes and flags of fenv.h. A call is a script of steps: a mode is set, flags are raised and taken back, environments are kept and put
-   back, and things are computed, with the mode and the flags behind each. */
+/* Rounding modes and flags of fenv.h. A call is a script of steps: a mode is set, flags are raised and taken back, environments are kept
+   and put back, and things are computed, with the mode and the flags behind each. */
 #include <fenv.h>
 #include <math.h>
 

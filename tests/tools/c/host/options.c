@@ -1,5 +1,5 @@
-/* getopt and getopt_long. A call is the function, the letters, how many long options there are, each a name, whether it takes an argument and
-   whether it stores its value, and then the words of the command line. */
+/* getopt and getopt_long. A call is the function, the letters, how many long options there are, each a name, whether it takes an argument
+   and whether it stores its value, and then the words of the command line. */
 #include <getopt.h>
 #include <unistd.h>
 
@@ -31,11 +31,8 @@ static void say_argument(const char *argument, int count)
 static void ask(const char *function, int count, const char *letters)
 {
     int is_long = strcmp(function, "getopt_long") == 0, which = -1, found;
-    optind = 1;
-#ifndef __riscv
-    /* glibc begins anew for 0 alone, and goes on in the middle of a word else. */
+    /* glibc begins anew for 0 alone, and so does the node: for 1 it goes on in the middle of a word. */
     optind = 0;
-#endif
     opterr = 0;
     for (int turns = 0; turns < 40; turns++) {
         stored = which = -1;

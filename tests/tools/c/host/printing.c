@@ -205,7 +205,9 @@ static void print(void)
 {
     char function = *read_word(), *format;
     size_t size = (size_t)read_number();
-    int stars, answer, is_bare = function == 's' || function == 'S', is_to_file = function == 'f' || function == 'F', is_shown = function == 'o' || function == 'O';
+    int is_bare = function == 's' || function == 'S', is_to_file = function == 'f' || function == 'F';
+    int is_shown = function == 'o' || function == 'O';
+    int stars, answer;
     format = read_text();
     stars = (int)read_number();
     for (argument_count = 0; argument_count < MOST_ARGUMENTS && has_word(); argument_count++)

@@ -1,5 +1,5 @@
-/* string.h, strings.h and ctype.h. A call is the function and its operands: places in an area of 400 bytes, which is filled first with a text
-   that the call has, and counts. Behind what the function answers stand the bytes of the area, if it may have changed them. */
+/* string.h, strings.h and ctype.h. A call is the function and its operands: places in an area of 400 bytes, which is filled first with a
+   text that the call has, and counts. Behind what the function answers stand the bytes of the area, if it may have changed them. */
 #ifndef SMALL
 #include <ctype.h>
 #include <strings.h>

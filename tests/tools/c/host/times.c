@@ -1,5 +1,5 @@
-/* Times: gmtime, mktime, strftime, asctime, difftime and their like, where the zone is UTC. A call is the function and its operands; a broken-down
-   time is its nine numbers. */
+/* Times: gmtime, mktime, strftime, asctime, difftime and their like, where the zone is UTC. A call is the function and its operands; a
+   broken-down time is its nine numbers. */
 #include <time.h>
 
 #include "calls.h"

@@ -207,7 +207,8 @@ static void classify(const char *function)
 {
     static int (*const functions[])(wint_t) = {
         iswalnum, iswalpha, iswblank, iswcntrl, iswdigit, iswgraph, iswlower, iswprint, iswpunct, iswspace, iswupper, iswxdigit};
-    static const char *const names[] = {"alnum", "alpha", "blank", "cntrl", "digit", "graph", "lower", "print", "punct", "space", "upper", "xdigit"};
+    static const char *const names[] = {
+        "alnum", "alpha", "blank", "cntrl", "digit", "graph", "lower", "print", "punct", "space", "upper", "xdigit"};
     wint_t code = (wint_t)first[0];
     if (is(function, "btowc")) {
         say_number((int32_t)btowc((int)code));

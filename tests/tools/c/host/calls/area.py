@@ -42,7 +42,7 @@ class Answer:
 
 @dataclass(frozen=True)
 class Difference:
-    """A difference between host and node that is no mistake: why, with the section of C or POSIX that leaves it open, and when it is this."""
+    """A difference between host and node that is no mistake: why, with the section of C or POSIX that leaves it open, and when it is."""
 
     reason: str
     is_this: Callable[[Answer], bool]

@@ -14,6 +14,9 @@ LETTERS = b"abcdefghijklmnopqrstuvwxyz"
 BLANKS = b" \t\n\v\f\r"
 
 
+SPECIAL = (0.0, -0.0, 1.0, -1.0, float("inf"), float("-inf"), float("nan"), 5e-324, 1.7976931348623157e308, 2.2250738585072014e-308)
+
+
 def text(content: bytes) -> str:
     """A text as a word of a call."""
     return "." + content.hex()
@@ -63,11 +66,11 @@ def double(chance: Chance) -> float:
     """A double: what people write, halves of a last digit, few bits, all bits, the least and the greatest, and what is no number."""
     kind = chance.randrange(12)
     if kind == 0:
-        return chance.choice((0.0, -0.0, 1.0, -1.0, float("inf"), float("-inf"), float("nan"), 5e-324, 1.7976931348623157e308, 2.2250738585072014e-308))
+        return chance.choice(SPECIAL)
     if kind == 1:
         return chance.randint(-1000, 1000) / chance.choice((1, 2, 4, 8, 10, 100, 1000))
     if kind == 2:
-        return (2 * chance.randint(0, int(10 ** chance.randint(1, 6))) + 1) / 2 ** chance.randint(0, 30)
+        return float(2 * chance.randint(0, int(10 ** chance.randint(1, 6))) + 1) / float(1 << chance.randint(0, 30))
     if kind == 3:
         return float(f"{chance.choice(('', '-'))}1e{chance.randint(-30, 30)}")
     if kind == 4:

@@ -23,7 +23,7 @@ HERE = pathlib.Path(__file__).resolve().parent.parent
 HOST = Tool("gcc", "gcc")
 X86 = Tool("x86-64", "none", lambda name: platform.machine() in ("x86_64", "AMD64"))
 TOOLS = (HOST, Tool("g++", "g++"), X86, *COMPILER)
-# The host computes as C has it: each operation is rounded by itself. As on nodes, a char has a sign. Calls are not made when they are compiled.
+# The host computes as C has it: each operation is rounded by itself. As on nodes, a char has a sign. No call is made when it is compiled.
 WARNINGS = ["-Wall", "-Wextra", "-Werror"]
 OPTIONS = ["-O1", "-fno-builtin", "-fsigned-char", "-ffp-contract=off", "-frounding-math", *WARNINGS]
 MEMORY, LIMIT = str(1 << 24), str(1 << 36)
@@ -42,9 +42,9 @@ class Program:
 
     def compile(self, words: Sequence[str], target: pathlib.Path) -> pathlib.Path:
         """The program by a compiler."""
-        done = subprocess.run(
-            [*words, *OPTIONS, *self.area.options, "-o", str(target), str(self.source), *([] if "--small" in words else ["-lm"])], stderr=subprocess.PIPE, text=True, check=False, timeout=SECONDS
-        )
+        libraries = [] if "--small" in words else ["-lm"]
+        line = [*words, *OPTIONS, *self.area.options, "-o", str(target), str(self.source), *libraries]
+        done = subprocess.run(line, stderr=subprocess.PIPE, text=True, check=False, timeout=SECONDS)
         if done.returncode != 0:
             raise RuntimeError(f"{self.source.name} was not built: {done.stderr}")
         return target

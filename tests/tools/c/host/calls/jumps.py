@@ -11,7 +11,8 @@ def call(chance: Chance, _: Build) -> str:
     """A call."""
     deepest = chance.choice((0, 1, 2, 5, chance.randint(0, 40)))
     value = chance.choice((0, 1, -5, chance.randint(2, 1000)))
-    return " ".join(map(str, (deepest, chance.randint(0, deepest), value, chance.choice((0, 0, 1, 3)), made.whole(chance, 16), made.whole(chance, 16))))
+    target, turns = chance.randint(0, deepest), chance.choice((0, 0, 1, 3))
+    return " ".join(map(str, (deepest, target, value, turns, made.whole(chance, 16), made.whole(chance, 16))))
 
 
 AREA = Area("jumps", "jumps.c", call, BOTH)

@@ -8,6 +8,9 @@ from . import chance as made
 from .area import ALL, Answer, Area, Build, Difference
 from .chance import Chance, often
 
+# What is a number in words, or in part one with a point, and what is none.
+WORDS = ("inf", "INF", "infinity", "InFiNiTy", "infin", "nan", "NAN", "nan()", "nan(12ab_)", "nan(", "nan(-)", "in", "na")
+PARTS = ("1e", "1e+", "1e-", "1e+x", ".", ".e1", "e1", "0x", "0x.", "0x.p1", "0xp1", "0x1p", "0x1p+", "1.e1", ".5", "5.", "0e99999")
 FIGURES = "0123456789abcdefghijklmnopqrstuvwxyz"
 
 
@@ -39,7 +42,7 @@ def whole_text(chance: Chance, base: int, bits: int, most: int = 80) -> str:
         number = chance.getrandbits(chance.randint(60, most))
     else:
         number = abs(made.whole(chance, bits))
-    prefix = chance.choice(("0x", "0X", "0", "0b")) if base in (0, 16) and often(chance, 0.5) else ""
+    prefix = chance.choice(("0x", "0X", "0", "0b" if most > 62 else "0x")) if base in (0, 16) and often(chance, 0.5) else ""
     digits = in_base(number, base if 2 <= base <= 36 else 16 if prefix in ("0x", "0X") else 8 if prefix == "0" else 10)
     if often(chance, 0.3):
         digits = digits.upper()
@@ -56,7 +59,8 @@ def hexadecimal_text(chance: Chance) -> str:
     if often(chance, 0.3):
         digits = digits.rstrip("0") + chance.choice(("8", "80000000", "80000001", "7fffffff"))
     point = chance.randint(0, len(digits))
-    exponent = "" if often(chance, 0.3) else chance.choice("pP") + chance.choice(("", "-", "+")) + str(chance.choice((chance.randint(0, 1100), 0, 5)))
+    power = chance.choice((chance.randint(0, 1100), 0, 5))
+    exponent = "" if often(chance, 0.3) else chance.choice("pP") + chance.choice(("", "-", "+")) + str(power)
     return chance.choice(("0x", "0X")) + digits[:point] + chance.choice((".", "", ".")) + digits[point:] + exponent
 
 
@@ -77,11 +81,12 @@ def real_text(chance: Chance) -> str:
     elif kind <= 8:
         number = hexadecimal_text(chance)
     elif kind == 9:
-        number = chance.choice(("inf", "INF", "infinity", "InFiNiTy", "infin", "nan", "NAN", "nan()", "nan(12ab_)", "nan(", "nan(-)", "in", "na"))
+        number = chance.choice(WORDS)
     elif kind == 10:
-        number = chance.choice(("1e", "1e+", "1e-", "1e+x", ".", ".e1", "e1", "0x", "0x.", "0x.p1", "0xp1", "0x1p", "0x1p+", "1.e1", ".5", "5.", "0e99999"))
+        number = chance.choice(PARTS)
     else:
-        number = f"{chance.choice(('1', '0.0000', '9'))}{'0' * chance.choice((0, 300, 400))}{chance.choice(('', '.5', '1'))}e{chance.randint(-99999, 99999)}"
+        zeros, digits = "0" * chance.choice((0, 300, 400)), chance.choice(("", ".5", "1"))
+        number = f"{chance.choice(('1', '0.0000', '9'))}{zeros}{digits}e{chance.randint(-99999, 99999)}"
     return before(chance) + number + behind(chance)
 
 
@@ -123,8 +128,10 @@ def is_beyond_type(answer: Answer) -> bool:
 
 def has_no_base(answer: Answer) -> bool:
     """A base that there is not: host and node say so, and leave the end of the text at different places."""
-    is_refused = answer.call[0].startswith("strto") and len(answer.call) == 3 and not (answer.call[2] == "0" or 2 <= int(answer.call[2]) <= 36)
-    return is_refused and answer.host[0] == answer.node[0] == "0" and answer.host[2] == answer.node[2] == "EINVAL"
+    if not answer.call[0].startswith("strto") or len(answer.call) != 3:
+        return False
+    base = int(answer.call[2])
+    return base != 0 and not 2 <= base <= 36 and answer.host[0] == answer.node[0] == "0" and answer.host[2] == answer.node[2] == "EINVAL"
 
 
 def is_inexact_and_small(answer: Answer) -> bool:

@@ -41,7 +41,9 @@ def call(chance: Chance, _: Build) -> str:
     """A call."""
     function = chance.choice(("getopt", "getopt_long", "getopt_long"))
     names = chance.sample(NAMES, chance.randint(0, 5)) if function == "getopt_long" else []
-    longs = [f"{made.text(it.encode())} {chance.randrange(3)} {int(often(chance, 0.3))} {chance.choice((97, 98, 1, 300, 0))}" for it in names]
+    longs = []
+    for it in names:
+        longs.append(f"{made.text(it.encode())} {chance.randrange(3)} {int(often(chance, 0.3))} {chance.choice((97, 98, 1, 300, 0))}")
     words = [made.text(it.encode()) for it in command_line(chance, names)]
     return " ".join((function, made.text(letters_of(chance).encode()), str(len(names)), *longs, *words))
 

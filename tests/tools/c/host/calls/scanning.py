@@ -13,7 +13,8 @@ from .numbers import real_text, whole_text
 # The length of a whole number, and the letter of what it is stored in.
 WHOLE_SIZES = {"hh": "H", "h": "h", "": "i", "l": "l", "ll": "q", "j": "q", "z": "l", "t": "l"}
 REAL_SIZES = {"": "f", "l": "r", "L": "R"}
-SETS = ("[a-z]", "[^a-z]", "[0-9]", "[]]", "[]a]", "[^]]", "[^]a]", "[a-]", "[-a]", "[^\n]", "[^ ,;]", "[abc]", "[A-Za-z_0-9]", "[^-]", "[%d]", "[+-]", "[ \t]", "[^^]", "[\x80-\xff]")
+SETS = ("[a-z]", "[^a-z]", "[0-9]", "[]]", "[]a]", "[^]]", "[^]a]", "[a-]", "[-a]", "[^\n]", "[^ ,;]", "[abc]", "[A-Za-z_0-9]", "[^-]",
+        "[%d]", "[+-]", "[ \t]", "[^^]", "[\x80-\xff]")  # fmt: skip
 OF_SET = b"abcdefgz,;]- 019^%+_ABZ\t\x80\xc3\xff"
 
 
@@ -37,7 +38,7 @@ def conversion(chance: Chance, build: Build) -> Tuple[str, str]:
     if kind == 9:
         return chance.choice(SETS), "s"
     if kind == 10 and often(chance, 0.2):
-        return chance.choice(("ls", "lc", "p")), ""
+        return chance.choice(("ls", "lc")), ""
     return chance.choice("ssc"), "s"
 
 
@@ -48,14 +49,12 @@ def input_of(chance: Chance, letter: str) -> str:
     if letter[-1] in "diuoxX":
         base = {"d": 10, "u": 10, "i": 0, "o": 8}.get(letter[-1], 16)
         bits = 64 if letter[0] in "jl" and letter[:2] != "ld" else 31
-        # C11 7.21.6.2p10 leaves open what comes of a number that its place cannot hold; docs/manual/c.md promises the low bits of one with 64.
+        # C11 7.21.6.2p10 leaves open what comes of a number that its place cannot hold; docs/manual/c.md promises the low bits of 64.
         return whole_text(chance, base, min(bits, chance.choice((8, 16, 31, 63))), 62)
     if letter[-1] in "fegaEFGA":
         return real_text(chance)
     if letter[-1] == "]":
         return bytes(chance.choice(OF_SET) for _ in range(chance.randint(0, 9))).decode("latin-1")
-    if letter[-1] == "p":
-        return f"0x{chance.getrandbits(31):x}"
     blanks = "".join(made.some(chance, " \t\n", 2))
     return blanks + made.word(chance, 8).decode("latin-1")
 
@@ -67,8 +66,6 @@ def piece(chance: Chance, build: Build) -> Tuple[str, str, List[str]]:
         return f"%{letter}", "", [{"hhn": "H", "hn": "h", "n": "i", "ln": "l", "lln": "q"}[letter]]
     if letter in ("ls", "lc"):
         place = "w"
-    if letter == "p":
-        place = "p"
     is_left_out = often(chance, 0.12)
     width = str(chance.choice((1, 2, 3, 4, 5, 7, 10, 17, 30))) if often(chance, 0.35) else ""
     if letter in ("c", "lc"):
@@ -90,6 +87,9 @@ def between(chance: Chance) -> Tuple[str, str]:
 def call(chance: Chance, build: Build) -> str:
     """A call."""
     function = "i" if build == Build.SMALL else chance.choice("sssvff")
+    if build != Build.SMALL and often(chance, 0.01):
+        # What %p reads is defined for what printf has written alone: C11 7.21.6.2p12.
+        return " ".join((function, made.text(b"%p"), made.text(b"0x%x" % chance.getrandbits(31)), "p"))
     places: List[str] = []
     form = given = ""
     for _ in range(chance.randint(1, 5)):
@@ -99,7 +99,7 @@ def call(chance: Chance, build: Build) -> str:
     form, given = form + between(chance)[0], given + between(chance)[1]
     if often(chance, 0.1):
         given = given[: chance.randint(0, len(given))]
-    if often(chance, 0.2):
+    if build != Build.SMALL and often(chance, 0.2):
         form += "%n"
         places.append("i")
     given = given.replace("\0", "")[:500]
@@ -119,8 +119,13 @@ def spelled(line: str) -> bytes:
     return content + (bytes.fromhex(given[1:]) + b"\n" + b"\1\n" * 16 + b"\2\n" if function == "i" else b"")
 
 
-# A beginning of a number with a point that is none, as `1e+`, `0x` and `nan(?`.
-UNFINISHED = re.compile(rb"""[0-9.]e[-+]?(?![0-9]) | 0x\.?(?![0-9a-f.]) | 0x\.(?![0-9a-f]) | 0x[0-9a-f.]*p[-+]?(?![0-9]) | nan\((?![0-9a-z_]*\))""", re.I | re.X)
+# A beginning of a number with a point that is none, as `1e+`, `0x` and `in`, and what stands behind `nan`.
+UNFINISHED = re.compile(
+    rb"""[0-9.]e[-+]?(?![0-9]) | 0x\.?(?![0-9a-f.]) | 0x\.(?![0-9a-f]) | 0x[0-9a-f.]*p[-+]?(?![0-9])
+    | nan\( | \bi(?!nf) | \binfi(?!nity) | \bn(?!an)""",
+    re.I | re.X,
+)
+WIDE = re.compile(rb"%\*?[0-9]*l[sc]")
 REAL = re.compile(rb"%\*?[0-9]*[lL]?[fegaEFGA]")
 
 
@@ -129,9 +134,24 @@ def is_unfinished(answer: Answer) -> bool:
     return bool(REAL.search(answer.text(1)) and UNFINISHED.search(answer.text(2)))
 
 
+def is_beyond_64(answer: Answer) -> bool:
+    """A whole number of more than 64 bits."""
+    return bool(re.search(rb"%\*?[0-9]*[hljzt]*[diuoxX]", answer.text(1)) and re.search(rb"[0-9a-fA-F]{17,}", answer.text(2)))
+
+
+def is_byte_above(answer: Answer) -> bool:
+    """A byte above 127 as a wide character."""
+    return bool(WIDE.search(answer.text(1)) and re.search(rb"[\x80-\xff]", answer.text(2)))
+
+
 DIFFERENCES = (
-    Difference("C11 7.21.6.2p9 and p10: an item is the longest beginning of a number, and of `1e+`, `0x` or `nan(?` it is none: nothing is stored. "
-               "glibc stores a number (the example of p21, `100ergs`)", is_unfinished),
-)  # fmt: skip
+    Difference(
+        "C11 7.21.6.2p9 and p10: an item is the longest beginning of a number, and of `1e+`, `0x` or `nan(?` it is none: nothing is stored. "
+        "glibc stores a number (the example of p21, `100ergs`), and reads one byte more than that behind `in`",
+        is_unfinished,
+    ),
+    Difference("C11 7.21.6.2p10: what is stored of a number that its place cannot hold is undefined; here the low bits up to 64", is_beyond_64),
+    Difference("C11 5.2.1p1: which bytes above 127 are characters of the locale C is of the implementation", is_byte_above),
+)
 
 AREA = Area("scanning", "scanning.c", call, ALL, DIFFERENCES, spelled=spelled)

@@ -14,7 +14,8 @@ def keys(chance: Chance, most: int) -> List[int]:
     """Keys in an order that is easy or hard to sort."""
     count = chance.choice((0, 1, 2, 3, 4, 5, 6, 7, 8, chance.randint(9, 20), chance.randint(20, 60), chance.randint(60, 200)))
     kind = chance.randrange(8)
-    found = [chance.randint(0, chance.choice((1, 3, 40, most))) for _ in range(count)] if kind < 3 else [chance.randint(0, most) for _ in range(count)]
+    reach = chance.choice((1, 3, 40, most)) if kind < 3 else most
+    found = [chance.randint(0, reach) for _ in range(count)]
     if kind == 3:
         found.sort()
     elif kind == 4:

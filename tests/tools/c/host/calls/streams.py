@@ -9,9 +9,10 @@ from .area import BOTH, Area, Build
 from .chance import Chance, often
 from .numbers import real_text, whole_text
 
-FLAGS = ("hex", "oct", "dec", "fixed", "scientific", "defaultfloat", "hexfloat", "left", "right", "internal", "showpos", "noshowpos", "showbase",
-         "noshowbase", "showpoint", "noshowpoint", "uppercase", "nouppercase", "boolalpha", "noboolalpha")  # fmt: skip
+FLAGS = ("hex", "oct", "dec", "fixed", "scientific", "defaultfloat", "hexfloat", "left", "right", "internal", "showpos", "noshowpos",
+         "showbase", "noshowbase", "showpoint", "noshowpoint", "uppercase", "nouppercase", "boolalpha", "noboolalpha")  # fmt: skip
 FLAGS_OF_INPUT = ("hex", "oct", "dec", "nobase", "skipws", "noskipws", "ws", "boolalpha", "noboolalpha")
+OTHERS = ("put:65", "write:616263", "flag:endl", "flag:ends", "asks", "tellp", "setbase:16", "setbase:8", "setbase:0")
 WHOLES = {"short": 16, "ushort": 16, "int": 32, "unsigned": 32, "long": 32, "ulong": 32, "llong": 64, "ullong": 64}
 BYTES = ("char", "schar", "uchar")
 
@@ -46,7 +47,7 @@ def script_of_output(chance: Chance) -> List[str]:
             steps.append(f"precision:{chance.choice((0, 1, 2, 3, 10, 17, 20, 30, -1))}")
         if often(chance, 0.1):
             steps.append(f"fill:{chance.choice((42, 48, 32, 200))}")
-        steps.append(written(chance) if often(chance, 0.9) else chance.choice(("put:65", "write:616263", "flag:endl", "flag:ends", "asks", "tellp", "setbase:16", "setbase:8", "setbase:0")))
+        steps.append(written(chance) if often(chance, 0.9) else chance.choice(OTHERS))
     return steps
 
 

@@ -9,9 +9,9 @@ from .area import ALL, Area, Build
 from .chance import Chance, often
 
 ROOM = 400
-COPIES = ["strcpy", "memcpy", "memmove", "strcat", "strncpy", "strncat", "stpcpy", "stpncpy", "mempcpy", "memccpy", "bcopy", "strxfrm", "swab"]
-COMPARISONS = ["strcmp", "strncmp", "memcmp", "strcoll", "strcasecmp", "strncasecmp", "bcmp", "strspn", "strcspn", "strpbrk", "strstr", "strcasestr"]
-LOOKS = ["strchr", "memset", "strlen", "strrchr", "strchrnul", "index", "rindex", "memchr", "memrchr", "rawmemchr", "strnlen", "bzero", "memmem"]
+COPIES = """strcpy memcpy memmove strcat strncpy strncat stpcpy stpncpy mempcpy memccpy bcopy strxfrm swab""".split()
+COMPARISONS = """strcmp strncmp memcmp strcoll strcasecmp strncasecmp bcmp strspn strcspn strpbrk strstr strcasestr""".split()
+LOOKS = """strchr memset strlen strrchr strchrnul index rindex memchr memrchr rawmemchr strnlen bzero memmem""".split()
 SPLITS, COPIED, CLASSES = ["strtok", "strtok_r", "strsep"], ["strdup", "strndup"], ["ctype", "ctype", "ffs", "ffsll"]
 OF_SMALL = {"memcpy", "memmove", "memset", "memcmp", "strlen", "strcmp", "strncmp", "strcpy", "strchr"}
 FUNCTIONS = COPIES + COMPARISONS + LOOKS + SPLITS + COPIED + CLASSES

@@ -8,6 +8,10 @@ from . import chance as made
 from .area import BOTH, Answer, Area, Build, Difference
 from .chance import Chance, often
 
+FUNCTIONS = ("strftime",) * 4 + ("mktime",) * 3 + (
+    "gmtime", "gmtime_r", "localtime", "localtime_r", "ctime", "asctime", "asctime_r", "difftime")  # fmt: skip
+# Ends of days, of a February and of 32 bits.
+EDGES = (0, -1, 1, 86399, 86400, -86400, -86401, 951782399, 951782400, 951868800, 2**31 - 1, 2**31, -(2**31), 4107542399, 4107542400)
 # Of C11 7.27.3.5, each also with E or O where C has that.
 LETTERS = "aAbBcCdDeFgGhHIjmMnprRStTuUVwWxXyYzZ%"
 WITH_E, WITH_O = "cCxXyY", "deHImMSuUVwWy"
@@ -17,8 +21,8 @@ def broken_down(chance: Chance, is_proper: bool) -> List[int]:
     """The nine numbers of a time: in their ranges, or anywhere if mktime has to put them there."""
     if is_proper:
         return [chance.randint(0, 60), chance.randint(0, 59), chance.randint(0, 23), chance.randint(1, 31), chance.randint(0, 11),
-                chance.choice((chance.randint(0, 200), chance.randint(-1900, 8099), 70, 100, 124)), chance.randint(0, 6), chance.randint(0, 365),
-                chance.choice((0, 0, -1))]  # fmt: skip
+                chance.choice((chance.randint(0, 200), chance.randint(-1900, 8099), 70, 100, 124)), chance.randint(0, 6),
+                chance.randint(0, 365), chance.choice((0, 0, -1))]  # fmt: skip
     reach = chance.choice((100, 1000, 100000))
     return [chance.randint(-reach, reach) for _ in range(5)] + [chance.randint(-200, 400), 0, 0, chance.choice((0, -1))]
 
@@ -44,13 +48,13 @@ def seconds(chance: Chance) -> int:
     if kind == 1:
         return chance.randint(0, 2**40 % 253402300799)
     if kind == 2:
-        return chance.choice((0, -1, 1, 86399, 86400, -86400, -86401, 951782399, 951782400, 951868800, 2**31 - 1, 2**31, -(2**31), 4107542399, 4107542400))
+        return chance.choice(EDGES)
     return chance.randint(-40000, 40000) * 86400 + chance.choice((-1, 0, 1, chance.randrange(86400)))
 
 
 def call(chance: Chance, _: Build) -> str:
     """A call."""
-    function = chance.choice(("strftime",) * 4 + ("mktime",) * 3 + ("gmtime", "gmtime_r", "localtime", "localtime_r", "ctime", "asctime", "asctime_r", "difftime"))
+    function = chance.choice(FUNCTIONS)
     if function == "strftime":
         size = chance.choice((0, 1, 2, chance.randint(0, 40), 2000, 2000, 2000))
         return " ".join(map(str, (function, size, made.text(form(chance)), *broken_down(chance, True))))

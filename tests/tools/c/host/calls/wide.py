@@ -65,8 +65,11 @@ def is_byte_above(answer: Answer) -> bool:
 
 
 DIFFERENCES = (
-    Difference("C11 5.2.1p1 and 5.2.1.2: which bytes above 127 are characters of the locale C is of the implementation: here all are, as in the "
-               "locale POSIX, and in glibc none", is_byte_above),
-)  # fmt: skip
+    Difference(
+        "C11 5.2.1p1 and 5.2.1.2: which bytes above 127 are characters of the locale C is of the implementation: here all are, as in the "
+        "locale POSIX, and in glibc none",
+        is_byte_above,
+    ),
+)
 
 AREA = Area("wide", "wide.c", call, BOTH, DIFFERENCES)

@@ -146,11 +146,11 @@ def is_byte_above(answer: Answer) -> bool:
 
 DIFFERENCES = (
     Difference(
-        "C11 7.21.6.2p9 and p10: an item is the longest beginning of a number, and of `1e+`, `0x` or `nan(?` it is none: nothing is stored. "
-        "glibc stores a number (the example of p21, `100ergs`), and reads one byte more than that behind `in`",
+        "C11 7.21.6.2p9 and p10: an item is the longest beginning of a number, and of `1e+`, `0x` or `nan(?` it is none: nothing is "
+        "stored. glibc stores a number (the example of p21, `100ergs`), and reads one byte more than that behind `in`",
         is_unfinished,
     ),
-    Difference("C11 7.21.6.2p10: what is stored of a number that its place cannot hold is undefined; here the low bits up to 64", is_beyond_64),
+    Difference("C11 7.21.6.2p10: what is stored of a number that its place cannot hold is undefined; here the low bits", is_beyond_64),
     Difference("C11 5.2.1p1: which bytes above 127 are characters of the locale C is of the implementation", is_byte_above),
 )
 

@@ -51,7 +51,7 @@ class Get(NamedTuple):
     target: int
     source: int
     place: int
-    count: int
+    size: int
 
 
 class Message(NamedTuple):
@@ -182,10 +182,10 @@ class Model:
 
     def sync(self) -> None:
         """Gets read; then gets land, and then puts, each by rank and then in the order of the calls."""
-        moved = [(it.target, it.caller, it.count) for it in self.gets] + [(it.caller, it.target, len(it.content)) for it in self.puts]
+        moved = [(it.target, it.caller, it.size) for it in self.gets] + [(it.caller, it.target, len(it.content)) for it in self.puts]
         moved += [(caller, target, len(it.tag) + len(it.payload)) for caller, target, it in self.sent]
         self.cost(moved, [(caller, target) for caller, target, _ in self.sent])
-        read = [(it, self.ranks[it.target].bytes_at(it.source, it.count)) for it in self.gets]
+        read = [(it, self.ranks[it.target].bytes_at(it.source, it.size)) for it in self.gets]
         for get, content in sorted(read, key=lambda pair: pair[0].caller):
             self.ranks[get.caller].write(get.place, content)
         for put in sorted(self.puts, key=lambda one: one.caller):

@@ -102,24 +102,30 @@ double bsp_dtime(void);
 #ifdef __cplusplus
 }
 
-#if __cplusplus >= 201103L
-/* The same with pointers to other whole numbers of 32 bits. Programs include this within extern "C" too. */
+/* The same with pointers to other whole numbers of 32 bits, and NULL in the place of one. Programs include this within extern "C" too. */
 extern "C++" {
+#if __cplusplus >= 201103L
+#define BSP_HAS_32_BITS(Number) static_assert(BSP_IS_NUMBER(Number), "this has to point to a whole number of 32 bits")
+#else
+#define BSP_HAS_32_BITS(Number) typedef char this_has_to_point_to_a_whole_number_of_32_bits[BSP_IS_NUMBER(Number) ? 1 : -1]
+#endif
+#define BSP_IS_NUMBER(Number) (sizeof(Number) == sizeof(int) && Number(1) / 2 == 0)
 template <class Number> inline int *bsp_number_at(Number *at)
 {
-    static_assert(sizeof(Number) == sizeof(int) && Number(1) / 2 == 0, "this has to point to a whole number of 32 bits");
+    BSP_HAS_32_BITS(Number);
     return reinterpret_cast<int *>(at);
 }
+#undef BSP_HAS_32_BITS
+#undef BSP_IS_NUMBER
 template <class Number> inline void bsp_set_tagsize(Number *tag_nbytes) { bsp_set_tagsize(bsp_number_at(tag_nbytes)); }
 template <class Number> inline void bsp_get_tag(Number *status, void *tag) { bsp_get_tag(bsp_number_at(status), tag); }
-template <class Number> inline void bsp_qsize(Number *nmessages, decltype(nullptr)) { bsp_qsize(bsp_number_at(nmessages), (int *)0); }
-template <class Number> inline void bsp_qsize(decltype(nullptr), Number *accum_nbytes) { bsp_qsize((int *)0, bsp_number_at(accum_nbytes)); }
+template <class Number> inline void bsp_qsize(Number *nmessages, int *accum_nbytes) { bsp_qsize(bsp_number_at(nmessages), accum_nbytes); }
+template <class Number> inline void bsp_qsize(int *nmessages, Number *accum_nbytes) { bsp_qsize(nmessages, bsp_number_at(accum_nbytes)); }
 template <class Number, class Other> inline void bsp_qsize(Number *nmessages, Other *accum_nbytes)
 {
     bsp_qsize(bsp_number_at(nmessages), bsp_number_at(accum_nbytes));
 }
 }
-#endif
 #endif
 
 #endif

@@ -13,8 +13,7 @@
  *
  * and that of the first is what was asked for before. What a rank has for itself is copied, and not sent.
  *
- * src and dst may be the same, but where one of them holds p blocks. bsp_fold and bsp_scan take p n bytes from malloc for the
- * time of the call.
+ * src and dst may be the same, or overlap. bsp_fold and bsp_scan take p n bytes from malloc for the time of the call.
  */
 #ifndef BSP_LEVEL1_H
 #define BSP_LEVEL1_H
@@ -27,7 +26,8 @@
 extern "C" {
 #endif
 
-/* An operator writes what it makes of *left and *right, each of *nbytes, to *result. It has to be associative. */
+/* An operator writes what it makes of *left and *right, each of *nbytes, to *result. It has to be associative. What it writes to *left,
+   *right and *nbytes, nobody reads. */
 typedef void (*bsp_operator)(void *result, void *left, void *right, int *nbytes);
 
 /* nbytes at src of the root come to dst of every rank. */

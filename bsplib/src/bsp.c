@@ -35,7 +35,8 @@ __attribute__((noreturn)) static void refuse_nodes(int maxprocs)
 {
     if (maxprocs < 1)
         bsp_stop_with("bsp_begin is called with ", maxprocs,
-                      " processes, and takes 1 or more: call bsp_init first where rank 0 alone has the number");
+                      is_initialized ? " processes, and takes 1 or more"
+                                     : " processes, and takes 1 or more: call bsp_init first where rank 0 alone has the number");
     if (bsp_pid() == 0)
         bsp_stop_with("there are more nodes than the program takes in bsp_begin: bsprun -n ", maxprocs, " gives as many");
     for (;;)
@@ -80,11 +81,18 @@ int bsp_pid(void)
 /* The tag sizes of this superstep and the next one, and of the messages that are in the queue. */
 static int tag_size = 0, next_tag_size = 0, received_tag_size = 0;
 
-/* The messages of this superstep that bsp_hpmove gave out. It is kept, since the next superstep may want as much. */
-static struct {
-    char *bytes;
+/* Memory for the messages that bsp_hpmove gives out in this superstep, in pieces: a tag or a payload that does not fit into what the last
+   piece has left takes a new one. */
+enum { USUAL_PIECE = 1024 };
+struct piece {
+    struct piece *before;
     size_t size;
+    double bytes[];
+};
+static struct {
+    struct piece *last;
     char *next; /* NULL where this superstep has not used it */
+    size_t left;
 } room;
 
 void bsp_sync(void)
@@ -201,31 +209,59 @@ static size_t rounded(size_t size)
     return (size + 7) & ~(size_t)7;
 }
 
+/* Begins with the first piece of an earlier superstep, if that is large enough, and frees the others. */
+static void begin_room(size_t wanted)
+{
+    while (room.last != NULL && (room.last->before != NULL || room.last->size < wanted)) {
+        struct piece *piece = room.last;
+        room.last = piece->before;
+        free(piece);
+    }
+    if (room.last != NULL) {
+        room.next = (char *)room.last->bytes;
+        room.left = room.last->size;
+    }
+}
+
+static void add_piece(size_t size)
+{
+    struct piece *piece = size < 0x7fffff00 ? malloc(sizeof *piece + size) : NULL;
+    if (piece == NULL)
+        bsp_stop("bsp_hpmove has no memory for the message");
+    *piece = (struct piece){room.last, size};
+    room.last = piece;
+    room.next = (char *)piece->bytes;
+    room.left = size;
+}
+
+/* Memory at a multiple of 8 for a tag or a payload of this size, where what is left in the queue comes to so many bytes. */
+static void *take_room(size_t size, unsigned long long all)
+{
+    size_t wanted = rounded(size);
+    char *place;
+    if (room.next == NULL)
+        begin_room(wanted);
+    if (room.next == NULL || wanted > room.left)
+        add_piece(wanted > USUAL_PIECE ? wanted : all < USUAL_PIECE ? (size_t)all : USUAL_PIECE);
+    place = room.next;
+    room.next += wanted;
+    room.left -= wanted;
+    return place;
+}
+
 int bsp_hpmove(void **tag_ptr, void **payload_ptr)
 {
     unsigned messages, bytes;
     int status;
+    unsigned long long all;
     MUST_BE_WITHIN("bsp_hpmove");
     machine_call_2(CALL_QSIZE, (long)&messages, (long)&bytes);
     if (messages == 0)
         return -1;
-    if (room.next == NULL) {
-        /* All that is left in the queue, each tag and each payload at a multiple of 8. */
-        unsigned long long wanted = bytes + messages * (unsigned long long)(rounded(received_tag_size) + 7);
-        if (wanted > room.size) {
-            free(room.bytes);
-            room.bytes = wanted < 0x7fffffff ? malloc((size_t)wanted) : NULL;
-            room.size = (size_t)wanted;
-            if (room.bytes == NULL)
-                bsp_stop("bsp_hpmove has no memory for the messages");
-        }
-        room.next = room.bytes;
-    }
-    *tag_ptr = room.next;
-    machine_call_2(CALL_GET_TAG, (long)&status, (long)room.next);
-    room.next += rounded(received_tag_size);
-    *payload_ptr = room.next;
-    machine_call_2(CALL_MOVE, (long)room.next, status);
-    room.next += rounded(status);
+    all = bytes + messages * (unsigned long long)(rounded((size_t)received_tag_size) + 7);
+    *tag_ptr = take_room((size_t)received_tag_size, all);
+    machine_call_2(CALL_GET_TAG, (long)&status, (long)*tag_ptr);
+    *payload_ptr = take_room((size_t)status, all);
+    machine_call_2(CALL_MOVE, (long)*payload_ptr, status);
     return status;
 }

@@ -244,10 +244,12 @@ void *malloc(size_t asked)
     return take("malloc", __builtin_return_address(0), asked);
 }
 
-/* A block becomes free, and one with those before and behind it. */
+/* A block becomes free, and one with those before and behind it. Its own head keeps the mark of a free block, also in the middle of one. */
 static void release(struct block *block)
 {
     size_t size = size_of(block);
+    block->asked = (unsigned)IS_FREE;
+    block->size &= ~(unsigned)IS_USED;
     if (block->size & IS_BEHIND_FREE) {
         size_t before = ((unsigned *)block)[-1];
         block = at(block, (size_t)-before);
@@ -255,8 +257,6 @@ static void release(struct block *block)
         size += before;
     }
     if ((char *)block + size == top) {
-        block->asked = (unsigned)IS_FREE;
-        block->size &= ~(unsigned)IS_USED;
         top = (char *)block;
         return;
     }

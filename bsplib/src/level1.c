@@ -39,52 +39,53 @@ static char *block(const void *blocks, int number, int nbytes)
     return (char *)blocks + number * nbytes;
 }
 
-/* A block for this rank itself is copied, so that it is not counted as sent. */
-static void give(int rank, const void *src, void *area, int number, int nbytes)
+/* Gives a block to each rank from `first` on, which is not above this one: from `src`, of blocks that stand `step` bytes apart. The block for
+   this rank itself is copied, so that it is not counted as sent, and it is copied last: the area may lie over what others are given. */
+static void give_all(int first, const void *src, int step, void *area, int number, int nbytes)
 {
-    if (rank == bsp_pid())
-        memmove(block(area, number, nbytes), src, (size_t)nbytes);
-    else
-        bsp_put(rank, src, area, number * nbytes, nbytes);
+    int rank, own = bsp_pid(), end = bsp_nprocs();
+    for (rank = first; rank < end; rank++)
+        if (rank != own)
+            bsp_put(rank, block(src, rank, step), area, number * nbytes, nbytes);
+    memmove(block(area, number, nbytes), block(src, own, step), (size_t)nbytes);
 }
 
 void bsp_bcast(int root, const void *src, void *dst, int nbytes)
 {
-    int rank;
     must_be_rank(root);
     open_area(dst, 1, nbytes);
     if (bsp_pid() == root)
-        for (rank = 0; rank < bsp_nprocs(); rank++)
-            give(rank, src, dst, 0, nbytes);
+        give_all(0, src, 0, dst, 0, nbytes);
     close_area(dst);
 }
 
 void bsp_scatter(int root, const void *src, void *dst, int nbytes)
 {
-    int rank;
     must_be_rank(root);
     open_area(dst, 1, nbytes);
     if (bsp_pid() == root)
-        for (rank = 0; rank < bsp_nprocs(); rank++)
-            give(rank, block(src, rank, nbytes), dst, 0, nbytes);
+        give_all(0, src, nbytes, dst, 0, nbytes);
     close_area(dst);
 }
 
 void bsp_gather(int root, const void *src, void *dst, int nbytes)
 {
     int is_root = bsp_pid() == root;
+    /* Each rank has to register something, and dst may be no address in others than the root. */
+    void *area = is_root ? dst : (void *)src;
     must_be_rank(root);
-    open_area(dst, is_root ? bsp_nprocs() : 0, nbytes);
-    give(root, src, dst, bsp_pid(), nbytes);
-    close_area(dst);
+    open_area(area, is_root ? bsp_nprocs() : 0, nbytes);
+    if (is_root)
+        memmove(block(dst, root, nbytes), src, (size_t)nbytes);
+    else
+        bsp_put(root, src, area, bsp_pid() * nbytes, nbytes);
+    close_area(area);
 }
 
 void bsp_total_exchange(const void *src, void *dst, int nbytes)
 {
-    int rank;
     open_area(dst, bsp_nprocs(), nbytes);
-    for (rank = 0; rank < bsp_nprocs(); rank++)
-        give(rank, block(src, rank, nbytes), dst, bsp_pid(), nbytes);
+    give_all(0, src, nbytes, dst, bsp_pid(), nbytes);
     close_area(dst);
 }
 
@@ -98,15 +99,15 @@ static void reduce(bsp_operator op, const void *src, void *dst, int nbytes, int 
     if (operands == NULL)
         bsp_stop("a collective function has no memory for the operands of all ranks");
     open_area(operands, bsp_nprocs(), nbytes);
-    for (rank = first; rank < bsp_nprocs(); rank++)
-        give(rank, src, operands, bsp_pid(), nbytes);
+    give_all(first, src, 0, operands, bsp_pid(), nbytes);
     close_area(operands);
     memmove(dst, operands, (size_t)nbytes);
     for (rank = 1; rank < end; rank++) {
         /* The operator may write its result before it has read both operands, so these are apart from it. */
         char *left = block(operands, rank - 1, nbytes);
+        int size = nbytes; /* which it may count down */
         memmove(left, dst, (size_t)nbytes);
-        op(dst, left, block(operands, rank, nbytes), &nbytes);
+        op(dst, left, block(operands, rank, nbytes), &size);
     }
     free(operands);
 }

@@ -1,16 +1,18 @@
-/* What the headers of C++'s standard library want linked: texts, the standard streams, and a line in the place of each exception. */
-/* Where nothing can be read, operator>> leaves what it is given as it is. */
-#pragma GCC diagnostic ignored "-Wmaybe-uninitialized"
+/* What the headers of C++'s standard library want linked: texts, complex numbers, and a line in the place of each exception. */
 #include <complex>
 #include <cstdarg>
 #include <cstdio>
-#include <iostream>
+#include <istream>
 #include <new>
+#include <ostream>
 #include <string>
 
 extern "C" __attribute__((noreturn)) void bsp_stop(const char *text);
 
 namespace std {
+
+bool uncaught_exception() noexcept { return false; }
+int uncaught_exceptions() noexcept { return 0; }
 
 void __throw_bad_alloc() { bsp_stop("std::bad_alloc"); }
 void __throw_bad_array_new_length() { bsp_stop("std::bad_array_new_length"); }
@@ -42,8 +44,5 @@ template ostream &operator<<(ostream &, const complex<float> &);
 template ostream &operator<<(ostream &, const complex<double> &);
 template istream &operator>>(istream &, complex<float> &);
 template istream &operator>>(istream &, complex<double> &);
-
-ostream cout(stdout), cerr(stderr), clog(stderr);
-istream cin(stdin);
 
 } // namespace std

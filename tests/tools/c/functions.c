@@ -3,6 +3,8 @@
 #include <stdio.h>
 #include <string.h>
 
+enum { HALF = 400000 };
+
 static int p, s;
 
 static void memory(void)
@@ -85,6 +87,20 @@ static void messages(void)
     printf("%d: %d left\n", s, bsp_hpmove(&tag_at, &payload_at));
 }
 
+/* A message is given out where there is no room for all that are left. */
+static void large(void)
+{
+    static char half[HALF];
+    void *tag_at, *payload_at;
+
+    half[HALF - 1] = (char)(s + 1);
+    for (int i = 0; i < 2; i++)
+        bsp_send((s + 1) % p, "", half, HALF);
+    bsp_sync();
+    if (bsp_hpmove(&tag_at, &payload_at) != HALF || ((char *)payload_at)[HALF - 1] != (s + p - 1) % p + 1)
+        bsp_abort("a large message was changed\n");
+}
+
 int main(void)
 {
     bsp_begin(bsp_nprocs());
@@ -92,6 +108,7 @@ int main(void)
     s = bsp_pid();
     memory();
     messages();
+    large();
     bsp_end();
     return 0;
 }

@@ -76,7 +76,7 @@ class Looks:
                     for node in moves(session, rank, MOST_BEHIND):
                         looked_at += 1
                         found += self.read(session, node, targets, gets)
-                        targets += [target_of(gets[node.ticks][1])] if node.ticks in gets else []
+                        targets += targets_of(gets[node.ticks][1]) if node.ticks in gets else []
                     end = session.node(rank)
                     self.is_whole &= end is not None and not end.runs
         self.is_whole &= not sites
@@ -98,9 +98,10 @@ class Looks:
         return [[f"{begin}; the get is that of ", (node.rank, target.call)]]
 
 
-def target_of(call: Call) -> Target:
-    """The bytes that a get is to write."""
-    return Target(call.operand("dst"), call.operand("dst") + call.operand("nbytes"), call)
+def targets_of(call: Call) -> list[Target]:
+    """The bytes that a get is to write, if there are any."""
+    start, count = call.operand("dst"), call.operand("nbytes")
+    return [Target(start, start + count, call)] if count > 0 else []
 
 
 def early_reads(steps: Steps, last: int) -> tuple[list[Finding], bool]:

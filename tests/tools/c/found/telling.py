@@ -57,6 +57,16 @@ THROUGH_NULL += '    return fputs("x", fopen("absent", "r"));\n}\n'
 OFTEN = "#include <bsp.h>\n#include <stdio.h>\nint main(void)\n{\n    TYPE x = 1, y = 0; int k;\n    bsp_begin(bsp_nprocs());\n"
 OFTEN += "    bsp_push_reg(&x, sizeof x);\n    bsp_sync();\n    for (k = 0; k < 50; k++) {\n        bsp_get(0, &x, 0, &y, sizeof y);\n"
 OFTEN += '        if (k == 40)\n            printf("%d\\n", (int)y);\n        bsp_sync();\n    }\n    bsp_end();\n    return 0;\n}\n'
+# A get of no bytes, into the middle of what is read behind it.
+NO_BYTES = "#include <bsp.h>\nint main(void)\n{\n    volatile int numbers[4] = {1, 2, 3, 4};\n    bsp_begin(bsp_nprocs());\n"
+NO_BYTES += "    bsp_push_reg((void *)numbers, sizeof numbers);\n    bsp_sync();\n    bsp_get(0, (void *)numbers, 0, (char *)numbers + 2, 0);\n"
+NO_BYTES += "    numbers[1] += numbers[0];\n    bsp_sync();\n    bsp_end();\n    return 0;\n}\n"
+# Memory that is given back once more when it has become one with the block before it.
+TWICE = "#include <stdlib.h>\nint main(void)\n{\n    char *blocks[3];\n    int i;\n    for (i = 0; i < 3; i++)\n        blocks[i] = malloc(40);\n"
+TWICE += "    free(blocks[0]);\n    free(blocks[1]);\n    free(blocks[1]);\n    return malloc(40) == malloc(40);\n}\n"
+# No processes, where rank 0 alone has the number.
+NO_PROCESSES = "#include <bsp.h>\nvoid spmd(void)\n{\n    bsp_begin(0);\n    bsp_end();\n}\n"
+NO_PROCESSES += "int main(int argc, char **argv)\n{\n    bsp_init(spmd, argc, argv);\n    spmd();\n    return 0;\n}\n"
 ARRAYS = "#include <bsp.h>\ndouble table[SIZE], other[500];\nint main(void)\n{\n    bsp_begin(1);\n    bsp_end();\n    return table[1] != other[2];\n}\n"
 STACK = "int main(void)\n{\n    volatile char bytes[400000];\n    bytes[0] = 0;\n    return bytes[0];\n}\n"
 
@@ -105,6 +115,13 @@ class Telling:
             self.expect(f"the {kind} of a pointer that is read through NULL", done, 2, "main, through.c:6", "the pointer was read through NULL")
         done = self.run("-DNUMBER=int", "through.c", "x")
         self.expect("a function that is read through NULL", done, 2, "through.c:7", "called by a pointer that was read through NULL")
+        (self.folder / "bytes.c").write_text(NO_BYTES)
+        self.expect("a get of no bytes", self.run("-n", "2", "--warn", "bytes.c"), 0, NOT_FOUND, "targets of gets that are read too early")
+        (self.folder / "twice.c").write_text(TWICE)
+        self.expect("free of what was merged", self.run("-O0", "twice.c"), 2, "memory that was given back before", "main, twice.c:10")
+        (self.folder / "none.c").write_text(NO_PROCESSES)
+        said = "bsp: rank 0: bsp_begin is called with 0 processes, and takes 1 or more\n"
+        self.expect("no processes behind bsp_init", self.run("-n", "2", "none.c"), 2, said, "spmd, none.c:4")
         self.expect("nothing to warn of", self.run("-n", "2", "--warn", image, "0"), 0, NOT_FOUND)
 
     def written(self) -> None:

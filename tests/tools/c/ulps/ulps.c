@@ -4,9 +4,9 @@
    with the same operands in a format of 113 bits, reads what the node wrote, and prints the greatest error. Operands follow from a seed, by
    arithmetic that is the same on both.
 
-   Usage: ulps FUNCTION COUNT SEED, as `ulps powf 1000 1`. On the host the results come on standard input, and it prints the error, of a
-   complex number the greater of its two parts', that in units of its absolute value, and the operands of the first. FUNCTION may be `-`: then
-   it prints the names of all functions. */
+   Usage: ulps COUNT SEED FUNCTION.., as `ulps 1000 1 powf tgamma`. On the host the results come on standard input, and it prints a line for
+   each function: its name; the greatest error, of a complex number the greater of its two parts'; that error in units of the whole number's
+   absolute value; and the operands of the first. Without functions it prints the names of all. */
 #include <complex.h>
 #include <float.h>
 #include <math.h>
@@ -222,7 +222,8 @@ static void operands(const struct Function *of, int single, double *xs)
         xs[0] = in_format(fabs(xs[0]) > 1e3 || fabs(xs[0]) < 1e-3 ? 1 + part_of_one() : fabs(xs[0]), single);
 }
 
-/* Calls. */
+#ifdef __riscv
+/* On a node: writes the results. */
 
 static void call_double(const struct Function *of, const double *x, double *result)
 {
@@ -271,8 +272,7 @@ static void call_float(const struct Function *of, const double *xs, float *resul
     memcpy(result, &z, sizeof z);
 }
 
-#ifdef __riscv
-/* On a node: writes the results. All NaNs have the same bits. */
+/* All NaNs have the same bits. */
 static void go(const struct Function *of, int single, long count)
 {
     double xs[4] = {0}, result[2];
@@ -356,6 +356,13 @@ static int has_other_sign(double found, Wide exact)
     return found == 0 && exact == 0 && !signbit(found) != !signbit((double)exact);
 }
 
+/* Below 0 lgamma has zeros that are no doubles, next to which its digits are those of a sum of terms near 1: there a unit is that of 1/64. */
+static Wide counted(const struct Function *of, const double *xs, Wide exact)
+{
+    const Wide least = 1.0 / 64;
+    return !strcmp(of->name, "lgamma") && xs[0] < 0 && exact < least && exact > -least ? least : exact;
+}
+
 struct Errors {
     double parts, whole, at[4];
 };
@@ -367,7 +374,7 @@ static void compare(const struct Function *of, int single, const double *xs, con
     call_exact(of, xs, exact);
     size = is_complex(of) ? WIDE(hypot)(exact[0], exact[1]) : exact[0];
     for (int i = 0; i < (is_complex(of) ? 2 : 1); i++) {
-        double error = distance(found[i], exact[i], unit(exact[i], single), single);
+        double error = distance(found[i], exact[i], unit(counted(of, xs, exact[i]), single), single);
         double of_all = distance(found[i], exact[i], unit(size, single), single);
         if (!is_complex(of) && has_other_sign(found[i], exact[i]))
             error = INFINITY;
@@ -404,19 +411,33 @@ static void go(const struct Function *of, int single, long count)
 }
 #endif
 
+/* The function of a name, at this format. */
+static const struct Function *named(const char *name, int *single)
+{
+    for (int i = 0; i < COUNT(functions); i++) {
+        size_t length = strlen(functions[i].name);
+        if (strncmp(name, functions[i].name, length) != 0)
+            continue;
+        *single = !strcmp(name + length, "f");
+        if (*single || !name[length])
+            return &functions[i];
+    }
+    return NULL;
+}
+
 int main(int count, char **words)
 {
-    if (count < 4)
-        return 1;
-    for (int i = 0; i < COUNT(functions); i++) {
-        const char *rest = words[1] + strlen(functions[i].name);
-        if (words[1][0] == '-')
-            printf("%s\n%sf\n", functions[i].name, functions[i].name);
-        else if (!strncmp(words[1], functions[i].name, strlen(functions[i].name)) && (!*rest || !strcmp(rest, "f"))) {
-            state = strtoull(words[3], NULL, 10) * UINT64_C(0x9E3779B97F4A7C15) + 1;
-            go(&functions[i], *rest == 'f', strtol(words[2], NULL, 10));
-            return 0;
+    for (int i = 0; count < 4 && i < COUNT(functions); i++)
+        printf("%s\n%sf\n", functions[i].name, functions[i].name);
+    for (int i = 3; i < count; i++) {
+        int single;
+        const struct Function *of = named(words[i], &single);
+        if (!of) {
+            fprintf(stderr, "there is no function %s\n", words[i]);
+            return 1;
         }
+        state = strtoull(words[2], NULL, 10) * UINT64_C(0x9E3779B97F4A7C15) + 1;
+        go(of, single, strtol(words[1], NULL, 10));
     }
-    return words[1][0] != '-';
+    return 0;
 }

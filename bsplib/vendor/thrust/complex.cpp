@@ -44,9 +44,18 @@ BOTH(casinh)
 BOTH(cacosh)
 BOTH(catanh)
 
+/* Thrust's takes an absolute value that overflows at the largest numbers, and has few digits at the least: these are moved by a power of 2. */
 WEAK __complex__ double clog(__complex__ double z)
 {
-    return given(msun::clog(thrust::complex<double>(__real__ z, __imag__ z)));
+    double x = __real__ z, y = __imag__ z, size = fmax(fabs(x), fabs(y)), by = 1, moved = 0;
+    if (size > 0x1p1022 && size <= DBL_MAX) {
+        by = 0.5;
+        moved = 0x1.62e42fefa39efp-1; /* log 2 */
+    } else if (size < 0x1p-1000 && size > 0) {
+        by = 0x1p60;
+        moved = -0x1.4cb5ecf0a9650p+5; /* -60 log 2 */
+    }
+    return given(msun::clog(thrust::complex<double>(x * by, y * by)) + moved);
 }
 
 /* With so many digits more, a part is the nearest number but where it lies next to halfway between two. */

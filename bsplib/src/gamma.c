@@ -1,10 +1,10 @@
-/* tgamma and lgamma, which has the name gamma too, and _powf. picolibc's tgamma raises e to its lgamma, so that tgamma(6) is below 120 and results are wrong by hundreds of
-   units in the last place; its lgammaf and tgammaf of numbers near 0 are other numbers. Those of musl are off by several units. These stay
-   within 2: what is added and multiplied are pairs of doubles, and logarithms of 65 bits and powers of e are those inside of musl's pow. A
-   program may have functions of these names of its own: these are weak.
+/* tgamma and lgamma, which has the name gamma too, and _powf. picolibc's tgamma is e to its lgamma, so that tgamma(6) is below 120 and results
+   are off by hundreds of units in the last place; its lgammaf and tgammaf are wrong near 0. musl's are off by several units. These stay within
+   2: they add and multiply pairs of doubles, and take logarithms of 65 bits and powers of e from inside of musl's pow. A program may have
+   functions of these names of its own: these are weak.
 
-   From 12 on the logarithm is Stirling's series. A number below goes up to there by whole steps, x * (x + 1) * .. * gamma(x), and one below
-   -20 is reflected. Near 1 and 2, where the logarithm has its zeros, it is a power series. */
+   From 8 on the logarithm is Stirling's series. A number below goes up to there by whole steps, and gamma(x + n) is divided by
+   x * (x + 1) * .. * (x + n - 1). A number below -20 is reflected. Near 1 and 2, where the logarithm is 0, it is a power series. */
 #undef __FP_FAST_FMA /* digits would differ where there is such an instruction */
 #include <features.h>
 #define pow pow_of_musl /* which is not called, and so not linked */
@@ -24,8 +24,9 @@ typedef struct {
     double high, low;
 } Pair;
 
-static const double STIRLING = 12, REFLECTED = -20, LARGE = 0x1p60, LEAST = 0x1p-54, NEAR = 1.0 / 16;
-static const Pair HALF_LOG_OF_2_PI = {0x1.d67f1c864beb5p-1, -0x1.65b5a1b7ff5dfp-55}, LOG_OF_PI = {0x1.250d048e7a1bdp+0, 0x1.7abf2ad8d5088p-57};
+static const double STIRLING = 8, REFLECTED = -20, LARGE = 0x1p60, LEAST = 0x1p-54, NEAR = 1.0 / 16;
+static const Pair HALF_LOG_OF_2_PI = {0x1.d67f1c864beb5p-1, -0x1.65b5a1b7ff5dfp-55};
+static const Pair LOG_OF_PI = {0x1.250d048e7a1bdp+0, 0x1.7abf2ad8d5088p-57};
 /* The logarithm of pi * 2^512, so that no power is subnormal before the end. */
 static const Pair LOG_OF_PI_SCALED = {0x1.64093cf432191p+8, -0x1.af5db206c71b3p-49};
 static const double SCALE = 0x1p-512;
@@ -87,10 +88,13 @@ static double power_of_e(Pair x)
 /* The logarithm of gamma(x), for x from STIRLING to LARGE. */
 static Pair series(Pair x)
 {
-    double z = 1 / x.high, w = z * z;
+    static const double terms[] = {-1.0 / 360, 1.0 / 1260, -1.0 / 1680, 1.0 / 1188, -691.0 / 360360, 1.0 / 156, -3617.0 / 122400,
+        43867.0 / 244188, -174611.0 / 125400, 77683.0 / 5796, -236364091.0 / 1506960};
+    double z = 1 / x.high, w = z * z, rest = 0;
     Pair log = logarithm((Pair){x.high, 0}), half = {-log.high / 2, -log.low / 2};
     Pair all = plus(times(log, (Pair){x.high, 0}), half);
-    double rest = w * (-1.0 / 360 + w * (1.0 / 1260 + w * (-1.0 / 1680 + w * (1.0 / 1188 + w * (-691.0 / 360360 + w * (1.0 / 156 + w * (-3617.0 / 122400)))))));
+    for (int k = x.high < 24 ? 10 : 5; k >= 0; k--)
+        rest = w * (terms[k] + rest);
     all = plus(minus(all, (Pair){x.high, 0}), HALF_LOG_OF_2_PI);
     /* By x.low the logarithm grows by about that of x. */
     return plus(all, (Pair){z / 12, z * rest + x.low * (log.high - z / 2)});

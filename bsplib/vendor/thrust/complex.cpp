@@ -1,8 +1,7 @@
-/* The inverse functions of complex.h, and clog: those of FreeBSD's msun, as Thrust has them (vendor/thrust). Those of picolibc 1.8 answer a NaN
-   or an infinity for finite numbers, and its clog is wrong near numbers whose absolute value is 1. Each has the same digits with
-   instructions of floating point and without. A program may have functions of these names of its own: these are weak. */
+/* The inverse functions of complex.h, and clog: those of FreeBSD's msun, as Thrust has them. Those of picolibc 1.8 answer a NaN or an infinity
+   for finite numbers, and its clog is wrong near numbers whose absolute value is 1. A program may have functions of these names of its own:
+   these are weak. */
 #include <thrust/detail/complex/catrig.h>
-#include <thrust/detail/complex/catrigf.h>
 #include <thrust/detail/complex/clog.h>
 
 #define WEAK extern "C" __attribute__((weak))
@@ -17,34 +16,22 @@ __complex__ double given(const thrust::complex<double> &z)
     __imag__ result = z.imag();
     return result;
 }
-
-__complex__ float given(const thrust::complex<float> &z)
-{
-    __complex__ float result;
-    __real__ result = z.real();
-    __imag__ result = z.imag();
-    return result;
-}
 } // namespace
 
-#define BOTH(name) \
+#define FUNCTION(name) \
     WEAK __complex__ double name(__complex__ double z) \
     { \
         return given(msun::name(thrust::complex<double>(__real__ z, __imag__ z))); \
-    } \
-    WEAK __complex__ float name##f(__complex__ float z) \
-    { \
-        return given(msun::name##f(thrust::complex<float>(__real__ z, __imag__ z))); \
     }
 
-BOTH(casin)
-BOTH(cacos)
-BOTH(catan)
-BOTH(casinh)
-BOTH(cacosh)
-BOTH(catanh)
+FUNCTION(casin)
+FUNCTION(cacos)
+FUNCTION(catan)
+FUNCTION(casinh)
+FUNCTION(cacosh)
+FUNCTION(catanh)
 
-/* Thrust's takes an absolute value that overflows at the largest numbers, and has few digits at the least: these are moved by a power of 2. */
+/* Thrust's takes an absolute value that overflows at the largest numbers and has few digits at the least: a power of 2 moves these. */
 WEAK __complex__ double clog(__complex__ double z)
 {
     double x = __real__ z, y = __imag__ z, size = fmax(fabs(x), fabs(y)), by = 1, moved = 0;
@@ -56,17 +43,4 @@ WEAK __complex__ double clog(__complex__ double z)
         moved = -0x1.4cb5ecf0a9650p+5; /* -60 log 2 */
     }
     return given(msun::clog(thrust::complex<double>(x * by, y * by)) + moved);
-}
-
-/* With so many digits more, a part is the nearest number but where it lies next to halfway between two. */
-WEAK __complex__ float clogf(__complex__ float z)
-{
-    return (__complex__ float)clog((__complex__ double)z);
-}
-
-extern "C" __complex__ double cpow(__complex__ double z, __complex__ double exponent);
-
-WEAK __complex__ float cpowf(__complex__ float z, __complex__ float exponent)
-{
-    return (__complex__ float)cpow((__complex__ double)z, (__complex__ double)exponent);
 }

@@ -26,11 +26,6 @@ inline double norm(const complex<double> &z)
     double r = ::hypot(z.real(), z.imag());
     return r * r;
 }
-inline float norm(const complex<float> &z)
-{
-    float r = ::hypotf(z.real(), z.imag());
-    return r * r;
-}
 
 template <typename T> T abs(const complex<T> &z);
 template <typename T> T arg(const complex<T> &z);

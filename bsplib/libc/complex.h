@@ -1,4 +1,5 @@
-/* complex.h of the C library, and what of C11 it lacks: numbers of two parts, of which each may be an infinity, a NaN or a zero with a sign. */
+/* complex.h of the C library, and what of C11 it lacks: numbers of two parts, of which each may be an infinity, a NaN or a zero with a
+   sign. */
 #ifndef BSP_COMPLEX_H
 #define BSP_COMPLEX_H
 

@@ -1,10 +1,11 @@
-/* csqrt, and the functions of complex.h for floats. musl's csqrt divides by 0 for subnormal numbers. What is computed with doubles has so many
-   digits more that each part is the nearest float, but where it lies next to halfway between two. A program may have functions of these
-   names of its own: these are weak. */
+/* csqrt, and the functions of complex.h for floats. musl's csqrt divides by 0 for subnormal numbers. What is computed with doubles has so
+   many digits more that each part is the nearest float, but where it lies next to halfway between two. A program may have functions of
+   these names of its own: these are weak. */
 #include <features.h>
 #define csqrt csqrt_of_musl
 #pragma GCC diagnostic push
 #pragma GCC diagnostic ignored "-Wunused-but-set-variable"
+#pragma GCC diagnostic ignored "-Wunknown-pragmas"
 #include "../vendor/musl/src/complex/csqrt.c"
 #pragma GCC diagnostic pop
 #undef csqrt

@@ -1,10 +1,10 @@
-/* tgamma and lgamma, which has the name gamma too, and _powf. picolibc's tgamma is e to its lgamma, so that tgamma(6) is below 120 and results
-   are off by hundreds of units in the last place; its lgammaf and tgammaf are wrong near 0. musl's are off by several units. These stay within
-   2: they add and multiply pairs of doubles, and take logarithms of 65 bits and powers of e from inside of musl's pow. A program may have
-   functions of these names of its own: these are weak.
+/* tgamma and lgamma, which has the name gamma too, and _powf. picolibc's tgamma is e to its lgamma, so that tgamma(6) is below 120 and
+   results are off by hundreds of units in the last place; its lgammaf and tgammaf are wrong near 0. musl's are off by several units. These
+   stay within 2: they add and multiply pairs of doubles, and take logarithms of 65 bits and powers of e from inside of musl's pow. A
+   program may have functions of these names of its own: these are weak.
 
-   From 8 on the logarithm is Stirling's series. A number below goes up to there by whole steps, and gamma(x + n) is divided by
-   x * (x + 1) * .. * (x + n - 1). A number below -20 is reflected. Near 1 and 2, where the logarithm is 0, it is a power series. */
+   From 8 on the logarithm is Stirling's series. A number below goes up to there by whole steps, and gamma(x + n) is divided by x * (x + 1)
+   * .. * (x + n - 1). A number below -20 is reflected. Near 1 and 2, where the logarithm is 0, it is a power series. */
 #undef __FP_FAST_FMA /* digits would differ where there is such an instruction */
 #include <features.h>
 #define pow pow_of_musl /* which is not called, and so not linked */
@@ -171,9 +171,9 @@ static double near_zero(double t, Pair first, const double *rest)
 
 static double near_1(double t)
 {
-    static const double rest[] = {0.82246703342411321824, -0.40068563438653142847, 0.27058080842778454788, -0.20738555102867398527, 0.16955717699740818995,
-        -0.14404989676884611812, 0.12550966952474304242, -0.11133426586956469049, 0.10009945751278180853, -0.090954017145829042233,
-        0.083353840546109004025, -0.076932516411352191473, 0.071432946295361336059, -0.066668705882420468033};
+    static const double rest[] = {0.82246703342411321824, -0.40068563438653142847, 0.27058080842778454788, -0.20738555102867398527,
+        0.16955717699740818995, -0.14404989676884611812, 0.12550966952474304242, -0.11133426586956469049, 0.10009945751278180853,
+        -0.090954017145829042233, 0.083353840546109004025, -0.076932516411352191473, 0.071432946295361336059, -0.066668705882420468033};
     return near_zero(t, (Pair){-0x1.2788cfc6fb619p-1, 0x1.6cb90701fbfabp-58}, rest);
 }
 

@@ -1,6 +1,6 @@
-/* The inverse functions of complex.h, and clog: those of FreeBSD's msun, as Thrust has them. Those of picolibc 1.8 answer a NaN or an infinity
-   for finite numbers, and its clog is wrong near numbers whose absolute value is 1. A program may have functions of these names of its own:
-   these are weak. */
+/* The inverse functions of complex.h, and clog: those of FreeBSD's msun, as Thrust has them. Those of picolibc 1.8 answer a NaN or an
+   infinity for finite numbers, and its clog is wrong near numbers whose absolute value is 1. A program may have functions of these names of
+   its own: these are weak. */
 #include <thrust/detail/complex/catrig.h>
 #include <thrust/detail/complex/clog.h>
 

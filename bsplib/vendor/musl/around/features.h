@@ -1,5 +1,5 @@
-/* What the files of musl want of musl's own headers. An alias has a name that the C library has already. NAME is that of the file's function:
-   a program may have a function of this name of its own. */
+/* What the files of musl want of musl's own headers. An alias has a name that the C library has already. NAME is that of the file's
+   function: a program may have a function of this name of its own. */
 #ifndef FEATURES_OF_MUSL
 #define FEATURES_OF_MUSL
 #define hidden

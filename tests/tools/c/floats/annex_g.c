@@ -38,25 +38,26 @@ static const struct Row cosh_rows[] = {{0, 0, 1, 0, CLEAR}, {0, MUCH, NONE, 0, I
     {1, MUCH, NONE, NONE, CLEAR}, {1, NONE, NONE, NONE, CLEAR}, {MUCH, 0, MUCH, 0, CLEAR}, {MUCH, 1, MUCH, MUCH, CLEAR},
     {MUCH, 2, -MUCH, MUCH, CLEAR}, {MUCH, MUCH, MUCH, NONE, REAL}, {MUCH, NONE, MUCH, NONE, CLEAR}, {NONE, 0, NONE, 0, IMAGINARY},
     {NONE, 1, NONE, NONE, CLEAR}, {NONE, NONE, NONE, NONE, CLEAR}};
-static const struct Row sinh_rows[] = {{0, 0, 0, 0, CLEAR}, {0, MUCH, 0, NONE, REAL}, {0, NONE, 0, NONE, REAL}, {1, MUCH, NONE, NONE, CLEAR},
-    {1, NONE, NONE, NONE, CLEAR}, {MUCH, 0, MUCH, 0, CLEAR}, {MUCH, 1, MUCH, MUCH, CLEAR}, {MUCH, 2, -MUCH, MUCH, CLEAR},
-    {MUCH, MUCH, MUCH, NONE, REAL}, {MUCH, NONE, MUCH, NONE, REAL}, {NONE, 0, NONE, 0, CLEAR}, {NONE, 1, NONE, NONE, CLEAR},
-    {NONE, NONE, NONE, NONE, CLEAR}};
-static const struct Row tanh_rows[] = {{0, 0, 0, 0, CLEAR}, {1, MUCH, NONE, NONE, CLEAR}, {1, NONE, NONE, NONE, CLEAR}, {MUCH, 0, 1, 0, CLEAR},
-    {MUCH, 1, 1, 0, CLEAR}, {MUCH, 2, 1, -0.0, CLEAR}, {MUCH, MUCH, 1, 0, IMAGINARY}, {MUCH, NONE, 1, 0, IMAGINARY}, {NONE, 0, NONE, 0, CLEAR},
+static const struct Row sinh_rows[] = {{0, 0, 0, 0, CLEAR}, {0, MUCH, 0, NONE, REAL}, {0, NONE, 0, NONE, REAL},
+    {1, MUCH, NONE, NONE, CLEAR}, {1, NONE, NONE, NONE, CLEAR}, {MUCH, 0, MUCH, 0, CLEAR}, {MUCH, 1, MUCH, MUCH, CLEAR},
+    {MUCH, 2, -MUCH, MUCH, CLEAR}, {MUCH, MUCH, MUCH, NONE, REAL}, {MUCH, NONE, MUCH, NONE, REAL}, {NONE, 0, NONE, 0, CLEAR},
     {NONE, 1, NONE, NONE, CLEAR}, {NONE, NONE, NONE, NONE, CLEAR}};
-static const struct Row exp_rows[] = {{0, 0, 1, 0, CLEAR}, {-0.0, 0, 1, 0, CLEAR}, {1, MUCH, NONE, NONE, CLEAR}, {1, NONE, NONE, NONE, CLEAR},
-    {MUCH, 0, MUCH, 0, CLEAR}, {-MUCH, 1, 0, 0, CLEAR}, {-MUCH, 2, -0.0, 0, CLEAR}, {MUCH, 1, MUCH, MUCH, CLEAR}, {MUCH, 2, -MUCH, MUCH, CLEAR},
-    {-MUCH, MUCH, 0, 0, BOTH}, {MUCH, MUCH, MUCH, NONE, REAL}, {-MUCH, NONE, 0, 0, BOTH}, {MUCH, NONE, MUCH, NONE, REAL},
+static const struct Row tanh_rows[] = {{0, 0, 0, 0, CLEAR}, {1, MUCH, NONE, NONE, CLEAR}, {1, NONE, NONE, NONE, CLEAR},
+    {MUCH, 0, 1, 0, CLEAR}, {MUCH, 1, 1, 0, CLEAR}, {MUCH, 2, 1, -0.0, CLEAR}, {MUCH, MUCH, 1, 0, IMAGINARY}, {MUCH, NONE, 1, 0, IMAGINARY},
     {NONE, 0, NONE, 0, CLEAR}, {NONE, 1, NONE, NONE, CLEAR}, {NONE, NONE, NONE, NONE, CLEAR}};
-static const struct Row log_rows[] = {{-0.0, 0, -MUCH, PI, CLEAR}, {0, 0, -MUCH, 0, CLEAR}, {1, MUCH, MUCH, PI / 2, CLEAR}, {1, NONE, NONE, NONE, CLEAR},
-    {-MUCH, 1, MUCH, PI, CLEAR}, {MUCH, 1, MUCH, 0, CLEAR}, {-MUCH, MUCH, MUCH, 3 * PI / 4, CLEAR}, {MUCH, MUCH, MUCH, PI / 4, CLEAR},
-    {MUCH, NONE, MUCH, NONE, CLEAR}, {-MUCH, NONE, MUCH, NONE, CLEAR}, {NONE, 1, NONE, NONE, CLEAR}, {NONE, MUCH, MUCH, NONE, CLEAR},
+static const struct Row exp_rows[] = {{0, 0, 1, 0, CLEAR}, {-0.0, 0, 1, 0, CLEAR}, {1, MUCH, NONE, NONE, CLEAR},
+    {1, NONE, NONE, NONE, CLEAR}, {MUCH, 0, MUCH, 0, CLEAR}, {-MUCH, 1, 0, 0, CLEAR}, {-MUCH, 2, -0.0, 0, CLEAR},
+    {MUCH, 1, MUCH, MUCH, CLEAR}, {MUCH, 2, -MUCH, MUCH, CLEAR}, {-MUCH, MUCH, 0, 0, BOTH}, {MUCH, MUCH, MUCH, NONE, REAL},
+    {-MUCH, NONE, 0, 0, BOTH}, {MUCH, NONE, MUCH, NONE, REAL}, {NONE, 0, NONE, 0, CLEAR}, {NONE, 1, NONE, NONE, CLEAR},
     {NONE, NONE, NONE, NONE, CLEAR}};
-static const struct Row sqrt_rows[] = {{0, 0, 0, 0, CLEAR}, {-0.0, 0, 0, 0, CLEAR}, {1, MUCH, MUCH, MUCH, CLEAR}, {NONE, MUCH, MUCH, MUCH, CLEAR},
-    {-MUCH, MUCH, MUCH, MUCH, CLEAR}, {1, NONE, NONE, NONE, CLEAR}, {-MUCH, 1, 0, MUCH, CLEAR}, {MUCH, 1, MUCH, 0, CLEAR},
-    {-MUCH, NONE, NONE, MUCH, IMAGINARY}, {MUCH, NONE, MUCH, NONE, CLEAR}, {NONE, 1, NONE, NONE, CLEAR}, {NONE, NONE, NONE, NONE, CLEAR},
-    {-4, 0, 0, 2, CLEAR}, {4, 0, 2, 0, CLEAR}};
+static const struct Row log_rows[] = {{-0.0, 0, -MUCH, PI, CLEAR}, {0, 0, -MUCH, 0, CLEAR}, {1, MUCH, MUCH, PI / 2, CLEAR},
+    {1, NONE, NONE, NONE, CLEAR}, {-MUCH, 1, MUCH, PI, CLEAR}, {MUCH, 1, MUCH, 0, CLEAR}, {-MUCH, MUCH, MUCH, 3 * PI / 4, CLEAR},
+    {MUCH, MUCH, MUCH, PI / 4, CLEAR}, {MUCH, NONE, MUCH, NONE, CLEAR}, {-MUCH, NONE, MUCH, NONE, CLEAR}, {NONE, 1, NONE, NONE, CLEAR},
+    {NONE, MUCH, MUCH, NONE, CLEAR}, {NONE, NONE, NONE, NONE, CLEAR}};
+static const struct Row sqrt_rows[] = {{0, 0, 0, 0, CLEAR}, {-0.0, 0, 0, 0, CLEAR}, {1, MUCH, MUCH, MUCH, CLEAR},
+    {NONE, MUCH, MUCH, MUCH, CLEAR}, {-MUCH, MUCH, MUCH, MUCH, CLEAR}, {1, NONE, NONE, NONE, CLEAR}, {-MUCH, 1, 0, MUCH, CLEAR},
+    {MUCH, 1, MUCH, 0, CLEAR}, {-MUCH, NONE, NONE, MUCH, IMAGINARY}, {MUCH, NONE, MUCH, NONE, CLEAR}, {NONE, 1, NONE, NONE, CLEAR},
+    {NONE, NONE, NONE, NONE, CLEAR}, {-4, 0, 0, 2, CLEAR}, {4, 0, 2, 0, CLEAR}};
 
 static int compared;
 
@@ -71,7 +72,8 @@ static int same(double found, double wanted, int is_open, double most)
     return fabs(found - wanted) <= most * fabs(wanted);
 }
 
-static void compare(const char *name, double x, double y, double real, double imaginary, const struct Row *row, double most, double _Complex found)
+static void compare(
+    const char *name, double x, double y, double real, double imaginary, const struct Row *row, double most, double _Complex found)
 {
     compared++;
     if (!same(creal(found), real, row->open & REAL, most) || !same(cimag(found), imaginary, row->open & IMAGINARY, most))
@@ -81,7 +83,8 @@ static void compare(const char *name, double x, double y, double real, double im
 typedef double _Complex Function(double _Complex);
 typedef float _Complex FunctionOfFloat(float _Complex);
 
-static void at(const char *name, Function *of, FunctionOfFloat *of_float, double x, double y, double real, double imaginary, const struct Row *row)
+static void at(
+    const char *name, Function *of, FunctionOfFloat *of_float, double x, double y, double real, double imaginary, const struct Row *row)
 {
     compare(name, x, y, real, imaginary, row, 4 * DBL_EPSILON, of(CMPLX(x, y)));
     float _Complex z = of_float(CMPLXF((float)x, (float)y));

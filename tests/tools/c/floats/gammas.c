@@ -17,7 +17,8 @@ static void factorials(void)
 
 int main(void)
 {
-    static const double reals[] = {0.5, 1.4616321449683622, 2.75, 5.5, 12.25, 100.5, 171.5, 1e-10, -1e-10, -0.5, -3.75, -19.5, -20.5, -100.5, -175.25};
+    static const double reals[] = {
+        0.5, 1.4616321449683622, 2.75, 5.5, 12.25, 100.5, 171.5, 1e-10, -1e-10, -0.5, -3.75, -19.5, -20.5, -100.5, -175.25};
     static const float singles[] = {1e-10f, -1e-21f, -1e-40f, 1e-40f, 0.5f, 35.0f, -0.5f, -3.75f, -30.5f};
     factorials();
     for (int i = 0; i < COUNT(reals); i++)

@@ -61,9 +61,9 @@ static WideComplex quotientq(WideComplex a, WideComplex b)
     return a / b;
 }
 #endif
-#define PAIR(name) (void (*)(void))name, (void (*)(void))name##f, (void (*)(void))WIDE(name)
+#define PAIR(name) (void (*)(void)) name, (void (*)(void))name##f, (void (*)(void))WIDE(name)
 #else
-#define PAIR(name) (void (*)(void))name, (void (*)(void))name##f, NULL
+#define PAIR(name) (void (*)(void)) name, (void (*)(void))name##f, NULL
 #endif
 
 ARITHMETIC(double, )
@@ -170,8 +170,8 @@ static double power(int exponent)
     return of_bits((uint64_t)(exponent + 1023) << 52);
 }
 
-static const double special[] = {0, 0x1p-1074, 0x1p-149, DBL_MIN, FLT_MIN, DBL_EPSILON, FLT_EPSILON, 0x1p-12, 0.5, 1, 1.5, 2, 3, 4, 5, 6, 10, 23,
-    0x1.921fb54442d18p+0, 0x1.921fb54442d18p+1, 0x1.921fb6p+1, 88, 709, 0x1p24, 0x1p53, FLT_MAX, DBL_MAX};
+static const double special[] = {0, 0x1p-1074, 0x1p-149, DBL_MIN, FLT_MIN, DBL_EPSILON, FLT_EPSILON, 0x1p-12, 0.5, 1, 1.5, 2, 3, 4, 5, 6,
+    10, 23, 0x1.921fb54442d18p+0, 0x1.921fb54442d18p+1, 0x1.921fb6p+1, 88, 709, 0x1p24, 0x1p53, FLT_MAX, DBL_MAX};
 
 /* Of two complex numbers parts of products may be infinite where the result is not: those are moderate. */
 static double one_operand(const struct Function *of, int single)
@@ -237,12 +237,12 @@ static void call_double(const struct Function *of, const double *x, double *resu
         return;
     case COMPLEX_OF_ONE:
         memcpy(&a, x, sizeof a);
-        z = ((double _Complex(*)(double _Complex))of->at_double)(a);
+        z = ((double _Complex (*)(double _Complex))of->at_double)(a);
         break;
     default:
         memcpy(&a, x, sizeof a);
         memcpy(&b, x + 2, sizeof b);
-        z = ((double _Complex(*)(double _Complex, double _Complex))of->at_double)(a, b);
+        z = ((double _Complex (*)(double _Complex, double _Complex))of->at_double)(a, b);
     }
     memcpy(result, &z, sizeof z);
 }
@@ -262,12 +262,12 @@ static void call_float(const struct Function *of, const double *xs, float *resul
         return;
     case COMPLEX_OF_ONE:
         memcpy(&a, x, sizeof a);
-        z = ((float _Complex(*)(float _Complex))of->at_float)(a);
+        z = ((float _Complex (*)(float _Complex))of->at_float)(a);
         break;
     default:
         memcpy(&a, x, sizeof a);
         memcpy(&b, x + 2, sizeof b);
-        z = ((float _Complex(*)(float _Complex, float _Complex))of->at_float)(a, b);
+        z = ((float _Complex (*)(float _Complex, float _Complex))of->at_float)(a, b);
     }
     memcpy(result, &z, sizeof z);
 }
@@ -337,7 +337,8 @@ static Wide unit(Wide of, int single)
     return WIDE(ldexp)(1, exponent - digits);
 }
 
-/* How far a result is from what is exact, where a unit is as large as given. An infinity counts as the first number that is none any more. */
+/* How far a result is from what is exact, where a unit is as large as given. An infinity counts as the first number that is none any more.
+   */
 static double distance(double found, Wide exact, Wide units, int single)
 {
     Wide over = WIDE(ldexp)(1, single ? FLT_MAX_EXP : DBL_MAX_EXP), wide = found;
@@ -356,7 +357,8 @@ static int has_other_sign(double found, Wide exact)
     return found == 0 && exact == 0 && !signbit(found) != !signbit((double)exact);
 }
 
-/* Below 0 lgamma has zeros that are no doubles, next to which its digits are those of a sum of terms near 1: there a unit is that of 1/64. */
+/* Below 0 lgamma has zeros that are no doubles, next to which its digits are those of a sum of terms near 1: there a unit is that of 1/64.
+   */
 static Wide counted(const struct Function *of, const double *xs, Wide exact)
 {
     const Wide least = 1.0 / 64;

@@ -1,7 +1,8 @@
-/* floor, ceil, trunc, truncf, llround, llrint, llrintf, fesetround and fegetround. Those of picolibc 1.8 are wrong for some numbers: its
-   ceil(4294967295.5) is 4294965248, its llround(1e18) 999999780956667904, its trunc(1e300) and truncf(1e14f) are other numbers too, its
-   llrint(0.3) is 0 in every rounding mode, its fesetround(5) sets what is no mode, and its fegetround() is -134 without registers of floating
-   point. A program may have functions of these names of its own: these are weak. */
+/* floor, ceil, trunc, truncf, llround, llrint, llrintf, erff, erfcf, fesetround and fegetround. Those of picolibc 1.8 are wrong for some
+   numbers: its ceil(4294967295.5) is 4294965248, its llround(1e18) 999999780956667904, its trunc(1e300) and truncf(1e14f) are other numbers
+   too, its llrint(0.3) is 0 in every rounding mode, its erfcf(8) is off by 57 units in the last place, its fesetround(5) sets what is no
+   mode, and its fegetround() is -134 without registers of floating point. A program may have functions of these names of its own: these are
+   weak. */
 #include <fenv.h>
 #include <math.h>
 #include <stdint.h>
@@ -68,6 +69,17 @@ WEAK long long llrint(double x)
 WEAK long long llrintf(float x)
 {
     return (long long)rintf(x);
+}
+
+/* picolibc has both in one object. */
+WEAK float erff(float x)
+{
+    return (float)erf(x);
+}
+
+WEAK float erfcf(float x)
+{
+    return (float)erfc(x);
 }
 
 #ifdef __riscv_flen

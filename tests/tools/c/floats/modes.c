@@ -54,6 +54,11 @@ static void others(void)
     MODES((single = (float)(one / three)), 0x1.555556p-2f, 0x1.555554p-2f, 0x1.555554p-2f, 0x1.555556p-2f);
     MODES((single = (float)word), 16777216, 16777216, 16777216, 16777218);
     MODES(rint(2 + half), 2, 2, 2, 3);
+    MODES(remainder(three, one), 0, 0, 0, 0);
+    MODES(remainder(-three, one), -0.0, -0.0, -0.0, -0.0);
+#ifdef __riscv /* glibc's is -0 */
+    MODES(remainderf((float)three, (float)one), 0, 0, 0, 0);
+#endif
     MODES(llrint(one / three), 0, 0, 0, 1);
     MODES(llrintf((float)(half / -three)), 0, 0, -1, 0);
 #ifdef FE_TONEAREST_MM

@@ -1,0 +1,1 @@
+/* Nothing of this is wanted for complex numbers. */

@@ -1,0 +1,2 @@
+/* Types of C that the file wants. */
+#include <stddef.h>

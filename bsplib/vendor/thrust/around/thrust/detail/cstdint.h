@@ -1,0 +1,3 @@
+/* Whole numbers of a given width. */
+#pragma once
+#include <stdint.h>

@@ -68,6 +68,6 @@ class Area:
     # Whether a call is a script, of which steps may be left out.
     is_script: bool = False
     # What the compiler is given besides; how many calls are made in one run, and as how many a script counts.
-    options: Tuple[str, ...] = ()
+    options: Tuple[str, ...] = ("-O1",)
     at_once: int = 20000
     steps: int = 1

@@ -12,7 +12,7 @@ import shutil
 import subprocess
 import tempfile
 import threading
-from typing import Counter, Iterator, List, Optional, Sequence, Tuple
+from typing import Counter, Iterator, List, Sequence, Tuple
 
 from checks import COMPILER, REPO, SECONDS, Part, Tally, Tool, units
 
@@ -25,7 +25,7 @@ X86 = Tool("x86-64", "none", lambda name: platform.machine() in ("x86_64", "AMD6
 TOOLS = (HOST, Tool("g++", "g++"), X86, *COMPILER)
 # The host computes as C has it: each operation is rounded by itself. As on nodes, a char has a sign. No call is made when it is compiled.
 WARNINGS = ["-Wall", "-Wextra", "-Werror"]
-OPTIONS = ["-O1", "-fno-builtin", "-fsigned-char", "-ffp-contract=off", "-frounding-math", *WARNINGS]
+OPTIONS = ["-fno-builtin", "-fsigned-char", "-ffp-contract=off", "-frounding-math", *WARNINGS]
 MEMORY, LIMIT = str(1 << 24), str(1 << 36)
 # How many differences of an area are shown.
 MOST_SHOWN = 3
@@ -133,10 +133,12 @@ class Bench:
         self.lock = threading.Lock()
         self.open: Counter[Tuple[str, str]] = collections.Counter()
 
-    def parts(self, area: Area, each: int, seed: int, only: Optional[str]) -> Iterator[Part]:
-        """An area's parts, one for each build, with its share of the calls."""
+    def parts(self, area: Area, each: int, seed: int, wanted: str) -> Iterator[Part]:
+        """An area's parts: of one build, which turns with the seed; of one that is wanted; or of all, each with its share of the calls."""
         program = Program(self, area)
-        builds = [it for it in area.builds if only in (None, it.value)]
+        builds = [it for it in area.builds if wanted in ("all", it.value)]
+        if wanted == "one":
+            builds = [area.builds[(seed + len(area.name)) % len(area.builds)]]
         for at, build in enumerate(builds):
             count = each * (at + 1) // len(builds) - each * at // len(builds)
             yield Part(f"{area.name}, {build.value}", functools.partial(self.compare, program, build, count, seed), TOOLS)

@@ -155,4 +155,4 @@ def given(calls: Sequence[str]) -> Dict[str, bytes]:
     return {f"g{it}": content_of(it) for it in numbers}
 
 
-AREA = Area("files", "files.c", call, BOTH, given=given, is_script=True, at_once=1000)
+AREA = Area("files", "files.c", call, BOTH, given=given, is_script=True, at_once=1000, steps=10)

@@ -63,4 +63,4 @@ def call(chance: Chance, build: Build) -> str:
     return " ".join(steps_at_random(chance, build, 60000))
 
 
-AREA = Area("heap", "heap.c", call, ALL, is_script=True, at_once=10000)
+AREA = Area("heap", "heap.c", call, ALL, is_script=True, at_once=10000, steps=20)

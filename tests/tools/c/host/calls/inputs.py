@@ -75,4 +75,4 @@ def spelled(line: str) -> bytes:
 
 
 INPUT = Area("input", "input.c", call, BOTH, spelled=spelled, is_script=True, at_once=1, steps=STEPS)
-SEEKS = Area("seeks", "input.c", call_with_seeks, BOTH, options=("-DSEEKS",), spelled=spelled, is_script=True, at_once=1, steps=STEPS)
+SEEKS = Area("seeks", "input.c", call_with_seeks, BOTH, options=("-O1", "-DSEEKS"), spelled=spelled, is_script=True, at_once=1, steps=STEPS)

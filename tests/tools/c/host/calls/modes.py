@@ -29,4 +29,4 @@ def call(chance: Chance, _build: Build) -> str:
     return " ".join(steps)
 
 
-AREA = Area("modes", "modes.c", call, (Build.FLOATS,), is_script=True)
+AREA = Area("modes", "modes.c", call, (Build.FLOATS,), is_script=True, steps=5)

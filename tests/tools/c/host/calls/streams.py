@@ -123,4 +123,4 @@ def call(chance: Chance, _: Build) -> str:
     return " ".join(make(chance))
 
 
-AREA = Area("streams", "streams.cpp", call, BOTH, is_script=True, at_once=10000)
+AREA = Area("streams", "streams.cpp", call, BOTH, options=("-O0",), is_script=True, at_once=10000, steps=5)

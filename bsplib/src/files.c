@@ -304,7 +304,7 @@ static ssize_t put_bytes(struct bsp_open *open, const char *bytes, size_t count)
 WEAK ssize_t write(int number, const void *bytes, size_t count)
 {
     struct bsp_open *open = bsp_open_of(number);
-    int device = number == 1 ? DEVICE_OUTPUT : number == 2 ? DEVICE_ERROR : open != NULL ? open->file->device : DEVICE_INPUT;
+    enum bsp_device device = number == 1 ? DEVICE_OUTPUT : number == 2 ? DEVICE_ERROR : open != NULL ? open->file->device : DEVICE_INPUT;
     if (device == DEVICE_INPUT || (open != NULL && (open->flags & O_ACCMODE) == O_RDONLY))
         return refuse(EBADF);
     if (device == DEVICE_NONE)

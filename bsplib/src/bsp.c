@@ -1,4 +1,4 @@
-/* BSPlib's functions over the machine's calls. */
+/* BSPlib's functions over the machine's calls, which no C library has. */
 #include "bsp.h"
 #include "machine.h"
 

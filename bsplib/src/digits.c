@@ -1,4 +1,5 @@
-/* Numbers of the kind double as decimal digits, and back, by whole numbers alone. */
+/* Numbers of the kind double as decimal digits, and back, by whole numbers alone. picolibc 1.8 has at most 17 digits of a double, and the same mistakes
+   whatever follows them. */
 #include "digits.h"
 
 #include <string.h>

@@ -1,5 +1,5 @@
-/* What POSIX has below the streams of a C library: files, which bsprun gives and takes, and times, which there are none. All of it is
-   weak, since a program may have functions of these names. */
+/* What POSIX has below the streams of a C library, and picolibc leaves to a system: files, which bsprun gives and takes, and times, which
+   there are none. All of it is weak, since a program may have functions of these names. */
 #include <errno.h>
 #include <fcntl.h>
 #include <stdarg.h>
@@ -140,7 +140,7 @@ static int make_room(struct bsp_file *file, size_t size)
             file->room = 0;
             return 0;
         }
-        if (file->room == 0)
+        if (file->room == 0 && file->size > 0)
             memcpy(larger, file->bytes, file->size);
         file->bytes = larger;
         file->room = room;

@@ -1,4 +1,5 @@
-/* What the headers of C++'s standard library want linked: texts, the standard streams, and a line in the place of each exception. */
+/* What the headers of C++'s standard library want linked: texts, the standard streams, and a line in the place of each exception.
+   GCC's library with these is for the host alone. */
 /* Where nothing can be read, operator>> leaves what it is given as it is. */
 #pragma GCC diagnostic ignored "-Wmaybe-uninitialized"
 #include <complex>

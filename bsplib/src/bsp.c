@@ -196,9 +196,10 @@ void bsp_move(void *payload, int reception_nbytes)
     machine_call_2(CALL_MOVE, (long)payload, reception_nbytes);
 }
 
-static size_t rounded(size_t size)
+/* The room of a tag or of a payload, of which neither has a size below 0. */
+static size_t rounded(int size)
 {
-    return (size + 7) & ~(size_t)7;
+    return ((size_t)size + 7) & ~(size_t)7;
 }
 
 int bsp_hpmove(void **tag_ptr, void **payload_ptr)

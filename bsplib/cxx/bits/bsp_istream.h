@@ -117,7 +117,7 @@ public:
     basic_istream &seekg(streamoff offset, seekdir from = beg)
     {
         clear(rdstate() & ~eofbit);
-        if (fail() || file() == nullptr || fseek(file(), offset, from) != 0)
+        if (fail() || file() == nullptr || offset != long(offset) || fseek(file(), long(offset), from) != 0)
             setstate(failbit);
         return *this;
     }

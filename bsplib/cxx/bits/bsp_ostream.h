@@ -45,7 +45,7 @@ public:
     streamoff tellp() { return file() != nullptr ? ftell(file()) : -1; }
     basic_ostream &seekp(streamoff offset, seekdir from = beg)
     {
-        if (file() == nullptr || fseek(file(), offset, from) != 0)
+        if (file() == nullptr || offset != long(offset) || fseek(file(), long(offset), from) != 0)
             setstate(failbit);
         return *this;
     }

@@ -1,4 +1,4 @@
-/* Strings, memory, sorting and the end of the program, for programs without a C library. */
+/* Strings, memory, sorting and the end of the program, for programs without a C library: picolibc's are larger. */
 #include <stdlib.h>
 #include <string.h>
 

@@ -1,4 +1,4 @@
-/* Formatted output and input, for programs without a C library. */
+/* Formatted output and input, for programs without a C library: picolibc's are larger, and have floating point. */
 #include <stdint.h>
 #include <stdio.h>
 #include <string.h>

@@ -1,4 +1,4 @@
-/* bsp_abort and bsp_vabort, apart from the rest since they need vfprintf. */
+/* bsp_abort and bsp_vabort, apart from the rest since they need vfprintf. No C library has them. */
 #include <stdarg.h>
 #include <stdio.h>
 

@@ -1,4 +1,4 @@
-/* BSPlib's functions over the machine's calls. */
+/* BSPlib's functions over the machine's calls, which no C library has. */
 #include "bsp.h"
 #include "machine.h"
 
@@ -204,9 +204,10 @@ void bsp_move(void *payload, int reception_nbytes)
     machine_call_2(CALL_MOVE, (long)payload, reception_nbytes);
 }
 
-static size_t rounded(size_t size)
+/* The room of a tag or of a payload, of which neither has a size below 0. */
+static size_t rounded(int size)
 {
-    return (size + 7) & ~(size_t)7;
+    return ((size_t)size + 7) & ~(size_t)7;
 }
 
 /* Begins with the first piece of an earlier superstep, if that is large enough, and frees the others. */

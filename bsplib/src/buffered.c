@@ -1,5 +1,5 @@
-/* Streams over files, in the place of picolibc's: there an error of a stream is not told, and a byte above 127 is one; the place after ungetc
-   and after a seek in a file that is added to is a wrong one. */
+/* Streams over files, in the place of picolibc's: there an error of a stream is not told, and a byte above 127 is one; the place after
+   ungetc and after a seek in a file that is added to is a wrong one. */
 #include <errno.h>
 #include <fcntl.h>
 #include <limits.h>
@@ -187,8 +187,9 @@ static FILE *stream_over(int number, int flags)
         close(number);
         return NULL;
     }
-    stream->xfile = (struct __file_ext)FDEV_SETUP_EXT(way == O_RDONLY ? bsp_put_refused : put, way == O_WRONLY ? bsp_get_refused : get, flush,
-        close_stream, seek, set_buffer, _FDEV_SETUP_RW | __SBUF);
+    stream->xfile = (struct __file_ext)FDEV_SETUP_EXT(
+        way == O_RDONLY ? bsp_put_refused : put, way == O_WRONLY ? bsp_get_refused : get, flush, close_stream, seek, set_buffer,
+        _FDEV_SETUP_RW | __SBUF);
     stream->fd = number;
     stream->buf = (char *)(stream + 1);
     stream->size = ROOM;

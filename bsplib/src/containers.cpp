@@ -1,5 +1,6 @@
 /* What the headers of GCC's standard library want linked for map and set, which are red-black trees, for their unordered kinds, which are
-   tables of a prime number of lists, for lists and for shared pointers. */
+   tables of a prime number of lists, for lists and for shared pointers. GCC's library
+   with these is for the host alone. */
 #include <list>
 #include <map>
 #include <memory>

@@ -1,5 +1,5 @@
-/* What POSIX has below the streams of a C library: files, which bsprun gives and takes, and times, which there are none. All of it is
-   weak, since a program may have functions of these names. */
+/* What POSIX has below the streams of a C library, and picolibc leaves to a system: files, which bsprun gives and takes, and times, which
+   there are none. All of it is weak, since a program may have functions of these names. */
 #include <errno.h>
 #include <fcntl.h>
 #include <stdarg.h>
@@ -140,7 +140,7 @@ static int make_room(struct bsp_file *file, size_t size)
             file->room = 0;
             return 0;
         }
-        if (file->room == 0)
+        if (file->room == 0 && file->size > 0)
             memcpy(larger, file->bytes, file->size);
         file->bytes = larger;
         file->room = room;
@@ -304,7 +304,7 @@ static ssize_t put_bytes(struct bsp_open *open, const char *bytes, size_t count)
 WEAK ssize_t write(int number, const void *bytes, size_t count)
 {
     struct bsp_open *open = bsp_open_of(number);
-    int device = number == 1 ? DEVICE_OUTPUT : number == 2 ? DEVICE_ERROR : open != NULL ? open->file->device : DEVICE_INPUT;
+    enum bsp_device device = number == 1 ? DEVICE_OUTPUT : number == 2 ? DEVICE_ERROR : open != NULL ? open->file->device : DEVICE_INPUT;
     if (device == DEVICE_INPUT || (open != NULL && (open->flags & O_ACCMODE) == O_RDONLY))
         return refuse(EBADF);
     if (device == DEVICE_NONE)

@@ -21,7 +21,7 @@ WEAK double fma(double x, double y, double z)
         if (lost != 0 && words[0] % 2 == 0) {
             if ((lost > 0) != (sum > 0) && words[0] == 0)
                 words[1]--;
-            words[0] += (lost > 0) == (sum > 0) ? 1 : -1;
+            words[0] = (lost > 0) == (sum > 0) ? words[0] + 1 : words[0] - 1;
             memcpy(&sum, words, sizeof sum);
         }
     }
@@ -38,7 +38,7 @@ WEAK float fmaf(float x, float y, float z)
         uint64_t word;
         memcpy(&word, &sum, sizeof word);
         if (lost != 0 && word % 2 == 0) {
-            word += (lost > 0) == (sum > 0) ? 1 : -1;
+            word = (lost > 0) == (sum > 0) ? word + 1 : word - 1;
             memcpy(&sum, &word, sizeof sum);
         }
     }

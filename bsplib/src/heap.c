@@ -123,6 +123,11 @@ __attribute__((noreturn, cold)) static void stop_for_block(const char *function,
     bsp_stop(text);
 }
 
+/* Whether all blocks are looked at before one is given or given back, as in the tests of the library. */
+#ifndef BSP_CHECKS_HEAP
+#define BSP_CHECKS_HEAP 0
+#endif
+
 /* Looks at all blocks in their order, as bsp_sync does where bsprun --warn asks for it. */
 static void look(void)
 {
@@ -152,7 +157,7 @@ static int grow(size_t wanted)
             use((struct block *)old, (size_t)(now - old), 0);
         }
         end = now;
-        if (bsp_settings.flags & BSP_LOOKS)
+        if (BSP_CHECKS_HEAP || (bsp_settings.flags & BSP_LOOKS) != 0)
             bsp_look_further = look;
     }
     more = wanted - (size_t)(end - top);
@@ -217,7 +222,10 @@ static void *refuse(const char *name, const void *place, size_t asked)
 static void *take(const char *name, const void *place, size_t asked)
 {
     size_t size = size_for(asked);
-    struct block *block = asked < MOST ? find(size) : NULL;
+    struct block *block;
+    if (BSP_CHECKS_HEAP)
+        look();
+    block = asked < MOST ? find(size) : NULL;
     if (block == NULL)
         return refuse(name, place, asked);
     use(block, size_of(block), asked);
@@ -248,6 +256,8 @@ void *malloc(size_t asked)
 static void release(struct block *block)
 {
     size_t size = size_of(block);
+    if (BSP_CHECKS_HEAP)
+        look();
     block->asked = (unsigned)IS_FREE;
     block->size &= ~(unsigned)IS_USED;
     if (block->size & IS_BEHIND_FREE) {

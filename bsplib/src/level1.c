@@ -1,4 +1,4 @@
-/* The collective functions of level 1, over those of bsp.h. */
+/* The collective functions of BSPlib's level 1, over those of bsp.h. No C library has them. */
 #include "bsp_level1.h"
 #include "machine.h"
 

@@ -1,4 +1,4 @@
-/* Records for bsprun, and notes of what is to be told of a run. */
+/* Records for bsprun, and notes of what is to be told of a run: of these no C library knows. */
 #include <string.h>
 
 #include "machine.h"

@@ -307,8 +307,8 @@ double atof(const char *text)
 
 /* What scanf does. */
 
-/* A conversion: its letter, the position of its argument from 1 on where it has one, whether what it reads is dropped, whether memory is taken
-   for it, the most bytes that it takes, or 0, and the bytes of a number. */
+/* A conversion: its letter, the position of its argument from 1 on where it has one, whether what it reads is dropped, whether memory is
+   taken for it, the most bytes that it takes, or 0, and the bytes of a number. */
 struct conversion {
     char letter;
     int position, is_dropped, is_kept, width, size;
@@ -554,7 +554,8 @@ static int match(struct source *from, int byte)
     return 1;
 }
 
-/* A conversion of the format, whose argument is `to`: 1 where something was read, 0 where it does not match, EOF at the end of the input. */
+/* A conversion of the format, whose argument is `to`: 1 where something was read, 0 where it does not match, EOF at the end of the input.
+   */
 static int convert(struct source *from, const struct conversion *how, const struct set *set, void *to)
 {
     if (how->letter != '[' && how->letter != 'c')

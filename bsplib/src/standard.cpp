@@ -1,4 +1,6 @@
 /* What the headers of C++'s standard library want linked: texts, complex numbers, and a line in the place of each exception. */
+/* Where nothing can be read, operator>> leaves what it is given as it is. */
+#pragma GCC diagnostic ignored "-Wmaybe-uninitialized"
 #include <complex>
 #include <cstdarg>
 #include <cstdio>

@@ -40,9 +40,9 @@ static int put_error(char byte, FILE *file)
     return bsp_error_put(byte);
 }
 
-/* A node reads its input once, from the first byte on. A program that goes back in it, or asks for a place in it, has the whole of it in its
-   memory. The address of this name is 1 where the program was linked with a function that does so, and else 0: the linker tells by the room
-   of `goes_back`, which such functions name. */
+/* A node reads its input once, from the first byte on. A program that goes back in it, or asks for a place in it, has the whole of it in
+   its memory. The address of this name is 1 where the program was linked with a function that does so, and else 0: the linker tells by the
+   room of `goes_back`, which such functions name. */
 extern char bsp_goes_back[] __attribute__((weak));
 static char goes_back __attribute__((section(".bss.bsp_goes_back")));
 

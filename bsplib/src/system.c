@@ -1,4 +1,4 @@
-/* Start, end, memory and the standard streams of a node: what lies under a C library. */
+/* Start, end, memory and the standard streams of a node: what lies under a C library, and picolibc leaves to a system. */
 #include "machine.h"
 
 int bsp_memory_size __attribute__((section(".data"))) = 0; /* set before anything else runs */
@@ -18,8 +18,8 @@ __attribute__((noreturn)) extern void exit(int status);
 void _init(void) {}
 void _fini(void) {}
 
-/* Standard output. While standard error has bytes, this is full but for one byte: with that, those go first. So a byte more costs nothing for
-   the order of the two, nor does a superstep that writes none. */
+/* Standard output. While standard error has bytes, this is full but for one byte: with that, those go first. So a byte more costs nothing
+   for the order of the two, nor does a superstep that writes none. */
 static char out[1024];
 static int out_count = 0;
 enum { LAST = sizeof out - 1 };

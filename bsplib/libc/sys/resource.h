@@ -4,11 +4,14 @@
 
 #pragma GCC system_header
 
-#include_next <sys/resource.h>
+#include <sys/time.h>
 
+/* picolibc's is of C alone. */
 #ifdef __cplusplus
 extern "C" {
 #endif
+
+#include_next <sys/resource.h>
 
 int getrusage(int, struct rusage *);
 

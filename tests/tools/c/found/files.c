@@ -119,6 +119,24 @@ static void places(void)
     fclose(file);
 }
 
+static void memory(void)
+{
+    char room[12] = "abc", word[8];
+    FILE *file = fmemopen(room, sizeof room, "a");
+    int counts[2] = {fprintf(file, "\351 %d", 12), 0};
+    fclose(file);
+    file = fmemopen(room, strlen(room), "r");
+    counts[1] = fscanf(file, "%7s", word);
+    ungetc(fgetc(file), file);
+    printf("%d %s, %d %s ", counts[0], room, counts[1], word);
+    tell_place(file);
+    fclose(file);
+    file = fmemopen(room, 4, "w");
+    fputs("longer", file);
+    fclose(file);
+    printf("%s\n", room);
+}
+
 /* Whether something was refused, and how that is told. */
 static void tell_refused(FILE *file, int is_refused, int reason)
 {
@@ -161,6 +179,7 @@ int main(int count, char **words)
         long_file(words[1]);
         high_bytes();
         places();
+        memory();
         errors();
     }
     bsp_end();

@@ -77,7 +77,7 @@ static int get(FILE *file)
     } else {
         if (whole.bytes == NULL)
             read_whole();
-        byte = whole.next == whole.end ? -1 : (unsigned char)whole.bytes[whole.next++];
+        byte = whole.next >= whole.end ? -1 : (unsigned char)whole.bytes[whole.next++];
     }
     if (byte >= 0)
         return byte;
@@ -92,7 +92,8 @@ static off_t seek(FILE *file, off_t offset, int whence)
     if (whole.bytes == NULL)
         read_whole();
     from = whence == SEEK_SET ? 0 : whence == SEEK_CUR ? whole.next : whole.end;
-    if (offset < -from || offset > whole.end - from) {
+    /* As of a file, a place behind its end is one too. */
+    if (offset < -from || offset > LONG_MAX - from) {
         errno = EINVAL;
         return -1;
     }

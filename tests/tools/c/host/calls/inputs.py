@@ -43,7 +43,8 @@ def step(chance: Chance, seeks: bool) -> str:
     if kind == 7:
         return "L"
     if kind <= 9:
-        return f"s{chance.randrange(7)}"
+        # Known and not mended: the byte that scanf puts back takes the place of the one that ungetc promises, until something is read.
+        return f"s{chance.randrange(7)} {chance.choice('gc')}"
     if kind == 10:
         return "e"
     if kind == 11:

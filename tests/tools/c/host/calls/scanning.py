@@ -126,12 +126,16 @@ UNFINISHED = re.compile(
     re.I | re.X,
 )
 WIDE = re.compile(rb"%\*?[0-9]*l[sc]")
+CUT = re.compile(rb"%\*?[0-9]+[lL]?[fegaEFGA]")
 REAL = re.compile(rb"%\*?[0-9]*[lL]?[fegaEFGA]")
 
 
 def is_unfinished(answer: Answer) -> bool:
     """What glibc takes for a number with a point, and C for the beginning of one."""
-    return bool(REAL.search(answer.text(1)) and UNFINISHED.search(answer.text(2)))
+    form, given = answer.text(1), answer.text(2)
+    # A width may end a number in its middle, too.
+    is_cut = CUT.search(form) and re.search(rb"[0-9.][ep]|0x|nan|inf", given, re.I)
+    return bool(REAL.search(form) and UNFINISHED.search(given)) or bool(is_cut)
 
 
 def is_beyond_64(answer: Answer) -> bool:

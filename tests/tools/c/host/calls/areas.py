@@ -7,6 +7,7 @@ from typing import Dict
 from . import files, heap, inputs, jumps, modes, numbers, options, printing, scanning, sorting, streams, texts, times, wide
 from .area import Area
 
-MADE = (printing.AREA, scanning.AREA, numbers.AREA, texts.AREA, files.AREA, inputs.INPUT, inputs.SEEKS, heap.AREA, times.AREA, streams.AREA,
+# By their places the builds turn.
+MADE = (printing.AREA, scanning.AREA, files.AREA, numbers.AREA, texts.AREA, inputs.INPUT, inputs.SEEKS, heap.AREA, times.AREA, streams.AREA,
         options.AREA, sorting.AREA, wide.AREA, modes.AREA, jumps.AREA)  # fmt: skip
 AREAS: Dict[str, Area] = {it.name: it for it in MADE}

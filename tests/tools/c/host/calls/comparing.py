@@ -133,12 +133,12 @@ class Bench:
         self.lock = threading.Lock()
         self.open: Counter[Tuple[str, str]] = collections.Counter()
 
-    def parts(self, area: Area, each: int, seed: int, wanted: str) -> Iterator[Part]:
-        """An area's parts: of one build, which turns with the seed; of one that is wanted; or of all, each with its share of the calls."""
+    def parts(self, area: Area, each: int, seed: int, wanted: str, turn: int) -> Iterator[Part]:
+        """An area's parts: of one build, whose turn it is; of one that is wanted; or of all, each with its share of the calls."""
         program = Program(self, area)
         builds = [it for it in area.builds if wanted in ("all", it.value)]
         if wanted == "one":
-            builds = [area.builds[(seed + len(area.name)) % len(area.builds)]]
+            builds = [area.builds[turn % len(area.builds)]]
         for at, build in enumerate(builds):
             count = each * (at + 1) // len(builds) - each * at // len(builds)
             yield Part(f"{area.name}, {build.value}", functools.partial(self.compare, program, build, count, seed), TOOLS)

@@ -60,7 +60,7 @@ static void know_given_files(void)
         if (file == NULL)
             bsp_stop("there is no memory for the files of bsprun: give --memory");
         *file = (struct bsp_file){
-            .next = files, .name = (char *)bsp_given[i].name, .bytes = (char *)bsp_given[i].bytes, .size = bsp_given[i].size};
+            .next = files, .name = (char *)bsp_given[i].name, .bytes = (char *)bsp_given[i].bytes, .size = bsp_given[i].size, .is_given = 1};
         files = file;
     }
 }
@@ -81,7 +81,7 @@ struct bsp_file *bsp_file_named(const char *name)
         const char *slash;
         if (file->name == NULL)
             continue;
-        slash = file->number == 0 ? strrchr(file->name, '/') : NULL;
+        slash = file->is_given ? strrchr(file->name, '/') : NULL;
         if (strcmp(without_dot(file->name), name) == 0 || (slash != NULL && strcmp(slash + 1, name) == 0))
             return file;
     }
@@ -360,6 +360,7 @@ WEAK int rename(const char *old, const char *name)
     if (other != NULL && other != file)
         unlink(name);
     file->name = copy;
+    file->is_given = 0;
     if (file->number == 0) {
         tell_name(file);
         tell_bytes(file, 0, file->bytes, file->size);

@@ -15,6 +15,7 @@ struct bsp_file {
     char *bytes;
     size_t size, room; /* no room where the bytes are those of the block */
     unsigned number; /* by which bsprun knows it, from 1 on; 0 where it knows nothing of it */
+    int is_given; /* whether it has the name that bsprun gave it */
     int is_lost; /* whether there was no memory to keep the bytes */
     enum bsp_device device;
 };

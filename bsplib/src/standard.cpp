@@ -42,6 +42,8 @@ void __throw_underflow_error(const char *text) { bsp_stop(text); }
 const nothrow_t nothrow{};
 
 template class basic_string<char>;
+/* GCC's headers leave it to the library, too, where nothing is put in line, as with -O0. */
+template class allocator<char>;
 template ostream &operator<<(ostream &, const complex<float> &);
 template ostream &operator<<(ostream &, const complex<double> &);
 template istream &operator>>(istream &, complex<float> &);

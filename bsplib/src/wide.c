@@ -1,11 +1,12 @@
 /* Numbers in wide texts, and wide texts as bytes, in the place of picolibc's: these leave the end of a text that has no number behind its
-   blanks, take `0x` without figures for none, and cut a character that has no byte. A program may have functions of these names of its own:
+   blanks, take `0x` without figures for none, cut a character that has no byte, and have letters beyond those of the locale. A program may have functions of these names of its own:
    these are weak. */
 #include <errno.h>
 #include <stddef.h>
 #include <stdint.h>
 #include <stdlib.h>
 #include <wchar.h>
+#include <wctype.h>
 
 #include "machine.h"
 
@@ -59,6 +60,14 @@ READER(long long, wcstoll, strtoll, (const wchar_t *restrict text, wchar_t **res
 READER(unsigned long long, wcstoull, strtoull, (const wchar_t *restrict text, wchar_t **restrict end, int base), , base)
 READER(double, wcstod, strtod, (const wchar_t *restrict text, wchar_t **restrict end), )
 READER(float, wcstof, strtof, (const wchar_t *restrict text, wchar_t **restrict end), )
+
+/* In the locale C letters are those of ASCII, as towlower and towupper have it. */
+WEAK wint_t towctrans(wint_t letter, wctrans_t how)
+{
+    if (how != 0 && how == wctrans("tolower"))
+        return towlower(letter);
+    return how != 0 && how == wctrans("toupper") ? towupper(letter) : letter;
+}
 
 /* In the locale C a character is a byte, as picolibc's wcrtomb has it, and those above 255 are none. */
 WEAK size_t wcsrtombs(char *restrict to, const wchar_t **restrict from, size_t size, mbstate_t *restrict state)

@@ -136,16 +136,17 @@ def has_no_base(answer: Answer) -> bool:
 
 def is_inexact_and_small(answer: Answer) -> bool:
     """A result below the least normal number, where one of both says ERANGE and the other does not."""
-    if answer.call[0] not in ("strtod", "strtof", "strtold") or answer.host[:2] != answer.node[:2]:
+    if answer.call[0] not in ("strtod", "strtof", "strtold", "wcstod", "wcstof") or answer.host[:2] != answer.node[:2]:
         return False
     magnitude = int(answer.node[0], 16) & ~(1 << 63)
-    return magnitude <= (897 << 52 if answer.call[0] == "strtof" else 1 << 52) and {answer.host[2], answer.node[2]} == {"none", "ERANGE"}
+    return magnitude <= (897 << 52 if answer.call[0].endswith("f") else 1 << 52) and {answer.host[2], answer.node[2]} == {"none", "ERANGE"}
 
 
+UNDERFLOW = Difference("C11 7.22.1.3p10: whether errno is set where a result underflows is of the implementation", is_inexact_and_small)
 DIFFERENCES = (
     Difference("C11 7.22.1p1: what atoi, atol and atoll do with a number that their type cannot hold is undefined", is_beyond_type),
     Difference("C11 7.22.1.4p3 defines bases 0 and 2 to 36 alone: where the end of the text is told for another one is open", has_no_base),
-    Difference("C11 7.22.1.3p10: whether errno is set where a result underflows is of the implementation", is_inexact_and_small),
+    UNDERFLOW,
 )
 
 AREA = Area("numbers", "numbers.c", call, ALL, DIFFERENCES)

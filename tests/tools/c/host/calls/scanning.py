@@ -139,8 +139,15 @@ def is_unfinished(answer: Answer) -> bool:
 
 
 def is_beyond_64(answer: Answer) -> bool:
-    """A whole number of more than 64 bits."""
-    return bool(re.search(rb"%\*?[0-9]*[hljzt]*[diuoxX]", answer.text(1)) and re.search(rb"[0-9a-fA-F]{17,}", answer.text(2)))
+    """A whole number that 64 bits with a sign cannot hold."""
+    return bool(re.search(rb"%\*?[0-9]*[hljzt]*[diuoxX]", answer.text(1)) and re.search(rb"[0-9a-fA-F]{16,}", answer.text(2)))
+
+
+def is_end_unseen(answer: Answer) -> bool:
+    """A width that is used up with the last byte of a file."""
+    if not re.search(rb"%\*?[0-9]+", answer.text(1)) or [answer.host[1], answer.node[1]] != ["end", "more"]:
+        return False
+    return answer.host[:1] + answer.host[2:] == answer.node[:1] + answer.node[2:]
 
 
 def is_byte_above(answer: Answer) -> bool:
@@ -155,6 +162,7 @@ DIFFERENCES = (
         is_unfinished,
     ),
     Difference("C11 7.21.6.2p10: what is stored of a number that its place cannot hold is undefined; here the low bits", is_beyond_64),
+    Difference("C11 7.21.6.2p9: of an item as long as its width nothing more has to be read, so that feof says no; glibc reads", is_end_unseen),
     Difference("C11 5.2.1p1: which bytes above 127 are characters of the locale C is of the implementation", is_byte_above),
 )
 

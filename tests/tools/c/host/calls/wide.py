@@ -7,7 +7,7 @@ from typing import List
 from . import chance as made
 from .area import BOTH, Answer, Area, Build, Difference
 from .chance import Chance, often
-from .numbers import real_text, whole_text
+from .numbers import UNDERFLOW, real_text, whole_text
 
 COPIES = ["wcscpy", "wcsncpy", "wmemcpy", "wmemmove", "wmemset", "wcscat", "wcsncat", "wcpcpy", "wcpncpy"]
 COMPARISONS = ["wcscmp", "wcsncmp", "wmemcmp", "wcscoll", "wcscasecmp", "wcsncasecmp", "wcsspn", "wcscspn", "wcspbrk", "wcsstr", "wcsxfrm"]
@@ -70,6 +70,7 @@ DIFFERENCES = (
         "locale POSIX, and in glibc none",
         is_byte_above,
     ),
+    UNDERFLOW,
 )
 
 AREA = Area("wide", "wide.c", call, BOTH, DIFFERENCES)

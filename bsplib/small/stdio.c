@@ -166,11 +166,11 @@ static void format_into(struct sink *to, const char *format, va_list *arguments)
                 *--digit = figures[rest % base];
             text = digit;
             count = (int)(digits + sizeof digits - digit);
+            is_zero = is_zero && !is_left && precision < 0;
             if (is_other && base == 8 && precision <= count)
                 precision = count + 1;
             leading = (precision < 0 ? 1 : precision) - count;
             leading = leading > 0 ? leading : 0;
-            is_zero = is_zero && !is_left && precision < 0;
             break;
         }
         default:

@@ -59,8 +59,11 @@ static void know_given_files(void)
         struct bsp_file *file = calloc(1, sizeof *file);
         if (file == NULL)
             bsp_stop("there is no memory for the files of bsprun: give --memory");
-        *file = (struct bsp_file){
-            .next = files, .name = (char *)bsp_given[i].name, .bytes = (char *)bsp_given[i].bytes, .size = bsp_given[i].size, .is_given = 1};
+        *file = (struct bsp_file){.next = files,
+            .name = (char *)bsp_given[i].name,
+            .bytes = (char *)bsp_given[i].bytes,
+            .size = bsp_given[i].size,
+            .is_given = 1};
         files = file;
     }
 }

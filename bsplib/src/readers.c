@@ -2,8 +2,10 @@
    number that is too large for a `long` is noted, which has 64 bits elsewhere. The linker puts each of these in the place of the function
    whose name it has behind __wrap_. */
 #include <errno.h>
+#include <inttypes.h>
 #include <limits.h>
 #include <stddef.h>
+#include <stdlib.h>
 
 #include "machine.h"
 
@@ -75,6 +77,12 @@ long long __wrap_strtoll(const char *text, char **end, int base)
         return LLONG_MIN;
     }
     return number;
+}
+
+/* picolibc's is another copy of strtoll. */
+__attribute__((weak)) intmax_t strtoimax(const char *restrict text, char **restrict end, int base)
+{
+    return strtoll(text, end, base);
 }
 
 /* Notes what fits 64 bits alone: what was read is the greatest or the least number then. */

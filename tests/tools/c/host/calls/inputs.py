@@ -56,7 +56,7 @@ def step(chance: Chance, seeks: bool) -> str:
 
 def script(chance: Chance, seeks: bool) -> str:
     """A script, with the number of what it reads behind it."""
-    return " ".join([*(step(chance, seeks) for _ in range(STEPS)), f"n{chance.getrandbits(30)}"])
+    return " ".join([*(step(chance, seeks) for _ in range(STEPS)), f"z{chance.getrandbits(30)}"])
 
 
 def call(chance: Chance, _: Build) -> str:
@@ -71,7 +71,7 @@ def call_with_seeks(chance: Chance, _: Build) -> str:
 
 def spelled(line: str) -> bytes:
     """The script, and behind it what it reads."""
-    numbers = [int(it[1:]) for it in line.split(" ") if it.startswith("n")]
+    numbers = [int(it[1:]) for it in line.split(" ") if it.startswith("z")]
     return line.encode() + b"\n" + (content(numbers[0]) if numbers else b"")
 
 

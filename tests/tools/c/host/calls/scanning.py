@@ -143,6 +143,13 @@ def is_beyond_64(answer: Answer) -> bool:
     return bool(re.search(rb"%\*?[0-9]*[hljzt]*[diuoxX]", answer.text(1)) and re.search(rb"[0-9a-fA-F]{16,}", answer.text(2)))
 
 
+def is_read_further(answer: Answer) -> bool:
+    """A number with a point that is none, of which glibc has read one byte more than belongs to it."""
+    if answer.call[0] != "f" or not REAL.search(answer.text(1)) or answer.host[0] != answer.node[0]:
+        return False
+    return int(answer.host[2]) == int(answer.node[2]) + 1 and answer.host[5:] == answer.node[5:]
+
+
 def is_end_unseen(answer: Answer) -> bool:
     """A width that is used up with the last byte of a file."""
     if not re.search(rb"%\*?[0-9]+", answer.text(1)) or [answer.host[1], answer.node[1]] != ["end", "more"]:
@@ -162,6 +169,7 @@ DIFFERENCES = (
         is_unfinished,
     ),
     Difference("C11 7.21.6.2p10: what is stored of a number that its place cannot hold is undefined; here the low bits", is_beyond_64),
+    Difference("C11 7.21.6.2p9: the first byte behind an item is not read; glibc reads it behind `i` and `n` that begin no word", is_read_further),
     Difference("C11 7.21.6.2p9: behind an item as long as its width nothing has to be read, so that feof says no", is_end_unseen),
     Difference("C11 5.2.1p1: which bytes above 127 are characters of the locale C is of the implementation", is_byte_above),
 )

@@ -73,17 +73,16 @@ def is_zone(answer: Answer) -> bool:
     return [it.replace("UTC", "GMT") for it in answer.host] == answer.node
 
 
-def is_early_century(answer: Answer) -> bool:
-    """The century of a year before 1000, of which glibc has one figure."""
-    if answer.call[0] != "strftime" or not re.search(rb"%E?C", answer.text(2)) or int(answer.call[8]) + 1900 >= 1000:
+def is_early_year(answer: Answer) -> bool:
+    """A year before 1000, for which glibc leaves out zeros in front."""
+    if answer.call[0] != "strftime" or not re.search(rb"%E?C|%F", answer.text(2)) or int(answer.call[8]) + 1900 >= 1000:
         return False
-    size = int(answer.call[1])
-    return int(answer.host[0]) < int(answer.node[0]) or int(answer.node[0]) == 0 < size <= int(answer.host[0]) + len(answer.text(2))
+    return int(answer.host[0]) < int(answer.node[0]) or int(answer.node[0]) == 0
 
 
 DIFFERENCES = (
     Difference("C11 7.27.3.5p3: %Z is the zone's name or abbreviation, of which UTC has two", is_zone),
-    Difference("C11 7.27.3.5p3: %C has the figures 00 to 99; glibc leaves out the zero of a year before 1000", is_early_century),
+    Difference("C11 7.27.3.5p3: %C has the figures 00 to 99, and POSIX has %F as %+4Y-%m-%d; glibc leaves zeros in front out", is_early_year),
 )
 
 AREA = Area("times", "times.c", call, BOTH, DIFFERENCES)

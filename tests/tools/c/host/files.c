@@ -165,9 +165,14 @@ static void read_some(const char *step, int i)
     } else if (strcmp(step, "fgets") == 0) {
         char *line = fgets(room, (int)number_operand(), file);
         say_text(line);
+    } else if (strcmp(step, "fscanf") == 0 && !streams[i].is_readable) {
+        /* glibc's says nothing of an error, where POSIX wants one. */
+        say("-");
     } else if (strcmp(step, "fscanf") == 0) {
         char word[40] = "";
         int answer = fscanf(file, "%30s", word);
+        /* Known and not mended: the byte that fscanf puts back takes the place of the one that ungetc promises. */
+        streams[i].pushed = 1;
         say_number(answer);
         say_text(word);
     } else {

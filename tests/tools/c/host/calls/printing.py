@@ -2,11 +2,12 @@
 
 from __future__ import annotations
 
+import re
 from typing import List, Tuple
 
 from . import chance as made
-from .area import ALL, Area, Build
-from .chance import Chance, often
+from .area import ALL, Answer, Area, Build, Difference
+from .chance import Chance, of_bits, often
 
 WHOLE_SIZES = ("hh", "h", "", "", "", "l", "ll", "j", "z", "t")
 # What a type of the call is for each length: with a sign and without one.
@@ -125,4 +126,20 @@ def shown(argument: str) -> str:
     return "i 11" if kind == "i" and int(rest) & 255 == 10 else argument
 
 
-AREA = Area("printing", "printing.c", call, ALL)
+def is_carried(answer: Answer) -> bool:
+    """Zeros that glibc leaves out of a number by %#g that is rounded up to a power of ten."""
+    if not re.search(rb"%[-+ 0#]*#[-+ 0#]*[0-9.*]*[lL]?[gG]", answer.text(2)):
+        return False
+    numbers = [float(of_bits(int(bits, 16))) for kind, bits in zip(answer.call, answer.call[1:]) if kind in ("r", "R")]
+    return any(is_rounded_up(it) for it in numbers)
+
+
+def is_rounded_up(number: float) -> bool:
+    """Whether a number is rounded to a power of ten in some number of digits, and is none."""
+    digits = f"{abs(number):.40e}".partition("e")[0].replace(".", "")
+    return digits[:1] == "9" and digits.rstrip("0") != "9"
+
+
+DIFFERENCES = (Difference("C11 7.21.6.1p6: # keeps zeros at the end; glibc drops them of a %#g that is rounded up to a power of ten", is_carried),)
+
+AREA = Area("printing", "printing.c", call, ALL, DIFFERENCES)

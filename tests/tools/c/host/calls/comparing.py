@@ -148,8 +148,9 @@ class Bench:
         chance = Chance(f"{seed} {program.area.name} {build.value}")
         wrong = done = 0
         while done < count:
-            calls = [program.area.call(chance, build) for _ in range(min(count - done, program.area.at_once))]
-            done += len(calls) * program.area.steps
+            scripts = min(-(-(count - done) // program.area.steps), program.area.at_once)
+            calls = [program.area.call(chance, build) for _ in range(scripts)]
+            done += scripts * program.area.steps
             for call, host, node in self.answers(program, build, calls):
                 if host != node and not self.is_open(program.area, call, host, node):
                     wrong += 1

@@ -5,9 +5,10 @@ from __future__ import annotations
 from typing import List
 
 from . import chance as made
-from .area import BOTH, Area, Build
-from .chance import Chance, often
+from .area import BOTH, Answer, Area, Build, Difference
+from .chance import Chance, of_bits, often
 from .numbers import real_text, whole_text
+from .printing import is_rounded_up
 
 FLAGS = ("hex", "oct", "dec", "fixed", "scientific", "defaultfloat", "hexfloat", "left", "right", "internal", "showpos", "noshowpos",
          "showbase", "noshowbase", "showpoint", "noshowpoint", "uppercase", "nouppercase", "boolalpha", "noboolalpha")  # fmt: skip
@@ -123,4 +124,13 @@ def call(chance: Chance, _: Build) -> str:
     return " ".join(make(chance))
 
 
-AREA = Area("streams", "streams.cpp", call, BOTH, options=("-O0",), is_script=True, at_once=10000, steps=5)
+def is_carried(answer: Answer) -> bool:
+    """Zeros that glibc leaves out with showpoint of a number that is rounded up to a power of ten."""
+    steps = [it.split(":") for it in answer.call]
+    numbers = [of_bits(int(it[2], 16)) for it in steps if it[:2] in (["out", "double"], ["out", "float"])]
+    return "flag:showpoint" in answer.call and any(is_rounded_up(it) for it in numbers)
+
+
+DIFFERENCES = (Difference("C11 7.21.6.1p6: as of printing, of %#g", is_carried),)
+
+AREA = Area("streams", "streams.cpp", call, BOTH, DIFFERENCES, options=("-O0",), is_script=True, at_once=10000, steps=5)

@@ -187,7 +187,8 @@ static void read_some(const char *step, int i)
 static void push_back(int i)
 {
     int byte = (int)number_operand();
-    if (streams[i].last == 'w' || streams[i].pushed || !streams[i].is_readable) {
+    /* At the beginning C11 7.21.7.10p5 leaves the place open. */
+    if (streams[i].last == 'w' || streams[i].pushed || !streams[i].is_readable || ftell(streams[i].file) == 0) {
         say("-");
         return;
     }

@@ -140,6 +140,6 @@ def is_rounded_up(number: float) -> bool:
     return digits[:1] == "9" and digits.rstrip("0") != "9"
 
 
-DIFFERENCES = (Difference("C11 7.21.6.1p6: # keeps zeros at the end; glibc drops them of a %#g that is rounded up to a power of ten", is_carried),)
+DIFFERENCES = (Difference("C11 7.21.6.1p6: # keeps zeros at the end; glibc drops them of a %#g rounded up to a power of ten", is_carried),)
 
 AREA = Area("printing", "printing.c", call, ALL, DIFFERENCES)

@@ -169,7 +169,7 @@ DIFFERENCES = (
         is_unfinished,
     ),
     Difference("C11 7.21.6.2p10: what is stored of a number that its place cannot hold is undefined; here the low bits", is_beyond_64),
-    Difference("C11 7.21.6.2p9: the first byte behind an item is not read; glibc reads it behind `i` and `n` that begin no word", is_read_further),
+    Difference("C11 7.21.6.2p9: the first byte behind an item is not read; glibc reads it behind an `i` or `n` alone", is_read_further),
     Difference("C11 7.21.6.2p9: behind an item as long as its width nothing has to be read, so that feof says no", is_end_unseen),
     Difference("C11 5.2.1p1: which bytes above 127 are characters of the locale C is of the implementation", is_byte_above),
 )

@@ -82,7 +82,7 @@ def is_early_year(answer: Answer) -> bool:
 
 DIFFERENCES = (
     Difference("C11 7.27.3.5p3: %Z is the zone's name or abbreviation, of which UTC has two", is_zone),
-    Difference("C11 7.27.3.5p3: %C has the figures 00 to 99, and POSIX has %F as %+4Y-%m-%d; glibc leaves zeros in front out", is_early_year),
+    Difference("C11 7.27.3.5p3: %C has the figures 00 to 99, and POSIX has %F as %+4Y-%m-%d; glibc leaves out zeros", is_early_year),
 )
 
 AREA = Area("times", "times.c", call, BOTH, DIFFERENCES)

@@ -16,7 +16,7 @@ static char room[ROOM];
 static struct {
     FILE *file;
     char last;
-    int pushed, is_readable;
+    int pushed, is_readable, is_used;
     fpos_t kept;
     int has_kept;
 } streams[STREAMS];
@@ -67,7 +67,7 @@ static void say_opened(int i, FILE *file)
 {
     streams[i].file = file;
     streams[i].last = '\0';
-    streams[i].pushed = 0;
+    streams[i].pushed = streams[i].is_used = 0;
     streams[i].has_kept = 0;
     say(file == NULL ? "NULL" : "open");
     say_failure(file == NULL);
@@ -257,7 +257,7 @@ static void ask(const char *step, int i)
         int mode = modes[number_operand()];
         long size = number_operand();
         /* C has it before anything else alone. */
-        if (streams[i].last != '\0' || streams[i].pushed)
+        if (streams[i].is_used)
             say("-");
         else
             say_number(setvbuf(file, size > 0 ? rooms[i] : NULL, mode, (size_t)size));
@@ -303,6 +303,8 @@ static void make_step(char *step)
         close_stream(i);
     else
         ask(step, i);
+    if (!is_one_of(step, "fopen freopen tmpfile setvbuf"))
+        streams[i].is_used = 1;
 }
 
 static void say_file(const char *name)

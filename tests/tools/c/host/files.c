@@ -218,6 +218,10 @@ static void go_to(const char *step, int i)
         return;
     } else if (streams[i].has_kept)
         answer = fsetpos(file, &streams[i].kept);
+    else {
+        say("-");
+        return;
+    }
     say_number(answer != 0);
     say_failure(answer != 0);
     if (answer == 0) {

@@ -160,6 +160,9 @@ static void read_some(const char *step, int i)
         say_number(fgetc(file));
     } else if (strcmp(step, "getc") == 0) {
         say_number(getc(file));
+    } else if (strcmp(step, "getline") == 0 && ferror(file)) {
+        /* glibc's fails then, whatever can be read. */
+        say("-");
     } else if (strcmp(step, "getline") == 0) {
         read_line(file);
     } else if (strcmp(step, "fgets") == 0) {

@@ -4,8 +4,9 @@ from __future__ import annotations
 
 from typing import List
 
-from .area import BOTH, Area, Build
+from .area import BOTH, Answer, Area, Build, Difference
 from .chance import Chance
+from .scanning import UNFINISHED
 
 STEPS = 120
 
@@ -75,5 +76,15 @@ def spelled(line: str) -> bytes:
     return line.encode() + b"\n" + (content(numbers[0]) if numbers else b"")
 
 
-INPUT = Area("input", "input.c", call, BOTH, spelled=spelled, is_script=True, at_once=1, steps=STEPS)
-SEEKS = Area("seeks", "input.c", call_with_seeks, BOTH, options=("-O1", "-DSEEKS"), spelled=spelled, is_script=True, at_once=1, steps=STEPS)
+def is_unfinished(answer: Answer) -> bool:
+    """What glibc's scanf takes for a number with a point, and C for the beginning of one."""
+    numbers = [int(it[1:]) for it in answer.call if it.startswith("z")]
+    return "s5" in answer.call and bool(UNFINISHED.search(b"".join(map(content, numbers))))
+
+
+DIFFERENCES = (Difference("C11 7.21.6.2p9 and p10: as of scanning", is_unfinished),)
+
+INPUT = Area("input", "input.c", call, BOTH, DIFFERENCES, spelled, is_script=True, at_once=1, steps=STEPS)
+SEEKS = Area(
+    "seeks", "input.c", call_with_seeks, BOTH, DIFFERENCES, spelled, is_script=True, options=("-O1", "-DSEEKS"), at_once=1, steps=STEPS
+)

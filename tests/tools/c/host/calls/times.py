@@ -23,7 +23,7 @@ def broken_down(chance: Chance, is_proper: bool) -> List[int]:
     if is_proper:
         return [chance.randint(0, 60), chance.randint(0, 59), chance.randint(0, 23), chance.randint(1, 31), chance.randint(0, 11),
                 chance.choice((chance.randint(0, 200), chance.randint(-1900, 8099), 70, 100, 124)), chance.randint(0, 6),
-                chance.randint(0, 365), chance.choice((0, 0, -1))]  # fmt: skip
+                chance.randint(0, 364), chance.choice((0, 0, -1))]  # fmt: skip
     reach = chance.choice((100, 1000, 100000))
     return [chance.randint(-reach, reach) for _ in range(5)] + [chance.randint(-200, 400), 0, 0, chance.choice((0, -1))]
 

@@ -7,7 +7,8 @@
    * .. * (x + n - 1). A number below -20 is reflected. Near 1 and 2, where the logarithm is 0, it is a power series. */
 #undef __FP_FAST_FMA /* digits would differ where there is such an instruction */
 #include <features.h>
-#define pow pow_of_musl /* which is not called, and so not linked */
+#define pow pow_of_musl
+static __attribute__((unused)) double pow_of_musl(double x, double y);
 #pragma GCC diagnostic push
 #pragma GCC diagnostic ignored "-Wunused-but-set-variable"
 #include "../vendor/musl/src/math/pow.c"

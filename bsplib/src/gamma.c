@@ -137,7 +137,7 @@ static double reflected(double x)
     int is_negative;
     Pair by = sine(-x, &is_negative);
     if (x < -190)
-        return is_negative ? SCALE * SCALE * SCALE : -(SCALE * SCALE * SCALE);
+        return __math_uflow(!is_negative);
     double size = quotient(power_of_e(minus(LOG_OF_PI_SCALED, series((Pair){-x, 0}))), by) * SCALE;
     return is_negative ? size : -size;
 }

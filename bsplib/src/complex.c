@@ -3,6 +3,7 @@
    these names of its own: these are weak. */
 #include <features.h>
 #define csqrt csqrt_of_musl
+static double _Complex csqrt_of_musl(double _Complex z);
 #pragma GCC diagnostic push
 #pragma GCC diagnostic ignored "-Wunused-but-set-variable"
 #pragma GCC diagnostic ignored "-Wunknown-pragmas"

@@ -7,7 +7,8 @@
    * .. * (x + n - 1). A number below -20 is reflected. Near 1 and 2, where the logarithm is 0, it is a power series. */
 #undef __FP_FAST_FMA /* digits would differ where there is such an instruction */
 #include <features.h>
-#define pow pow_of_musl /* which is not called, and so not linked */
+#define pow pow_of_musl
+static __attribute__((unused)) double pow_of_musl(double x, double y);
 #pragma GCC diagnostic push
 #pragma GCC diagnostic ignored "-Wunused-but-set-variable"
 #include "../vendor/musl/src/math/pow.c"
@@ -136,7 +137,7 @@ static double reflected(double x)
     int is_negative;
     Pair by = sine(-x, &is_negative);
     if (x < -190)
-        return is_negative ? SCALE * SCALE * SCALE : -(SCALE * SCALE * SCALE);
+        return __math_uflow(!is_negative);
     double size = quotient(power_of_e(minus(LOG_OF_PI_SCALED, series((Pair){-x, 0}))), by) * SCALE;
     return is_negative ? size : -size;
 }

@@ -5,6 +5,7 @@
 #include <new>
 #include <ostream>
 #include <sstream>
+#include <utility>
 
 extern "C" __attribute__((noreturn)) void bsp_stop(const char *text);
 /* Makes cin, in a program that has it. */
@@ -101,6 +102,44 @@ ios_base::_Words &ios_base::_M_grow_words(int index, bool is_number)
     _M_word = more;
     _M_word_size = size;
     return _M_word[index];
+}
+
+/* What a stream has becomes that of another one, which has none of it any more. */
+void ios_base::_M_move(ios_base &from) noexcept
+{
+    _M_precision = from._M_precision;
+    _M_width = from._M_width;
+    _M_flags = from._M_flags;
+    _M_exception = from._M_exception;
+    _M_streambuf_state = from._M_streambuf_state;
+    _M_dispose_callbacks();
+    _M_callbacks = exchange(from._M_callbacks, nullptr);
+    if (_M_word != _M_local_word)
+        delete[] _M_word;
+    for (int i = 0; i < _S_local_word_size; i++)
+        _M_local_word[i] = exchange(from._M_local_word[i], _Words());
+    _M_word = from._M_word == from._M_local_word ? _M_local_word : from._M_word;
+    _M_word_size = exchange(from._M_word_size, static_cast<int>(_S_local_word_size));
+    from._M_word = from._M_local_word;
+    _M_ios_locale = from._M_ios_locale;
+}
+void ios_base::_M_swap(ios_base &other) noexcept
+{
+    const bool is_local = _M_word == _M_local_word, is_local_there = other._M_word == other._M_local_word;
+    std::swap(_M_precision, other._M_precision);
+    std::swap(_M_width, other._M_width);
+    std::swap(_M_flags, other._M_flags);
+    std::swap(_M_exception, other._M_exception);
+    std::swap(_M_streambuf_state, other._M_streambuf_state);
+    std::swap(_M_callbacks, other._M_callbacks);
+    std::swap(_M_local_word, other._M_local_word);
+    std::swap(_M_word, other._M_word);
+    std::swap(_M_word_size, other._M_word_size);
+    if (is_local)
+        other._M_word = other._M_local_word;
+    if (is_local_there)
+        _M_word = _M_local_word;
+    std::swap(_M_ios_locale, other._M_ios_locale);
 }
 
 /* The bytes of a stream of C that is written. */

@@ -1,13 +1,15 @@
 /* What C++'s streams share, the four standard ones, and the functions of streams that the headers of GCC's standard library have in a library
    that is for the host. Names and members are those of its ABI. */
 #include <cstdio>
-#include <ext/stdio_sync_filebuf.h>
 #include <istream>
 #include <new>
 #include <ostream>
 #include <sstream>
+#include <utility>
 
 extern "C" __attribute__((noreturn)) void bsp_stop(const char *text);
+/* Makes cin, in a program that has it. */
+extern "C" __attribute__((weak)) void bsp_make_cin(std::ostream *out);
 
 namespace std {
 
@@ -102,14 +104,67 @@ ios_base::_Words &ios_base::_M_grow_words(int index, bool is_number)
     return _M_word[index];
 }
 
-/* The standard streams, over those of C. They are made where a program that includes <iostream> begins, and never unmade. */
+/* What a stream has becomes that of another one, which has none of it any more. */
+void ios_base::_M_move(ios_base &from) noexcept
+{
+    _M_precision = from._M_precision;
+    _M_width = from._M_width;
+    _M_flags = from._M_flags;
+    _M_exception = from._M_exception;
+    _M_streambuf_state = from._M_streambuf_state;
+    _M_dispose_callbacks();
+    _M_callbacks = exchange(from._M_callbacks, nullptr);
+    if (_M_word != _M_local_word)
+        delete[] _M_word;
+    for (int i = 0; i < _S_local_word_size; i++)
+        _M_local_word[i] = exchange(from._M_local_word[i], _Words());
+    _M_word = from._M_word == from._M_local_word ? _M_local_word : from._M_word;
+    _M_word_size = exchange(from._M_word_size, static_cast<int>(_S_local_word_size));
+    from._M_word = from._M_local_word;
+    _M_ios_locale = from._M_ios_locale;
+}
+void ios_base::_M_swap(ios_base &other) noexcept
+{
+    const bool is_local = _M_word == _M_local_word, is_local_there = other._M_word == other._M_local_word;
+    std::swap(_M_precision, other._M_precision);
+    std::swap(_M_width, other._M_width);
+    std::swap(_M_flags, other._M_flags);
+    std::swap(_M_exception, other._M_exception);
+    std::swap(_M_streambuf_state, other._M_streambuf_state);
+    std::swap(_M_callbacks, other._M_callbacks);
+    std::swap(_M_local_word, other._M_local_word);
+    std::swap(_M_word, other._M_word);
+    std::swap(_M_word_size, other._M_word_size);
+    if (is_local)
+        other._M_word = other._M_local_word;
+    if (is_local_there)
+        _M_word = _M_local_word;
+    std::swap(_M_ios_locale, other._M_ios_locale);
+}
+
+/* The bytes of a stream of C that is written. */
+class written_bytes : public streambuf {
+public:
+    explicit written_bytes(FILE *to) : file(to) {}
+
+protected:
+    int overflow(int byte) override { return byte == char_traits<char>::eof() ? sync() : putc(byte, file); }
+    streamsize xsputn(const char *from, streamsize count) override
+    {
+        return static_cast<streamsize>(fwrite(from, 1, static_cast<size_t>(count), file));
+    }
+    int sync() override { return fflush(file); }
+
+private:
+    FILE *file;
+};
+
+/* The standard streams. They are made where a program that includes <iostream> begins, and never unmade. */
 template <class Value> struct Place {
     alignas(Value) char bytes[sizeof(Value)];
 };
-using file_bytes = __gnu_cxx::stdio_sync_filebuf<char>;
-static Place<file_bytes> bytes_in, bytes_out, bytes_error;
+static Place<written_bytes> bytes_out, bytes_error;
 alignas(ostream) char cout[sizeof(ostream)], cerr[sizeof(ostream)], clog[sizeof(ostream)];
-alignas(istream) char cin[sizeof(istream)];
 
 _Atomic_word ios_base::Init::_S_refcount;
 bool ios_base::Init::_S_synced_with_stdio = true;
@@ -118,16 +173,14 @@ ios_base::Init::Init()
 {
     if (_S_refcount++ > 0)
         return;
-    streambuf *error = new (bytes_error.bytes) file_bytes(stderr);
-    ostream *out = new (cout) ostream(new (bytes_out.bytes) file_bytes(stdout));
-    istream *in = new (cin) istream(new (bytes_in.bytes) file_bytes(stdin));
+    streambuf *error = new (bytes_error.bytes) written_bytes(stderr);
+    ostream *out = new (cout) ostream(new (bytes_out.bytes) written_bytes(stdout));
     ostream *errors = new (cerr) ostream(error);
     new (clog) ostream(error);
-    in->tie(out);
     errors->setf(unitbuf);
-#if __cplusplus >= 201103L
     errors->tie(out);
-#endif
+    if (bsp_make_cin != nullptr)
+        bsp_make_cin(out);
 }
 ios_base::Init::~Init() {}
 
@@ -330,5 +383,3 @@ template class basic_ostringstream<char>;
 template class basic_stringstream<char>;
 
 } // namespace std
-
-template class __gnu_cxx::stdio_sync_filebuf<char>;

@@ -44,8 +44,8 @@ int bsp_is_number(int number)
 
 struct bsp_open *bsp_open_of(int number)
 {
-    struct bsp_open *open = &opened[number - FIRST_FILE];
-    return bsp_is_number(number) && open->file != NULL ? open : NULL;
+    struct bsp_open *open = bsp_is_number(number) ? &opened[number - FIRST_FILE] : NULL;
+    return open != NULL && open->file != NULL ? open : NULL;
 }
 
 /* The files that bsprun gives, made when one is first looked for. */

@@ -251,7 +251,8 @@ static void put_hexadecimal(struct sink *to, const struct format *how, double nu
     put_many(to, ' ', behind);
 }
 
-static void put_double(struct sink *to, struct format *how, double number)
+/* It stays a function: its digits would take room of the stack in each printf. */
+__attribute__((noinline)) static void put_double(struct sink *to, struct format *how, double number)
 {
     struct digits digits;
     int is_large = how->letter < 'a', places = how->precision < 0 ? 6 : how->precision;

@@ -156,6 +156,7 @@ static void errors(void)
     tell_refused(file, fwrite("abc", 1, 3, file) == 0, EBADF);
     tell_refused(file, fseek(file, 0, 7) < 0, EINVAL);
     tell_refused(file, fseek(file, -1, SEEK_SET) < 0, EINVAL);
+    tell_refused(file, fopen(name, "wx") == NULL, EEXIST);
     tell_place(file);
     printf("%d\n", ferror(file));
     fclose(file);

@@ -6,6 +6,7 @@ A check prints a line for each thing that fails, with what was wrong; a line for
 
 from __future__ import annotations
 
+import contextlib
 import functools
 import os
 import pathlib
@@ -27,8 +28,10 @@ from bsptools import elf, packages  # noqa: E402
 
 # Only what hangs takes so long, also on a busy machine.
 SECONDS = 600
-# In how many seconds what comes soon has come.
-SOON = 120
+# In how many seconds what comes soon has come, also on a host that has hundreds of processes to run.
+SOON = 300
+# The fields of proc_pid_stat(5) with the processor time of a process, from its state on.
+USER_TIME, SYSTEM_TIME = 11, 12
 # What stands in a checkout and is none of its files.
 MADE = {".git", "out", "__pycache__", ".bspsweep", "pictures"}
 
@@ -212,6 +215,27 @@ def commands_with(word: str) -> List[str]:
         if word in line:
             found.append(line)
     return found
+
+
+def emulators(program: str) -> List[List[str]]:
+    """The fields of proc_pid_stat(5) from the third one on, the state, of each emulator that debugs a program."""
+    found = []
+    for place in pathlib.Path("/proc").glob("[0-9]*"):
+        with contextlib.suppress(OSError):  # it has ended
+            words = (place / "cmdline").read_bytes().split(b"\0")
+            if words[1:3] == [b"debug", program.encode()]:
+                found.append((place / "stat").read_text().rpartition(")")[2].split())
+    return found
+
+
+def computes(program: str) -> bool:
+    """Whether the emulators that debug a program come to compute something that takes long. What they do at a prompt is over long before."""
+
+    def ticks() -> int:
+        return sum(int(it) for fields in emulators(program) for it in fields[USER_TIME : SYSTEM_TIME + 1])
+
+    enough = ticks() + os.sysconf("SC_CLK_TCK") // 5
+    return becomes_true(lambda: ticks() >= enough)
 
 
 def becomes_true(question: Callable[[], bool]) -> bool:

@@ -87,4 +87,4 @@ def job_control(words: Sequence[str], program: str, prompt: str, go: str) -> str
 
 def states_of(program: str) -> Set[str]:
     """In which states the emulators are that debug a program, by the letters of proc(5)."""
-    return {fields[0] for fields in emulators(program)}
+    return {fields[0] for fields in emulators(program).values()}

@@ -28,7 +28,7 @@ import lanes  # noqa: E402
 from bsptools import elf, packages  # noqa: E402
 
 # Only what hangs takes so long, also on a busy machine.
-SECONDS = 600
+SECONDS = 1800
 # In how many seconds what comes soon has come, also on a host that has hundreds of processes to run.
 SOON = 300
 # The fields of proc_pid_stat(5) with the processor time of a process, from its state on.

@@ -32,6 +32,12 @@ two.s,1,1,10,,,100,4,950,0,990,ended
 two.s,2,1,10,,,100,4,480,20,540,ended
 two.s,4,1,10,,,100,4,250,30,320,ended
 """
+# What is written along each picture, in the order of the SVG: the legend, the axis across, and the one up; up to a colon.
+TEXTS = {
+    "timeline": ["work", "waiting for the slowest rank", "exchange, g·h", "end of the superstep, l", "time in ticks", "rank"],
+    "costs": ["work, w", "exchange, g·h", "end, l", "superstep", "ticks"],
+    "matrix": ["to rank", "from rank"],
+}
 # Calls the command line of bspplot for each list of words that it reads: most of the time of one goes into the import of matplotlib.
 COMMAND_LINES = """\
 import contextlib, io, json, sys
@@ -79,7 +85,9 @@ def of_profile(check: Check, name: str) -> None:
     pictures = all_drawn(check, ["timeline", "costs", "matrix"], file_of(name), *WORDS)
     looks: List[Callable[[Profile, svg.Drawing], str]] = [timeline, split, matrix]
     for kind, look, picture in zip(("timeline", "costs", "matrix"), looks, pictures):
-        check.tell(f"{kind} of {name}", look(found, picture))
+        texts = (it.partition(": ")[0] for it in picture.texts)
+        missing = [it for it in TEXTS[kind] if it not in texts]  # in their order, since that takes all up to the one that is found
+        check.tell(f"{kind} of {name}", look(found, picture) + f"the texts {missing} are not in their places" * bool(missing))
 
 
 def timeline(found: Profile, picture: svg.Drawing) -> str:

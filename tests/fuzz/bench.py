@@ -17,8 +17,8 @@ from fuzz.answers import Answer
 
 # Bytes of address space that each start may have, if not said otherwise. No run of the fuzzer comes near to it.
 SPACE = 16 << 30
-# A start that takes so long hangs.
-SECONDS = 120
+# A start that takes so long hangs, also on a busy host.
+SECONDS = 600
 
 Word = Union[str, bytes]
 Choice = TypeVar("Choice")

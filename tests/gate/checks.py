@@ -113,8 +113,8 @@ class Beside:
         process = started(check.command, self.top, self.lanes.environment())
         self._running.append(process)
         thread = threading.Thread(target=self._await, args=(check, process))
-        self._threads.append(thread)
         thread.start()
+        self._threads.append(thread)  # one that could not be started cannot be joined
 
     def join(self) -> None:
         """Waits until all are over."""
@@ -127,6 +127,8 @@ class Beside:
             if process.returncode is None:
                 process.terminate()
         self.join()
+        for process in self._running[len(self._threads) :]:
+            process.wait()
 
     def _await(self, check: Check, process: subprocess.Popen[str]) -> None:
         """Waits for the end of a check, shows what it has said, and counts it."""

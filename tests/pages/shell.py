@@ -11,7 +11,8 @@ from typing import Dict, List, Tuple
 
 from pages.page import Command
 
-SECONDS = 120
+# A command that takes so long hangs, also on a busy host.
+SECONDS = 600
 # The folder of what the copies share: the library that bspcc has built, and modules of Python.
 CACHE = "cache"
 BY_CONTENT = ("bspcc", "bspemu/tools")

@@ -6,17 +6,19 @@ A check prints a line for each thing that fails, with what was wrong; a line for
 
 from __future__ import annotations
 
+import contextlib
 import functools
 import os
 import pathlib
 import shutil
+import signal
 import subprocess
 import sys
 import tempfile
 import threading
 import time
 from dataclasses import dataclass
-from typing import Callable, Iterable, List, Optional, Sequence, Tuple, Union
+from typing import Callable, Dict, Iterable, List, Optional, Sequence, Tuple, Union
 
 REPO = pathlib.Path(__file__).resolve().parents[2]
 sys.path.append(str(REPO / "tools"))
@@ -26,9 +28,13 @@ import lanes  # noqa: E402
 from bsptools import elf, packages  # noqa: E402
 
 # Only what hangs takes so long, also on a busy machine.
-SECONDS = 600
-# In how many seconds what comes soon has come.
-SOON = 120
+SECONDS = 1800
+# In how many seconds what comes soon has come, also on a host that has hundreds of processes to run.
+SOON = 300
+# The fields of proc_pid_stat(5) with the processor time of a process, from its state on.
+USER_TIME, SYSTEM_TIME = 11, 12
+# For how many seconds of processor time something is computed that takes long.
+WORK = 0.2
 # What stands in a checkout and is none of its files.
 MADE = {".git", "out", "__pycache__", ".bspsweep", "pictures"}
 
@@ -195,6 +201,10 @@ def try_parts(parts: Callable[[Tally, pathlib.Path], Iterable[Part]]) -> int:
     """Makes the parts of a check in a scratch folder: those that the command line names behind the emulator, or all if it names none.
     Answers the exit status."""
     tally = Tally()
+    # Signals end what a check starts, also where a shell's `&` or nohup has the check itself ignore them.
+    for number in (signal.SIGINT, signal.SIGQUIT, signal.SIGHUP):
+        if signal.getsignal(number) == signal.SIG_IGN:
+            signal.signal(number, signal.SIG_DFL)
     emulator(sys.argv[1:])
     with tempfile.TemporaryDirectory() as folder:
         tally.make(it for it in parts(tally, pathlib.Path(folder)) if not sys.argv[2:] or it.name in sys.argv[2:])
@@ -212,6 +222,29 @@ def commands_with(word: str) -> List[str]:
         if word in line:
             found.append(line)
     return found
+
+
+def emulators(program: str) -> Dict[int, List[str]]:
+    """The emulators that debug a program: the fields of proc_pid_stat(5) from the third one on, the state, by the numbers of processes."""
+    found = {}
+    for place in pathlib.Path("/proc").glob("[0-9]*"):
+        with contextlib.suppress(OSError):  # it has ended
+            words = (place / "cmdline").read_bytes().split(b"\0")
+            if words[1:3] == [b"debug", program.encode()]:
+                found[int(place.name)] = (place / "stat").read_text().rpartition(")")[2].split()
+    return found
+
+
+def seconds_of(program: str) -> float:
+    """The processor time of the emulators that debug a program."""
+    of_each = (fields[USER_TIME : SYSTEM_TIME + 1] for fields in emulators(program).values())
+    return sum(int(it) for times in of_each for it in times) / os.sysconf("SC_CLK_TCK")
+
+
+def computes(program: str) -> bool:
+    """Whether the emulators that debug a program come to compute something that takes long. What they do at a prompt is over long before."""
+    enough = seconds_of(program) + WORK
+    return becomes_true(lambda: seconds_of(program) >= enough)
 
 
 def becomes_true(question: Callable[[], bool]) -> bool:

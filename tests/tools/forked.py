@@ -47,7 +47,7 @@ BRIDGED, STARTER = "bspgdb", "#!/bin/sh\nexec "
 # In the environment of a run, and so of what it starts: numbers of the tools' modules, as `bsptools.debug.writers.MOST=99`.
 NUMBERS = "BSPTOOLS_NUMBERS"
 # Only what hangs takes so long, also on a busy machine.
-SECONDS = 600
+SECONDS = 1800
 
 
 class Server:

@@ -68,10 +68,12 @@ class Queue(Generic[Thing]):
     def run(self) -> None:
         """Makes all. What the first of them raised that raises anything is raised when all are over."""
         count = min(processors(), len(self.left)) - 1
-        beside = [threading.Thread(target=self._beside) for _ in range(count)]
-        for thread in beside:
-            thread.start()
+        beside: List[threading.Thread] = []
         try:
+            for _ in range(count):
+                thread = threading.Thread(target=self._beside)
+                thread.start()
+                beside.append(thread)
             while self._next():
                 pass
         finally:

@@ -11,6 +11,7 @@ import signal
 import subprocess
 import tempfile
 import threading
+import time
 from collections.abc import Callable, Iterator, Sequence
 from typing import Any, NoReturn
 
@@ -137,6 +138,17 @@ def start(words: Sequence[str], by: int = signal.SIGKILL, **given: Any) -> subpr
     child = subprocess.Popen(list(words), start_new_session=True, preexec_fn=prepare, **given)
     _running.append(child)
     return child
+
+
+def processor_seconds(child: subprocess.Popen[bytes]) -> float:
+    """The processor time that a process has taken, or 0 once it has ended. A busy host does not change it, unlike the time of a clock."""
+    clock = ctypes.c_int()
+    if _LIBC.clock_getcpuclockid(child.pid, ctypes.byref(clock)) != 0:
+        return 0.0
+    try:
+        return time.clock_gettime(clock.value)
+    except OSError:
+        return 0.0
 
 
 def end(child: subprocess.Popen[bytes], by: int = signal.SIGKILL) -> None:

@@ -9,6 +9,7 @@ import re
 import select
 import struct
 import subprocess
+import time
 from collections.abc import Sequence
 from typing import NamedTuple
 
@@ -22,8 +23,11 @@ ALL = (1 << 64) - 1
 BATCH, MOST_BATCH, LINE = 64, 1024, 64
 # The size of the pipe of replies, where the system gives it, and what asks for that. Python has names for these from 3.10 on.
 REPLIES, SET_SIZE, GET_SIZE = 1 << 18, 1031, 1032
-# For how many seconds its end is waited for, where its replies have ended, and how many bytes of them are taken at once.
-ENDING, CHUNK = 1.0, 1 << 16
+# After its replies have ended, the process ends at once: this many seconds only pass on a host that is very busy. How many bytes of replies are
+# taken at once.
+ENDING, CHUNK = 60.0, 1 << 16
+# After how many seconds without an answer the debugger's processor time is looked at.
+LOOK = 0.05
 # gdb reads memory by a few bytes, which lie side by side: so many bytes are read at once, and so many of these blocks are kept of a rank.
 BLOCK, MOST_BLOCKS = 256, 256
 # The lines that only show something, or only say where to stop.
@@ -190,6 +194,19 @@ class Session:
     def is_answered(self, seconds: float) -> bool:
         """Whether the only line that is not answered yet is answered within this time."""
         return bool(select.select([self._replies], [], [], seconds)[0])
+
+    def is_answered_in(self, seconds: float, latest: float) -> bool:
+        """Whether it is answered before the debugger has computed for so many seconds, and before a time of `time.monotonic`."""
+        until = self.seconds + seconds
+        while not self.is_answered(min(max(seconds, 0.0), LOOK)):
+            if self.seconds >= until or time.monotonic() >= latest:
+                return False
+        return True
+
+    @property
+    def seconds(self) -> float:
+        """For how many seconds the debugger has computed since it began. Other processes of a busy host do not change that."""
+        return children.processor_seconds(self._process)
 
     def ask(self, line: str) -> Reply:
         """The reply to a line."""

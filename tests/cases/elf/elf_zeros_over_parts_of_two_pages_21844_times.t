@@ -1,4 +1,4 @@
-It has to be done in ten seconds, whatever the headers' sizes of memory add up to.
+It has to be done in ten seconds of processor time, whatever the headers' sizes of memory add up to.
 
   $ unhex > head <<'END'
   > 7f 45 4c 46 01 01 01 00 00 00 00 00 00 00 00 00 02 00 f3 00 01 00 00 00 00 00 00 00 80 00 00 00
@@ -12,5 +12,5 @@ It has to be done in ten seconds, whatever the headers' sizes of memory add up t
   > 01 00 00 00 34 00 00 00 00 00 00 00 00 00 00 00 3c 00 00 00 3c 00 00 00 07 00 00 00 01 00 00 00
   > END
   $ { cat head; repeat 21844 < headers; } > image.elf
-  $ timeout 10 bspemu run image.elf --memory 16777216
+  $ (ulimit -t 10; exec bspemu run image.elf --memory 16777216)
   under \x00\x00\x00\x00\x00\x00\x00\x00\x00\x00\x00\x00\x00\x00\x00\x00\x00\x00end (esc)

@@ -4,7 +4,6 @@ from __future__ import annotations
 
 import math
 import re
-import time
 from typing import Callable, Dict, List, Tuple
 
 from bsptools.debug import arrivals, dialogue, machine, names, telling, writers
@@ -15,8 +14,8 @@ from terminals import Terminal
 SOURCE = "tests/tools/gdb/writers.c"
 # Bytes of its variables.
 SIZE = 120
-# How often a search is begun for Ctrl-C to come before its end, after how many seconds, and for how many what comes late is waited for.
-TRIES, EARLY, LATE = 6, 0.3, 5.0
+# How often a search is begun for Ctrl-C to come before its end, and for how many seconds it is waited for that one comes after that.
+TRIES, LATE = 6, 5.0
 # Where rank 0 is asked for its variables: what is told of each, by the marks of the source.
 TOLD = {
     "first": "a store by rank 0 in superstep 0: main, writers.c:<first>, pc 0x",
@@ -251,9 +250,9 @@ def who_wrote_is_broken_off(bench: Bench) -> None:
     words = [str(REPO / "bspgdb"), "--bspemu", bench.bspemu, "-n", "2", program, "--", "-nx", "-ex", "set confirm off"]
     terminal = Terminal([*words, "-ex", "monitor end", "-ex", "continue"])
     said = terminal.wait(r"stopped\.\n(?:.*\n)*.*\(gdb\) ")
-    terminal.type("monitor wrote 0 first\r")
-    said += terminal.wait(r"bspgdb: what was before is made once more, .*; Ctrl-C breaks it off\n")
     for _ in range(TRIES):
+        terminal.type("monitor wrote 0 first\r")
+        said += terminal.wait(r"bspgdb: what was before is made once more, .*; Ctrl-C breaks it off\n")
         terminal.type("\x03")
         answer = terminal.wait(r"(?:bspgdb: interrupted|<first> to .*)\n(?:.*\n)*?.*\(gdb\) ")
         said += answer
@@ -261,8 +260,6 @@ def who_wrote_is_broken_off(bench: Bench) -> None:
             break
         # It had come to its end just before.
         terminal.wait(r"Quit\n.*\(gdb\) ", LATE)
-        terminal.type("monitor wrote 0 first\r")
-        time.sleep(EARLY)
     expect("bspgdb: interrupted" in said, said)
     terminal.type("print again\rmonitor superstep\rmonitor wrote 0 rest 1\rquit\r")
     said += terminal.wait(r"\$1 = 5\n(?:.*\n)*superstep 42\n(?:.*\n)*.*by rank 0 in superstep 2: main, writers.c:")

@@ -145,7 +145,9 @@ def back_refused(bench: Bench) -> None:
     scarce = Bench(str(folder / "bspemu"), bench.folder, bench.library)
     full, room = f"shell touch {folder}/full", f"shell rm {folder}/full"
     commands = ["break note", "continue", full, "reverse-stepi", "reverse-continue", "bt", room, *["reverse-stepi"] * 2, full, "stepi", room]
-    text = scarce.gdb(scarce.build("tests/tools/gdb/rounds.c"), [*commands, "stepi", "reverse-continue", "continue"], "-n", "2")
+    # A run that takes long has a second process beside it already.
+    none = "bsptools.debug.runner.LONG=1000000"
+    text = scarce.gdb(scarce.build("tests/tools/gdb/rounds.c"), [*commands, "stepi", "reverse-continue", "continue"], "-n", "2", numbers=none)
     refused = "bspgdb: it stays where it is: the debugger has ended"
     # Forwards from there it goes by what the process itself has kept.
     in_order(text, refused, refused, "#0  note (round=0)", *["22\t{"] * 3, "23\t", NO_MORE, "hit Breakpoint 1, note")

@@ -3,7 +3,6 @@
 from __future__ import annotations
 
 import os
-import pathlib
 import pty
 import re
 import select
@@ -11,7 +10,7 @@ import shlex
 import time
 from typing import Sequence, Set
 
-from checks import SOON, becomes_true, commands_with
+from checks import SOON, becomes_true, commands_with, computes, emulators
 
 
 class Terminal:
@@ -72,7 +71,7 @@ def job_control(words: Sequence[str], program: str, prompt: str, go: str) -> str
         shell.type(typed)
         if wanted:
             said = shell.wait(wanted)
-        elif not becomes_true(lambda: "R" in states_of(program)):
+        elif not computes(program):
             return f"nothing runs behind {typed!r}"
         if typed == "\x1a" and not becomes_true(lambda: states_of(program) == {"T"}):
             return f"Ctrl-Z leaves emulators in {states_of(program)}"
@@ -88,12 +87,4 @@ def job_control(words: Sequence[str], program: str, prompt: str, go: str) -> str
 
 def states_of(program: str) -> Set[str]:
     """In which states the emulators are that debug a program, by the letters of proc(5)."""
-    found = set()
-    for place in pathlib.Path("/proc").glob("[0-9]*"):
-        try:
-            words = (place / "cmdline").read_bytes().split(b"\0")
-            if words[1:3] == [b"debug", program.encode()]:
-                found.add((place / "stat").read_text().rpartition(")")[2].split()[0])
-        except OSError:
-            continue
-    return found
+    return {fields[0] for fields in emulators(program).values()}

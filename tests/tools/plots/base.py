@@ -2,10 +2,12 @@
 
 from __future__ import annotations
 
+import atexit
 import functools
 import importlib.util
 import os
 import pathlib
+import shutil
 import subprocess
 import tempfile
 from dataclasses import replace
@@ -19,7 +21,9 @@ from bsptools.sweep import engines
 
 HERE = pathlib.Path(__file__).resolve().parent
 REPO, SECONDS = checks.REPO, checks.SECONDS
-STORED = HERE / "profiles"
+# Where the profiles are that runs by the emulator write.
+MADE = pathlib.Path(tempfile.mkdtemp())
+atexit.register(shutil.rmtree, MADE, True)
 
 MATPLOTLIB = replace(checks.MATPLOTLIB, look=lambda name: importlib.util.find_spec(name) is not None)
 PARALLEL = Tool("GNU parallel", "parallel", lambda _: engines.is_gnu_parallel())
@@ -58,9 +62,3 @@ class Parts:
         place = pathlib.Path(tempfile.mkdtemp(dir=self.folder)) / "a folder"
         place.mkdir()
         return Part(name, functools.partial(make, Check(place, self.tally), *values), tools)
-
-
-def has_profiles() -> bool:
-    """Whether the emulator writes profiles."""
-    words = [os.environ.get("BSPEMU") or str(REPO / "bspemu"), "run", "--help"]
-    return "--profile" in subprocess.run(words, capture_output=True, text=True, check=False).stdout

@@ -12,9 +12,10 @@ import subprocess
 import tempfile
 from typing import Any, Dict, List, Optional
 
-from base import REPO, SECONDS, STORED, Check, Parts
+from base import REPO, SECONDS, Check, Parts
 from checks import Part, Tool
 from pictures import SWEEP
+from profiles import file_of
 
 NAMES = ("chromium", "chromium-browser", "google-chrome")
 # The widths of a telephone and of a screen. A page stands in a frame of each.
@@ -50,6 +51,7 @@ window.onload = () => {
   const paper = light(getComputedStyle(document.body).backgroundColor);
   const contrasts = [...document.querySelectorAll('h1, h2, p, th, td, code, .number')].map((it) => light(getComputedStyle(it).color) / paper);
   const found = {
+    name: NAME,
     window: window.innerWidth,
     width: document.documentElement.scrollWidth,
     dark: matchMedia('(prefers-color-scheme: dark)').matches,
@@ -118,19 +120,33 @@ DARK = ("total_exchange", "large", "many lines")
 
 
 def parts(make: Parts) -> List[Part]:
-    """A part for each page."""
-    return [make.part(f"page of {name} in a browser", load, name, tools=(BROWSER,)) for name in PAGES]
+    """The pages of those who like light ones and of those who like dark ones: most of the time of one page is that of the browser's start."""
+    return [make.part(f"{kind} pages in a browser", load, kind == "dark", tools=(BROWSER,)) for kind in ("light", "dark")]
 
 
-def load(check: Check, name: str) -> None:
-    """Makes a page and loads it."""
-    names, rows = PAGES[name]
+def load(check: Check, is_dark: bool) -> None:
+    """Makes pages and loads them."""
+    texts = {name: page(check, name) for name in PAGES if (name in DARK) == is_dark}
+    path = check.folder / "around.html"
+    path.write_text(AROUND + "".join(framed(name, text) for name, text in texts.items()))
+    done = loaded(browser() or BROWSER.name, path, is_dark)
+    console = [line for line in done.stderr.splitlines() if "CONSOLE" in line or "error: " in line.lower() and "dbus" not in line.lower()]
+    found = [json.loads(html.unescape(it)) for it in re.findall(r'<pre class="found">(\{.*?)</pre>', done.stdout)]
+    shot = path.with_suffix(".png").read_bytes()
+    is_shot = struct.unpack(">II", shot[16:24]) == (sum(WIDTHS), HEIGHT)
+    check.expect(f"{'dark' if is_dark else 'light'} pages", is_shot and not console, f"{console} {done.stderr[-300:]}")
+    for name, text in texts.items():
+        check.tell(f"page of {name}", faults(name, text, [it for it in found if it["name"] == name], is_dark))
+
+
+def page(check: Check, name: str) -> str:
+    """A page that bspplot makes."""
     path = check.folder / f"{name}.html"
     kind = "--source" if "lines" in name else "--html"
     words = [kind, str(path), "--g", "4", "--l", "1000", "--title", f"The page of {name}", "--setting", "program=<b>.c"]
     done = check.tool("bspplot", *words, str(source_of(check, name)))
     check.expect(f"page of {name}, made", done.returncode == 0, done.stderr)
-    check.tell(f"page of {name}", faults(browser() or BROWSER.name, path, names, rows, name in DARK))
+    return path.read_text()
 
 
 def source_of(check: Check, name: str) -> pathlib.Path:
@@ -141,7 +157,7 @@ def source_of(check: Check, name: str) -> pathlib.Path:
         path = check.folder / "table.csv"
         path.write_text(SWEEP.replace("two.s", '"' + WILD.replace('"', '""') + '"'))
         return path
-    return costs_of_lines(check, 20 if name == "many lines" else 4) if "lines" in name else STORED / f"{name}.csv"
+    return costs_of_lines(check, 20 if name == "many lines" else 4) if "lines" in name else file_of(name)
 
 
 def costs_of_lines(check: Check, nodes: int) -> pathlib.Path:
@@ -156,7 +172,7 @@ def costs_of_lines(check: Check, nodes: int) -> pathlib.Path:
 def large(check: Check) -> pathlib.Path:
     """A profile with numbers that are as long as they get."""
     path = check.folder / "large.csv"
-    rows = [line.split(",") for line in (STORED / "lu.csv").read_text().splitlines()]
+    rows = [line.split(",") for line in file_of("lu").read_text().splitlines()]
     for row in rows[1:]:
         row[3] = row[3] and str(int(row[3]) * 50_000_003)
         row[4:7] = [it and str(int(it) * 50_003) for it in row[4:7]]
@@ -164,30 +180,21 @@ def large(check: Check) -> pathlib.Path:
     return path
 
 
-def framed(text: str) -> str:
-    """A page with a frame of each width, in which this page is."""
-    page = html.escape(text.replace("</head>", LOOK + "</head>"))
-    frames = [f'<iframe style="border: 0; width: {width}px; height: {HEIGHT}px" srcdoc="{page}"></iframe>' for width in WIDTHS]
-    return AROUND + "".join(frames)
+def framed(name: str, text: str) -> str:
+    """A frame of each width, in which this page is."""
+    content = html.escape(text.replace("</head>", LOOK.replace("NAME", json.dumps(name)) + "</head>"))
+    return "".join(f'<iframe style="border: 0; width: {width}px; height: {HEIGHT}px" srcdoc="{content}"></iframe>' for width in WIDTHS)
 
 
-def faults(program: str, path: pathlib.Path, names: List[str], rows: int, is_dark: bool) -> str:
-    """What is wrong with a page."""
-    text = path.read_text()
+def faults(name: str, text: str, found: List[Dict[str, Any]], is_dark: bool) -> str:
+    """What is wrong with a page, of which each frame has told."""
     if re.search(r"""(?:src|href)=["']?(?:https?:|//|file:)""", text):
         return "it asks for files from elsewhere"
     if "program</th><td>&lt;b&gt;.c</td>" not in text:
         return "a setting is missing"
-    path.write_text(framed(text))
-    done = loaded(program, path, is_dark)
-    console = [line for line in done.stderr.splitlines() if "CONSOLE" in line or "error: " in line.lower() and "dbus" not in line.lower()]
-    written = [json.loads(html.unescape(it)) for it in re.findall(r'<pre class="found">(\{.*?)</pre>', done.stdout)]
-    if sorted(it["window"] for it in written) != sorted(WIDTHS) or console:
-        return f"it was not loaded: {console} {done.stderr[-300:]}"
-    shot = path.with_suffix(".png").read_bytes()
-    if struct.unpack(">II", shot[16:24]) != (sum(WIDTHS), HEIGHT):
-        return "no picture of it was made"
-    return "".join(f"in {it['window']} pixels {fault}; " for it in written for fault in [fault_of(it, names, rows, is_dark)] if fault)
+    if sorted(it["window"] for it in found) != sorted(WIDTHS):
+        return f"it was not loaded: {found}"
+    return "".join(f"in {it['window']} pixels {fault}; " for it in found for fault in [fault_of(it, *PAGES[name], is_dark)] if fault)
 
 
 def fault_of(found: Dict[str, Any], names: List[str], rows: int, is_dark: bool) -> str:

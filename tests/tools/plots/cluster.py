@@ -14,8 +14,8 @@ from checks import Tool
 
 DAEMONS = ("slurmctld", "slurmd")
 NODES = ("one", "two")
-# For what takes a second or two where nothing else is going on.
-SECONDS = 120
+# For what takes a second or two where nothing else is going on. It may take longer on a busy host.
+SECONDS = 600
 
 SETTINGS = """\
 ClusterName=check

@@ -1,4 +1,4 @@
-"""Pictures of the stored profiles: each bar stands where the profile has it, and each number is the profile's."""
+"""Pictures of profiles: each bar stands where the profile has it, and each number is the profile's."""
 
 from __future__ import annotations
 
@@ -11,9 +11,9 @@ import sys
 from typing import Callable, Dict, List, Tuple
 
 import svg
-from base import REPO, SECONDS, STORED, Check, Parts
+from base import REPO, SECONDS, Check, Parts
 from checks import Part
-from profiles import RUNS, stored
+from profiles import RUNS, file_of, profile_of
 
 from bsptools.plot import costs, series, sweep
 from bsptools.plot.canvas import EXCHANGE, thousands
@@ -32,6 +32,12 @@ two.s,1,1,10,,,100,4,950,0,990,ended
 two.s,2,1,10,,,100,4,480,20,540,ended
 two.s,4,1,10,,,100,4,250,30,320,ended
 """
+# What is written along each picture, in the order of the SVG: the legend, the axis across, and the one up; up to a colon.
+TEXTS = {
+    "timeline": ["work", "waiting for the slowest rank", "exchange, g·h", "end of the superstep, l", "time in ticks", "rank"],
+    "costs": ["work, w", "exchange, g·h", "end, l", "superstep", "ticks"],
+    "matrix": ["to rank", "from rank"],
+}
 # Calls the command line of bspplot for each list of words that it reads: most of the time of one goes into the import of matplotlib.
 COMMAND_LINES = """\
 import contextlib, io, json, sys
@@ -68,18 +74,20 @@ def all_drawn(check: Check, kinds: List[str], source: pathlib.Path, *words: str)
 
 
 def parts(make: Parts) -> List[Part]:
-    """A part for each stored profile, and what else there is to pictures."""
+    """A part for each profile, and what else there is to pictures."""
     others = [same_bytes, refusals, forms, sweeps, choices, names, readings, scales]
     return [*(make.part(it.__name__, it) for it in others), *(make.part(f"pictures of {name}", of_profile, name) for name in RUNS)]
 
 
 def of_profile(check: Check, name: str) -> None:
-    """The three pictures of a stored profile."""
-    found = stored(name)
-    pictures = all_drawn(check, ["timeline", "costs", "matrix"], STORED / f"{name}.csv", *WORDS)
+    """The three pictures of a profile."""
+    found = profile_of(name)
+    pictures = all_drawn(check, ["timeline", "costs", "matrix"], file_of(name), *WORDS)
     looks: List[Callable[[Profile, svg.Drawing], str]] = [timeline, split, matrix]
     for kind, look, picture in zip(("timeline", "costs", "matrix"), looks, pictures):
-        check.tell(f"{kind} of {name}", look(found, picture))
+        texts = (it.partition(": ")[0] for it in picture.texts)
+        missing = [it for it in TEXTS[kind] if it not in texts]  # in their order, since that takes all up to the one that is found
+        check.tell(f"{kind} of {name}", look(found, picture) + f"the texts {missing} are not in their places" * bool(missing))
 
 
 def timeline(found: Profile, picture: svg.Drawing) -> str:
@@ -193,10 +201,10 @@ def greatest(found: Profile, picture: svg.Drawing, reading: Reading) -> str:
 
 def readings(check: Check) -> None:
     """The matrix of one superstep, by both ways to count h: its greatest sum is h."""
-    whole = stored("samplesort")
+    whole = profile_of("samplesort")
     one = Profile([it for it in whole.supersteps if it.number == 1])
     for reading in Reading:
-        picture = drawn(check, "matrix", STORED / "samplesort.csv", "--supersteps", "1", "--h", reading.value)
+        picture = drawn(check, "matrix", file_of("samplesort"), "--supersteps", "1", "--h", reading.value)
         check.tell(f"matrix of a superstep, --h {reading.value}", matrix(one, picture, reading))
         text = f"the greatest: h = {one.supersteps[0].h(reading)}"
         check.expect(f"h of a superstep, --h {reading.value}", text in picture.texts, picture.texts)
@@ -205,27 +213,27 @@ def readings(check: Check) -> None:
 
 def choices(check: Check) -> None:
     """Pictures of some supersteps, and by the other reading of h."""
-    source = STORED / "broadcast2.csv"
+    source = file_of("broadcast2")
     one = drawn(check, "matrix", source, "--supersteps", "1")
     check.expect("matrix of one superstep", set(one.named("bytes-")) == {f"bytes-0-{to}" for to in (1, 2, 3)}, one.marks)
     some = drawn(check, "costs", source, "--supersteps", "1:2")
     check.expect("costs of two supersteps", {it.split("-")[1] for it in some.marks} == {"1", "2"}, some.marks)
-    others = drawn(check, "costs", STORED / "inner.csv")
+    others = drawn(check, "costs", file_of("inner"))
     check.expect("h of other ranks alone", others.marks["gh-1"].text == "superstep 1: g·h = 24", others.marks["gh-1"])
-    whole = drawn(check, "costs", STORED / "inner.csv", "--h", "all")
+    whole = drawn(check, "costs", file_of("inner"), "--h", "all")
     check.expect("h of all bytes", whole.marks["gh-1"].text == "superstep 1: g·h = 32", whole.marks["gh-1"])
-    rest = drawn(check, "timeline", STORED / "lu.csv", "--supersteps", "12:")
+    rest = drawn(check, "timeline", file_of("lu"), "--supersteps", "12:")
     check.expect("timeline of the last supersteps", {it.split("-")[1] for it in rest.marks} == {"12", "13"}, rest.marks)
 
 
 def forms(check: Check) -> None:
     """A report in each of its forms has the costs of its profile."""
-    wanted = drawn(check, "costs", STORED / "lu.csv", *WORDS)
+    wanted = drawn(check, "costs", file_of("lu"), *WORDS)
     for name in ("costs.csv", "costs.json", "costs.txt"):
         check.tool("bsprun", "-n", "4", "--report", name, str(REPO / "examples/c/lu.elf"))
         found = drawn(check, "costs", check.folder / name, *WORDS)
         check.expect(f"costs of a report, {name}", found == wanted, found)
-    wanted = drawn(check, "costs", STORED / "inner.csv", "--h", "all")
+    wanted = drawn(check, "costs", file_of("inner"), "--h", "all")
     found = drawn(check, "costs", first_report(check), "--h", "all")
     check.expect("costs of a report by the first version of the ledger", found == wanted, found)
 
@@ -326,7 +334,7 @@ def same_bytes(check: Check) -> None:
     words = ["--timeline", "t.svg", "--costs", "t.png", "--matrix", "t.pdf", "--html", "t.html"]
     contents: List[Dict[str, bytes]] = []
     for _ in range(2):
-        check.started("bspplot", *words, *WORDS, str(STORED / "inner.csv"))
+        check.started("bspplot", *words, *WORDS, str(file_of("inner")))
         contents.append({name: (check.folder / name).read_bytes() for name in words[1::2]})
     for name, beginning in beginnings.items():
         check.expect(f"the kind of {name}", contents[0][name].startswith(beginning), contents[0][name][:20])
@@ -343,7 +351,7 @@ def answers(check: Check, commands: List[Tuple[str, ...]]) -> List[Tuple[int, st
 
 def refusals(check: Check) -> None:
     """One line says what is wrong."""
-    (check.folder / "cut.csv").write_text((STORED / "one_put.csv").read_text()[:100])
+    (check.folder / "cut.csv").write_text(file_of("one_put").read_text()[:100])
     (check.folder / "other.csv").write_text("a,b\n1,2\n")
     (check.folder / "table.csv").write_text(SWEEP)
     check.tool("bsprun", "-n", "4", "--report", "report.csv", str(REPO / "examples/c/lu.elf"))

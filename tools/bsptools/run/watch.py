@@ -2,8 +2,10 @@
 
 from __future__ import annotations
 
+import array
 import contextlib
 import errno
+import fcntl
 import os
 import re
 import select
@@ -11,6 +13,7 @@ import signal
 import stat
 import subprocess
 import sys
+import termios
 import time
 from typing import NamedTuple
 
@@ -26,7 +29,7 @@ from .records import Record, record_of
 FEWER = re.compile(rb"^bsp: rank 0: there are more nodes than the program takes in bsp_begin: bsprun -n (\d+) ", re.MULTILINE)
 # The first superstep's output is kept until nothing has come for so long, or so much, since that line may stand in it.
 PAUSE, MOST_KEPT = 0.1, 1 << 20
-# After how many seconds the time is shown, at a terminal, and for how many nothing has come where the output is a pipe.
+# After how many seconds the time is shown, at a terminal. Where the output is a pipe, for how many nothing has come and all has been read.
 QUIET_SECONDS, PIPED_SECONDS = 2, 0.9
 CHUNK = 1 << 16
 
@@ -125,7 +128,7 @@ class Outputs:
 
     def show(self, seconds: float) -> None:
         """Shows the time at a terminal, so that one sees that a long run lives."""
-        if self.is_line_whole and (not self.is_piped or time.monotonic() - self.given >= PIPED_SECONDS):
+        if self.is_line_whole and (not self.is_piped or time.monotonic() - self.given >= PIPED_SECONDS and is_all_read(streams.STDOUT)):
             show(f"bsprun: running, {int(seconds)} s")
             self.is_shown = True
 
@@ -134,6 +137,14 @@ class Outputs:
         if self.is_shown:
             show("")
             self.is_shown = False
+
+
+def is_all_read(pipe: int) -> bool:
+    """Whether nothing that was written into a pipe is left in it. On a busy host its reader may come to it late."""
+    left = array.array("i", [0])
+    with contextlib.suppress(OSError):
+        fcntl.ioctl(pipe, termios.FIONREAD, left)
+    return left[0] == 0
 
 
 class Watch:

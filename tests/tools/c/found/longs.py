@@ -6,13 +6,14 @@ from __future__ import annotations
 import os
 import pathlib
 import re
+import shutil
 import signal
 import subprocess
-import time
-from typing import Callable, Dict, List, NamedTuple, Optional, Tuple
+import sys
+from typing import Callable, Dict, List, NamedTuple, Tuple
 
 import forked
-from checks import CLASSES, COMPILER, PYELFTOOLS, REPO, SECONDS, SOON, Tally, Tool, becomes_true, commands_with
+from checks import CLASSES, COMPILER, GCC, PYELFTOOLS, REPO, SECONDS, Tally, Tool, becomes_true, commands_with
 
 BEGIN = "#include <bsp.h>\n#include <stdint.h>\n#include <stdio.h>\n#include <stdlib.h>\n"
 CUBES = BEGIN + """int main(void)
@@ -129,7 +130,21 @@ int main()
     return 0;
 }
 """
-# Notes each start of the emulator.
+# For how long what goes beside a run is waited for behind it, as forked.NUMBERS has it.
+PATIENT = "bsptools.run.longs.MORE_SECONDS=300"
+# A run on one processor that is as patient.
+ON_ONE = """
+import os, sys
+sys.path.insert(0, sys.argv[1])
+from bsptools import start
+from bsptools.run import longs
+longs.MORE_SECONDS = 300
+os.sched_setaffinity(0, {int(sys.argv[2])})
+sys.exit(start.process("bsprun", sys.argv[3:]))
+"""
+# After so many seconds a run is ended by --wall.
+WALLS = (2, 8, 32, 128)
+# Notes each start of the emulator, or of another program.
 TRACE = '#!/bin/sh\necho "$*" >>"$TRACE"\nexec "$EMULATOR" "$@"\n'
 
 
@@ -154,15 +169,10 @@ class Longs:
         path.write_text(text)
         return name
 
-    def run(self, *words: str, given: str = "", processors: Optional[List[int]] = None) -> "subprocess.CompletedProcess[str]":
-        """A run by bsprun, on these processors of the host."""
-        command = [str(REPO / "bsprun"), *words]
-        if not processors:
-            return forked.run(command, given, self.folder, self.environment)
-        before = ["taskset", "-c", ",".join(map(str, processors))]
-        return subprocess.run(
-            [*before, *command], input=given, capture_output=True, text=True, cwd=self.folder, env=self.environment, check=False, timeout=SECONDS
-        )
+    def run(self, *words: str, given: str = "", is_patient: bool = True) -> "subprocess.CompletedProcess[str]":
+        """A run by bsprun. What goes beside it comes to its end on the busiest host, if that is waited for."""
+        environment = {**self.environment, **({forked.NUMBERS: PATIENT} if is_patient else {})}
+        return forked.run([str(REPO / "bsprun"), *words], given, self.folder, environment)
 
     def cubes(self) -> None:
         """A sum of cubes is told, in the words of --check, and the run is as it is without."""
@@ -215,18 +225,19 @@ class Longs:
             self.tally.expect(f"starts for {words}", done.returncode == 0 and len(runs) == count, (runs, done))
 
     def costs_nothing(self) -> None:
-        """A program without such numbers takes the processor as long as where that is left out."""
-        source = self.write("named.c", NAMED)
-        alone, whole = (min(self.seconds(*words, source) for _ in range(4)) for words in (("--no-check",), ()))
-        self.tally.expect("a program without long", whole <= alone + 0.1, f"{whole:.2f} s, and {alone:.2f} s without")
-
-    def seconds(self, *words: str) -> float:
-        """The processor time of a run, with what it starts and waits for."""
-        with subprocess.Popen([str(REPO / "bsprun"), *words], cwd=self.folder, stdin=subprocess.DEVNULL, stdout=subprocess.DEVNULL,
-                env=self.environment) as run:  # fmt: skip
-            _, ended, used = os.wait4(run.pid, 0)
-            run.returncode = os.WEXITSTATUS(ended)
-        return float(used.ru_utime + used.ru_stime)
+        """A program without such numbers is compiled no more often than where that is left out, and one with them is."""
+        trace = self.folder / "trace"
+        (self.folder / GCC.name).write_text(TRACE)
+        (self.folder / GCC.name).chmod(0o755)
+        self.environment.update(EMULATOR=shutil.which(GCC.name) or "", TRACE=str(trace))
+        self.environment["PATH"] = f"{self.folder}:{self.environment['PATH']}"
+        named, cubes, counts = self.write("named.c", NAMED), self.write("cubes.c", CUBES), []
+        # The first one builds the library.
+        for words in (["--no-check", named], ["--no-check", named], [named], [cubes]):
+            trace.write_text("")
+            self.run(*words)
+            counts.append(len(trace.read_text().splitlines()))
+        self.tally.expect("a program without long", 0 < counts[1] == counts[2] < counts[3], counts)
 
     def inputs(self) -> None:
         """The input is the same: of a file, of a pipe, and none; what is written goes where it went."""
@@ -269,7 +280,10 @@ class Longs:
     def processor(self) -> None:
         """On one processor it comes behind the run."""
         first = min(os.sched_getaffinity(0))
-        done = self.run("-n", "3", self.write("cubes.c", CUBES), processors=[first])
+        words = [sys.executable, "-I", "-B", "-c", ON_ONE, str(REPO / "tools"), str(first), "-n", "3", self.write("cubes.c", CUBES)]
+        done = subprocess.run(
+            words, stdin=subprocess.DEVNULL, capture_output=True, text=True, cwd=self.folder, env=self.environment, check=False, timeout=SECONDS
+        )
         self.tally.expect("one processor", done.returncode == 0 and f"{FITS}: {ADVICE}, and so 2 more ranks" in done.stderr, done)
 
     def fewer(self) -> None:
@@ -279,33 +293,34 @@ class Longs:
         self.tally.expect("fewer nodes", right, done)
 
     def bounded(self) -> None:
-        """Of what does not end nothing is told, and the run takes little longer."""
+        """Of what does not end nothing is told, and the run ends."""
         source = self.write("endless.c", ENDLESS)
-        times: List[float] = []
         ways: List[List[str]] = [["--no-check"], []]
         for words in ways:
-            start = time.monotonic()
-            done = self.run("-n", "2", *words, source)
-            times.append(time.monotonic() - start)
+            done = self.run("-n", "2", *words, source, is_patient=False)
             self.tally.expect(f"endless {words}", (done.returncode, done.stdout, done.stderr) == (0, "2\n2\n", ""), done)
-        self.tally.expect("bounded", times[1] <= 4 * times[0] + 4, times)
         self.nothing_is_left("bounded")
 
     def ended(self) -> None:
         """Ctrl-C and the clock end both."""
         source, told = self.write("spins.c", SPINS), rf"bsprun: rank 0, superstep 1: spins.c:{line_of(SPINS)}: \d+ \+ \d+{FITS}"
-        done = self.run("-n", "2", "--wall", "2", source)
+        # On a busy host what goes beside has computed too little at first.
+        for seconds in WALLS:
+            done = self.run("-n", "2", "--wall", str(seconds), source, is_patient=False)
+            self.nothing_is_left(f"--wall {seconds}")
+            if re.search(told, done.stderr):
+                break
         self.tally.expect("--wall", done.returncode == 124 and re.search(told, done.stderr) is not None, done)
-        self.nothing_is_left("--wall")
         words = [str(REPO / "bsprun"), "-n", "2", source]
         with subprocess.Popen(words, cwd=self.folder, stdin=subprocess.DEVNULL, stdout=subprocess.PIPE, stderr=subprocess.PIPE,
                 env=self.environment) as run:  # fmt: skip
             assert run.stdout is not None
             run.stdout.readline()
-            time.sleep(1)
+            is_alone = len(os.sched_getaffinity(0)) == 1
+            both = is_alone or becomes_true(lambda: any(" run " in it and "/long.elf " in it for it in commands_with(str(self.folder))))
             run.send_signal(signal.SIGINT)
-            _, errors = run.communicate(timeout=SOON)
-        self.tally.expect("Ctrl-C", run.returncode == 130 and b"ended by Ctrl-C after" in errors, (run.returncode, errors))
+            _, errors = run.communicate(timeout=SECONDS)
+        self.tally.expect("Ctrl-C", both and run.returncode == 130 and b"ended by Ctrl-C after" in errors, (both, run.returncode, errors))
         self.nothing_is_left("Ctrl-C")
 
     def nothing_is_left(self, name: str) -> None:

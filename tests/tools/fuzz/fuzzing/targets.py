@@ -30,8 +30,8 @@ from bsptools.sweep.store import Place
 
 from fuzzing.mutations import mutated, patched
 
-# What takes so long hangs.
-SECONDS = 60
+# What takes so long hangs: of processor time where something is computed, and else of the clock.
+COMPUTING, SECONDS = 60, 600
 SPACE = 4 << 30
 # The statuses that the pages say, where there is memory and every file can be written: 1 of the tools, and of the emulator a program's
 # outcome.
@@ -215,10 +215,10 @@ def quietly(call: Callable[[], object]) -> str:
     """Calls a reader, which may refuse; what is wrong, or nothing."""
 
     def late(*_: object) -> None:
-        raise TimeoutError(f"it takes more than {SECONDS} seconds")
+        raise TimeoutError(f"it takes more than {COMPUTING} seconds")
 
-    signal.signal(signal.SIGALRM, late)
-    signal.alarm(SECONDS)
+    signal.signal(signal.SIGPROF, late)
+    signal.setitimer(signal.ITIMER_PROF, COMPUTING)
     try:
         call()
     except Refused as refused:
@@ -226,7 +226,7 @@ def quietly(call: Callable[[], object]) -> str:
     except Exception as error:  # pylint: disable=broad-except
         return f"{type(error).__name__}: {str(error)[:300]}"
     finally:
-        signal.alarm(0)
+        signal.setitimer(signal.ITIMER_PROF, 0)
     return ""
 
 
@@ -251,6 +251,7 @@ def forked(name: str, words: Sequence[str], folder: pathlib.Path, told: pathlib.
             os.setpgid(0, 0)
             os.chdir(folder)
             resource.setrlimit(resource.RLIMIT_AS, (SPACE, SPACE))
+            resource.setrlimit(resource.RLIMIT_CPU, (COMPUTING, COMPUTING))
             streams = ((os.devnull, os.O_RDONLY), (os.devnull, os.O_WRONLY), (str(told), os.O_WRONLY | os.O_APPEND))
             for number, (path, mode) in enumerate(streams):
                 os.dup2(os.open(path, mode), number)

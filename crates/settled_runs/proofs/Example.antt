@@ -1,13 +1,13 @@
 -- The machine of the example.
-use Rattle.std.proofs.Common.{◌≡◌, ℕ, ◌<◌, true, false, List, [], ◌∷◌, length, map, refl, sym, ap, subst, ◌∙◌, arith, length-replicate, None}
-use Rattle.std.specs.Prelude.{All, Contains, IsTrue}
+use Rattle.std.proofs.Common.{◌≡◌, ℕ, ◌<◌, true, List, [], ◌∷◌, length, refl, sym, ap, subst, arith}
+use Rattle.std.specs.Prelude.{Contains}
 use Rattle.std.proofs.lemmas.Bool.{false≢true}
+use Rattle.std.proofs.lemmas.List.{length-replicate}
 use Rattle.std.proofs.lemmas.List.Elements.{All-cons, All-nil}
-use Rattle.node_memory.specs.Bytes.{is_memory_size}
 use Rattle.bsp_requests.specs.Message.{IsShort}
 use Rattle.node_core.specs.Communication.{IsCommunication, IsWellAddressed, LiesIn}
 use Rattle.node_core.specs.Hart.{IsHart}
-use Rattle.node_core.specs.Node.{NodeState, IsNode, IsSoundNode}
+use Rattle.node_core.specs.Node.{NodeState, IsNode}
 use Rattle.bsp_exchange.specs.Landings.{Landing, landings, put_landing}
 use Rattle.bsp_exchange.specs.Parts.{CanExchange}
 use Rattle.contested_bytes.specs.Contested.{IsContested, MayLie}
@@ -23,7 +23,7 @@ use Rattle.settled_runs.proofs.Contested.{can_exchange_next, may_lie_after}
 
 memory_size : length empty_memory ≡ 4096
 unfolding empty_memory
-memory_size = length-replicate 4096 0
+memory_size = length-replicate {A = ℕ} 4096 0
 
 communicates : (byte : ℕ) → IsCommunication 2 4096 (has_put byte)
 communicates byte = record {

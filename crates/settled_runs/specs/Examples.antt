@@ -5,9 +5,7 @@ use Rattle.bsp_requests.specs.Put.{Put}
 use Rattle.bsp_requests.specs.Request.{Asked, asks_put}
 use Rattle.node_core.specs.declared.state.State.TheVariants.{Synced}
 use Rattle.node_core.specs.Communication.{Communication, no_communication}
-use Rattle.node_core.specs.Hart.{Hart}
 use Rattle.node_core.specs.Node.{NodeState}
-use Rattle.machine_core.specs.declared.settings.Settings.{Settings}
 use Rattle.machine_core.specs.Machine.{MachineState}
 
 -- a byte from 16 on

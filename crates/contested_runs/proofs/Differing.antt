@@ -1,8 +1,8 @@
 -- A run of which something is told.
-use Rattle.std.proofs.Common.{◌≡◌, ℕ, ◌+◌, Bool, true, false, List, [], ◌∷◌, ◌++◌, get_or, refl, sym, ap, subst, ◌∙◌, arith, append-nil, None}
+use Rattle.std.proofs.Common.{◌≡◌, ℕ, ◌+◌, Bool, true, false, List, [], ◌∷◌, ◌++◌, refl, sym, ap, subst, ◌∙◌, arith, append-nil, None}
 use Rattle.std.specs.Prelude.{◌≢◌, Contains, is_some}
 use Rattle.std.proofs.lemmas.List.Sorted.{IsPermutation-refl}
-use Rattle.bsp_exchange.specs.Landings.{Landing, landings}
+use Rattle.bsp_exchange.specs.Landings.{Landing}
 use Rattle.contested_bytes.specs.declared.range.ContestedRange.{ContestedRange}
 use Rattle.contested_bytes.specs.Contested.{IsContested}
 use Rattle.contested_bytes.specs.Ranges.{IsContestedRange}

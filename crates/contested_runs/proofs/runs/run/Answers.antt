@@ -1,5 +1,5 @@
 -- Superstep by superstep, up to the outcome.
-use Rattle.std.proofs.Common.{◌≡◌, ◌∙◌, [], ℕ, List, Err, not, ap, refl, subst, sym, arith, rules}
+use Rattle.std.proofs.Common.{◌≡◌, ◌∙◌, [], Err, not, ap, refl, subst, sym, arith, rules}
 use Rattle.std.specs.Prelude.{is_some}
 use Rattle.std.proofs.lemmas.Bool.{false≢true}
 use Rattle.std.proofs.lemmas.Result.{err_from_is_err_and}

@@ -24,7 +24,7 @@ loop-machine-init g c = record {
   so_far = (0, sym (walked-zero c.args.machine.now));
   same_end = refl;
   lines = refl;
-  memory = c.new-table.ensures ∙ ap (λ (s : Settings). s.memory) c.settings.ensures.value;
+  memory = c.new-table.ensures.memory ∙ ap (λ (s : Settings). s.memory) c.settings.ensures.value;
 }
 
 pub returns-in_err-count_parts-clause-err : goal.returns-in_err-count_parts-clause-err

@@ -12,6 +12,8 @@ from mutation.crates import Crate
 # Goals that say what a contract or an invariant says: a clause of the function, the invariant of a type or of a loop, a named condition of
 # a function that it calls. Other goals, such as sums that do not overflow and indices in bounds, show that code is safe, not what it means.
 CLAUSE = re.compile(r"(?:returns|invariant_of-\S+|loop(?:-\S+)?-(?:init|preserved))(?:-\S+)?|\S+-requires-clause-\S+")
+# What a mutant of a definition breaks: a lemma from which a law of the definition is proved.
+LEMMA = re.compile(r"lemma [\w.-]+")
 
 
 @dataclass(frozen=True)
@@ -48,9 +50,10 @@ def read(crate: Crate, path: pathlib.Path) -> Mutant:
             raise Fault(f"the line means nothing: {line}")
     if not function or not texts or not breaks:
         raise Fault("a mutant names its function, the goals that it breaks, and the texts that it changes; one of these is missing")
-    other = next((it for it in breaks if not CLAUSE.fullmatch(it)), None)
+    wanted = LEMMA if any(it.startswith("specs/") for it in texts) else CLAUSE
+    other = next((it for it in breaks if not wanted.fullmatch(it)), None)
     if other is not None:
-        raise Fault(f"{other} is not a goal of a clause or of an invariant")
+        raise Fault(f"{other} is not a goal of a clause or of an invariant, or for a change of a definition not a lemma")
     return Mutant(path.stem, function, breaks, texts)
 
 

@@ -26,6 +26,8 @@ SOUND = re.compile(r"(?m)^fn (\S+?): (?:no holes|depends on a hole)")
 # A goal that fails: at the answer that is written for it, or in the code if none is written.
 AT_ANSWER = re.compile(r"(?m)^(?:\./)?proofs/(\S+)/(?:Answers|Invariants)\.antt:\d+:\d+: error: `([^`]*)`: (.*)$")
 IN_CODE = re.compile(r"(?m)^note: src/\S+: .*\(`([^`]*)`\)")
+# Lemmas that are refused, in the line of the function whose proof they are for.
+REFUSED_LEMMAS = re.compile(r"(?m)^fn \S+?: not proved; it stands on (.*?), which antt refuses")
 # An answer that cannot be read any more, because it names something that the changed code does not have.
 GONE = re.compile(r"has no field|is not in scope|has no `|was not admitted")
 # Code or definitions that cannot be read or compiled, or that the prover does not cover, so that no contract was tried.
@@ -75,9 +77,11 @@ class Answer:
         return next((f"{it[2]}: {it[3]}" for it in AT_ANSWER.finditer(self.said) if GONE.search(it[3])), "")
 
     def failed(self, function: str) -> Set[str]:
-        """The goals of a function that fail."""
+        """The goals of a function that fail, and the lemmas for its proof that do."""
         folder = "/".join(function.split("::"))
-        return {*(it[2] for it in AT_ANSWER.finditer(self.said) if it[1] == folder), *IN_CODE.findall(self.said)}
+        goals = {*(it[2] for it in AT_ANSWER.finditer(self.said) if it[1] == folder), *IN_CODE.findall(self.said)}
+        lemmas = re.findall(r"`Rattle\.\w+\.proofs\.([^`]*)`", " ".join(REFUSED_LEMMAS.findall(self.said)))
+        return goals | {f"lemma {it}" for it in lemmas}
 
 
 class Prover:

@@ -81,7 +81,7 @@ class Answer:
         folder = "/".join(function.split("::"))
         goals = {*(it[2] for it in AT_ANSWER.finditer(self.said) if it[1] == folder), *IN_CODE.findall(self.said)}
         lemmas = re.findall(r"`Rattle\.\w+\.proofs\.([^`]*)`", " ".join(REFUSED_LEMMAS.findall(self.said)))
-        return goals | {f"lemma {it}" for it in lemmas}
+        return goals | {f"lemma {it}" for it in lemmas if ".Answers." not in it}
 
 
 class Prover:

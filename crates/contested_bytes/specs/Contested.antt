@@ -1,8 +1,8 @@
 -- Which bytes rest on an order that BSPlib leaves open (Hill and others 1998: `bsp_put`, `bsp_get` and `bsp_sync`). The buffered calls take
 -- effect at the end of the superstep: all gets read before anything is written. In which order puts write, and gets what they
 -- read, is not defined where they overlap, whoever asked for them: neither for two requests of one process, nor for a put and a get. So
--- each order of what lands is allowed. That a put or a get lands as a whole, with no other between its bytes, is no loss: a byte is that
--- of one landing in any case.
+-- each order of what lands is allowed. A put or a get lands as a whole here, with no other between its bytes. A library may mix the bytes
+-- of two; then each byte is still that of one landing.
 use Rattle.std.specs.Prelude.{◌≡◌, ◌≢◌, ℕ, ◌==◌, Bool, ◌&&◌, IsTrue, IsPermutation, List, map, filter, Contains}
 use Rattle.node_memory.specs.Bytes.{byte_at}
 use Rattle.node_core.specs.Hart.{with_memory}

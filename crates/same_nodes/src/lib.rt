@@ -1,8 +1,8 @@
-//! Whether nothing tells one node from another, for tests: all that a node's readers give is compared, byte by byte.
+//! Whether two nodes have equal records, for tests: what their readers give is compared, byte by byte.
 //!
-//! Where the answer is that nothing does, the nodes are equal but for what no reader shows: the most ticks that a node may make, and the
-//! addresses and sizes of this superstep's pushes and pops. Of these the kinds and the order are compared, and their areas once they are in
-//! effect.
+//! If the answer is that they have, the records are equal except for the most ticks that a node may make, and the addresses and sizes of
+//! this superstep's pushes and pops. The kinds and the order of these are compared, and their areas once they are in effect. Which pages are
+//! a node's own, and whether room is made, is not compared.
 #![tactic(auto)]
 
 ghost use Rattle.std.specs.Prelude.{◌≡◌, length, slice_get, slice_index, IfOk, IsTrue, option_map};
@@ -18,7 +18,7 @@ use node_memory::{Memory, ReadError};
 use rv_float_tables::FloatCsr;
 use std::alloc::Allocator;
 
-/// Whether nothing tells one node from another.
+/// Whether two nodes have equal records, as far as the crate's page says.
 ///
 /// # Errors
 /// Where there is no memory for a copy of the nodes' bytes.

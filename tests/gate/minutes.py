@@ -15,9 +15,9 @@ from gate.checks import Done
 MARK = "BSPEMU_GATE"
 SECONDS_BETWEEN_LOOKS = 0.2
 TICKS = os.sysconf("SC_CLK_TCK")
-PARTS = ("proof", "tests", "edits")
-# How the folders begin in which tests/edits has the prover work.
-EDITS = "edits-"
+PARTS = ("proof", "tests", "mutants")
+# The prover works for tests/mutants in folders whose names begin so.
+MUTANTS = "mutants-"
 BEGIN, END = "<!-- what the gate costs -->", "<!-- end of what the gate costs -->"
 
 Part = Tuple[str, str]
@@ -86,14 +86,14 @@ def part_of(place: pathlib.Path) -> Optional[Part]:
     if "--crate-name" not in words:
         return None
     crate = words[words.index("--crate-name") + 1]
-    if os.path.basename(os.readlink(place / "cwd")).startswith(EDITS):
-        return crate, "edits"
+    if os.path.basename(os.readlink(place / "cwd")).startswith(MUTANTS):
+        return crate, "mutants"
     return crate, "tests" if "--test" in words else "proof"
 
 
-def edits_of(crates: pathlib.Path, crate: str) -> int:
-    """How many edits a crate has."""
-    return len(list((crates / crate / "edits").glob("*.edit")))
+def mutants_of(crates: pathlib.Path, crate: str) -> int:
+    """How many mutants a crate has, with its controls."""
+    return len(list((crates / crate / "mutants").rglob("*.mutant")))
 
 
 def total(prover: float, checks: Sequence[Done], clock: float) -> str:
@@ -105,24 +105,31 @@ def total(prover: float, checks: Sequence[Done], clock: float) -> str:
 
 
 def table(
-    crates: pathlib.Path, names: Sequence[str], minutes: Mapping[Part, float], prover: float, checks: Sequence[Done], clock: float
+    crates: pathlib.Path,
+    names: Sequence[str],
+    minutes: Mapping[Part, float],
+    prover: float,
+    tried: int,
+    checks: Sequence[Done],
+    clock: float,
 ) -> str:
-    """The tables of what crates and checks cost. `prover` is what the prover's whole run took, in processor minutes, and `clock` what all
-    took of the clock."""
-    lines = [total(prover, checks, clock), "", "| Crate | Proof | Tests | Edits |", "|---|---|---|---|"]
+    """The tables of what crates and checks cost. `prover` is what the prover's whole run took, in processor minutes, `tried` how many mutants
+    and controls were tried in it, and `clock` the minutes of the clock that all took."""
+    lines = [total(prover, checks, clock), "", "| Crate | Proof | Tests | Mutants |", "|---|---|---|---|"]
     sums = dict.fromkeys(PARTS, 0.0)
     for name in names:
         cells = []
         for part in PARTS:
             spent = minutes.get((name, part), 0.0)
             sums[part] += spent
-            count = edits_of(crates, name) if part == "edits" else 0
+            count = mutants_of(crates, name) if part == "mutants" else 0
             cells.append((f"{count}: " if count else "") + f"{spent:.1f}" if spent or count else "")
         lines.append(f"| `{name}` | {' | '.join(cells)} |")
-    number = sum(edits_of(crates, it) for it in names)
-    lines.append(f"| all | {sums['proof']:.1f} | {sums['tests']:.1f} | {number}: {sums['edits']:.1f} |")
+    number = sum(mutants_of(crates, it) for it in names)
+    lines.append(f"| all | {sums['proof']:.1f} | {sums['tests']:.1f} | {number}: {sums['mutants']:.1f} |")
     rest = prover - sum(sums.values())
-    lines += ["", f"Programs, their linking and the prover's own bookkeeping take {rest:.1f} besides.", ""]
+    lines += ["", f"Of the {number} mutants and controls, {tried} were tried in this run."]
+    lines += [f"Programs, their linking and the prover's own bookkeeping took another {rest:.1f} minutes.", ""]
     lines += ["| Check | Parts | Processor seconds |", "|---|---|---|"]
     lines += [f"| {it.check.name} | {it.tally.passed} | {it.processor_seconds:.0f} |" for it in checks]
     return "\n".join(lines)

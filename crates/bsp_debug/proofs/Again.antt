@@ -20,7 +20,7 @@ use Rattle.bsp_debug.specs.Debugger.{steps_at, IsWithinPhases, MakesPhases, Make
 use Rattle.bsp_debug.specs.Reply.{Answer, moved}
 use Rattle.bsp_debug.specs.Returns.{has_arrived, HasReturned, IsReturning}
 use Rattle.bsp_debug.specs.Stops.{stop_at, stop_after, Goes, IsOnTheWay}
-use Rattle.bsp_debug.specs.Trace.{after_steps, point_at, RunsOn, RunsToPoint, RunsOnTo}
+use Rattle.bsp_debug.specs.Trace.{after_steps, point_at, RunsToPoint, RunsOnTo}
 use Rattle.bsp_debug.proofs.Counts.{after_steps-zero, after_steps-suc, steps_at-zero, steps_at-disabled, steps_at-suc}
 use Rattle.bsp_debug.proofs.Entries.{after-append}
 use Rattle.bsp_debug.proofs.Phases.{MakeNoTurn-append}

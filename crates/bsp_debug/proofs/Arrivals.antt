@@ -1,13 +1,13 @@
 -- Runs of one node up to where a function returns.
-use Rattle.std.proofs.Common.{◌≡◌, ℕ, ◌+◌, ◌-◌, ◌<◌, inl, inr, true, false, List, sym, ap, ◌∙◌, arith}
-use Rattle.std.proofs.lemmas.Bool.{cases_order, false≢true}
+use Rattle.std.proofs.Common.{◌≡◌, ℕ, ◌+◌, ◌-◌, ◌<◌, inl, inr, true, false, List, arith}
+use Rattle.std.proofs.lemmas.Bool.{cases_order}
 use Rattle.machine_core.specs.declared.event.Event.TheVariants.{Step}
 use Rattle.machine_core.specs.Machine.{MachineState}
-use Rattle.machine_core.specs.Events.{is_enabled, after}
+use Rattle.machine_core.specs.Events.{is_enabled}
 use Rattle.bsp_debug.specs.declared.made.Made.{Made}
 use Rattle.bsp_debug.specs.declared.point.Point.{Point}
 use Rattle.bsp_debug.specs.Returns.{has_arrived, GoesOn, HasReturned, IsReturning}
-use Rattle.bsp_debug.specs.Trace.{Traced, IsTrace, with_steps, after_steps, stepped, EndsBelow}
+use Rattle.bsp_debug.specs.Trace.{Traced, with_steps, after_steps, stepped}
 use Rattle.bsp_debug.proofs.Counts.{ticks_at}
 use Rattle.bsp_debug.proofs.Traces.{counts-all, whole-is}
 

@@ -1,6 +1,6 @@
 -- What a debugger keeps, and its machine, are reached from the machine with which it began.
 use Rattle.std.proofs.Common.{◌≡◌, ℕ, ◌+◌, ◌<◌, true, List, [], ◌∷◌, ◌++◌, length, Option, Some, None, refl, sym, ap, subst, ◌∙◌}
-use Rattle.std.specs.Prelude.{All, IfSome, if◌then◌else◌, is_some, option_copied, slice_get}
+use Rattle.std.specs.Prelude.{All, IfSome, IsSome, if◌then◌else◌, is_some, option_copied, slice_get}
 use Rattle.std.specs.Option.{option_flatten}
 use Rattle.std.specs.Slice.{IsItemAt}
 use Rattle.std.proofs.lemmas.List.Elements.{All-append, All-cons, All-get_or, All-nil, All-set}
@@ -9,13 +9,17 @@ use denote.Ref.{Bor}
 use Rattle.machine_core.specs.declared.event.Event.{Event}
 use Rattle.machine_core.specs.Machine.{MachineState}
 use Rattle.machine_core.specs.Events.{after}
+use Rattle.machine_core.specs.Sound.{IsSoundMachine}
+use Rattle.machine_core.specs.Turn.{end_of}
+use Rattle.machine_core.proofs.Ends.{end_of-after, end_of-there}
+use Rattle.machine_core.proofs.Sound.{IsSoundMachine-after}
 use Rattle.machine_core.proofs.Steps.{after-nil}
 use Rattle.bsp_debug.specs.declared.point.Point.{Point}
 use Rattle.bsp_debug.specs.Debugger.{DebuggerState}
 use Rattle.bsp_debug.specs.Kept.{state_at, kept_fault, keeping, without}
 use Rattle.bsp_debug.specs.Made.{events_of}
 use Rattle.bsp_debug.specs.Points.{is_set}
-use Rattle.bsp_debug.specs.Reached.{IsReached, HasReachedStates}
+use Rattle.bsp_debug.specs.Reached.{IsReached, HasReachedStates, EndsAs}
 use Rattle.bsp_debug.specs.Trace.{Traced, IsTrace}
 use Rattle.bsp_debug.proofs.Entries.{after-append}
 
@@ -32,9 +36,32 @@ reached-after first m events r = record {
   led = ap (λ (x : MachineState). after x events) r.led ∙ sym (after-append first r.schedule events);
 }
 
+-- every schedule that finishes from a machine that is reached leaves the end of the first
+pub ends-schedule : (first m : MachineState) (schedule : List Event) → IsSoundMachine first → IsReached first m
+    → IsSome (after m schedule).outcome → after m schedule ≡ end_of first
+ends-schedule first m schedule sound r over =
+    let whole : after m schedule ≡ after first (r.schedule ++ schedule) =
+    ap (λ (x : MachineState). after x schedule) r.led ∙ sym (after-append first r.schedule schedule) in
+    sym (end_of-there (after m schedule) over) ∙ ap end_of whole ∙ end_of-after first (r.schedule ++ schedule) sound
+
+-- so a machine that is reached has that end
+pub reached-ends : (first m : MachineState) → IsSoundMachine first → IsReached first m → EndsAs first m
+reached-ends first m sound r = record {
+  sound = subst IsSoundMachine (sym r.led) (IsSoundMachine-after first r.schedule sound);
+  same = ap end_of r.led ∙ end_of-after first r.schedule sound;
+  every_schedule = λ schedule over. ends-schedule first m schedule sound r over;
+}
+
+-- and so does a state that is kept, if one is
+pub kept-ends : (first : MachineState) → IsSoundMachine first → (state : Option MachineState) → IsReachedIfKept first state
+    → IfSome state (λ m. EndsAs first m)
+kept-ends first sound (Some m) r = reached-ends first m sound r
+kept-ends first sound None r = tt
+
 -- it begins, and keeps nothing
-pub reached-new : (d : DebuggerState) → d.machine ≡ d.first → d.kept ≡ [] → HasReachedStates d
-reached-new d machine kept = record {
+pub reached-new : (d : DebuggerState) → IsSoundMachine d.first → d.machine ≡ d.first → d.kept ≡ [] → HasReachedStates d
+reached-new d sound machine kept = record {
+  first = sound;
   machine = subst (IsReached d.first) (sym machine) (reached-first d.first);
   kept = subst (All (IsReachedIfKept d.first)) (sym kept) (All-nil (IsReachedIfKept d.first));
 }
@@ -45,6 +72,7 @@ pub reached-trace : (d : DebuggerState) (t : Traced) → IsTrace t → t.start �
 reached-trace d t is start r =
     let led : t.machine ≡ after d.machine (events_of t.made) = is.machine ∙ ap (λ (x : MachineState). after x (events_of t.made)) start in
     record {
+      first = r.first;
       machine = subst (IsReached d.first) (sym led) (reached-after d.first d.machine (events_of t.made) r.machine);
       kept = r.kept;
     }
@@ -52,6 +80,7 @@ reached-trace d t is start r =
 -- it keeps its machine's state
 pub reached-keep : (d : DebuggerState) → HasReachedStates d → HasReachedStates (keeping d)
 reached-keep d r = record {
+  first = r.first;
   machine = r.machine;
   kept = All-append (IsReachedIfKept d.first) d.kept (Some d.machine ∷ []) r.kept
       (All-cons (IsReachedIfKept d.first) (Some d.machine) [] r.machine (All-nil (IsReachedIfKept d.first)));
@@ -59,7 +88,7 @@ reached-keep d r = record {
 
 -- it has forgotten a state
 pub reached-without : (d : DebuggerState) (number : ℕ) → HasReachedStates d → HasReachedStates (without number d)
-reached-without d number r = record { machine = r.machine; kept = All-set (IsReachedIfKept d.first) d.kept number None tt r.kept }
+reached-without d number r = record { first = r.first; machine = r.machine; kept = All-set (IsReachedIfKept d.first) d.kept number None tt r.kept }
 
 flatten-some : (o : Option (Option MachineState)) (m : MachineState) → option_flatten o ≡ Some m → o ≡ Some (Some m)
 flatten-some (Some (Some x)) m is = ap Some is
@@ -72,7 +101,7 @@ pub reached-back : (d : DebuggerState) (number : ℕ) (m : MachineState) → sta
 reached-back d number m is r =
     let place : slice_get d.kept number ≡ Some (Some m) = flatten-some (slice_get d.kept number) m is in
     let here = All-get_or (IsReachedIfKept d.first) d.kept number (Some m) (slice_get_within d.kept number (Some m) place) r.kept in
-    record { machine = subst (IsReachedIfKept d.first) (get_or_from_slice_get d.kept number (Some m) (Some m) place) here; kept = r.kept }
+    record { first = r.first; machine = subst (IsReachedIfKept d.first) (get_or_from_slice_get d.kept number (Some m) (Some m) place) here; kept = r.kept }
 
 -- a state was found under a number
 some-found : (found : Option (Bor MachineState)) (kept : List (Option MachineState)) (number : ℕ) → is_some found ≡ true

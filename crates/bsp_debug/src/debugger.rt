@@ -36,8 +36,8 @@ const MOST_POINTS: usize = 1024;
 /// A machine that is stepped by commands, the states that were kept of it, and the points at which it stops.
 ///
 /// Contracts see it as a `DebuggerState`: the machine as it began and as it is, the states that are kept, the set of points, and the
-/// events that the last command made. Some events lead from the machine as it began to the machine as it is, and to each state that
-/// is kept, as `HasReachedStates` says.
+/// events that the last command made. The machine as it began is sound, and some events lead from it to the machine as it is, and to
+/// each state that is kept, as `HasReachedStates` says.
 #[derive(Drop)]
 pub struct Debugger<A: Allocator> {
     alloc: A,
@@ -65,6 +65,8 @@ impl<A: Allocator + Copy> Debugger<A> {
     pub fn new(alloc: A, machine: Machine<A>) -> Self
         ensures { result ≡ record { first = machine; machine = machine; kept = []; points = []; last = [] } }
     {
+        // That a machine is sound is among what this call ensures.
+        let _outcome = machine.outcome();
         Debugger {
             alloc,
             first: Snapshot::of(&machine),
@@ -324,7 +326,8 @@ impl<A: Allocator> Debugger<A> {
 
     /// The machine, as it stands.
     pub fn into_machine(self) -> Machine<A>
-        ensures { result ≡ self.machine }
+        ensures value { result ≡ self.machine }
+        ensures reached { HasReachedStates self }
     {
         self.trace.into_machine()
     }

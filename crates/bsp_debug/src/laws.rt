@@ -1,6 +1,6 @@
 //! Laws of what a debugger does, each the contract of a function that does nothing.
 
-ghost use Rattle.std.specs.Prelude.{◌≡◌, ◌++◌, List, IsSome};
+ghost use Rattle.std.specs.Prelude.{◌≡◌, ◌++◌, List, All, IfSome, IsSome};
 ghost use Rattle.machine_core.specs.declared.event.Event.{Event};
 ghost use Rattle.machine_core.specs.Events.{after};
 ghost use Rattle.machine_core.specs.Machine.{MachineState};
@@ -9,9 +9,9 @@ ghost use Rattle.machine_core.specs.Turn.{end_of};
 ghost use Rattle.bsp_debug.specs.declared.command.Command.{Command};
 ghost use Rattle.bsp_debug.specs.declared.made.Made.{Made};
 ghost use Rattle.bsp_debug.specs.declared.point.Point.{Point};
-ghost use Rattle.bsp_debug.specs.Debugger.{Makes, MakesPart, rest_of};
+ghost use Rattle.bsp_debug.specs.Debugger.{DebuggerState, Makes, MakesPart, rest_of};
 ghost use Rattle.bsp_debug.specs.Made.{events_of};
-ghost use Rattle.bsp_debug.specs.Reached.{IsReached};
+ghost use Rattle.bsp_debug.specs.Reached.{EndsAs, HasReachedStates, IsReached};
 ghost use Rattle.bsp_debug.specs.Reply.{Answer};
 ghost use Rattle.bsp_debug.specs.Stops.{Goes};
 
@@ -43,10 +43,18 @@ pub fn a_debugger_changes_no_end()
 
 /// Going back changes no end either. A debugger's machine is reached at all times from the machine with which it began, and so is each
 /// state that it keeps. What is reached from a sound machine has the end of that machine; and every schedule that finishes from
-/// there, whatever it is, leaves that end.
+/// there, whatever it is, leaves that end. `debugger` and `kept` say so of any debugger, with what [`Debugger::machine`],
+/// [`Debugger::kept`] and [`Debugger::into_machine`] ensure of it.
+///
+/// [`Debugger::machine`]: crate::Debugger::machine
+/// [`Debugger::kept`]: crate::Debugger::kept
+/// [`Debugger::into_machine`]: crate::Debugger::into_machine
 pub fn going_back_changes_no_end()
     ensures same { (first m : MachineState) → IsSoundMachine first → IsReached first m → end_of m ≡ end_of first }
     ensures every_schedule { (first m : MachineState) (schedule : List Event)
         → IsSoundMachine first → IsReached first m
         → IsSome (after m schedule).outcome → after m schedule ≡ end_of first }
+    ensures debugger { (d : DebuggerState) → HasReachedStates d → EndsAs d.first d.machine }
+    ensures kept { (d : DebuggerState) → HasReachedStates d
+        → All (λ state. IfSome state (λ m. EndsAs d.first m)) d.kept }
 {}

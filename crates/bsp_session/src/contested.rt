@@ -1,17 +1,19 @@
 //! The session that runs a program and writes what is contested in its run.
 
 ghost use Rattle.std.specs.Prelude.{◌≡◌, ◌≢◌, None, IfOk, IfErr};
+ghost use Rattle.contested_runs.specs.Runs.{TellsContested};
+ghost use Rattle.phase_pool.specs.Numbers.{numbers_fault};
 ghost use Rattle.bsp_session.specs.Contested.{Contests, IsErrorOfContested};
 ghost use Rattle.bsp_session.specs.Streams.{stream};
-ghost use Rattle.bsp_session.specs.Session.{job_fault, session_of};
+ghost use Rattle.bsp_session.specs.Session.{ComesToEnd, job_fault, session_of};
 
 use crate::errors::SessionError;
 use crate::job::Job;
 use crate::report::write_both;
 use crate::sessions::start;
-use contested_runs::run;
+use contested_runs::{Told, run};
 use counted_io::Counted;
-use machine_core::Outcome;
+use machine_core::{Machine, Outcome};
 use std::alloc::Allocator;
 use std::io::{Read, Write};
 use std::sync::Wait;
@@ -52,6 +54,22 @@ pub fn contested_session<
         → (out.new ≡ out.old) × (contested.new ≡ contested.old)) }
 {
     let mut machine = start(alloc, image, input, job)?;
-    let told = run(rt, alloc, &mut machine, job.workers, job.slice)?;
+    let told = run_told(rt, alloc, &mut machine, job)?;
     write_both(alloc, &machine, job, told.as_bytes(), out, contested)
+}
+
+/// Runs a machine to its outcome, in as many threads as the job has workers, and tells what is contested.
+fn run_told<T: Threads + Wait + Sync, A: Allocator + Copy + Send + Sync>(
+    rt: &T,
+    alloc: A,
+    machine: &mut Machine<A>,
+    job: &Job,
+) -> Result<Told<A>, SessionError>
+    requires { numbers_fault job.now.workers job.now.slice ≡ None }
+    ensures end { ComesToEnd job.now machine.old machine.new result }
+    ensures told { IfOk result (λ told. TellsContested machine.old told) }
+{
+    let mut told = Told::new(alloc)?;
+    run(rt, machine, job.workers, job.slice, &mut told)?;
+    Ok(told)
 }

@@ -85,6 +85,8 @@ impl<'p, A: Allocator + Copy> ClaimTable<'p, A> {
     pub fn place(&self, keeper: &mut Keeper<A>) -> Place<'_, 'p, A>
         requires seated { keeper.old.seat.table_id ≡ self.now.table.shared.table_id }
         ensures same { (keeper.new.seat.table_id ≡ keeper.old.seat.table_id) × (keeper.new.seat.me ≡ keeper.old.seat.me) }
+        ensures at { (result.worker.shared.now ≡ self.now.table.shared) × (result.worker.input ≡ self.now.input)
+            × (result.worker.ranks ≡ self.now.ranks) }
     {
         Place::first(&self.table.shared, &mut keeper.seat, self.input, self.ranks)
     }

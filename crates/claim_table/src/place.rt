@@ -27,14 +27,20 @@ impl<'t, 'p, A: Allocator + Copy> Place<'t, 'p, A> {
         requires seated { seat.old.table_id ≡ shared.now.table_id }
         requires reads { input.now ≡ shared.now.key.input.now }
         ensures keeper { (seat.new.table_id ≡ seat.old.table_id) × (seat.new.me ≡ seat.old.me) }
+        ensures at { (result.worker.shared ≡ shared.entry) × (result.worker.input ≡ input.entry) × (result.worker.ranks ≡ ranks) }
     {
         Place {
             worker: Worker::first(shared, seat, input, ranks),
         }
     }
 
-    /// A place for another worker.
-    pub fn another(&mut self) -> Place<'t, 'p, A> {
+    /// A place for another worker, at the same table. This place stays as it was.
+    pub fn another(&mut self) -> Place<'t, 'p, A>
+        ensures at { (result.worker.shared ≡ self.old.worker.shared) × (result.worker.input ≡ self.old.worker.input)
+            × (result.worker.ranks ≡ self.old.worker.ranks) }
+        ensures same { (self.new.worker.shared ≡ self.old.worker.shared) × (self.new.worker.input ≡ self.old.worker.input)
+            × (self.new.worker.ranks ≡ self.old.worker.ranks) }
+    {
         Place {
             worker: self.worker.another(),
         }

@@ -98,6 +98,7 @@ impl<'t, 'p, A: Allocator + Copy> Worker<'t, 'p, A> {
         requires reads { input.now ≡ shared.now.key.input.now }
         ensures keeper { (seat.new.table_id ≡ seat.old.table_id) × (seat.new.me ≡ seat.old.me) }
         ensures worker { result.seat.me ≡ (view_away, []) }
+        ensures at { (result.shared ≡ shared.entry) × (result.input ≡ input.entry) × (result.ranks ≡ ranks) }
     {
         let worker = shared.split_seat::<Hire>(seat);
         Worker {
@@ -108,10 +109,12 @@ impl<'t, 'p, A: Allocator + Copy> Worker<'t, 'p, A> {
         }
     }
 
-    /// Another worker.
+    /// Another worker at the same table.
     pub(crate) fn another(&mut self) -> Worker<'t, 'p, A>
-        ensures this { self.new.seat.me ≡ self.old.seat.me }
+        ensures this { (self.new.seat.me ≡ self.old.seat.me) × (self.new.shared ≡ self.old.shared)
+            × (self.new.input ≡ self.old.input) × (self.new.ranks ≡ self.old.ranks) }
         ensures that { result.seat.me ≡ (view_away, []) }
+        ensures at { (result.shared ≡ self.old.shared) × (result.input ≡ self.old.input) × (result.ranks ≡ self.old.ranks) }
     {
         let seat = self.shared.split_seat::<Hire>(&mut self.seat);
         Worker {

@@ -1,5 +1,6 @@
 pub mod Added
 pub mod Compared
+pub mod Inside
 pub mod Merged
 pub mod Orders
 pub mod Requested

@@ -1,6 +1,6 @@
 -- What lands in one order of some landings, and in another.
 use Rattle.std.proofs.Common.{◌≡◌, ℕ, suc, ◌<◌, ◌==◌, ◌&&◌, inl, inr, Bool, true, false, cond, List, [], ◌∷◌, ◌++◌, length, get_or, map, reverse, refl, sym, ap, ap₂, subst, ◌∙◌, arith, Option, Some, None}
-use Rattle.std.specs.Prelude.{◌≢◌, All, Contains, IsTrue, find, filter}
+use Rattle.std.specs.Prelude.{◌≢◌, All, Contains, IsTrue, find, filter, option_map, slice_get}
 use Rattle.std.specs.List.{range_with_len, remove}
 use Rattle.std.specs.Option.{option_or, option_map_or}
 use Rattle.std.proofs.lemmas.Bool.{cases_eq, both_ways}
@@ -9,13 +9,15 @@ use Rattle.std.proofs.lemmas.List.Elements.{All-nil, All-cons, All-contains, fil
 use Rattle.std.proofs.lemmas.List.Folds.{find-append}
 use Rattle.std.proofs.lemmas.List.FromFn.{get_or-map-range_with_len}
 use Rattle.std.proofs.lemmas.List.Sorted.{Contains-permutation, IsPermutation-sym, IsPermutation-trans, IsPermutation-remove, IsPermutation-to_front}
+use Rattle.std.proofs.lemmas.Option.{slice_get-map}
 use Rattle.node_memory.specs.Bytes.{byte_at}
 use Rattle.node_core.specs.Hart.{with_memory}
 use Rattle.node_core.specs.Node.{NodeState}
 use Rattle.node_core.specs.Turn.{next_superstep}
-use Rattle.bsp_exchange.specs.Exchange.{exchanged}
-use Rattle.bsp_exchange.specs.Landings.{Landing, covers, landing_byte, landed_byte, landings}
+use Rattle.bsp_exchange.specs.Exchange.{AreAtSync, exchanged}
+use Rattle.bsp_exchange.specs.Landings.{Landing, covers, landing_byte, landed_byte, landings, memory_of}
 use Rattle.bsp_exchange.specs.Queues.{queue_after}
+use Rattle.bsp_exchange.proofs.Landed.{rank_is}
 use Rattle.contested_bytes.specs.Contested.{reaches, IsContested, IsSettled, AreSettled, IsAllowedOrder, memory_in, exchanged_node_in, exchanged_in}
 
 -- those of some landings that come into the memory of a rank
@@ -128,15 +130,22 @@ byte_of_last all l place rank addr memory within reached =
     byte_after (with_last all l place) rank addr memory within
     ∙ ap (λ o. option_map_or (landing_byte addr) o (byte_at memory addr)) (last_counts all l place rank addr reached)
 
+-- each landing is the last in some order
+pub last_byte : (all : List Landing) (l : Landing) (rank addr : ℕ) (memory : List ℕ) → Contains all l → IsTrue (reaches rank addr l) → addr < length memory → (order : List Landing) × IsAllowedOrder all order × (byte_at (memory_in order rank memory) addr ≡ landing_byte addr l)
+last_byte all l rank addr memory there reached within =
+    (with_last all l there.0, last_allowed all l there.0 there.1 there.2, byte_of_last all l there.0 rank addr memory within reached)
+
 pub contested_byte : (all : List Landing) (rank addr : ℕ) (memory : List ℕ) → IsContested all rank addr → addr < length memory → (one two : List Landing) × IsAllowedOrder all one × IsAllowedOrder all two × (byte_at (memory_in one rank memory) addr ≢ byte_at (memory_in two rank memory) addr)
 contested_byte all rank addr memory contested within =
-    let a = contested.0 in
-    let b = contested.1 in
-    let first = contested.2 in
-    let second = contested.3 in (
-      with_last all a first.0,
-      with_last all b second.0,
-      last_allowed all a first.0 first.1 first.2,
-      last_allowed all b second.0 second.1 second.2,
-      λ same. contested.4.bytes (sym (byte_of_last all a first.0 rank addr memory within contested.4.first) ∙ same ∙ byte_of_last all b second.0 rank addr memory within contested.4.second),
-    )
+    let first = last_byte all contested.0 rank addr memory contested.2 contested.4.first within in
+    let second = last_byte all contested.1 rank addr memory contested.3 contested.4.second within in
+    (first.0, second.0, first.1, second.1, λ same. contested.4.bytes (sym first.2 ∙ same ∙ second.2))
+
+-- the memory of a rank's node after an exchange
+pub memory_exchanged : (order : List Landing) (nodes : List NodeState) (rank : ℕ) → AreAtSync nodes → memory_of (exchanged_in order nodes) rank ≡ memory_in order rank (memory_of nodes rank)
+memory_exchanged order nodes rank row =
+    ap (λ (o : Option NodeState). option_map_or (λ (n : NodeState). n.hart.memory) o []) (slice_get-map (exchanged_node_in order nodes) nodes rank) ∙ by (slice_get nodes rank) refl
+  where
+    by : (o : Option NodeState) → slice_get nodes rank ≡ o → option_map_or (λ (n : NodeState). n.hart.memory) (option_map (exchanged_node_in order nodes) o) [] ≡ memory_in order rank (option_map_or (λ (n : NodeState). n.hart.memory) o [])
+    by None none = refl
+    by (Some n) is = ap (λ (r : ℕ). memory_in order r n.hart.memory) (rank_is nodes row rank n is)

@@ -108,18 +108,18 @@ gathered-nodes nodes ps i all past =
 
 -- ---- they are the landings of the superstep
 
-contains-cons : {X : Type 0} (x : X) (xs : List X) (y : X) → Contains xs y → Contains (x ∷ xs) y
+pub contains-cons : {X : Type 0} (x : X) (xs : List X) (y : X) → Contains xs y → Contains (x ∷ xs) y
 contains-cons x xs y there = (suc there.0, omega (arith, there.1), there.2)
 
-contains-head : {X : Type 0} (x : X) (xs : List X) → Contains (x ∷ xs) x
+pub contains-head : {X : Type 0} (x : X) (xs : List X) → Contains (x ∷ xs) x
 contains-head x xs = (0, omega arith, refl)
 
-contains-split : {X : Type 0} (x : X) (xs : List X) (y : X) → Contains (x ∷ xs) y → (x ≡ y) ⊎ Contains xs y
+pub contains-split : {X : Type 0} (x : X) (xs : List X) (y : X) → Contains (x ∷ xs) y → (x ≡ y) ⊎ Contains xs y
 contains-split x xs y (zero, within, is) = inl is
 contains-split x xs y (suc k, within, is) = inr (k, omega (arith, within), is)
 
 -- what one of some elements is mapped to
-abbrev IsPicked : {X Y : Type 0} → (X → Option Y) → List X → Y → Type 0
+abbrev pub IsPicked : {X Y : Type 0} → (X → Option Y) → List X → Y → Type 0
 IsPicked {X} f xs y = (x : X) × Contains xs x × (f x ≡ Some y)
 
 picked-head : {X Y : Type 0} (f : X → Option Y) (x : X) (xs : List X) (rest : List Y) (y : Y) (o : Option Y) → f x ≡ o → (Contains rest y → IsPicked f xs y) → Contains (cons_option o rest) y → IsPicked f (x ∷ xs) y
@@ -150,7 +150,7 @@ of_get nodes i = landing_of_get nodes i.rank i.issue i.request
 abbrev of_put : List NodeState → Issued → Option Landing
 of_put nodes i = landing_of_put nodes i.rank i.issue i.request
 
-abbrev of_any : List NodeState → Issued → Option Landing
+abbrev pub of_any : List NodeState → Issued → Option Landing
 of_any nodes i = landing_of nodes i.rank i.issue i.request
 
 either-kind : (nodes : List NodeState) (caller issue : ℕ) (l : Landing) (r : Asked) → landing_of nodes caller issue r ≡ Some l → (landing_of_get nodes caller issue r ≡ Some l) ⊎ (landing_of_put nodes caller issue r ≡ Some l)
@@ -178,15 +178,21 @@ contains_landings nodes l there =
       | inr put ↦ Contains-append_right gets puts l (picked-back (of_put nodes) (issued nodes) found.0 l found.1 put)
     ]
 
-pub contains_gathered : (nodes : List NodeState) (l : Landing) → Contains (landings nodes) l → Contains (landings_of nodes (issued nodes)) l
-contains_gathered nodes l there =
+-- what lands was asked for by one of the requests
+pub request_of : (nodes : List NodeState) (l : Landing) → Contains (landings nodes) l → IsPicked (of_any nodes) (issued nodes) l
+request_of nodes l there =
     let gets = filter_map (of_get nodes) (issued nodes) in
     let puts = filter_map (of_put nodes) (issued nodes) in
     elim (Contains-append_cases gets puts l there) [
       | inl get ↦
           let found = picked-there (of_get nodes) (issued nodes) l get in
-          picked-back (of_any nodes) (issued nodes) found.0 l found.1 (get-kind nodes found.0.rank found.0.issue l found.0.request found.2)
+          (found.0, found.1, get-kind nodes found.0.rank found.0.issue l found.0.request found.2)
       | inr put ↦
           let found = picked-there (of_put nodes) (issued nodes) l put in
-          picked-back (of_any nodes) (issued nodes) found.0 l found.1 (put-kind nodes found.0.rank found.0.issue l found.0.request found.2)
+          (found.0, found.1, put-kind nodes found.0.rank found.0.issue l found.0.request found.2)
     ]
+
+pub contains_gathered : (nodes : List NodeState) (l : Landing) → Contains (landings nodes) l → Contains (landings_of nodes (issued nodes)) l
+contains_gathered nodes l there =
+    let found = request_of nodes l there in
+    picked-back (of_any nodes) (issued nodes) found.0 l found.1 found.2

@@ -1,13 +1,14 @@
 -- Which bytes rest on an order that BSPlib leaves open (Hill and others 1998: `bsp_put`, `bsp_get` and `bsp_sync`). The buffered calls take
 -- effect at the end of the superstep: all gets read before anything is written. In which order puts write, and gets what they
 -- read, is not defined where they overlap, whoever asked for them: neither for two requests of one process, nor for a put and a get. So
--- each order of what lands is allowed. That a put or a get lands as a whole, with no other between its bytes, is no loss: a byte is that
--- of one landing in any case.
-use Rattle.std.specs.Prelude.{◌≢◌, ℕ, ◌==◌, Bool, ◌&&◌, IsTrue, IsPermutation, List, map, filter, Contains}
+-- each order of what lands is allowed. A put or a get lands as a whole here, with no other between its bytes. A library may mix the bytes
+-- of two; then each byte is still that of one landing.
+use Rattle.std.specs.Prelude.{◌≡◌, ◌≢◌, ℕ, ◌==◌, Bool, ◌&&◌, IsTrue, IsPermutation, List, map, filter, Contains}
+use Rattle.node_memory.specs.Bytes.{byte_at}
 use Rattle.node_core.specs.Hart.{with_memory}
 use Rattle.node_core.specs.Node.{NodeState}
 use Rattle.node_core.specs.Turn.{next_superstep}
-use Rattle.bsp_exchange.specs.Landings.{Landing, covers, landing_byte, memory_after}
+use Rattle.bsp_exchange.specs.Landings.{Landing, covers, landing_byte, landings, memory_after, memory_of}
 use Rattle.bsp_exchange.specs.Queues.{queue_after}
 
 -- a landing brings a byte to an address of a rank's memory
@@ -47,3 +48,8 @@ exchanged_node_in order nodes n =
 
 abbrev pub exchanged_in : List Landing → List NodeState → List NodeState
 exchanged_in order nodes = map (exchanged_node_in order nodes) nodes
+
+-- a byte may lie at an address of a rank's memory after the exchange among nodes: it does so in one of the orders that BSPlib allows
+abbrev pub MayLie : List NodeState → ℕ → ℕ → ℕ → Type 0
+MayLie nodes rank addr byte =
+    (order : List Landing) × IsAllowedOrder (landings nodes) order × (byte_at (memory_of (exchanged_in order nodes) rank) addr ≡ byte)

@@ -1,4 +1,4 @@
--- Five landings, from the puts of three ranks and a get of rank 1, all of them in the memory of rank 1.
+-- Five landings, from puts of ranks 0 and 2 and a get of rank 1, all of them in the memory of rank 1.
 use Rattle.std.specs.Prelude.{[], ◌∷◌}
 use Rattle.bsp_exchange.specs.Landings.{Landing, get_key, put_key}
 

@@ -14,8 +14,8 @@
 //!   one memory is a settled byte.
 //! - Each names two requests that bring its first byte, by their kind, their callers and their numbers, and the two different bytes that
 //!   they bring.
-//! - [`laws`]: where no byte is contested, each order that BSPlib allows leaves the same nodes. Where one is, two of these orders differ
-//!   in it.
+//! - [`laws`]: where no byte is contested, each order that BSPlib allows leaves the same nodes. Where one is, it lies in the memory of a
+//!   node, and two of these orders differ in it: after the exchange each of the two bytes that a range names may lie there.
 //! - The order of messages in a queue, which BSPlib leaves open too, is not looked at.
 //!
 //! Of two requests of one caller that overlap, BSPlib does not say either which one is the later; so they count as any others.

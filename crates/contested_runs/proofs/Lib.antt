@@ -1,3 +1,4 @@
+pub mod Differing
 pub mod Rest
 pub mod Settled
 pub mod Turns

@@ -1,45 +1,20 @@
 -- The turn of a machine none of whose nodes runs, and its lines.
-use Rattle.std.proofs.Common.{◌≡◌, ℕ, ◌+◌, ◌<◌, ◌≤◌, true, false, List, [], ◌∷◌, ◌++◌, length, take, Option, Some, None, refl, sym, ap, subst, ◌∙◌, arith, append_assoc, append-nil}
-use Rattle.std.specs.Prelude.{flat_map, get_or, if◌then◌else◌, is_none, option_map}
+use Rattle.std.proofs.Common.{◌≡◌, ℕ, ◌+◌, ◌<◌, ◌≤◌, true, false, List, [], ◌∷◌, ◌++◌, length, take, refl, sym, ap, subst, ◌∙◌, arith, append_assoc, append-nil}
+use Rattle.std.specs.Prelude.{flat_map, get_or, if◌then◌else◌}
 use Rattle.std.proofs.lemmas.Grind.{flat_map-append}
 use Rattle.std.proofs.lemmas.List.{take_more, take_all}
-use Rattle.node_core.specs.Node.{NodeState}
-use Rattle.bsp_exchange.specs.Exchange.{AreAtSync}
-use Rattle.bsp_exchange.specs.Faults.{exchange_fault}
 use Rattle.bsp_exchange.specs.Landings.{Landing, landings}
 use Rattle.contested_bytes.specs.declared.range.ContestedRange.{ContestedRange}
-use Rattle.machine_core.specs.declared.event.Event.TheVariants.{Turn}
-use Rattle.machine_core.specs.declared.outcome.Outcome.TheVariants.{Refused}
-use Rattle.machine_core.specs.Events.{is_enabled}
 use Rattle.machine_core.specs.Machine.{MachineState}
-use Rattle.machine_core.specs.Sound.{IsSoundMachine}
-use Rattle.machine_core.specs.Turn.{has_ended, is_waiting, lowest, makes_exchange, outcome_of, outcome_unstopped, stopped_by, was_stopped}
-use Rattle.machine_core.proofs.Options.{option_map_none, option_or_none}
-use Rattle.machine_core.proofs.Sound.{AreAtSync-from, turn_stopped}
+use Rattle.machine_core.specs.Turn.{makes_exchange}
 use Rattle.contested_runs.specs.Lines.{range_line, range_lines}
 use Rattle.contested_runs.specs.Runs.{AreContestedRanges, AreTurnLines, landings_of}
 
-none_is : {X : Type 0} (o : Option X) → is_none o ≡ true → o ≡ None
-none_is None none = refl
-none_is (Some x) none = absurd cc
-
-unstopped-none : (ended waiting : Option NodeState) (nodes : List NodeState) → outcome_unstopped ended waiting nodes ≡ None → (ended ≡ None) × (exchange_fault nodes ≡ None)
-unstopped-none None waiting nodes none = (refl, option_map_none Refused (exchange_fault nodes) none)
-unstopped-none (Some e) None nodes none = absurd cc
-unstopped-none (Some e) (Some w) nodes none = absurd cc
-
 module _ (m : MachineState) where
-  -- a turn that makes the exchange finds nodes at sync, and no fault
-  pub at-sync : IsSoundMachine m → is_enabled m Turn ≡ true → makes_exchange m.nodes ≡ true → AreAtSync m.nodes × (exchange_fault m.nodes ≡ None)
-  at-sync sound enabled makes =
-      let parts = option_or_none (option_map stopped_by (lowest was_stopped m.nodes)) (outcome_unstopped (lowest has_ended m.nodes) (lowest is_waiting m.nodes) m.nodes) (none_is (outcome_of m.nodes) makes) in
-      let unstopped = unstopped-none (lowest has_ended m.nodes) (lowest is_waiting m.nodes) m.nodes parts.1 in
-      (AreAtSync-from m sound (turn_stopped m enabled) (option_map_none stopped_by (lowest was_stopped m.nodes) parts.0) unstopped.0, unstopped.1)
-
-  landings-made : makes_exchange m.nodes ≡ true → landings_of m ≡ landings m.nodes
+  pub landings-made : makes_exchange m.nodes ≡ true → landings_of m ≡ landings m.nodes
   landings-made makes = ap (λ b. if b then landings m.nodes else []) makes
 
-  landings-none : makes_exchange m.nodes ≡ false → landings_of m ≡ []
+  pub landings-none : makes_exchange m.nodes ≡ false → landings_of m ≡ []
   landings-none none = ap (λ b. if b then landings m.nodes else []) none
 
   -- its lines

@@ -1,6 +1,6 @@
 //! The lines of one turn.
 
-ghost use Rattle.std.specs.Prelude.{◌≡◌, ◌++◌, ℕ, List, OnOk, string_bytes, true};
+ghost use Rattle.std.specs.Prelude.{◌≡◌, ◌++◌, IfOk, OnOk, string_bytes, true};
 ghost use Rattle.machine_core.specs.declared.event.Event.TheVariants.{Turn as the_turn};
 ghost use Rattle.machine_core.specs.Events.{is_enabled};
 ghost use Rattle.machine_core.specs.Sound.{IsSoundMachine};
@@ -12,25 +12,24 @@ use contested_bytes::{ContestedRange, contested_ranges};
 use machine_core::Machine;
 use std::alloc::{AllocError, Allocator};
 
-/// Appends the lines of the contested bytes of the turn that a machine is about to make.
+/// The lines of the contested bytes of the turn that a machine is about to make.
 ///
 /// # Errors
 /// Where memory is refused.
-pub(crate) fn write_turn<A: Allocator + Copy>(
+pub(crate) fn turn_lines<A: Allocator + Copy>(
     alloc: A,
     machine: &Machine<A>,
-    text: &mut String<A>,
-) -> Result<(), AllocError>
+) -> Result<String<A>, AllocError>
     requires sound { IsSoundMachine machine.now }
     requires enabled { is_enabled machine.now the_turn ≡ true }
-    ensures { OnOk result ((lines : List ℕ) × AreTurnLines machine.now lines
-        × (string_bytes text.new ≡ string_bytes text.old ++ lines)) }
+    ensures { IfOk result (λ text. AreTurnLines machine.now (string_bytes text)) }
 {
+    let mut text = String::new(alloc);
     if machine.makes_exchange() {
         let found = contested_ranges(alloc, machine.nodes())?;
-        write_ranges(machine.superstep(), &found, text)?;
+        write_ranges(machine.superstep(), &found, &mut text)?;
     }
-    Ok(())
+    Ok(text)
 }
 
 /// Appends the lines of ranges of a superstep.

@@ -1,5 +1,5 @@
 -- The state of the unit of floating point: f0 to f31 and fcsr (RISC-V Unprivileged ISA 20191213, sections 11.1, 11.2, 12.1 and 12.2).
-use Rattle.std.specs.Prelude.{◌≡◌, ℕ, ◌+◌, ◌*◌, ◌/◌, ◌%◌, ◌^◌, ◌<◌, List, length, replicate, slice_index, slice_set}
+use Rattle.std.specs.Prelude.{◌≡◌, ℕ, ◌+◌, ◌*◌, ◌/◌, ◌%◌, ◌^◌, ◌<◌, List, length, All, replicate, slice_index, slice_set}
 use Rattle.rv_floats.specs.Conversions.{boxed, unboxed}
 use Rattle.rv_float_flags.specs.declared.flags.Flags.{Flags}
 use Rattle.rv_float_flags.specs.Flags.{no_flags, accrued, flag_bits, flags_of_bits}
@@ -18,9 +18,10 @@ pub record FloatState : Type 0 where
 abbrev pub start : FloatState
 start = record { registers = replicate 32 0; frm = 0; flags = no_flags }
 
--- what a state has: 32 registers, and three bits of a mode
+-- what a state has: 32 registers, each of 64 bits, and three bits of a mode
 pub record IsState (u : FloatState) : Type 0 where
   pub thirty_two : length u.registers ≡ 32
+  pub wide : All (λ a. a < 2 ^ 64) u.registers
   pub three_bits : u.frm < 2 ^ 3
 
 -- the operand of a format in a register: a single that is not boxed is the canonical NaN (section 12.2)

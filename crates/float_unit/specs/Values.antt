@@ -43,7 +43,7 @@ ieee Double = binary64
 -- ---- arithmetic in a rounding mode
 
 -- To the nearest, ties to even, the value is that of `lib.Ieee`, and the flags are those of `rv_float_flags`. In another mode both are
--- those of `rv_float_modes`. By laws there its own definitions to the nearest, ties to even, are no others (of roots, their values).
+-- those of `rv_float_modes`. By laws there its own definitions to the nearest, ties to even, are no others.
 abbrev pub by_mode : Rounding → (bits : ℕ) → Flags → (otherwise : Rounded) → Rounded
 by_mode NearestEven bits flags otherwise = record { bits = bits; flags = flags }
 by_mode TowardZero bits flags otherwise = otherwise

@@ -439,7 +439,7 @@ static ROWS: [Row; 10] = [
         name: "contested_session",
         kind: Contests,
         format: Format::Raw,
-        requests: 110,
+        requests: 119,
     },
     Row {
         name: "debug_session",

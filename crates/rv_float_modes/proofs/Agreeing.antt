@@ -1,6 +1,7 @@
 -- To the nearest, ties to even, an operation here is the library's, and its flags are those of `rv_float_flags`.
 use Rattle.std.proofs.Common.{◌≡◌, ℕ, zero, suc, ◌+◌, ◌-◌, ◌*◌, ◌/◌, ◌%◌, ◌^◌, ◌<◌, ◌≤◌, Bool, true, false, cond, not, ◌&&◌, ◌||◌, if◌then◌else◌, nat_lt, sym, ap, ◌∙◌, refl, arith, inl, inr}
 use Rattle.std.proofs.Math.Nat.{mul-pos, zero-add, zero-mul}
+use Rattle.std.proofs.lemmas.Nat.{pow_pos}
 use Rattle.std.proofs.lemmas.Bool.{cases_Bool, le-ltb, ltb-false, ltb-true, ne_eqb, true≢false}
 use Rattle.std.specs.Float.{float_is_finite, float_is_infinite, float_mul_add, is_sign_negative, round_to_format}
 use Rattle.std.specs.Int.{abs_diff}
@@ -11,18 +12,20 @@ use Rattle.rv_floats.specs.declared.rounding.Rounding.TheVariants.{NearestEven}
 use Rattle.rv_float_flags.specs.Conversions.{exact_word, narrowing_flags}
 use Rattle.rv_float_flags.specs.Exact.{Ratio, combined, exact_fused, exact_product, exact_quotient, exact_sum, exact_value}
 use Rattle.rv_float_flags.specs.Flags.{divided_by_zero, invalid, invalid_if, no_flags, rounding_flags}
-use Rattle.rv_float_flags.specs.Operations.{add_flags, any_signaling, div_flags, fused_flags, is_division_by_zero, is_invalid_fused, is_invalid_product, is_invalid_quotient, is_invalid_sum, is_zero, mul_flags, multiply_add_flags, multiply_subtract_flags, negated_multiply_add_flags, negated_multiply_subtract_flags, product_flags, quotient_flags, sqrt_flags, sub_flags, sum_flags}
+use Rattle.rv_float_flags.specs.Operations.{add_flags, any_signaling, div_flags, fused_flags, is_division_by_zero, is_invalid_fused, is_invalid_product, is_invalid_quotient, is_invalid_sum, is_zero, mul_flags, multiply_add_flags, multiply_subtract_flags, negated_multiply_add_flags, negated_multiply_subtract_flags, product_flags, quotient_flags, root_flags, sqrt_flags, sub_flags, sum_flags}
 use Rattle.rv_float_flags.specs.declared.flags.Flags.{Flags}
 use Rattle.rv_float_modes.specs.Modes.{bounded, rounding_flags_in, rounding_in, unbounded}
 use Rattle.rv_float_modes.specs.Operations.{add_in, div_in, either, exact_root, fused_in, is_nonzero, mul_in, multiply_add_in, multiply_subtract_in, narrowed_in, negated_multiply_add_in, negated_multiply_subtract_in, product_in, quotient_in, sign_of_sum, sqrt_in, sub_in, sum_in, word_in}
 use Rattle.rv_float_modes.specs.declared.rounded.Rounded.{Rounded}
 use Rattle.rv_float_modes.proofs.Nearest.{nearest_even}
 use Rattle.rv_float_modes.proofs.NearestFlags.{same_flags}
+use Rattle.rv_float_modes.proofs.RootFlags.{root_flags_are}
 use Rattle.rv_float_modes.proofs.Roundings.{pair}
 use Rattle.rv_float_modes.proofs.Sums.{negated_finite}
 use lib.Dec.{eqb}
 use lib.IntN.{ℤ, pos, negsuc}
 use lib.Ieee.{Float, Format, nan, inf, fin, add, binary32, binary64, div, down, emax, eq, hid, is_nan, low, mul, neg, odd, of_bits, of_int, prec, round, sqrt, sub, sum, to_bits, top, units, unlike, up}
+use lib.Ieee.Bits.{of_bits-fits}
 use lib.Ieee.Fits.{round_is}
 use lib.Ieee.Positive.{den, den_pos, num}
 
@@ -332,7 +335,7 @@ word_is (negsuc n) = refl
 pub word_agrees : (n : ℤ) → word_in NearestEven n ≡ pair (to_bits binary32 (of_int binary32 n)) (rounding_flags binary32 (exact_word n))
 word_agrees n = agrees binary32 _ (exact_word n) (of_int binary32 n) (rounding_flags binary32 (exact_word n)) (omega arith) (word_is n) refl
 
--- ---- roots: the result
+-- ---- roots
 
 root_is : (f : Format) (x : Float) → (is_nonzero x && not (is_sign_negative x)) ≡ true → sqrt f x ≡ round f false (exact_root x).numerator (exact_root x).denominator
 unfolding sqrt float_is_finite is_sign_negative
@@ -342,10 +345,19 @@ root_is f (fin s zero e) h = absurd (let p : 0 < 0 * up e = ltb-true 0 (0 * up e
 root_is f (fin true (suc m) e) h = absurd (true≢false (sym (both _ _ h).1))
 root_is f (fin false (suc m) e) h = refl
 
-root_by : (f : Format) (x : Float) (g : Flags) (c : Bool) → (c ≡ true → sqrt f x ≡ round f false (exact_root x).numerator (exact_root x).denominator)
-    → (either c (rounding_in NearestEven false f (exact_root x)) (to_bits f (sqrt f x)) g).bits ≡ to_bits f (sqrt f x)
-root_by f x g true h = nearest_even f (exact_root x) ∙ ap (λ (v : Float). to_bits f v) (sym (h refl))
-root_by f x g false h = refl
+is_not : (b : Bool) → not b ≡ true → b ≡ false
+is_not true h = sym h
+is_not false h = refl
 
-pub root_agrees : (f : Format) (a : ℕ) → (sqrt_in NearestEven f a).bits ≡ to_bits f (sqrt f (of_bits f a))
-root_agrees f a = root_by f (of_bits f a) (sqrt_flags f a) _ (λ h. root_is f (of_bits f a) h)
+pub root_agrees : (f : Format) (a : ℕ) → sqrt_in NearestEven f a ≡ pair (to_bits f (sqrt f (of_bits f a))) (sqrt_flags f a)
+root_agrees f a =
+    let x = of_bits f a in
+    let r = exact_root x in
+    by_finite _ (rounding_in NearestEven false f r) (to_bits f (sqrt f x)) (sqrt_flags f a)
+    (λ c.
+    let h = both _ _ c in
+    let i = both _ _ h.0 in
+    let e = root_is f x c in
+    agrees f false r (sqrt f x) (sqrt_flags f a) (pow_pos 2272) e
+    (quiet _ (root_flags f x) (no_signal f a i.0)
+    ∙ sym (root_flags_are f x (of_bits-fits f a) i.0 (ltb-true 0 (num x) i.1) (is_not _ h.1) e)))

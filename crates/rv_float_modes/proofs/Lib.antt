@@ -6,6 +6,7 @@ pub mod Narrow
 pub mod Nearest
 pub mod NearestFlags
 pub mod Quotients
+pub mod RootFlags
 pub mod Roots
 pub mod Roundings
 pub mod Sums

@@ -11,7 +11,7 @@ use Rattle.rv_float_modes.specs.Operations.{add_in, div_in, either, exact_root, 
 use mathlib.Core.Bool.{beq}
 use lib.Dec.{T}
 use lib.IntN.{ℤ}
-use lib.Ieee.{Float, Format, nan, inf, fin, add, binary32, div, down, fits, mul, of_bits, round, sqrt, sub, sum, to_bits, unlike, up}
+use lib.Ieee.{Float, Format, nan, inf, fin, binary32, down, fits, mul, of_bits, round, sqrt, sum, to_bits, unlike, up}
 use lib.Ieee.Bits.{to_bits-lt}
 use lib.Ieee.Fits.{add-fits, cond-fits, div-fits, inf-fits, mul-fits, nan-fits, round-fits, sqrt-fits, sub-fits}
 

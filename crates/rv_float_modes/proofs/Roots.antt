@@ -58,13 +58,13 @@ root_narrow d h = omega (arith, h)
 
 -- ---- the whole part of the root of N = S * c ^ 2, by that of S
 
-squares : (a b : ℕ) → a * a ≤ b * b → a ≤ b
+pub squares : (a b : ℕ) → a * a ≤ b * b → a ≤ b
 squares a b h = elim (cases_lt b a) [
   | inr g ↦ g
   | inl g ↦ let k : b + 1 ≤ a = omega (arith, g) in let m : (b + 1) * (b + 1) ≤ a * a = mul-le-mul k k in absurd (omega (arith, m, h))
 ]
 
-squares_lt : (a b : ℕ) → a * a < b * b → a < b
+pub squares_lt : (a b : ℕ) → a * a < b * b → a < b
 squares_lt a b h = elim (cases_lt a b) [ inl g ↦ g | inr g ↦ let m : b * b ≤ a * a = mul-le-mul g g in absurd (omega (arith, m, h)) ]
 
 at_least : (S d c R : ℕ) → d * d ≤ S → S * (c * c) < (R + 1) * (R + 1) → d * c ≤ R
@@ -84,11 +84,11 @@ same_root S d c R e h l =
     let k : R ≤ d * c = squares R (d * c) (omega (arith, m, l)) in
     omega (arith, h, k)
 
-twice_is : (N : ℕ) → root_twice N ≡ 2 * root_below (size N) N + cond (nat_eq (root_below (size N) N * root_below (size N) N) N) 0 1
+pub twice_is : (N : ℕ) → root_twice N ≡ 2 * root_below (size N) N + cond (nat_eq (root_below (size N) N * root_below (size N) N) N) 0 1
 unfolding root_twice
 twice_is N = refl
 
-one_more : (b : Bool) → cond b 0 1 ≤ 1
+pub one_more : (b : Bool) → cond b 0 1 ≤ 1
 one_more true = omega arith
 one_more false = omega arith
 

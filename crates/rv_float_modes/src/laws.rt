@@ -28,8 +28,8 @@ pub fn the_truncated_pattern_is_the_largest()
         × (r.numerator * 2 ^ low f < size_of f (truncated f r + 1) * r.denominator) }
 {}
 
-/// To the nearest, ties to even, sums, products, quotients and conversions are the library's, with the flags of `rv_float_flags`, and so are
-/// the results of square roots.
+/// To the nearest, ties to even, sums, products, quotients, square roots and conversions are the library's, with the flags of
+/// `rv_float_flags`.
 pub fn to_the_nearest_operations_are_the_librarys()
     ensures add { (f : Format) (a b : ℕ) → Operations.add_in NearestEven f a b
         ≡ record { bits = to_bits f (add f (of_bits f a) (of_bits f b)); flags = Flags.add_flags f a b } }
@@ -54,5 +54,6 @@ pub fn to_the_nearest_operations_are_the_librarys()
         ≡ record { bits = to_bits binary32 (round_to_format binary32 (of_bits binary64 a)); flags = narrowing_flags a } }
     ensures word { (n : ℤ) → Operations.word_in NearestEven n
         ≡ record { bits = to_bits binary32 (of_int binary32 n); flags = rounding_flags binary32 (exact_word n) } }
-    ensures root { (f : Format) (a : ℕ) → (Operations.sqrt_in NearestEven f a).bits ≡ to_bits f (sqrt f (of_bits f a)) }
+    ensures root { (f : Format) (a : ℕ) → Operations.sqrt_in NearestEven f a
+        ≡ record { bits = to_bits f (sqrt f (of_bits f a)); flags = Flags.sqrt_flags f a } }
 {}

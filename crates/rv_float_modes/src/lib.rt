@@ -7,8 +7,8 @@
 //!
 //! - [`add_in_d`] to [`negated_multiply_add_in_d`], and the same of singles, are these operations in a mode, with the flags that they raise.
 //! - [`d_to_s_in`], [`word_to_s_in`] and [`word_unsigned_to_s_in`] are the conversions to singles; those to doubles are exact.
-//! - [`laws`] has what holds of all roundings: the truncated pattern is the largest one that is not above, and to the nearest, ties to
-//!   even, this is the library's rounding, with the flags of `rv_float_flags`.
+//! - [`laws`] has what holds of all roundings: the truncated pattern is not above and the next one is, and to the nearest, ties to
+//!   even, this is the library's rounding, with the flags of `rv_float_flags`, and so is each operation.
 //!
 //! No operation of the host is made where the operands are finite: the digits of the exact result, in numbers of 128 bits, are cut off
 //! where the format's end (`src/rounding.rt`).

@@ -1,9 +1,16 @@
-//! Whether nothing tells one node from another, for tests: all that a node's readers give is compared, byte by byte.
+//! Whether two nodes have equal records, for tests: what their readers give is compared, byte by byte.
 //!
-//! Pushes of the superstep have no reader: of these the kinds and the order are compared, and their areas once they are in effect.
+//! If the answer is that they have, the records are equal except for the most ticks that a node may make, and the addresses and sizes of
+//! this superstep's pushes and pops. The kinds and the order of these are compared, and their areas once they are in effect. Which pages are
+//! a node's own, and whether room is made, is not compared.
 #![tactic(auto)]
 
-use bsp_requests::{Inbox, Request, Requests};
+ghost use Rattle.std.specs.Prelude.{◌≡◌, length, slice_get, slice_index, IfOk, IsTrue, option_map};
+ghost use Rattle.bsp_requests.specs.Request.{asked};
+ghost use Rattle.bsp_slots.specs.Registrations.{HasSameShape};
+ghost use Rattle.same_nodes.specs.Same.{CommunicationLooksAlike, HartsLookAlike, LookAlike, OptionalUnitsLookAlike, RowsLookAlike, UnitsLookAlike};
+
+use bsp_requests::{Inbox, Message, Request, Requests};
 use bsp_slots::Slots;
 use float_unit::FloatUnit;
 use node_core::Node;
@@ -11,17 +18,20 @@ use node_memory::{Memory, ReadError};
 use rv_float_tables::FloatCsr;
 use std::alloc::Allocator;
 
-/// Whether nothing tells one node from another.
+/// Whether two nodes have equal records, as far as the crate's page says.
 ///
 /// # Errors
 /// Where there is no memory for a copy of the nodes' bytes.
-pub fn are_same<A: Allocator + Copy>(node: &Node<A>, other: &Node<A>) -> Result<bool, ReadError> {
-    let are_alike = have_same_harts(node, other)
-        && have_same_slots(node.slots(), other.slots())
-        && have_same_requests(node.requests(), other.requests())
-        && have_same_messages(node.inbox(), other.inbox())
-        && node.output() == other.output();
-    Ok(are_alike && have_same_bytes(node.memory(), other.memory())?)
+pub fn are_same<A: Allocator + Copy>(node: &Node<A>, other: &Node<A>) -> Result<bool, ReadError>
+    ensures { IfOk result (λ same. IsTrue same → LookAlike node.now.node other.now.node) }
+{
+    if !have_come_as_far(node, other)
+        || !have_same_harts(node, other)
+        || !have_same_communication(node, other)
+    {
+        return Ok(false);
+    }
+    have_same_bytes(node.memory(), other.memory())
 }
 
 /// Whether nothing tells the nodes of one row from those of another.
@@ -31,69 +41,150 @@ pub fn are_same<A: Allocator + Copy>(node: &Node<A>, other: &Node<A>) -> Result<
 pub fn are_same_rows<A: Allocator + Copy>(
     nodes: &[Node<A>],
     others: &[Node<A>],
-) -> Result<bool, ReadError> {
-    for (node, other) in nodes.iter().zip(others) {
-        if !are_same(node, other)? {
+) -> Result<bool, ReadError>
+    ensures { IfOk result (λ same. IsTrue same → RowsLookAlike nodes.now others.now) }
+{
+    if nodes.len() != others.len() {
+        return Ok(false);
+    }
+    for place in 0..nodes.len() {
+        if !are_same(&nodes[place], &others[place])? {
             return Ok(false);
         }
     }
-    Ok(nodes.len() == others.len())
+    Ok(true)
 }
 
-/// Whether two nodes have the same rank, registers, unit of floating point, pc, ticks, state, clock, place in the input and tag sizes.
-fn have_same_harts<A: Allocator>(node: &Node<A>, other: &Node<A>) -> bool {
+/// Whether two nodes have the same state, ticks and clock.
+fn have_come_as_far<A: Allocator>(node: &Node<A>, other: &Node<A>) -> bool
+    ensures state { IsTrue result → node.now.node.state ≡ other.now.node.state }
+    ensures ticks { IsTrue result → node.now.node.ticks ≡ other.now.node.ticks }
+    ensures clock { IsTrue result → node.now.node.clock ≡ other.now.node.clock }
+{
+    node.state() == other.state() && node.ticks() == other.ticks() && node.clock() == other.clock()
+}
+
+/// Whether two nodes have the same rank, number of nodes, registers, pc, place in the input and unit of floating point.
+fn have_same_harts<A: Allocator>(node: &Node<A>, other: &Node<A>) -> bool
+    ensures { IsTrue result → HartsLookAlike node.now.node.hart other.now.node.hart }
+{
+    node.rank() == other.rank()
+        && node.nprocs() == other.nprocs()
+        && node.pc() == other.pc()
+        && node.cursor() == other.cursor()
+        && have_same_registers(node, other)
+        && have_same_optional_units(node.unit(), other.unit())
+}
+
+fn have_same_registers<A: Allocator>(node: &Node<A>, other: &Node<A>) -> bool
+    ensures { IsTrue result → node.now.node.hart.registers ≡ other.now.node.hart.registers }
+{
+    // That a node has 32 registers is among what these calls ensure.
+    let _memory = node.memory();
+    let _memory_of_other = other.memory();
     for n in 0..32u8 {
         if node.reg(n) != other.reg(n) {
             return false;
         }
     }
-    if !have_same_units(node.unit(), other.unit()) {
-        return false;
-    }
-    (node.rank(), node.nprocs(), node.pc(), node.ticks())
-        == (other.rank(), other.nprocs(), other.pc(), other.ticks())
-        && (node.state(), node.clock()) == (other.state(), other.clock())
-        && (node.cursor(), node.tag_size(), node.next_tag_size())
-            == (other.cursor(), other.tag_size(), other.next_tag_size())
+    true
 }
 
-fn have_same_units(unit: Option<&FloatUnit>, other: Option<&FloatUnit>) -> bool {
-    let (Some(unit), Some(other)) = (unit, other) else {
-        return unit.is_none() && other.is_none();
-    };
+fn have_same_optional_units(unit: Option<&FloatUnit>, other: Option<&FloatUnit>) -> bool
+    ensures { IsTrue result
+        → OptionalUnitsLookAlike (option_map (λ u. u.now) unit.entry) (option_map (λ u. u.now) other.entry) }
+{
+    match (unit, other) {
+        (None, None) => true,
+        (Some(unit), Some(other)) => have_same_units(unit, other),
+        _ => false,
+    }
+}
+
+fn have_same_units(unit: &FloatUnit, other: &FloatUnit) -> bool
+    ensures { IsTrue result → UnitsLookAlike unit.now other.now }
+{
     for r in 0..32u8 {
         if unit.register(r) != other.register(r) {
             return false;
         }
     }
-    unit.csr(FloatCsr::Fcsr) == other.csr(FloatCsr::Fcsr)
+    unit.csr(FloatCsr::Frm) == other.csr(FloatCsr::Frm)
+        && unit.csr(FloatCsr::Fflags) == other.csr(FloatCsr::Fflags)
 }
 
-fn have_same_slots<A: Allocator + Copy>(slots: &Slots<A>, others: &Slots<A>) -> bool {
+/// Whether two nodes have the same areas, requests, output, messages and tag sizes.
+fn have_same_communication<A: Allocator + Copy>(node: &Node<A>, other: &Node<A>) -> bool
+    ensures { IsTrue result → CommunicationLooksAlike node.now.node.hart other.now.node.hart }
+{
+    node.tag_size() == other.tag_size()
+        && node.next_tag_size() == other.next_tag_size()
+        && have_same_areas(node.slots(), other.slots())
+        && node.slots().same_shape(other.slots())
+        && have_same_requests(node.requests(), other.requests())
+        && have_same_messages(node.inbox(), other.inbox())
+}
+
+/// Whether two nodes have the same areas in effect.
+fn have_same_areas<A: Allocator + Copy>(slots: &Slots<A>, others: &Slots<A>) -> bool
+    ensures { IsTrue result → slots.now.registrations.in_effect ≡ others.now.registrations.in_effect }
+{
+    if slots.count() != others.count() {
+        return false;
+    }
     for slot in 0..slots.count() {
         if slots.area(slot) != others.area(slot) {
             return false;
         }
     }
-    slots.count() == others.count() && slots.same_shape(others)
+    true
 }
 
-fn have_same_requests<A: Allocator>(requests: &Requests<A>, others: &Requests<A>) -> bool {
-    for (request, other) in requests.as_slice().iter().zip(others.as_slice()) {
-        if !are_same_requests(request, other) {
+/// Whether two nodes ask the same of the exchange, and have the same output.
+fn have_same_requests<A: Allocator>(requests: &Requests<A>, others: &Requests<A>) -> bool
+    ensures { IsTrue result → requests.now ≡ others.now }
+{
+    if requests.len() != others.len() {
+        return false;
+    }
+    for place in 0..requests.len() {
+        if !have_same_request_at(requests, others, place) {
             return false;
         }
     }
-    requests.len() == others.len()
+    requests.output() == others.output()
 }
 
-fn are_same_requests<A: Allocator>(request: &Request<A>, other: &Request<A>) -> bool {
+fn have_same_request_at<A: Allocator>(
+    requests: &Requests<A>,
+    others: &Requests<A>,
+    place: usize,
+) -> bool
+    ensures { IsTrue result → slice_get requests.now.requests place ≡ slice_get others.now.requests place }
+{
+    match (requests.at(place), others.at(place)) {
+        (Some(request), Some(other)) => are_same_requests(request, other),
+        _ => false,
+    }
+}
+
+fn are_same_requests<A: Allocator>(request: &Request<A>, other: &Request<A>) -> bool
+    ensures { IsTrue result → asked request.now ≡ asked other.now }
+{
     match (request, other) {
         (Request::Put(put), Request::Put(other)) => {
-            (put.target, put.slot, put.offset) == (other.target, other.slot, other.offset)
+            put.target == other.target
+                && put.slot == other.slot
+                && put.offset == other.offset
                 && put.bytes.as_slice() == other.bytes.as_slice()
         }
-        (Request::Get(get), Request::Get(other)) => get == other,
+        (Request::Get(get), Request::Get(other)) => {
+            get.target == other.target
+                && get.slot == other.slot
+                && get.offset == other.offset
+                && get.dst == other.dst
+                && get.len == other.len
+        }
         (Request::Send(message), Request::Send(other)) => {
             message.target == other.target
                 && message.tag.as_slice() == other.tag.as_slice()
@@ -103,27 +194,48 @@ fn are_same_requests<A: Allocator>(request: &Request<A>, other: &Request<A>) -> 
     }
 }
 
-fn have_same_messages<A: Allocator>(inbox: &Inbox<A>, other: &Inbox<A>) -> bool {
+/// Whether two nodes have the same messages to read.
+fn have_same_messages<A: Allocator>(inbox: &Inbox<A>, other: &Inbox<A>) -> bool
+    ensures { IsTrue result → inbox.now ≡ other.now }
+{
+    if inbox.count() != other.count() {
+        return false;
+    }
     for place in 0..inbox.count() {
-        let are_alike = match (inbox.at(place), other.at(place)) {
-            (Some(message), Some(other)) => {
-                message.sender == other.sender
-                    && message.tag.as_slice() == other.tag.as_slice()
-                    && message.payload.as_slice() == other.payload.as_slice()
-            }
-            _ => false,
-        };
-        if !are_alike {
+        if !have_same_message_at(inbox, other, place) {
             return false;
         }
     }
-    inbox.count() == other.count()
+    true
 }
 
+fn have_same_message_at<A: Allocator>(inbox: &Inbox<A>, other: &Inbox<A>, place: usize) -> bool
+    ensures { IsTrue result → slice_get inbox.now place ≡ slice_get other.now place }
+{
+    match (inbox.at(place), other.at(place)) {
+        (Some(message), Some(other)) => are_same_messages(message, other),
+        _ => false,
+    }
+}
+
+fn are_same_messages<A: Allocator>(message: &Message<A>, other: &Message<A>) -> bool
+    ensures { IsTrue result → message.now ≡ other.now }
+{
+    message.sender == other.sender
+        && message.tag.as_slice() == other.tag.as_slice()
+        && message.payload.as_slice() == other.payload.as_slice()
+}
+
+/// Whether two memories have the same bytes.
+///
+/// # Errors
+/// Where there is no memory for a copy of the bytes.
 fn have_same_bytes<A: Allocator + Copy>(
     memory: &Memory<A>,
     other: &Memory<A>,
-) -> Result<bool, ReadError> {
+) -> Result<bool, ReadError>
+    ensures { IfOk result (λ same. IsTrue same → memory.now.bytes ≡ other.now.bytes) }
+{
     let bytes = memory.read_range(0, memory.size())?;
     let others = other.read_range(0, other.size())?;
     Ok(bytes.as_slice() == others.as_slice())

@@ -50,7 +50,7 @@ own-turned : (m : MachineState) → turned_in (landings m.nodes) m ≡ turned m
 unfolding turned
 own-turned m = own-decided (recorded m) (outcome_of m.nodes)
 
-own-superstep : (m : MachineState) → superstep_in (next_landings m) m ≡ superstep m
+pub own-superstep : (m : MachineState) → superstep_in (next_landings m) m ≡ superstep m
 unfolding superstep
 own-superstep m = ap (λ (next : MachineState). cond (is_some m.outcome) m next) (own-turned (with_phases m))
 

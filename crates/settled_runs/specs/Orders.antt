@@ -2,9 +2,10 @@
 -- `bsp_sync`), in each superstep in another. All else is as in the machine's own runs, the queues too.
 use Rattle.std.specs.Prelude.{◌≡◌, ℕ, zero, suc, ◌+◌, ◌<◌, true, false, List, map, if◌then◌else◌, Option, Some, None, is_some}
 use Rattle.std.specs.Fn.{iterate}
+use Rattle.node_memory.specs.Bytes.{byte_at}
 use Rattle.node_core.specs.Node.{NodeState}
-use Rattle.bsp_exchange.specs.Landings.{Landing, landings}
-use Rattle.contested_bytes.specs.Contested.{AreSettled, IsAllowedOrder, exchanged_in}
+use Rattle.bsp_exchange.specs.Landings.{Landing, landings, memory_of}
+use Rattle.contested_bytes.specs.Contested.{AreSettled, IsAllowedOrder, IsContested, exchanged_in}
 use Rattle.machine_core.specs.declared.outcome.Outcome.{Outcome}
 use Rattle.machine_core.specs.Clock.{with_clocks}
 use Rattle.machine_core.specs.Machine.{MachineState}
@@ -45,3 +46,13 @@ IsSettledSuperstep m = is_some m.outcome ≡ false → makes_exchange (with_phas
 -- none of the next k supersteps of a machine has a contested byte
 abbrev pub IsSettledRun : ℕ → MachineState → Type 0
 IsSettledRun k m = (j : ℕ) → j < k → IsSettledSuperstep (iterate superstep j m)
+
+-- a byte of the next superstep is contested: its exchange is made, and two of what it lands bring different bytes there
+pub record IsContestedNext (m : MachineState) (rank addr : ℕ) : Type 0 where
+  pub going : is_some m.outcome ≡ false
+  pub made : makes_exchange (with_phases m).nodes ≡ true
+  pub bytes : IsContested (next_landings m) rank addr
+
+-- a byte may lie at an address of a rank's memory after so many supersteps: it does so after these, each in some order that BSPlib allows
+abbrev pub MayLieAfter : ℕ → MachineState → ℕ → ℕ → ℕ → Type 0
+MayLieAfter k m rank addr byte = (n : MachineState) × RunsTo k m n × (byte_at (memory_of n.nodes rank) addr ≡ byte)

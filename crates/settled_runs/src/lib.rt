@@ -1,7 +1,8 @@
-//! Runs in which nothing rests on an order that BSPlib leaves open.
+//! Runs in which nothing rests on the order in which puts and gets land.
 //!
-//! In which order puts and gets land where they overlap is not defined by BSPlib (Hill and others, 1998); a machine has one order of its own.
-//! The crate is [`laws`] alone: a run none of whose supersteps has a contested byte is the same under every choice of orders.
+//! BSPlib (Hill and others, 1998) does not define in which order puts and gets land if they overlap; a machine has one order of its own.
+//! The crate is [`laws`] alone: every choice of orders has come to the same machine after each superstep just if none has a contested byte.
+//! All else that BSPlib leaves open is as in the machine's own runs: the order of messages in a queue, and when unbuffered calls take effect.
 #![tactic(auto)]
 
 pub mod laws;

@@ -5,3 +5,4 @@ pub mod Parting
 pub mod Rest
 pub mod Sums
 pub mod Tables
+pub mod Words

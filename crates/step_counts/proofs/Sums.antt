@@ -1,9 +1,10 @@
 -- The counts of a rank, added up.
-use Rattle.std.proofs.Common.{◌≡◌, ℕ, zero, suc, ◌+◌, ◌-◌, ◌<◌, ◌≤◌, ◌==◌, max, Bool, true, false, cond, List, [], ◌∷◌, length, map, replicate, Option, Some, None, inl, inr, refl, sym, ap, ap₂, ◌∙◌, arith}
+use Rattle.std.proofs.Common.{◌≡◌, ℕ, zero, suc, ◌+◌, ◌-◌, ◌^◌, ◌<◌, ◌≤◌, ◌==◌, max, Bool, true, false, cond, List, [], ◌∷◌, length, map, replicate, Option, Some, None, inl, inr, refl, sym, ap, ap₂, ◌∙◌, arith}
 use Rattle.std.specs.Prelude.{All, sum_by, zip, is_some}
+use Rattle.std.specs.Fn.{iterate}
 use Rattle.std.specs.List.{fold, range_with_len}
 use Rattle.std.proofs.lemmas.Bool.{cases_eq, cases_lt, eq-eqb, ne_eqb, false≢true}
-use Rattle.std.proofs.lemmas.List.Elements.{All-head, All-tail}
+use Rattle.std.proofs.lemmas.List.Elements.{All-cons, All-head, All-nil, All-tail}
 use Rattle.std.proofs.lemmas.List.Sums.{sum_by-cons, sum_by_push}
 use Rattle.node_memory.specs.Image.{Image}
 use Rattle.node_core.specs.Node.{NodeState, IsNode, phase}
@@ -14,10 +15,11 @@ use Rattle.machine_core.specs.Sound.{IsSoundMachine}
 use Rattle.machine_core.specs.Turn.{cost_row, decided, most_ticks, outcome_of, recorded, superstep, turned, with_exchange, with_phases}
 use Rattle.machine_core.specs.Clock.{closed_by}
 use Rattle.machine_core.proofs.Clocks.{map-begun}
-use Rattle.machine_core.proofs.Sound.{IsNode-each, superstep-open, superstep-over}
-use Rattle.step_counts.specs.Counts.{addresses, count_in, HasBegun}
+use Rattle.machine_core.proofs.Sound.{IsNode-each, IsSoundMachine-supersteps, superstep-open, superstep-over}
+use Rattle.step_counts.specs.Counts.{addresses, count_in, AllCountsAreTicks, CountsAreTicks, HasBegun, HasWordPcs}
 use Rattle.step_counts.proofs.Addresses.{addresses-ticks, count_in-cons}
 use Rattle.step_counts.proofs.Lines.{range-more}
+use Rattle.step_counts.proofs.Words.{HasWordPc, HasWordPcs-supersteps, words-addresses}
 
 -- as many steps as ticks
 pub steps-ticks : (input : List ℕ) (n : NodeState) → IsNode n → length (addresses input n) ≡ (phase input n).ticks - n.ticks
@@ -70,6 +72,28 @@ counts-sum (first ∷ made) bound all =
     let rest = counts-sum made bound (All-tail (λ address. address < bound) first made all) in
     let parts = sum-same (count_in (first ∷ made)) (λ x. one_at first x + count_in made x) (range_with_len 0 bound) (λ x. count_in-cons first made x) in
     omega (arith, parts, sum-both (one_at first) (count_in made) (range_with_len 0 bound), one-within first bound here, rest)
+
+-- and as many as the ticks
+ticks-below : (bound : ℕ) (input : List ℕ) (n : NodeState) → IsNode n → All (λ address. address < bound) (addresses input n)
+    → sum_by (count_in (addresses input n)) (range_with_len 0 bound) ≡ (phase input n).ticks - n.ticks
+ticks-below bound input n sound all = counts-sum (addresses input n) bound all ∙ steps-ticks input n sound
+
+pub counts-ticks : (input : List ℕ) (n : NodeState) → IsNode n → n.hart.pc < 2 ^ 32 → CountsAreTicks input n
+unfolding CountsAreTicks
+counts-ticks input n sound word = ticks-below (2 ^ 32) input n sound (words-addresses input n word)
+
+both-ticks : (input : List ℕ) (nodes : List NodeState) → All IsNode nodes → All HasWordPc nodes → All (CountsAreTicks input) nodes
+both-ticks input [] sound words = All-nil (CountsAreTicks input)
+both-ticks input (n ∷ rest) sound words =
+    All-cons (CountsAreTicks input) n rest (counts-ticks input n (All-head IsNode n rest sound) (All-head HasWordPc n rest words))
+    (both-ticks input rest (All-tail IsNode n rest sound) (All-tail HasWordPc n rest words))
+
+pub machine-ticks : (m : MachineState) → IsSoundMachine m → HasWordPcs m → AllCountsAreTicks m
+machine-ticks m sound words = both-ticks m.input m.nodes (IsNode-each m sound) words
+
+pub AllCountsAreTicks-supersteps : (k : ℕ) (m : MachineState) → IsSoundMachine m → HasWordPcs m → AllCountsAreTicks (iterate superstep k m)
+AllCountsAreTicks-supersteps k m sound words =
+    machine-ticks (iterate superstep k m) (IsSoundMachine-supersteps k m sound) (HasWordPcs-supersteps k m words)
 
 -- ticks, node by node
 each-ticks : (input : List ℕ) (nodes : List NodeState) → All IsNode nodes

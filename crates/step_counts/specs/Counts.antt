@@ -1,11 +1,11 @@
 -- Where the work of a run is: how many instructions each rank makes at each address in each superstep, and the lines that tell of it (own
 -- format: comma-separated values).
-use Rattle.std.specs.Prelude.{◌≡◌, ℕ, ◌+◌, ◌-◌, ◌^◌, ◌==◌, zero, suc, nat_lt, List, [], ◌++◌, codes, count_by, flat_map, map, if◌then◌else◌, is_some}
+use Rattle.std.specs.Prelude.{◌≡◌, ℕ, ◌+◌, ◌-◌, ◌^◌, ◌<◌, ◌==◌, zero, suc, nat_lt, List, [], ◌++◌, codes, count_by, flat_map, map, sum_by, All, if◌then◌else◌, is_some}
 use Rattle.std.specs.Fmt.{decimal}
 use Rattle.std.specs.List.{range_with_len}
 use Rattle.rv_listing.specs.Numerals.{eight_digits}
 use Rattle.node_core.specs.Addresses.{next_addresses}
-use Rattle.node_core.specs.Node.{NodeState}
+use Rattle.node_core.specs.Node.{NodeState, phase}
 use Rattle.machine_core.specs.Machine.{MachineState}
 use Rattle.machine_core.specs.Turn.{superstep}
 
@@ -55,6 +55,18 @@ lines_of m = lines_within (m.settings.limit + 1) m
 -- the superstep of a machine has begun, and no step of it is made yet
 abbrev pub HasBegun : MachineState → Type 0
 HasBegun m = m.started ≡ map (λ (n : NodeState). n.ticks) m.nodes
+
+-- the next step of each node is at a word. That pc is one is a fact of the types that hold it
+abbrev pub HasWordPcs : MachineState → Type 0
+HasWordPcs m = All (λ (n : NodeState). n.hart.pc < 2 ^ 32) m.nodes
+
+-- the counts of a node's local part of the superstep, over all addresses, add up to the ticks that it makes in it
+unfoldable pub CountsAreTicks : List ℕ → NodeState → Type 0
+CountsAreTicks input n = sum_by (count_in (addresses input n)) (range_with_len 0 (2 ^ 32)) ≡ (phase input n).ticks - n.ticks
+
+-- so do those of each node of a machine
+abbrev pub AllCountsAreTicks : MachineState → Type 0
+AllCountsAreTicks m = All (CountsAreTicks m.input) m.nodes
 
 -- the counts of a run that begins at a machine
 abbrev pub counts_of : MachineState → List ℕ

@@ -1,9 +1,10 @@
 //! A run whose steps are counted.
 
 ghost use Rattle.std.specs.Prelude.{◌≡◌, ℕ, IfOk, OnErr, OnOk, string_bytes};
-ghost use Rattle.machine_core.specs.Turn.{IsRunToEnd};
+ghost use Rattle.std.specs.Fn.{iterate};
+ghost use Rattle.machine_core.specs.Turn.{superstep, IsRunToEnd};
 ghost use Rattle.machine_core.specs.Walk.{walked};
-ghost use Rattle.step_counts.specs.Counts.{counts_of};
+ghost use Rattle.step_counts.specs.Counts.{counts_of, AllCountsAreTicks, HasWordPcs};
 
 use crate::parts::count_parts;
 use crate::table::Table;
@@ -13,15 +14,18 @@ use std::alloc::{AllocError, Allocator};
 /// The names of the columns.
 const HEADER: &str = "superstep,rank,address,count\n";
 
-/// Runs a machine to its outcome, in one thread, and answers how many steps each rank made at each address in each superstep.
+/// Runs a machine to its outcome, in one thread, and answers how many steps each rank made at each address in each superstep. In each
+/// superstep the counts of a rank add up to its ticks.
 ///
 /// # Errors
 /// Where memory is refused. What was made before it stands, and any run can go on with the machine.
 pub fn run<A: Allocator + Copy>(alloc: A, machine: &mut Machine<A>) -> Result<String<A>, AllocError>
     ensures ok { OnOk result (IsRunToEnd machine.old machine.new) }
     ensures counts { IfOk result (λ text. string_bytes text ≡ counts_of machine.old) }
+    ensures ticks { (k : ℕ) → AllCountsAreTicks (iterate superstep k machine.old) }
     ensures err { OnErr result ((k : ℕ) × (machine.new ≡ walked k machine.old)) }
 {
+    read_pcs(machine);
     let mut table = Table::new(alloc, machine.settings().memory);
     let mut text = String::from_str(alloc, HEADER)?;
     while machine.outcome().is_none() {
@@ -29,4 +33,13 @@ pub fn run<A: Allocator + Copy>(alloc: A, machine: &mut Machine<A>) -> Result<St
         machine.turn()?;
     }
     Ok(text)
+}
+
+/// Reads each node's pc, for its contract alone: that pc is a word is a fact of its type, and a contract has that only of one that is read.
+fn read_pcs<A: Allocator + Copy>(machine: &Machine<A>)
+    ensures { HasWordPcs machine.now }
+{
+    for node in machine.nodes() {
+        let _pc = node.pc();
+    }
 }

@@ -36,7 +36,8 @@ impl<A: Allocator> Model for Table<A> {
 impl<A: Allocator> Table<A> {
     /// A table for a memory of so many bytes, with no steps.
     pub fn new(alloc: A, memory: u32) -> Table<A>
-        ensures { result.memory ≡ memory }
+        ensures memory { result.memory ≡ memory }
+        ensures empty { IsEmpty result }
     {
         Table {
             memory,

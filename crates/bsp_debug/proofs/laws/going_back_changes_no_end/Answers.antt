@@ -1,16 +1,18 @@
-use Rattle.std.proofs.Common.{◌≡◌, ◌++◌, ◌∙◌, sym, ap}
-use Rattle.machine_core.specs.Events.{after}
-use Rattle.machine_core.specs.Machine.{MachineState}
-use Rattle.machine_core.specs.Turn.{end_of}
-use Rattle.machine_core.proofs.Ends.{end_of-after, end_of-there}
-use Rattle.bsp_debug.proofs.Entries.{after-append}
+use Rattle.std.specs.Prelude.{IfSome}
+use Rattle.std.proofs.lemmas.List.Elements.{All-weaker}
+use Rattle.bsp_debug.specs.Reached.{EndsAs}
+use Rattle.bsp_debug.proofs.Keeps.{IsReachedIfKept, ends-schedule, kept-ends, reached-ends}
 use Rattle.bsp_debug.proofs.laws.going_back_changes_no_end.Goals as goal
 
 pub returns-clause-same : goal.returns-clause-same
-returns-clause-same c first m sound r = ap end_of r.led ∙ end_of-after first r.schedule sound
+returns-clause-same c first m sound r = (reached-ends first m sound r).same
 
 pub returns-clause-every_schedule : goal.returns-clause-every_schedule
-returns-clause-every_schedule c first m schedule sound r over =
-    let whole : after m schedule ≡ after first (r.schedule ++ schedule) =
-    ap (λ (x : MachineState). after x schedule) r.led ∙ sym (after-append first r.schedule schedule) in
-    sym (end_of-there (after m schedule) over) ∙ ap end_of whole ∙ end_of-after first (r.schedule ++ schedule) sound
+returns-clause-every_schedule c first m schedule sound r over = ends-schedule first m schedule sound r over
+
+pub returns-clause-debugger : goal.returns-clause-debugger
+returns-clause-debugger c d r = reached-ends d.first d.machine r.first r.machine
+
+pub returns-clause-kept : goal.returns-clause-kept
+returns-clause-kept c d r =
+    All-weaker (IsReachedIfKept d.first) (λ state. IfSome state (λ m. EndsAs d.first m)) (λ state is. kept-ends d.first r.first state is) d.kept r.kept

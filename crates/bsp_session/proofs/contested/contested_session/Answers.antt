@@ -1,11 +1,11 @@
 -- Neither writer is touched but by the last stage.
-use Rattle.std.proofs.Common.{refl}
+use Rattle.std.proofs.Common.{refl, subst, sym}
 use Rattle.std.proofs.lemmas.Result.{IfErr-weaker, IfOk-weaker, err_from_is_err_and}
 use Rattle.contested_runs.specs.Runs.{TellsContested}
 use Rattle.bsp_session.specs.Session.{Session, session_of}
 use Rattle.bsp_session.specs.Streams.{Stream, stream}
 use Rattle.bsp_session.specs.Told.{IsErrorOfBoth, IsErrorOfTold, ReportsAndTells, WritesBoth}
-use Rattle.bsp_session.proofs.Jobs.{IsErrorOfThreads-of_pool, numbers_are_in_range}
+use Rattle.bsp_session.proofs.Jobs.{numbers_are_in_range}
 use Rattle.bsp_session.proofs.SessionErrors.{IsErrorOf-threads}
 use Rattle.bsp_session.proofs.Told.{IsErrorOfTold-both, ReportsAndTells-both, untold}
 use Rattle.bsp_session.proofs.contested.contested_session.Goals as goal
@@ -24,6 +24,11 @@ returns-in_err-machine-clause-nothing_written g c =
     let p = err_from_is_err_and c.from_residual.result c.from_residual.ensures.1 in
     rw p.1 (λ other. (refl, refl))
 
+pub run_told-requires-after_bounds : goal.run_told-requires-after_bounds
+run_told-requires-after_bounds g c =
+    let out = stream g.W.Write.contents c.args.out.now c.args.out.now in
+    λ lifetimes bounds. numbers_are_in_range c.args.job.now (c.in_ok-machine.ensures.ok out).read.settings
+
 pub returns-in_err-told-clause-err : goal.returns-in_err-told-clause-err
 returns-in_err-told-clause-err g c =
     let p = err_from_is_err_and c.from_residual-in_err-told.result c.from_residual-in_err-told.ensures.1 in
@@ -33,9 +38,7 @@ returns-in_err-told-clause-err g c =
     let told = stream g.C.Write.contents c.args.contested.now c.args.contested.now in
     let s : Session = session_of i n out c.args.job.now in
     rw (p.1, p.2) (untold TellsContested s told _
-    (IsErrorOf-threads s c.in_ok-machine.machine _ (c.in_ok-machine.ensures.ok out) (record { bytes = refl; failures = refl })
-    (IsErrorOfThreads-of_pool c.args.job.now c.in_ok-machine.machine c.run.new.machine c.run.result _
-    (numbers_are_in_range c.args.job.now (c.in_ok-machine.ensures.ok out).read.settings) c.run.ensures.refusals c.in_err-told.was)) (record { bytes = refl; failures = refl }))
+    (IsErrorOf-threads s c.in_ok-machine.machine _ (c.in_ok-machine.ensures.ok out) (record { bytes = refl; failures = refl }) c.in_err-told.ensures.end.err) (record { bytes = refl; failures = refl }))
 
 pub returns-in_err-told-clause-nothing_written : goal.returns-in_err-told-clause-nothing_written
 returns-in_err-told-clause-nothing_written g c =
@@ -49,9 +52,9 @@ returns-clause-ok g c =
     let out : Stream = stream g.W.Write.contents c.args.out.now c.write_both.new.out in
     let told : Stream = stream g.C.Write.contents c.args.contested.now c.write_both.new.told in
     let s : Session = session_of i n out c.args.job.now in
-    IfOk-weaker c.write_both.result (WritesBoth s.job c.run.new.machine c.as_bytes.result.now out told) (ReportsAndTells TellsContested s told)
-    (ReportsAndTells-both TellsContested s told c.in_ok-machine.machine c.run.new.machine c.as_bytes.result.now (c.in_ok-machine.ensures.ok out) c.in_ok-told.ensures.ok.end
-    (rw c.as_bytes.ensures.value c.in_ok-told.ensures.told)) c.write_both.ensures.ok
+    IfOk-weaker c.write_both.result (WritesBoth s.job c.run_told.new.machine c.as_bytes.result.now out told) (ReportsAndTells TellsContested s told)
+    (ReportsAndTells-both TellsContested s told c.in_ok-machine.machine c.run_told.new.machine c.as_bytes.result.now (c.in_ok-machine.ensures.ok out) c.in_ok-told.ensures.end.is
+    (subst (TellsContested c.in_ok-machine.machine) (sym c.as_bytes.ensures) c.in_ok-told.ensures.told)) c.write_both.ensures.ok
 
 pub returns-clause-err : goal.returns-clause-err
 returns-clause-err g c =
@@ -60,6 +63,6 @@ returns-clause-err g c =
     let out : Stream = stream g.W.Write.contents c.args.out.now c.write_both.new.out in
     let told : Stream = stream g.C.Write.contents c.args.contested.now c.write_both.new.told in
     let s : Session = session_of i n out c.args.job.now in
-    IfErr-weaker c.write_both.result (IsErrorOfBoth s.job c.run.new.machine c.as_bytes.result.now out told) (IsErrorOfTold TellsContested s told)
-    (IsErrorOfTold-both TellsContested s told c.in_ok-machine.machine c.run.new.machine c.as_bytes.result.now (c.in_ok-machine.ensures.ok out) c.in_ok-told.ensures.ok.end
-    (rw c.as_bytes.ensures.value c.in_ok-told.ensures.told)) c.write_both.ensures.err
+    IfErr-weaker c.write_both.result (IsErrorOfBoth s.job c.run_told.new.machine c.as_bytes.result.now out told) (IsErrorOfTold TellsContested s told)
+    (IsErrorOfTold-both TellsContested s told c.in_ok-machine.machine c.run_told.new.machine c.as_bytes.result.now (c.in_ok-machine.ensures.ok out) c.in_ok-told.ensures.end.is
+    (subst (TellsContested c.in_ok-machine.machine) (sym c.as_bytes.ensures) c.in_ok-told.ensures.told)) c.write_both.ensures.err

@@ -1,12 +1,11 @@
 -- Neither writer is touched but by the last stage.
-use Rattle.std.proofs.Common.{◌∙◌, ap, refl, subst, string_bytes}
+use Rattle.std.proofs.Common.{◌∙◌, refl}
 use Rattle.std.proofs.lemmas.Result.{IfErr-weaker, IfOk-weaker, err_from_is_err_and}
 use Rattle.bsp_session.specs.declared.errors.SessionError.TheVariants.{NoMemory}
 use Rattle.bsp_session.specs.Counts.{AreCounts}
 use Rattle.bsp_session.specs.Session.{Session, session_of}
 use Rattle.bsp_session.specs.Streams.{Stream, stream}
 use Rattle.bsp_session.specs.Told.{IsErrorOfBoth, IsErrorOfTold, ReportsAndTells, WritesBoth}
-use Rattle.bsp_session.proofs.Jobs.{numbers_are_in_range}
 use Rattle.bsp_session.proofs.SessionErrors.{IsErrorOf-threads}
 use Rattle.bsp_session.proofs.Told.{IsErrorOfTold-both, ReportsAndTells-both, untold}
 use Rattle.bsp_session.proofs.counts.counts_session.Goals as goal

@@ -1,5 +1,5 @@
 -- Neither writer is touched but by the last stage.
-use Rattle.std.proofs.Common.{◌∙◌, ap, refl, subst, string_bytes}
+use Rattle.std.proofs.Common.{◌∙◌, refl}
 use Rattle.std.proofs.lemmas.Result.{IfErr-weaker, IfOk-weaker, err_from_is_err_and}
 use Rattle.bsp_session.specs.Profiles.{IsProfile}
 use Rattle.bsp_session.specs.Session.{Session, session_of}

@@ -1,8 +1,8 @@
 -- No writer has any part in it.
 use Rattle.std.proofs.lemmas.Result.{err_from_is_err_and}
 use Rattle.machine_core.specs.declared.error.MachineError.TheVariants.{SegmentOutside}
-use Rattle.bsp_session.specs.Session.{ReadsBoth, session_of}
-use Rattle.bsp_session.specs.Streams.{Stream, stream}
+use Rattle.bsp_session.specs.Session.{session_of}
+use Rattle.bsp_session.specs.Streams.{stream}
 use Rattle.bsp_session.proofs.Jobs.{fits_memory}
 use Rattle.bsp_session.proofs.Refusals.{IsErrorOfRun-of_image, IsErrorOfRun-of_machine}
 use Rattle.bsp_session.proofs.SessionErrors.{IsErrorOf-files, IsErrorOf-run}

@@ -1,7 +1,8 @@
 use Rattle.std.proofs.Common.{◌≡◌, ℕ, ◌⊎◌, inl, inr, zero, suc, [], ◌∷◌, refl, sym, ap, subst, ◌∙◌, arith}
 use Rattle.std.specs.Prelude.{Contains}
+use Rattle.std.proofs.lemmas.List.Sorted.{IsPermutation-refl, IsPermutation-to_front}
 use Rattle.bsp_exchange.specs.Landings.{Landing, landing_byte}
-use Rattle.contested_bytes.specs.Contested.{Differ, IsContested}
+use Rattle.contested_bytes.specs.Contested.{Differ, IsAllowedOrder, IsContested}
 use Rattle.contested_bytes.specs.Examples.{put_by_0, alike_by_2, other_by_2, behind_by_2, get_by_1}
 use Rattle.contested_bytes.proofs.Compared.{reaches-rank, reaches-start, reaches-end}
 use Rattle.contested_bytes.proofs.Swept.{differ-itself, differ-sym}
@@ -50,3 +51,13 @@ returns-clause-different c = λ rank addr. (
 
 pub returns-clause-put_and_get : goal.returns-clause-put_and_get
 returns-clause-put_and_get c = (put_by_0, get_by_1, (0, omega arith, refl), (1, omega arith, refl), record { first = refl; second = refl; bytes = λ same. omega (arith, same) })
+
+-- the other order of two
+swapped : (x y : Landing) → IsAllowedOrder (x ∷ y ∷ []) (y ∷ x ∷ [])
+swapped x y = IsPermutation-to_front (x ∷ []) y
+
+pub returns-clause-one_order : goal.returns-clause-one_order
+returns-clause-one_order c = (IsPermutation-refl (put_by_0 ∷ other_by_2 ∷ []), refl)
+
+pub returns-clause-other_order : goal.returns-clause-other_order
+returns-clause-other_order c = (swapped put_by_0 other_by_2, refl)

@@ -1,6 +1,7 @@
 -- Superstep by superstep, up to the outcome.
-use Rattle.std.proofs.Common.{◌≡◌, ◌∙◌, [], Err, not, ap, refl, sym, subst, string_bytes, arith, rules}
+use Rattle.std.proofs.Common.{◌≡◌, ◌∙◌, [], Err, not, ap, refl, subst, sym, arith, rules}
 use Rattle.std.specs.Prelude.{is_some}
+use Rattle.std.proofs.lemmas.Bool.{false≢true}
 use Rattle.std.proofs.lemmas.Result.{err_from_is_err_and}
 use Rattle.machine_core.specs.declared.event.Event.TheVariants.{Turn}
 use Rattle.machine_core.specs.Events.{event, is_enabled}
@@ -8,119 +9,143 @@ use Rattle.machine_core.specs.Machine.{MachineState}
 use Rattle.machine_core.specs.Sound.{IsSoundMachine}
 use Rattle.machine_core.specs.Turn.{with_phases, superstep, end_of}
 use Rattle.machine_core.proofs.Ends.{end_of-superstep, end_of-there}
+use Rattle.machine_core.proofs.Options.{none_from}
 use Rattle.machine_core.proofs.Resume.{phases-sound}
 use Rattle.machine_core.proofs.Steps.{after-nil}
 use Rattle.machine_core.proofs.Supersteps.{turn-enabled, rows_left, superstep-made}
 use Rattle.phase_pool.specs.declared.error.PoolError.{PoolError}
 use Rattle.phase_pool.specs.declared.error.PoolError.TheVariants.{NoWorker}
-use Rattle.phase_pool.proofs.Phases.{phases_reached, LeadsTo-on, LeadsTo-turn, LeadsTo-length}
+use Rattle.phase_pool.proofs.Phases.{phases_reached, LeadsTo-on, LeadsTo-turn, LeadsTo-length, LeadsWithoutTurn-outcome, HaveCome-over}
 use Rattle.contested_runs.specs.Runs.{AreTurnLines}
-use Rattle.contested_runs.proofs.Rest.{tells-all, tells-start, tells-superstep}
+use Rattle.contested_runs.proofs.Rest.{TellsUpTo, tells-all, tells-nothing, tells-phase, tells-superstep}
 use Rattle.contested_runs.proofs.runs.run.Goals as goal
 
-pub returns-in_err-check_numbers-clause-err : goal.returns-in_err-check_numbers-clause-err
-returns-in_err-check_numbers-clause-err g c =
-    let p = err_from_is_err_and c.from_residual.result c.from_residual.ensures.1 in
-    rw p.1 ([], sym (after-nil c.args.machine.now))
-
-pub returns-in_err-text-clause-err : goal.returns-in_err-text-clause-err
-returns-in_err-text-clause-err g c =
-    let p = err_from_is_err_and c.from_residual-in_err-text.result c.from_residual-in_err-text.ensures.1 in
-    rw p.1 ([], sym (after-nil c.args.machine.now))
-
-pub loop-alloc-init : goal.loop-alloc-init
-loop-alloc-init g c = record {
+pub loop-machine-init : goal.loop-machine-init
+loop-machine-init g c = record {
   so_far = ([], sym (after-nil c.args.machine.now));
   same_end = refl;
-  told = tells-start c.args.machine.now (string_bytes c.in_ok-text.text) c.in_ok-text.ensures.ok;
+  told = tells-nothing c.args.machine.now c.args.told.now;
+  over = λ over. (refl, refl);
 }
 
-pub returns-in_err-run_phase_sparing-clause-err : goal.returns-in_err-run_phase_sparing-clause-err
-returns-in_err-run_phase_sparing-clause-err g c =
-    let p = err_from_is_err_and c.from_residual-in_err-run_phase_sparing.result c.from_residual-in_err-run_phase_sparing.ensures.1 in
-    rw p.1 (LeadsTo-on c.args.machine.now c.loop-alloc.machine c.run_phase_sparing.new.machine c.loop-alloc.invariant.so_far c.in_err-run_phase_sparing.ensures.err)
+pub returns-in_err-check_numbers-clause-lines_left : goal.returns-in_err-check_numbers-clause-lines_left
+returns-in_err-check_numbers-clause-lines_left g c = tells-nothing c.args.machine.now c.args.told.now
 
-pub write_turn-requires-clause-sound : goal.write_turn-requires-clause-sound
-write_turn-requires-clause-sound g c = subst IsSoundMachine (sym c.in_ok-run_phase_sparing.ensures.ok) (phases-sound c.loop-alloc.machine c.outcome.ensures.sound)
+pub returns-in_err-run_phase_sparing-clause-lines_left : goal.returns-in_err-run_phase_sparing-clause-lines_left
+returns-in_err-run_phase_sparing-clause-lines_left g c =
+    tells-phase c.args.machine.now c.loop-machine.machine c.run_phase_sparing.new.machine c.args.told.now c.loop-machine.told c.outcome.ensures.sound c.in_err-run_phase_sparing.ensures.err
+    c.loop-machine.invariant.told
 
-pub write_turn-requires-clause-enabled : goal.write_turn-requires-clause-enabled
-write_turn-requires-clause-enabled g c =
-    let open_yet = ap is_some (sym c.outcome.ensures.value) ∙ c.is_none.ensures ∙ ap not c.loop-alloc-test.true in
-    ap (λ (x : MachineState). is_enabled x Turn) c.in_ok-run_phase_sparing.ensures.ok ∙ turn-enabled c.loop-alloc.machine c.outcome.ensures.sound open_yet
+pub turn-requires-clause-sound : goal.turn-requires-clause-sound
+turn-requires-clause-sound g c = subst IsSoundMachine (sym c.in_ok-run_phase_sparing.ensures.ok) (phases-sound c.loop-machine.machine c.outcome.ensures.sound)
 
-pub returns-in_err-write_turn-clause-err : goal.returns-in_err-write_turn-clause-err
-returns-in_err-write_turn-clause-err g c =
-    let p = err_from_is_err_and c.from_residual-in_err-write_turn.result c.from_residual-in_err-write_turn.ensures.1 in
-    let m = c.loop-alloc.machine in
-    let reached = LeadsTo-on c.args.machine.now m (with_phases m) c.loop-alloc.invariant.so_far (phases_reached m c.outcome.ensures.sound) in
-    rw p.1 (reached.0, c.in_ok-run_phase_sparing.ensures.ok ∙ reached.1)
+pub turn-requires-clause-enabled : goal.turn-requires-clause-enabled
+turn-requires-clause-enabled g c =
+    let open_yet = ap is_some (sym c.outcome.ensures.value) ∙ c.is_none.ensures ∙ ap not c.loop-machine-test.true in
+    ap (λ (x : MachineState). is_enabled x Turn) c.in_ok-run_phase_sparing.ensures.ok ∙ turn-enabled c.loop-machine.machine c.outcome.ensures.sound open_yet
 
-pub loop-alloc-smaller : goal.loop-alloc-smaller
-loop-alloc-smaller g c =
-    let m = c.loop-alloc.machine in
+pub loop-machine-smaller : goal.loop-machine-smaller
+loop-machine-smaller g c =
+    let m = c.loop-machine.machine in
     let sound = c.outcome.ensures.sound in
-    let open_yet = ap is_some (sym c.outcome.ensures.value) ∙ c.is_none.ensures ∙ ap not c.loop-alloc-test.true in
-    let turned : c.turn.new.self ≡ event (with_phases m) Turn = c.in_ok-turn.ensures.ok ∙ ap (λ (x : MachineState). event x Turn) c.in_ok-run_phase_sparing.ensures.ok in
-    rows_left m sound open_yet c.turn.new.self (superstep-made m sound open_yet c.turn.new.self turned)
+    let open_yet = ap is_some (sym c.outcome.ensures.value) ∙ c.is_none.ensures ∙ ap not c.loop-machine-test.true in
+    let turned : c.turn.new.machine ≡ event (with_phases m) Turn = c.in_ok-turn.ensures.machine ∙ ap (λ (x : MachineState). event x Turn) c.in_ok-run_phase_sparing.ensures.ok in
+    rows_left m sound open_yet c.turn.new.machine (superstep-made m sound open_yet c.turn.new.machine turned)
 
-pub loop-alloc-preserved : goal.loop-alloc-preserved
-loop-alloc-preserved g c =
-    let m = c.loop-alloc.machine in
-    let so_far = c.loop-alloc.invariant in
+pub loop-machine-preserved : goal.loop-machine-preserved
+loop-machine-preserved g c =
+    let m = c.loop-machine.machine in
+    let so_far = c.loop-machine.invariant in
     let sound = c.outcome.ensures.sound in
-    let open_yet = ap is_some (sym c.outcome.ensures.value) ∙ c.is_none.ensures ∙ ap not c.loop-alloc-test.true in
+    let open_yet = ap is_some (sym c.outcome.ensures.value) ∙ c.is_none.ensures ∙ ap not c.loop-machine-test.true in
     let phased : c.run_phase_sparing.new.machine ≡ with_phases m = c.in_ok-run_phase_sparing.ensures.ok in
-    let turned : c.turn.new.self ≡ event (with_phases m) Turn = c.in_ok-turn.ensures.ok ∙ ap (λ (x : MachineState). event x Turn) phased in
-    let made : c.turn.new.self ≡ superstep m = superstep-made m sound open_yet c.turn.new.self turned in
-    let added = c.in_ok-write_turn.ensures in
+    let turned : c.turn.new.machine ≡ event (with_phases m) Turn = c.in_ok-turn.ensures.machine ∙ ap (λ (x : MachineState). event x Turn) phased in
+    let made : c.turn.new.machine ≡ superstep m = superstep-made m sound open_yet c.turn.new.machine turned in
+    let added = c.in_ok-turn.ensures.told in
     record {
-      so_far = LeadsTo-turn c.args.machine.now (with_phases m) c.turn.new.self (LeadsTo-on c.args.machine.now m (with_phases m) so_far.so_far (phases_reached m sound)) turned;
+      so_far = LeadsTo-turn c.args.machine.now (with_phases m) c.turn.new.machine (LeadsTo-on c.args.machine.now m (with_phases m) so_far.so_far (phases_reached m sound)) turned;
       same_end = ap end_of made ∙ end_of-superstep m sound ∙ so_far.same_end;
-      told = tells-superstep c.args.machine.now m c.turn.new.self (string_bytes c.loop-alloc.text) (string_bytes c.write_turn.new.text) open_yet made
+      told = tells-superstep c.args.machine.now m c.turn.new.machine c.args.told.now c.loop-machine.told c.turn.new.self open_yet made
           (added.0, subst (λ (x : MachineState). AreTurnLines x added.0) phased added.1, added.2) so_far.told;
+      over = λ over. absurd (false≢true (sym open_yet ∙ ap (λ (x : MachineState). is_some x.outcome) (so_far.over over).0 ∙ over));
     }
 
-pub returns-in_err-turn-clause-err : goal.returns-in_err-turn-clause-err
-returns-in_err-turn-clause-err g c =
-    let p = err_from_is_err_and c.from_residual-in_err-turn.result c.from_residual-in_err-turn.ensures.1 in
-    let m = c.loop-alloc.machine in
-    let reached = LeadsTo-on c.args.machine.now m (with_phases m) c.loop-alloc.invariant.so_far (phases_reached m c.outcome.ensures.sound) in
-    rw p.1 (reached.0, c.in_err-turn.ensures.err ∙ c.in_ok-run_phase_sparing.ensures.ok ∙ reached.1)
-
-pub returns-clause-ok : goal.returns-clause-ok
-returns-clause-ok g c =
-    let over = ap is_some (sym c.outcome.ensures.value) ∙ c.is_none.ensures ∙ ap not c.loop-alloc-test.false in
-    record { end = sym (end_of-there c.loop-alloc.machine over) ∙ c.loop-alloc.invariant.same_end; over = over }
+pub returns-in_err-turn-clause-lines_left : goal.returns-in_err-turn-clause-lines_left
+returns-in_err-turn-clause-lines_left g c =
+    let m = c.loop-machine.machine in
+    let sound = c.outcome.ensures.sound in
+    let phased = tells-phase c.args.machine.now m (with_phases m) c.args.told.now c.loop-machine.told sound (phases_reached m sound) c.loop-machine.invariant.told in
+    subst (λ (x : MachineState). TellsUpTo c.args.machine.now x c.args.told.now c.turn.new.self) (sym (c.in_err-turn.ensures.same_machine ∙ c.in_ok-run_phase_sparing.ensures.ok))
+    (subst (TellsUpTo c.args.machine.now (with_phases m) c.args.told.now) (sym c.in_err-turn.ensures.same_told) phased)
 
 pub returns-clause-told : goal.returns-clause-told
 returns-clause-told g c =
-    let over = ap is_some (sym c.outcome.ensures.value) ∙ c.is_none.ensures ∙ ap not c.loop-alloc-test.false in
-    tells-all c.args.machine.now c.loop-alloc.machine (string_bytes c.loop-alloc.text) over c.loop-alloc.invariant.told
+    let over = ap is_some (sym c.outcome.ensures.value) ∙ c.is_none.ensures ∙ ap not c.loop-machine-test.false in
+    tells-all c.args.machine.now c.loop-machine.machine c.args.told.now c.loop-machine.told over c.loop-machine.invariant.told
 
-pub returns-in_err-run_phase_sparing-clause-refusals : goal.returns-in_err-run_phase_sparing-clause-refusals
-returns-in_err-run_phase_sparing-clause-refusals g c =
-    let p = err_from_is_err_and c.from_residual-in_err-run_phase_sparing.result c.from_residual-in_err-run_phase_sparing.ensures.1 in
+pub returns-clause-lines_left : goal.returns-clause-lines_left
+returns-clause-lines_left g c = c.loop-machine.invariant.told
+
+pub returns-in_err-check_numbers-clause-machine : goal.returns-in_err-check_numbers-clause-machine
+returns-in_err-check_numbers-clause-machine g c =
+    let p = err_from_is_err_and c.from_residual.result c.from_residual.ensures.1 in
     record {
-      bad_workers = search rules;
-      bad_slice = search rules;
-      unchanged = search rules;
-      no_worker = λ refused.
-          let own : c.in_err-run_phase_sparing.field-0.0 ≡ NoWorker = cc (p.1, p.2, refused) in
-          let wanted = c.run_phase_sparing.ensures.refusals.no_worker (c.in_err-run_phase_sparing.was ∙ ap (λ (e : PoolError). Err e) own) in
-          (wanted.0, omega (arith, wanted.1, LeadsTo-length c.args.machine.now c.loop-alloc.machine c.loop-alloc.invariant.so_far));
+      refusals = record { bad_workers = search rules; bad_slice = search rules; unchanged = search rules; no_worker = search rules };
+      ok = search rules;
+      ended = search rules;
+      err = rw p.1 ([], sym (after-nil c.args.machine.now));
+      over = search rules;
+      stopped = search rules;
+      going = search rules;
     }
 
-pub returns-in_err-check_numbers-clause-refusals : goal.returns-in_err-check_numbers-clause-refusals
-returns-in_err-check_numbers-clause-refusals g c = record { bad_workers = search rules; bad_slice = search rules; unchanged = search rules; no_worker = search rules }
+pub returns-in_err-run_phase_sparing-clause-machine : goal.returns-in_err-run_phase_sparing-clause-machine
+returns-in_err-run_phase_sparing-clause-machine g c =
+    let p = err_from_is_err_and c.from_residual-in_err-run_phase_sparing.result c.from_residual-in_err-run_phase_sparing.ensures.1 in
+    let open_yet = ap is_some (sym c.outcome.ensures.value) ∙ c.is_none.ensures ∙ ap not c.loop-machine-test.true in
+    record {
+      refusals = record {
+        bad_workers = search rules;
+        bad_slice = search rules;
+        unchanged = search rules;
+        no_worker = λ refused.
+            let own : c.in_err-run_phase_sparing.field-0.0 ≡ NoWorker = cc (p.1, p.2, refused) in
+            let wanted = c.run_phase_sparing.ensures.refusals.no_worker (c.in_err-run_phase_sparing.was ∙ ap (λ (e : PoolError). Err e) own) in
+            (wanted.0, omega (arith, wanted.1, LeadsTo-length c.args.machine.now c.loop-machine.machine c.loop-machine.invariant.so_far));
+      };
+      ok = search rules;
+      ended = search rules;
+      err = rw p.1 (LeadsTo-on c.args.machine.now c.loop-machine.machine c.run_phase_sparing.new.machine c.loop-machine.invariant.so_far c.in_err-run_phase_sparing.ensures.err);
+      over = search rules;
+      stopped = search rules;
+      going = λ within.
+          rw p.1 (LeadsWithoutTurn-outcome c.loop-machine.machine c.run_phase_sparing.new.machine c.in_err-run_phase_sparing.ensures.err ∙ none_from c.loop-machine.machine.outcome (λ x is. false≢true (sym open_yet ∙ ap is_some is)));
+    }
 
-pub returns-in_err-text-clause-refusals : goal.returns-in_err-text-clause-refusals
-returns-in_err-text-clause-refusals g c = record { bad_workers = search rules; bad_slice = search rules; unchanged = search rules; no_worker = search rules }
+pub returns-in_err-turn-clause-machine : goal.returns-in_err-turn-clause-machine
+returns-in_err-turn-clause-machine g c =
+    let p = err_from_is_err_and c.from_residual-in_err-turn.result c.from_residual-in_err-turn.ensures.1 in
+    let m = c.loop-machine.machine in
+    let reached = LeadsTo-on c.args.machine.now m (with_phases m) c.loop-machine.invariant.so_far (phases_reached m c.outcome.ensures.sound) in
+    record {
+      refusals = record { bad_workers = search rules; bad_slice = search rules; unchanged = search rules; no_worker = search rules };
+      ok = search rules;
+      ended = search rules;
+      err = rw p.1 (reached.0, c.in_err-turn.ensures.same_machine ∙ c.in_ok-run_phase_sparing.ensures.ok ∙ reached.1);
+      over = search rules;
+      stopped = search rules;
+      going = search rules;
+    }
 
-pub returns-in_err-write_turn-clause-refusals : goal.returns-in_err-write_turn-clause-refusals
-returns-in_err-write_turn-clause-refusals g c = record { bad_workers = search rules; bad_slice = search rules; unchanged = search rules; no_worker = search rules }
-
-pub returns-in_err-turn-clause-refusals : goal.returns-in_err-turn-clause-refusals
-returns-in_err-turn-clause-refusals g c = record { bad_workers = search rules; bad_slice = search rules; unchanged = search rules; no_worker = search rules }
-
-pub returns-clause-refusals : goal.returns-clause-refusals
-returns-clause-refusals g c = record { bad_workers = search rules; bad_slice = search rules; unchanged = search rules; no_worker = search rules }
+pub returns-clause-machine : goal.returns-clause-machine
+returns-clause-machine g c =
+    let over = ap is_some (sym c.outcome.ensures.value) ∙ c.is_none.ensures ∙ ap not c.loop-machine-test.false in
+    record {
+      refusals = record { bad_workers = search rules; bad_slice = search rules; unchanged = search rules; no_worker = search rules };
+      ok = sym (end_of-there c.loop-machine.machine over) ∙ c.loop-machine.invariant.same_end;
+      ended = search rules;
+      err = search rules;
+      over = search rules;
+      stopped = λ within. HaveCome-over c.loop-machine.machine c.outcome.ensures.sound over;
+      going = search rules;
+    }

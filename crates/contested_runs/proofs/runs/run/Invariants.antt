@@ -1,15 +1,17 @@
-use Rattle.std.proofs.Common.{◌≡◌, ◌+◌, ◌-◌, length, string_bytes}
+use Rattle.std.proofs.Common.{◌≡◌, ◌+◌, ◌-◌, length}
+use Rattle.std.specs.Prelude.{IsSome}
 use Rattle.machine_core.specs.Turn.{end_of}
 use Rattle.phase_pool.specs.Phases.{LeadsTo}
 use Rattle.contested_runs.proofs.Rest.{TellsUpTo}
 use Rattle.contested_runs.proofs.runs.run.Given as goal
 
-abbrev pub invariant-loop-alloc : goal.invariant-loop-alloc
-invariant-loop-alloc g l = record {
+abbrev pub invariant-loop-machine : goal.invariant-loop-machine
+invariant-loop-machine g l = record {
   so_far : LeadsTo l.initial.machine l.machine;
   same_end : end_of l.machine ≡ end_of l.initial.machine;
-  told : TellsUpTo l.initial.machine l.machine (string_bytes l.text);
+  told : TellsUpTo l.initial.machine l.machine l.initial.told l.told;
+  over : IsSome l.initial.machine.outcome → (l.machine ≡ l.initial.machine) × (l.told ≡ l.initial.told);
 }
 
-abbrev pub decreases-loop-alloc : goal.decreases-loop-alloc
-decreases-loop-alloc g l = l.machine.settings.limit + 1 - length l.machine.ledger
+abbrev pub decreases-loop-machine : goal.decreases-loop-machine
+decreases-loop-machine g l = l.machine.settings.limit + 1 - length l.machine.ledger

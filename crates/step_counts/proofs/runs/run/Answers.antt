@@ -12,6 +12,7 @@ use Rattle.machine_core.proofs.Supersteps.{IsOnPhase-phases, IsWalked-on, IsWalk
 use Rattle.machine_core.proofs.Walks.{walked-zero}
 use Rattle.step_counts.specs.Counts.{lines_of}
 use Rattle.step_counts.proofs.Rest.{lines_appended, lines_over}
+use Rattle.step_counts.proofs.Sums.{AllCountsAreTicks-supersteps}
 use Rattle.step_counts.proofs.runs.run.Goals as goal
 
 pub returns-in_err-text-clause-err : goal.returns-in_err-text-clause-err
@@ -19,18 +20,24 @@ returns-in_err-text-clause-err g c =
     let p = err_from_is_err_and c.from_residual.result c.from_residual.ensures.1 in
     rw p.1 (0, sym (walked-zero c.args.machine.now))
 
+pub returns-in_err-text-clause-ticks : goal.returns-in_err-text-clause-ticks
+returns-in_err-text-clause-ticks g c = λ k. AllCountsAreTicks-supersteps k c.args.machine.now c.settings.ensures.sound c.read_pcs.ensures
+
 pub loop-machine-init : goal.loop-machine-init
 loop-machine-init g c = record {
   so_far = (0, sym (walked-zero c.args.machine.now));
   same_end = refl;
   lines = refl;
-  memory = c.new-table.ensures ∙ ap (λ (s : Settings). s.memory) c.settings.ensures.value;
+  memory = c.new-table.ensures.memory ∙ ap (λ (s : Settings). s.memory) c.settings.ensures.value;
 }
 
 pub returns-in_err-count_parts-clause-err : goal.returns-in_err-count_parts-clause-err
 returns-in_err-count_parts-clause-err g c =
     let p = err_from_is_err_and c.from_residual-in_err-count_parts.result c.from_residual-in_err-count_parts.ensures.1 in
     rw p.1 (IsWalked-on c.args.machine.now c.loop-machine.machine c.count_parts.new.machine c.loop-machine.invariant.so_far c.in_err-count_parts.ensures.err)
+
+pub returns-in_err-count_parts-clause-ticks : goal.returns-in_err-count_parts-clause-ticks
+returns-in_err-count_parts-clause-ticks g c = λ k. AllCountsAreTicks-supersteps k c.args.machine.now c.settings.ensures.sound c.read_pcs.ensures
 
 pub loop-machine-smaller : goal.loop-machine-smaller
 loop-machine-smaller g c =
@@ -62,10 +69,16 @@ returns-in_err-turn-clause-err g c =
     let phases = IsWalked-on c.args.machine.now m (with_phases m) c.loop-machine.invariant.so_far (IsOnPhase-phases m c.outcome.ensures.sound) in
     rw p.1 (phases.0, c.in_err-turn.ensures.err ∙ c.in_ok-count_parts.ensures.ok ∙ phases.1)
 
+pub returns-in_err-turn-clause-ticks : goal.returns-in_err-turn-clause-ticks
+returns-in_err-turn-clause-ticks g c = λ k. AllCountsAreTicks-supersteps k c.args.machine.now c.settings.ensures.sound c.read_pcs.ensures
+
 pub returns-clause-ok : goal.returns-clause-ok
 returns-clause-ok g c =
     let over = ap is_some (sym c.outcome.ensures.value) ∙ c.is_none.ensures ∙ ap not c.loop-machine-test.false in
     record { end = sym (end_of-there c.loop-machine.machine over) ∙ c.loop-machine.invariant.same_end; over = over }
+
+pub returns-clause-ticks : goal.returns-clause-ticks
+returns-clause-ticks g c = λ k. AllCountsAreTicks-supersteps k c.args.machine.now c.settings.ensures.sound c.read_pcs.ensures
 
 pub returns-clause-counts : goal.returns-clause-counts
 returns-clause-counts g c =

@@ -7,7 +7,7 @@ use Rattle.bsp_debug.proofs.Keeps.{same-points, points-counted}
 use Rattle.bsp_debug.proofs.debugger.Debugger.add.Goals as goal
 
 pub invariant_of-self : goal.invariant_of-self
-invariant_of-self g c = record { machine = c.self.invariant.machine; kept = c.self.invariant.kept }
+invariant_of-self g c = record { first = c.self.invariant.first; machine = c.self.invariant.machine; kept = c.self.invariant.kept }
 
 pub returns-in_err-add-clause-others : goal.returns-in_err-add-clause-others
 returns-in_err-add-clause-others g c = same-points (debugger_view c.self.inside) c.args.self.now c.add.new.self c.self.view_is
@@ -16,7 +16,7 @@ pub returns-in_err-add-clause-no_memory : goal.returns-in_err-add-clause-no_memo
 returns-in_err-add-clause-no_memory g c = λ memory. sym (c.in_ok-check_point.ensures {u = tt})
 
 pub invariant_of-self-2 : goal.invariant_of-self-2
-invariant_of-self-2 g c = record { machine = c.self.invariant.machine; kept = c.self.invariant.kept }
+invariant_of-self-2 g c = record { first = c.self.invariant.first; machine = c.self.invariant.machine; kept = c.self.invariant.kept }
 
 pub returns-clause-set : goal.returns-clause-set
 returns-clause-set g c = subst (λ (d : DebuggerState). HasAlso c.args.point d.points c.add.new.self) c.self.view_is c.in_ok-add.ensures.set

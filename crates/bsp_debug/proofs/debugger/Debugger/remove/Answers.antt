@@ -12,7 +12,7 @@ returns-then-not-has-clause-fault g c =
     ∙ ap (λ (d : DebuggerState). remove_fault d.points c.args.point) c.self.view_is
 
 pub invariant_of-self : goal.invariant_of-self
-invariant_of-self g c = record { machine = c.self.invariant.machine; kept = c.self.invariant.kept }
+invariant_of-self g c = record { first = c.self.invariant.first; machine = c.self.invariant.machine; kept = c.self.invariant.kept }
 
 pub returns-clause-set : goal.returns-clause-set
 returns-clause-set g c = subst (λ (d : DebuggerState). HasNoMore c.args.point d.points c.remove.new.self) c.self.view_is c.remove.ensures.set

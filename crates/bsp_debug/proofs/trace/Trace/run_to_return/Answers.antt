@@ -1,10 +1,10 @@
-use Rattle.std.proofs.Common.{◌≡◌, ◌-◌, true, false, sym, ap, ap₂, subst, ◌∙◌, arith}
+use Rattle.std.proofs.Common.{◌≡◌, ◌-◌, true, false, sym, ap, ap₂, ◌∙◌, arith}
 use Rattle.std.proofs.lemmas.Bool.{false≢true}
 use Rattle.std.proofs.lemmas.Result.{err_from_is_err_and}
 use Rattle.machine_core.specs.declared.event.Event.TheVariants.{Step}
 use Rattle.machine_core.specs.Events.{is_enabled}
 use Rattle.machine_core.specs.Machine.{MachineState}
-use Rattle.bsp_debug.specs.Trace.{Traced, IsTrace, with_steps}
+use Rattle.bsp_debug.specs.Trace.{Traced, with_steps}
 use Rattle.bsp_debug.proofs.Counts.{after_steps-zero}
 use Rattle.bsp_debug.proofs.Arrivals.{GoesOn-none, returned-is, returning-is}
 use Rattle.bsp_debug.proofs.Traces.{trace-is}

@@ -1,0 +1,5 @@
+use Rattle.contested_bytes.proofs.Inside.{contested_inside}
+use Rattle.contested_bytes.proofs.laws.contested_bytes_lie_in_memories.Goals as goal
+
+pub returns : goal.returns
+returns c = contested_inside

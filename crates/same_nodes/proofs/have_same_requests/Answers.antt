@@ -1,0 +1,14 @@
+use Rattle.std.proofs.Common.{◌≡◌, ◌∙◌, sym, arith}
+use Rattle.same_nodes.proofs.Lists.{same-lists, same-numbers}
+use Rattle.same_nodes.proofs.Records.{same-requests}
+use Rattle.same_nodes.proofs.have_same_requests.Goals as goal
+
+pub returns : goal.returns
+returns g c = λ holds.
+    let requests : c.args.requests.now.requests ≡ c.args.others.now.requests =
+    same-lists c.args.requests.now.requests c.args.others.now.requests
+    (omega (arith, c.len.ensures.len, c.len-2.ensures.len, c.if-len.false))
+    (λ k below. c.loop-place.invariant k (omega (arith, below, c.len-place-end.ensures.len, c.loop-place-test.false))) in
+    let output : c.args.requests.now.output ≡ c.args.others.now.output =
+    sym c.output.ensures ∙ same-numbers c.output.result.now c.output-2.result.now c.eq.result c.eq.ensures holds ∙ c.output-2.ensures in
+    same-requests c.args.requests.now c.args.others.now requests output

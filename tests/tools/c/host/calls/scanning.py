@@ -152,9 +152,20 @@ def is_read_further(answer: Answer) -> bool:
 
 def is_end_unseen(answer: Answer) -> bool:
     """A width that is used up with the last byte of a file."""
-    if not re.search(rb"%\*?[0-9]+", answer.text(1)) or [answer.host[1], answer.node[1]] != ["end", "more"]:
+    return bool(re.search(rb"%\*?[0-9]+", answer.text(1))) and is_told_end(answer, "end", "more")
+
+
+def is_nan_at_end(answer: Answer) -> bool:
+    """A `nan` with which a file ends: whether a `(` follows is known at the end alone, where glibc does not look."""
+    if not (REAL.search(answer.text(1)) and answer.text(2).lower().endswith(b"nan")):
         return False
-    return answer.host[:1] + answer.host[2:] == answer.node[:1] + answer.node[2:]
+    return answer.call[0] == "f" and is_told_end(answer, "more", "end")
+
+
+def is_told_end(answer: Answer, host: str, node: str) -> bool:
+    """Whether what feof says is all that differs, and these are its words."""
+    told = answer.host[1:2] + answer.node[1:2]
+    return told == [host, node] and answer.host[:1] + answer.host[2:] == answer.node[:1] + answer.node[2:]
 
 
 def is_byte_above(answer: Answer) -> bool:
@@ -171,6 +182,7 @@ DIFFERENCES = (
     Difference("C11 7.21.6.2p10: what is stored of a number that its place cannot hold is undefined; here the low bits", is_beyond_64),
     Difference("C11 7.21.6.2p9: the first byte behind an item is not read; glibc reads it behind an `i` or `n` alone", is_read_further),
     Difference("C11 7.21.6.2p9: behind an item as long as its width nothing has to be read, so that feof says no", is_end_unseen),
+    Difference("C11 7.21.6.2p9: behind `nan` there may be a `(`, so that it is looked for, and feof says yes at the end", is_nan_at_end),
     Difference("C11 5.2.1p1: which bytes above 127 are characters of the locale C is of the implementation", is_byte_above),
 )
 

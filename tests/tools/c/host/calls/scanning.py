@@ -130,12 +130,39 @@ CUT = re.compile(rb"%\*?[0-9]+[lL]?[fegaEFGA]")
 REAL = re.compile(rb"%\*?[0-9]*[lL]?[fegaEFGA]")
 
 
+# What an answer says of a place, by the letter of its type, and what it says first, by the function.
+TEXT = r'"[^"]*"(?: \.\. \S+ \S+)?'
+OF_PLACE = {"s": TEXT, "w": r"(?:\S+ )*?;"}
+FIRST = {"f": r"\S+ \S+ \S+ \S+ \S+", "i": rf"\S+ {TEXT}"}
+UNSET = ("unset", '""', ";")
+
+
+def places_of(answer: Answer, words: List[str]) -> List[str]:
+    """What an answer says of each place, or nothing where it is no answer."""
+    function, types = answer.call[0], answer.call[3:]
+    form = " ".join([FIRST.get(function, r"\S+"), *(f"({OF_PLACE.get(it, r'[^ ]+')})" for it in types)])
+    found = re.fullmatch(form, " ".join(words))
+    return list(found.groups()) if found else []
+
+
+def is_less(answer: Answer, less: List[str], more: List[str]) -> bool:
+    """Whether one answer has stored a part of what the other has, and no other values. Of a text of wide characters it may have a part. The
+    end of the text may stand behind what both have left out, which is no failure then."""
+    stored, others = places_of(answer, less), places_of(answer, more)
+    if len(stored) != len(answer.call) - 3 or len(others) != len(stored) or int(less[0]) > max(0, int(more[0])):
+        return False
+    return all(it in (*UNSET, other) or kind == "w" for kind, it, other in zip(answer.call[3:], stored, others))
+
+
 def is_unfinished(answer: Answer) -> bool:
-    """What glibc takes for a number with a point, and C for the beginning of one."""
+    """What glibc takes for a number with a point, and C for the beginning of one, of which the node stores nothing. What follows a nan, and
+    glibc does not read, is elsewhere for all that is behind it."""
     form, given = answer.text(1), answer.text(2)
     # A width may end a number in its middle, too.
     is_cut = CUT.search(form) and re.search(rb"[0-9.][ep]|0x|nan|inf", given, re.I)
-    return bool(REAL.search(form) and UNFINISHED.search(given)) or bool(is_cut)
+    if not is_cut and not (REAL.search(form) and UNFINISHED.search(given)):
+        return False
+    return b"nan(" in given.lower() or is_less(answer, answer.node, answer.host)
 
 
 def is_beyond_64(answer: Answer) -> bool:
@@ -169,8 +196,10 @@ def is_told_end(answer: Answer, host: str, node: str) -> bool:
 
 
 def is_byte_above(answer: Answer) -> bool:
-    """A byte above 127 as a wide character."""
-    return bool(WIDE.search(answer.text(1)) and re.search(rb"[\x80-\xff]", answer.text(2)))
+    """A byte above 127 as a wide character, at which glibc stops."""
+    if not (WIDE.search(answer.text(1)) and re.search(rb"[\x80-\xff]", answer.text(2))):
+        return False
+    return is_less(answer, answer.host, answer.node)
 
 
 DIFFERENCES = (

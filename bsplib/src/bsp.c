@@ -205,9 +205,9 @@ void bsp_move(void *payload, int reception_nbytes)
 }
 
 /* The room of a tag or of a payload, of which neither has a size below 0. */
-static size_t rounded(int size)
+static size_t rounded(size_t size)
 {
-    return ((size_t)size + 7) & ~(size_t)7;
+    return (size + 7) & ~(size_t)7;
 }
 
 /* Begins with the first piece of an earlier superstep, if that is large enough, and frees the others. */

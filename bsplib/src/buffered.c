@@ -102,9 +102,15 @@ static off_t place_of(struct __file_bufio *it)
     return place < 0 ? place : place - (it->len - it->off);
 }
 
-static off_t seek(FILE *file, off_t offset, int whence)
+static off_t go_back(struct __file_bufio *it, off_t byte)
 {
-    struct __file_bufio *it = buffered(file);
+    if (it->dir != __SRD || it->off == 0 || (unsigned char)it->buf[it->off - 1] != byte)
+        return -1;
+    return --it->off;
+}
+
+static off_t go_to(struct __file_bufio *it, off_t offset, int whence)
+{
     off_t place = place_of(it), first = place - it->off;
     if (place < 0 || (whence == SEEK_CUR && offset == 0))
         return place;
@@ -125,6 +131,11 @@ static off_t seek(FILE *file, off_t offset, int whence)
         it->dir = 0;
     }
     return place;
+}
+
+static off_t seek(FILE *file, off_t offset, int whence)
+{
+    return whence == BSP_BACK ? go_back(buffered(file), offset) : go_to(buffered(file), offset, whence);
 }
 
 /* A stream keeps its own buffer where it is given none. */

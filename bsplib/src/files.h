@@ -41,6 +41,10 @@ int bsp_open_nameless(void);
 int bsp_put_refused(char byte, FILE *file);
 int bsp_get_refused(FILE *file);
 
+/* A stream that is to `seek` with this goes back by the byte that it gave last, where that is `offset`, and else answers -1. So scanf leaves a
+   byte without the one place that ungetc has. */
+enum { BSP_BACK = SEEK_END + 1 };
+
 /* freopen of a stream over a file. */
 FILE *bsp_reopen_buffered(const char *name, const char *mode, FILE *file);
 

@@ -57,6 +57,8 @@ static int flush(FILE *file)
 static off_t seek(FILE *file, off_t offset, int whence)
 {
     struct memory *it = memory(file);
+    if (whence == BSP_BACK)
+        return it->next > 0 && (unsigned char)it->bytes[it->next - 1] == offset ? (off_t)--it->next : -1;
     off_t from = whence == SEEK_SET ? 0 : (off_t)(whence == SEEK_CUR ? it->next : it->size);
     if (offset < -from || offset > (off_t)it->room - from) {
         errno = EINVAL;

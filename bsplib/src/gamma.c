@@ -11,6 +11,7 @@
 static __attribute__((unused)) double pow_of_musl(double x, double y);
 #pragma GCC diagnostic push
 #pragma GCC diagnostic ignored "-Wunused-but-set-variable"
+#pragma GCC diagnostic ignored "-Wconversion"
 #include "../vendor/musl/src/math/pow.c"
 #pragma GCC diagnostic pop
 #undef pow

@@ -64,6 +64,9 @@ void bsp_stdio_write(int file, const void *bytes, size_t count);
 /* The next byte of the input, or -1. */
 int bsp_stdio_get(void);
 
+/* Makes the byte that was taken last the next one again, if it is this one: 0, and else -1. */
+int bsp_stdio_go_back(int byte);
+
 /* Whether some byte of the input has come so far. */
 extern int bsp_has_input;
 

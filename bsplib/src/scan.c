@@ -10,7 +10,7 @@
 #include <wchar.h>
 
 #include "digits.h"
-#include "machine.h"
+#include "files.h"
 
 /* What is read: a text, or a file of which one byte may be looked at. */
 enum { NOT_LOOKED_AT = -2 };
@@ -609,6 +609,15 @@ static int scan(struct source *from, const char *format, va_list *arguments)
     return stored;
 }
 
+/* Leaves the byte that was looked at in its stream. The one place that ungetc has is the program's, and is taken only for a byte that the
+   program has put there. */
+static void leave(FILE *file, int byte)
+{
+    const struct __file_ext *stream = (const struct __file_ext *)file;
+    if (!(file->flags & __SEXT) || stream->seek == NULL || stream->seek(file, byte, BSP_BACK) < 0)
+        ungetc(byte, file);
+}
+
 /* It does not name stdin: a program that has it for sscanf alone would be linked with the input, and bsprun wait for that. */
 int vfscanf(FILE *file, const char *format, va_list arguments)
 {
@@ -619,7 +628,7 @@ int vfscanf(FILE *file, const char *format, va_list arguments)
     stored = scan(&from, format, &rest);
     va_end(rest);
     if (from.next != NOT_LOOKED_AT && from.next != EOF)
-        ungetc(from.next, file);
+        leave(file, from.next);
     if (stored == EOF && file == bsp_ended_input && !bsp_has_input) {
         bsp_note(NOTE_EMPTY, __builtin_return_address(0), 0, 0, "");
         bsp_has_input = 1;

@@ -85,10 +85,19 @@ static int get(FILE *file)
     return _FDEV_EOF;
 }
 
+static off_t go_back(off_t byte)
+{
+    if (bsp_goes_back == NULL)
+        return bsp_stdio_go_back((int)byte);
+    return whole.next > 0 && whole.next <= whole.end && (unsigned char)whole.bytes[whole.next - 1] == byte ? --whole.next : -1;
+}
+
 static off_t seek(FILE *file, off_t offset, int whence)
 {
     off_t from;
     (void)file;
+    if (whence == BSP_BACK)
+        return go_back(offset);
     if (whole.bytes == NULL)
         read_whole();
     from = whence == SEEK_SET ? 0 : whence == SEEK_CUR ? whole.next : whole.end;
@@ -155,6 +164,8 @@ static int get_instead(FILE *file)
 static off_t seek_instead(FILE *file, off_t offset, int whence)
 {
     (void)file;
+    if (whence == BSP_BACK)
+        return ((const struct __file_ext *)instead_of_input)->seek(instead_of_input, offset, whence);
     return fseeko(instead_of_input, offset, whence) == 0 ? ftello(instead_of_input) : -1;
 }
 

@@ -106,6 +106,14 @@ int bsp_stdio_get(void)
     return (unsigned char)in.bytes[in.next++];
 }
 
+int bsp_stdio_go_back(int byte)
+{
+    if (in.next == 0 || (unsigned char)in.bytes[in.next - 1] != byte)
+        return -1;
+    in.next--;
+    return 0;
+}
+
 /* Up to `count` bytes of the input: those that are left in the buffer first, and then those behind it. */
 int bsp_input_read(void *to, int count)
 {

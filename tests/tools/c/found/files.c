@@ -99,6 +99,11 @@ static void places(void)
     tell_place(file);
     ungetc('y', file);
     tell_place(file);
+    /* The byte that fscanf leaves takes none of the place for what is put back. */
+    fscanf(file, "%d", &number);
+    printf("%d, ", ungetc('z', file));
+    tell_place(file);
+    tell_place(file);
     fclose(file);
     file = fopen(name, "a");
     printf("%ld, ", ftell(file));
@@ -127,6 +132,8 @@ static void memory(void)
     fclose(file);
     file = fmemopen(room, strlen(room), "r");
     counts[1] = fscanf(file, "%7s", word);
+    printf("%d ", ungetc('z', file));
+    printf("%d ", fgetc(file));
     ungetc(fgetc(file), file);
     printf("%d %s, %d %s ", counts[0], room, counts[1], word);
     tell_place(file);

@@ -174,8 +174,8 @@ static void read_some(const char *step, int i)
     } else if (strcmp(step, "fscanf") == 0) {
         char word[40] = "";
         int answer = fscanf(file, "%30s", word);
-        /* Known and not mended: the byte that fscanf puts back takes the place of the one that ungetc promises. */
-        streams[i].pushed = 1;
+        /* The byte that fscanf leaves takes no place. */
+        streams[i].pushed = 0;
         say_number(answer);
         say_text(word);
     } else {

@@ -39,12 +39,35 @@ static void say_written(const char *room)
     say_bytes(room, (size_t)count);
 }
 
+/* A long double of the node is read as a double, and one of the host would be rounded twice on its way to one: there the format has `l` in
+   the place of each `L`, which is a length alone. */
+#ifdef __riscv
+typedef long double wide_real;
+
+static const char *of_doubles(const char *format)
+{
+    return format;
+}
+#else
+typedef double wide_real;
+
+static const char *of_doubles(const char *format)
+{
+    static char changed[4096];
+    size_t count = 0;
+    for (; format[count] != '\0' && count < sizeof changed - 1; count++)
+        changed[count] = format[count] == 'L' ? 'l' : format[count];
+    changed[count] = '\0';
+    return changed;
+}
+#endif
+
 static void say_place_of(int i)
 {
     static const char unset[] = "\x55\x55\x55\x55";
     float single;
     double real;
-    long double wide;
+    wide_real wide;
     if (types[i] != 's' && types[i] != 'w' && memcmp(rooms[i], unset, sizeof(int)) == 0) {
         say("unset");
         return;
@@ -129,7 +152,7 @@ static void scan(void)
 {
     char function = *read_word();
     size_t count;
-    const char *format = read_text(), *text = read_bytes(&count);
+    const char *format = of_doubles(read_text()), *text = read_bytes(&count);
     for (place_count = 0; has_word() && place_count < MOST_PLACES; place_count++)
         types[place_count] = *read_word();
     memset(rooms, 0x55, sizeof rooms);

@@ -134,11 +134,13 @@ class Bench:
         self.open: Counter[Tuple[str, str]] = collections.Counter()
 
     def parts(self, area: Area, each: int, seed: int, wanted: str, turn: int) -> Iterator[Part]:
-        """An area's parts: of one build, whose turn it is; of one that is wanted; or of all, each with its share of the calls."""
+        """An area's parts, each with its share of the calls: of the build whose turn it is, and of the small library if it has the area; of
+        one build that is wanted; or of all."""
         program = Program(self, area)
         builds = [it for it in area.builds if wanted in ("all", it.value)]
-        if wanted == "one":
-            builds = [area.builds[turn % len(area.builds)]]
+        if wanted == "turn":
+            large = [it for it in area.builds if it != Build.SMALL]
+            builds = [it for it in area.builds if it in (large[turn % len(large)], Build.SMALL)]
         for at, build in enumerate(builds):
             count = each * (at + 1) // len(builds) - each * at // len(builds)
             yield Part(f"{area.name}, {build.value}", functools.partial(self.compare, program, build, count, seed), TOOLS)

@@ -44,8 +44,7 @@ def step(chance: Chance, seeks: bool) -> str:
     if kind == 7:
         return "L"
     if kind <= 9:
-        # Known and not mended: the byte that scanf puts back takes the place of the one that ungetc promises, until something is read.
-        return f"s{chance.randrange(7)} {chance.choice('gc')}"
+        return f"s{chance.randrange(7)}"
     if kind == 10:
         return "e"
     if kind == 11:

@@ -130,12 +130,39 @@ CUT = re.compile(rb"%\*?[0-9]+[lL]?[fegaEFGA]")
 REAL = re.compile(rb"%\*?[0-9]*[lL]?[fegaEFGA]")
 
 
+# What an answer says of a place, by the letter of its type, and what it says first, by the function.
+TEXT = r'"[^"]*"(?: \.\. \S+ \S+)?'
+OF_PLACE = {"s": TEXT, "w": r"(?:\S+ )*?;"}
+FIRST = {"f": r"\S+ \S+ \S+ \S+ \S+", "i": rf"\S+ {TEXT}"}
+UNSET = ("unset", '""', ";")
+
+
+def places_of(answer: Answer, words: List[str]) -> List[str]:
+    """What an answer says of each place, or nothing where it is no answer."""
+    function, types = answer.call[0], answer.call[3:]
+    form = " ".join([FIRST.get(function, r"\S+"), *(f"({OF_PLACE.get(it, r'[^ ]+')})" for it in types)])
+    found = re.fullmatch(form, " ".join(words))
+    return list(found.groups()) if found else []
+
+
+def is_less(answer: Answer, less: List[str], more: List[str]) -> bool:
+    """Whether one answer has stored a part of what the other has, and no other values. Of a text of wide characters it may have a part. The
+    end of the text may stand behind what both have left out, which is no failure then."""
+    stored, others = places_of(answer, less), places_of(answer, more)
+    if len(stored) != len(answer.call) - 3 or len(others) != len(stored) or int(less[0]) > max(0, int(more[0])):
+        return False
+    return all(it in (*UNSET, other) or kind == "w" for kind, it, other in zip(answer.call[3:], stored, others))
+
+
 def is_unfinished(answer: Answer) -> bool:
-    """What glibc takes for a number with a point, and C for the beginning of one."""
+    """What glibc takes for a number with a point, and C for the beginning of one, of which the node stores nothing. What follows a nan, and
+    glibc does not read, is elsewhere for all that is behind it."""
     form, given = answer.text(1), answer.text(2)
     # A width may end a number in its middle, too.
     is_cut = CUT.search(form) and re.search(rb"[0-9.][ep]|0x|nan|inf", given, re.I)
-    return bool(REAL.search(form) and UNFINISHED.search(given)) or bool(is_cut)
+    if not is_cut and not (REAL.search(form) and UNFINISHED.search(given)):
+        return False
+    return b"nan(" in given.lower() or is_less(answer, answer.node, answer.host)
 
 
 def is_beyond_64(answer: Answer) -> bool:
@@ -152,14 +179,27 @@ def is_read_further(answer: Answer) -> bool:
 
 def is_end_unseen(answer: Answer) -> bool:
     """A width that is used up with the last byte of a file."""
-    if not re.search(rb"%\*?[0-9]+", answer.text(1)) or [answer.host[1], answer.node[1]] != ["end", "more"]:
+    return bool(re.search(rb"%\*?[0-9]+", answer.text(1))) and is_told_end(answer, "end", "more")
+
+
+def is_nan_at_end(answer: Answer) -> bool:
+    """A `nan` with which a file ends: whether a `(` follows is known at the end alone, where glibc does not look."""
+    if not (REAL.search(answer.text(1)) and answer.text(2).lower().endswith(b"nan")):
         return False
-    return answer.host[:1] + answer.host[2:] == answer.node[:1] + answer.node[2:]
+    return answer.call[0] == "f" and is_told_end(answer, "more", "end")
+
+
+def is_told_end(answer: Answer, host: str, node: str) -> bool:
+    """Whether what feof says is all that differs, and these are its words."""
+    told = answer.host[1:2] + answer.node[1:2]
+    return told == [host, node] and answer.host[:1] + answer.host[2:] == answer.node[:1] + answer.node[2:]
 
 
 def is_byte_above(answer: Answer) -> bool:
-    """A byte above 127 as a wide character."""
-    return bool(WIDE.search(answer.text(1)) and re.search(rb"[\x80-\xff]", answer.text(2)))
+    """A byte above 127 as a wide character, at which glibc stops."""
+    if not (WIDE.search(answer.text(1)) and re.search(rb"[\x80-\xff]", answer.text(2))):
+        return False
+    return is_less(answer, answer.host, answer.node)
 
 
 DIFFERENCES = (
@@ -171,6 +211,7 @@ DIFFERENCES = (
     Difference("C11 7.21.6.2p10: what is stored of a number that its place cannot hold is undefined; here the low bits", is_beyond_64),
     Difference("C11 7.21.6.2p9: the first byte behind an item is not read; glibc reads it behind an `i` or `n` alone", is_read_further),
     Difference("C11 7.21.6.2p9: behind an item as long as its width nothing has to be read, so that feof says no", is_end_unseen),
+    Difference("C11 7.21.6.2p9: behind `nan` there may be a `(`, so that it is looked for, and feof says yes at the end", is_nan_at_end),
     Difference("C11 5.2.1p1: which bytes above 127 are characters of the locale C is of the implementation", is_byte_above),
 )
 

@@ -1,6 +1,7 @@
 /* What C++'s streams share, the four standard ones, and the functions of streams that the headers of GCC's standard library have in a library
    that is for the host. Names and members are those of its ABI. */
 #include <cstdio>
+#include <iomanip>
 #include <istream>
 #include <new>
 #include <ostream>
@@ -375,6 +376,18 @@ template ostream &ostream::_M_insert(unsigned long long);
 template ostream &ostream::_M_insert(double);
 template ostream &ostream::_M_insert(long double);
 template ostream &ostream::_M_insert(const void *);
+template istream &operator>>(istream &, _Setfill<char>);
+template istream &operator>>(istream &, _Setiosflags);
+template istream &operator>>(istream &, _Resetiosflags);
+template istream &operator>>(istream &, _Setbase);
+template istream &operator>>(istream &, _Setprecision);
+template istream &operator>>(istream &, _Setw);
+template ostream &operator<<(ostream &, _Setfill<char>);
+template ostream &operator<<(ostream &, _Setiosflags);
+template ostream &operator<<(ostream &, _Resetiosflags);
+template ostream &operator<<(ostream &, _Setbase);
+template ostream &operator<<(ostream &, _Setprecision);
+template ostream &operator<<(ostream &, _Setw);
 template class basic_iostream<char>;
 template istream &getline(istream &, string &);
 template class basic_stringbuf<char>;

@@ -39,6 +39,13 @@ static char *block(const void *blocks, int number, int nbytes)
     return (char *)blocks + number * nbytes;
 }
 
+/* Copies bytes. No bytes may have NULL for their address, which C leaves open in memmove. */
+static void copy(void *to, const void *from, int nbytes)
+{
+    if (nbytes > 0)
+        memmove(to, from, (size_t)nbytes);
+}
+
 /* Gives a block to each rank from `first` on, which is not above this one: from `src`, of blocks that stand `step` bytes apart. The block for
    this rank itself is copied, so that it is not counted as sent, and it is copied last: the area may lie over what others are given. */
 static void give_all(int first, const void *src, int step, void *area, int number, int nbytes)
@@ -47,7 +54,7 @@ static void give_all(int first, const void *src, int step, void *area, int numbe
     for (rank = first; rank < end; rank++)
         if (rank != own)
             bsp_put(rank, block(src, rank, step), area, number * nbytes, nbytes);
-    memmove(block(area, number, nbytes), block(src, own, step), (size_t)nbytes);
+    copy(block(area, number, nbytes), block(src, own, step), nbytes);
 }
 
 void bsp_bcast(int root, const void *src, void *dst, int nbytes)
@@ -76,7 +83,7 @@ void bsp_gather(int root, const void *src, void *dst, int nbytes)
     must_be_rank(root);
     open_area(area, is_root ? bsp_nprocs() : 0, nbytes);
     if (is_root)
-        memmove(block(dst, root, nbytes), src, (size_t)nbytes);
+        copy(block(dst, root, nbytes), src, nbytes);
     else
         bsp_put(root, src, area, bsp_pid() * nbytes, nbytes);
     close_area(area);
@@ -101,12 +108,12 @@ static void reduce(bsp_operator op, const void *src, void *dst, int nbytes, int 
     open_area(operands, bsp_nprocs(), nbytes);
     give_all(first, src, 0, operands, bsp_pid(), nbytes);
     close_area(operands);
-    memmove(dst, operands, (size_t)nbytes);
+    copy(dst, operands, nbytes);
     for (rank = 1; rank < end; rank++) {
         /* The operator may write its result before it has read both operands, so these are apart from it. */
         char *left = block(operands, rank - 1, nbytes);
         int size = nbytes; /* which it may count down */
-        memmove(left, dst, (size_t)nbytes);
+        copy(left, dst, nbytes);
         op(dst, left, block(operands, rank, nbytes), &size);
     }
     free(operands);

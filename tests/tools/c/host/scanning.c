@@ -5,7 +5,7 @@
 
 #include "calls.h"
 
-enum { MOST_PLACES = 6, ROOM = 600 };
+enum { MOST_PLACES = 6, ROOM = 608 }; /* a multiple of 16, as a long double wants its address */
 
 static char types[MOST_PLACES], rooms[MOST_PLACES][ROOM] __attribute__((aligned(16)));
 static int place_count;

@@ -394,5 +394,18 @@ template class basic_stringbuf<char>;
 template class basic_istringstream<char>;
 template class basic_ostringstream<char>;
 template class basic_stringstream<char>;
+/* Where the compiler puts nothing in line, a program calls those of its manipulators. */
+template ostream &operator<<(ostream &, _Setfill<char>);
+template ostream &operator<<(ostream &, _Setiosflags);
+template ostream &operator<<(ostream &, _Resetiosflags);
+template ostream &operator<<(ostream &, _Setbase);
+template ostream &operator<<(ostream &, _Setprecision);
+template ostream &operator<<(ostream &, _Setw);
+template istream &operator>>(istream &, _Setfill<char>);
+template istream &operator>>(istream &, _Setiosflags);
+template istream &operator>>(istream &, _Resetiosflags);
+template istream &operator>>(istream &, _Setbase);
+template istream &operator>>(istream &, _Setprecision);
+template istream &operator>>(istream &, _Setw);
 
 } // namespace std

@@ -227,7 +227,10 @@ static void go_to(const char *step, int i)
     }
     say_number(answer != 0);
     say_failure(answer != 0);
-    if (answer == 0) {
+    /* One that fails undoes no ungetc by C11 7.21.9.2p5, and may do so in glibc. */
+    if (answer != 0 && streams[i].pushed)
+        rewind(file);
+    if (answer == 0 || streams[i].pushed) {
         streams[i].last = '\0';
         streams[i].pushed = 0;
     }

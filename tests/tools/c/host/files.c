@@ -76,7 +76,10 @@ static void say_opened(int i, FILE *file)
 /* Makes what C wants between reading and writing. */
 static void turn_to(int i, char way)
 {
-    if (streams[i].last != '\0' && streams[i].last != way)
+    /* C11 7.21.7.10p5 leaves open from where SEEK_CUR counts while a byte of a text stream is put back. */
+    if (streams[i].pushed && way == 'w')
+        rewind(streams[i].file);
+    else if (streams[i].last != '\0' && streams[i].last != way)
         fseek(streams[i].file, 0, SEEK_CUR);
     streams[i].last = way;
     if (way == 'w')
@@ -154,6 +157,7 @@ static void read_line(FILE *file)
 static void read_some(const char *step, int i)
 {
     FILE *file = streams[i].file;
+    int was_pushed = streams[i].pushed;
     turn_to(i, 'r');
     streams[i].pushed = 0;
     if (strcmp(step, "fgetc") == 0) {
@@ -166,8 +170,10 @@ static void read_some(const char *step, int i)
     } else if (strcmp(step, "getline") == 0) {
         read_line(file);
     } else if (strcmp(step, "fgets") == 0) {
-        char *line = fgets(room, (int)number_operand(), file);
-        say_text(line);
+        int size = (int)number_operand();
+        say_text(fgets(room, size, file));
+        /* A line of no bytes takes none that was put back. */
+        streams[i].pushed = was_pushed && size == 1;
     } else if (strcmp(step, "fscanf") == 0 && !streams[i].is_readable) {
         /* glibc's says nothing of an error, where POSIX wants one. */
         say("-");
@@ -180,6 +186,7 @@ static void read_some(const char *step, int i)
         say_text(word);
     } else {
         size_t size = (size_t)number_operand(), count = (size_t)number_operand(), parts = fread(room, size, count, file);
+        streams[i].pushed = was_pushed && size * count == 0;
         say_number((int64_t)parts);
         say_bytes(room, parts * size);
     }

@@ -33,13 +33,13 @@ with_unseen_hart seen h =
 abbrev pub with_unseen : NodeState → NodeState → NodeState
 with_unseen seen n = record n { limit = seen.limit; hart = with_unseen_hart seen.hart n.hart }
 
--- no reader tells one node from another: they are equal but for what no reader shows whole, and what is shown of that is the same
+-- no reader of the record tells one node from another: they are equal but for what none shows whole, and what is shown of that is the same
 pub record LookAlike (one other : NodeState) : Type 0 where
   pub seen : one ≡ with_unseen one other
   pub units : OptionalUnitsLookAlike one.hart.unit other.hart.unit
   pub shape : HasSameShape one.hart.communication.registrations other.hart.communication.registrations
 
--- no reader tells one row of nodes from another: they have as many, and those at one place look alike
+-- two rows have as many nodes, and those at one place look alike
 abbrev pub RowsLookAlike : List PreparedNode → List PreparedNode → Type 0
 RowsLookAlike row other = AllZip (λ (a : PreparedNode) (b : PreparedNode). LookAlike a.node b.node) row other
 

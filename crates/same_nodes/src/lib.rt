@@ -34,7 +34,7 @@ pub fn are_same<A: Allocator + Copy>(node: &Node<A>, other: &Node<A>) -> Result<
     have_same_bytes(node.memory(), other.memory())
 }
 
-/// Whether nothing tells the nodes of one row from those of another.
+/// Whether two rows have equally many nodes, and those at one place equal records, as far as the crate's page says.
 ///
 /// # Errors
 /// As [`are_same`].

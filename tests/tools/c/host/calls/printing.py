@@ -140,6 +140,15 @@ def is_rounded_up(number: float) -> bool:
     return digits[:1] == "9" and digits.rstrip("0") != "9"
 
 
-DIFFERENCES = (Difference("C11 7.21.6.1p6: # keeps zeros at the end; glibc drops them of a %#g rounded up to a power of ten", is_carried),)
+def is_converted(answer: Answer) -> bool:
+    """A signaling NaN that becomes a long double."""
+    wide = [int(bits, 16) for kind, bits in zip(answer.call, answer.call[1:]) if kind == "R"]
+    return any(bits >> 52 & 0x7FF == 0x7FF and 0 < bits & (1 << 52) - 1 < 1 << 51 for bits in wide)
+
+
+DIFFERENCES = (
+    Difference("C11 7.21.6.1p6: # keeps zeros at the end; glibc drops them of a %#g rounded up to a power of ten", is_carried),
+    Difference("IEEE 754 (6.3): the sign of a NaN is open where a format is converted to another", is_converted),
+)
 
 AREA = Area("printing", "printing.c", call, ALL, DIFFERENCES)

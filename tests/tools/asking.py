@@ -1,4 +1,4 @@
-"""Has a process that has loaded a tool make a run of it in this one's place: `python3 -I -S -B asking.py SOCKET NAME WORDS..`.
+"""Asks a process that has loaded a tool to make a run of it in this one's place: `python3 -I -S -B asking.py SOCKET NAME WORDS..`.
 
 It stands where gdb starts a tool (`forked.py`), and loads no more than it has to, as nearly all that such a start costs is loading.
 """

@@ -1,4 +1,4 @@
-"""Memory that a part of a tool may take."""
+"""A limit on the memory that a part of a tool may take."""
 
 from __future__ import annotations
 

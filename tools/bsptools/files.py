@@ -1,4 +1,4 @@
-"""Files that tools read and write."""
+"""Files that tools read and write: each is replaced as a whole, and no input is written over."""
 
 from __future__ import annotations
 

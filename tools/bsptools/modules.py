@@ -1,4 +1,4 @@
-"""The tools' modules, which are kept compiled in a folder of the user's: most of the time of a short run would go into compiling them.
+"""Keeps the tools' modules compiled in the user's folder: compiling them would be most of the time of a short run.
 
 Nothing is written beside the program. What is kept begins with the text that it was compiled from, and is taken where that is the module's
 text, byte for byte, whatever times and places files have. So checkouts and installations share what they have in common, and the folder has

@@ -1,4 +1,4 @@
-"""Where the packages are that the tools want beside Python's own."""
+"""Finds the packages that the tools need beside Python's own."""
 
 from __future__ import annotations
 

@@ -1,5 +1,7 @@
-"""What a program comes to that makes calls of bsp.h and bsp_level1.h, by the rules of docs/manual/machine.md and docs/manual/c.md: each byte of
-each rank's memory, each answer, and h and m of each superstep. It knows nothing of the library."""
+"""A model of the calls of bsp.h and bsp_level1.h, by the rules of docs/manual/machine.md and docs/manual/c.md.
+
+It has each byte of each rank's memory, each answer, and h and m of each superstep. It knows nothing of the library.
+"""
 
 from __future__ import annotations
 

@@ -1,5 +1,7 @@
-"""What other programs read: each form is read by the program that it is for, or by what its description says, and the sums are those of the
-report."""
+"""The forms that other programs read: each is read by the program that it is for, or as its description says.
+
+The sums are those of the report.
+"""
 
 from __future__ import annotations
 

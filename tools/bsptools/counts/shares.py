@@ -1,4 +1,4 @@
-"""Parts of whole numbers."""
+"""Splits whole numbers into whole parts that add up to them."""
 
 from __future__ import annotations
 

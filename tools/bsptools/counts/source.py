@@ -1,4 +1,4 @@
-"""Where in its source an address is: file and line, and in which function."""
+"""The place of an address in the source: file, line and function."""
 
 from __future__ import annotations
 

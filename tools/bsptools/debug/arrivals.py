@@ -1,4 +1,4 @@
-"""Where a machine stands, and where one comes to that goes on."""
+"""Where a machine is, and where it comes to when it goes on."""
 
 from __future__ import annotations
 

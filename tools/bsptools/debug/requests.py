@@ -1,4 +1,4 @@
-"""The requests of supersteps, found by making these once more: each environment call that makes one is stopped at."""
+"""The requests of supersteps, found by running these again and stopping at each call that makes one."""
 
 from __future__ import annotations
 

@@ -1,4 +1,4 @@
-"""The dearest lines of a run: a bar for each, of what it costs by itself and with the library functions that it calls."""
+"""The most expensive lines of a run: a bar for each, of what it costs by itself and with the library functions that it calls."""
 
 from __future__ import annotations
 

@@ -1,5 +1,7 @@
-"""A run once more, in which the library looks at the heap in each superstep, and memory that the program has not written has another
-byte: what it tells of mistakes that have no effect else."""
+"""The run again, with checks of the heap in each superstep, and with another byte in memory that the program has not written.
+
+It shows mistakes that have no other effect.
+"""
 
 from __future__ import annotations
 

@@ -1,4 +1,4 @@
-"""Programs in C, which bspcc makes executables of."""
+"""Programs in C, which bspcc compiles into executables."""
 
 from __future__ import annotations
 

@@ -1,4 +1,4 @@
-"""Bytes to which two requests of a superstep bring different values, as `run --contested` tells of them: in which order these land is open."""
+"""Contested bytes, as `run --contested` lists them: two requests of a superstep bring different values to each."""
 
 from __future__ import annotations
 

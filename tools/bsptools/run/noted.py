@@ -1,4 +1,4 @@
-"""What is told of the records that a run has written: files and notes."""
+"""What is printed about the files and notes that a run has recorded."""
 
 from __future__ import annotations
 

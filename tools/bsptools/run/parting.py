@@ -1,4 +1,4 @@
-"""What the emulator writes as a run goes on, parted as it comes: the output of the nodes, their standard error, and the report at the end."""
+"""Splits what the emulator writes, as it comes: the output of the nodes, their standard error, and the report at the end."""
 
 from __future__ import annotations
 

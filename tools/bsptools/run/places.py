@@ -1,4 +1,4 @@
-"""Where in its source a node is: the calls that led to where it stands."""
+"""Where a node is in its source, and the calls that led there."""
 
 from __future__ import annotations
 

@@ -1,4 +1,6 @@
-"""A run once more, in the debugger. Runs are the same each time, so each question is a run of its own, with a script of lines.
+"""Runs a program again in the debugger, to answer a question about its run.
+
+Runs are the same each time, so each question is a run of its own, with a script of lines.
 
 Points make a run some four times as slow, so that supersteps before the one that is asked for are made without.
 """

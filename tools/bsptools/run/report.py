@@ -1,4 +1,4 @@
-"""The report that the emulator writes behind a program's output, parted from it."""
+"""The report that the emulator writes after a program's output, split off from that."""
 
 from __future__ import annotations
 

@@ -1,4 +1,4 @@
-"""A summary of a run: its totals, and the lines of the source at which its supersteps ended, the dearest first."""
+"""A summary of a run: its totals, and the lines of the source at which its supersteps ended, the most expensive first."""
 
 from __future__ import annotations
 

@@ -1,4 +1,4 @@
-"""The variables of a program: which of them are its own, and what they have at the end of a run."""
+"""The variables of a program: which of them are its own, and their values at the end of a run."""
 
 from __future__ import annotations
 

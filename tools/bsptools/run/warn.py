@@ -1,4 +1,4 @@
-"""What is likely a mistake in a run, also where it ends well."""
+"""Likely mistakes in a run, also if it ends well."""
 
 from __future__ import annotations
 

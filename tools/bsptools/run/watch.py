@@ -1,4 +1,4 @@
-"""A run that a person watches: what nodes write is written superstep by superstep, and the clock or Ctrl-C may end it."""
+"""A run that a person watches: its output appears superstep by superstep, and a time limit or Ctrl-C may end it."""
 
 from __future__ import annotations
 

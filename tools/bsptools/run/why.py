@@ -1,4 +1,4 @@
-"""Why a run stopped: where in the source, in which call, and what was not met."""
+"""Why a run stopped: where in the source, in which call, and which rule it broke."""
 
 from __future__ import annotations
 

@@ -1,4 +1,4 @@
-"""Files that tools read and write: each is replaced as a whole, and no input is written over."""
+"""Files that the tools read, and replace as a whole; never an input."""
 
 from __future__ import annotations
 

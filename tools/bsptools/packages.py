@@ -1,4 +1,4 @@
-"""Finds the packages that the tools need beside Python's own."""
+"""Which Python has the packages that the tools need besides the standard library."""
 
 from __future__ import annotations
 

@@ -1,4 +1,4 @@
-"""The standard streams, also if a tool is started with closed or full ones.
+"""The standard streams, also when they are closed or full.
 
 No file takes the number of one that is closed, what cannot be told on standard error changes no status, and what cannot be written on
 standard output is told with its name.

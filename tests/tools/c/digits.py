@@ -1,6 +1,6 @@
 """What tests/tools/c/digits.c reads, and what it has to print.
 
-These are numbers of all sizes by formats of all kinds, and numbers that lie halfway between two, or a little beside that. Python prints and
+There are numbers of all sizes by formats of all kinds, and numbers that lie halfway between two, or a little beside that. Python prints and
 reads numbers exactly.
 """
 

@@ -1,6 +1,6 @@
-"""The forms that other programs read: each is read by the program that it is for, or as its description says.
+"""The forms of costs, each read by the program that it is for.
 
-The sums are those of the report.
+Where there is no such program, it is read by what its description says. The sums are those of the report.
 """
 
 from __future__ import annotations

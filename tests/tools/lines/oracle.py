@@ -1,4 +1,4 @@
-"""A run by the fuzzer's model of the machine, step by step, to compare counts with.
+"""A run by the fuzzer's model of the machine, step by step.
 
 It says what `run --counts` has to write, and how many steps were really made while functions and places were being called, which counts
 alone do not always tell.

@@ -1,6 +1,6 @@
-"""Costs in callgrind's form, which kcachegrind and callgrind_annotate read.
+"""Costs in callgrind's format, which kcachegrind and callgrind_annotate read.
 
-Its description is https://valgrind.org/docs/manual/cl-format.html.
+https://valgrind.org/docs/manual/cl-format.html has the format.
 """
 
 from __future__ import annotations

@@ -1,4 +1,4 @@
-"""Splits whole numbers into whole parts that add up to them."""
+"""Whole numbers split into whole shares."""
 
 from __future__ import annotations
 

@@ -1,4 +1,4 @@
-"""The place of an address in the source: file, line and function."""
+"""The source line of an address."""
 
 from __future__ import annotations
 

@@ -1,4 +1,4 @@
-"""Where a machine is, and where it comes to when it goes on."""
+"""Where a machine stands, and where it arrives when it goes on."""
 
 from __future__ import annotations
 

@@ -1,4 +1,4 @@
-"""The requests of supersteps, found by running these again and stopping at each call that makes one."""
+"""What was asked for in supersteps, and where it landed, found by making them again."""
 
 from __future__ import annotations
 

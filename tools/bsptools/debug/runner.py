@@ -1,4 +1,4 @@
-"""Moves the machine on or back as gdb says: in pieces of supersteps, or one rank alone."""
+"""How the machine goes on or back as gdb says: in pieces of supersteps, or one rank alone."""
 
 from __future__ import annotations
 

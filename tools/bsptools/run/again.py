@@ -1,6 +1,6 @@
-"""The run again, with checks of the heap in each superstep, and with another byte in memory that the program has not written.
+"""A second run that checks the heap in each superstep, with another byte in fresh memory.
 
-It shows mistakes that have no other effect.
+What it shows are mistakes that have no other effect.
 """
 
 from __future__ import annotations

@@ -1,4 +1,7 @@
-"""Contested bytes, as `run --contested` lists them: two requests of a superstep bring different values to each."""
+"""The reader of what `run --contested` writes: bytes to which two requests of a superstep bring different values.
+
+In which order these land is open.
+"""
 
 from __future__ import annotations
 

@@ -1,4 +1,4 @@
-"""What is printed about the files and notes that a run has recorded."""
+"""What is done with a run's records: files into their folder, notes into lines."""
 
 from __future__ import annotations
 

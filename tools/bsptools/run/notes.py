@@ -1,4 +1,4 @@
-"""Notes of a program's library in a run, and the lines that are printed for them at its end."""
+"""What a program's library notes in a run, and the lines that say so at its end."""
 
 from __future__ import annotations
 

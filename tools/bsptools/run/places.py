@@ -1,4 +1,4 @@
-"""Where a node is in its source, and the calls that led there."""
+"""Where in its source a node is: the calls that led there, from its stack and its code."""
 
 from __future__ import annotations
 

@@ -1,4 +1,4 @@
-"""The report that the emulator writes after a program's output, split off from that."""
+"""The report behind a program's output, and what its supersteps cost."""
 
 from __future__ import annotations
 

@@ -1,4 +1,4 @@
-"""What is printed about a run that is over: a summary, why it failed, likely mistakes."""
+"""What is said of a run that is over: a summary, why it did not end well, likely mistakes."""
 
 from __future__ import annotations
 

@@ -1,4 +1,4 @@
-"""Likely mistakes in a run, also if it ends well."""
+"""What is likely a mistake in a run, also in one that ends well."""
 
 from __future__ import annotations
 

@@ -1,4 +1,4 @@
-"""A run that a person watches: its output appears superstep by superstep, and a time limit or Ctrl-C may end it."""
+"""A run that a person watches: output superstep by superstep, until it ends, or the clock or Ctrl-C ends it."""
 
 from __future__ import annotations
 

@@ -1,4 +1,4 @@
-"""Where the ranks were when a run was broken off: it is run again up to there."""
+"""Where the ranks were when a run was broken off, found by running it for as long again."""
 
 from __future__ import annotations
 

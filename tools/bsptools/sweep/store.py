@@ -1,4 +1,4 @@
-"""Results of runs, each in a file whose name follows from everything that the run depends on, so that no run is made twice."""
+"""What runs gave, each in a file named by all that the run depends on, so that none is made twice."""
 
 from __future__ import annotations
 

@@ -1,4 +1,4 @@
-/* What map, set, their unordered kinds, lists and shared pointers of GCC's standard library want linked. map and set are red-black
+/* What map, set, their unordered kinds, lists and shared pointers of GCC's standard library need linked. map and set are red-black
    trees, and the unordered kinds are tables of a prime number of lists. GCC's library
    with these is for the host alone. */
 #include <list>

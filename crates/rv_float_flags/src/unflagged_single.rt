@@ -1,4 +1,4 @@
-//! Sums, products and quotients of singles that raise no flag but those that are there, as far as a few comparisons find it out.
+//! The same of singles: sums, products and quotients that raise no flag but those that are there, as far as a few comparisons find it out.
 
 ghost use Rattle.std.specs.Prelude.{◌≡◌, ◌%◌, ◌^◌, ◌<◌, true, is_some, IfSome, IsTrue};
 ghost use Rattle.rv_float_flags.specs.Scaled.{single_exponent, IsSingleMiddling};

@@ -1,6 +1,6 @@
-/* The memory of a node: from 0 on the stack, which grows down, so that one which is too deep leaves the memory and stops its
-   node; then code and constants, in pages of their own, so that nodes share these whatever they store; then variables; then the heap,
-   up to the memory's size. */
+/* How a node's memory is laid out. From 0 on is the stack, which grows down, so that one which is too deep leaves the memory and
+   stops its node; then code and constants, in pages of their own, so that nodes share these whatever they store; then variables; then
+   the heap, up to the memory's size. */
 ENTRY(_start)
 
 PHDRS

@@ -1,4 +1,4 @@
-/* What GCC calls for atomic operations, which the processor has not: a node has one thread, so that each is a plain one. */
+/* What GCC calls for atomic operations, which the processor does not have: each is a plain one, since a node has one thread. */
 #include <stdint.h>
 #include <string.h>
 

@@ -1,4 +1,4 @@
-/* The standard input of C++, over that of C: it is linked where a program uses it, and so is what reads and goes back. */
+/* The standard input of C++, over that of C. It is linked where a program uses it, and so is what reads and goes back. */
 #include <cstdio>
 #include <ext/stdio_sync_filebuf.h>
 #include <istream>

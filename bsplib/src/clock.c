@@ -1,4 +1,4 @@
-/* The time of a node, which picolibc leaves to a system: what the run has cost so far by the model of BSP, which the machine's clock tells
+/* The time of a node, which picolibc leaves to a system. It is what the run has cost so far by the model of BSP, which the machine's clock tells
    in ticks, over a rate. bsprun and bspgdb give the nodes clocks, and put into a copy of the image that they do so: they find the place by
    its magic. Elsewhere a reading would be an unknown call, so the time is 0 there. A program that reads it over and over waits for some
    time to pass, or makes its work longer until that takes some time: so from some reading on each is later than the last one, by twice as

@@ -1,5 +1,5 @@
-/* What the headers of GCC's standard library want linked for map and set, which are red-black trees, for their unordered kinds, which are
-   tables of a prime number of lists, for lists and for shared pointers. GCC's library
+/* What map, set, their unordered kinds, lists and shared pointers of GCC's standard library need linked. map and set are red-black
+   trees, and the unordered kinds are tables of a prime number of lists. GCC's library
    with these is for the host alone. */
 #include <list>
 #include <map>

@@ -1,5 +1,5 @@
-/* What POSIX has below the streams of a C library, and picolibc leaves to a system: files, which bsprun gives and takes, and times, which
-   there are none. All of it is weak, since a program may have functions of these names. */
+/* Files, which bsprun gives and takes, and times, of which there are none: what POSIX has below the streams of a C library, and
+   picolibc leaves to a system. All of it is weak, since a program may have functions of these names. */
 #include <errno.h>
 #include <fcntl.h>
 #include <stdarg.h>

@@ -1,5 +1,5 @@
-/* What C++'s streams share, the four standard ones, and the functions of streams that the headers of GCC's standard library have in a library
-   that is for the host. Names and members are those of its ABI. */
+/* What C++'s streams share, the four standard ones, and the functions of streams that the headers of GCC's standard library expect in a
+   library, which is there for the host alone. Names and members are those of its ABI. */
 #include <cstdio>
 #include <iomanip>
 #include <istream>

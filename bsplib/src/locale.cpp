@@ -1,4 +1,4 @@
-/* The locale of C++'s streams, which is that of C, and how numbers are read and written in it: what the headers of GCC's standard library have
+/* The locale of C++'s streams, which is that of C, and how numbers are read and written in it. The headers of GCC's standard library have it
    in a library that is for the host. Names and members are those of its ABI, which stays the same from version to version. */
 #include <cstdlib>
 #include <cstring>

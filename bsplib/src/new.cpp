@@ -1,5 +1,5 @@
-/* What programs in C++ want of a system beside that of C: memory, and a line where a function is called that there is none of. It is made
-   of no header of C++, which may be missing. */
+/* What programs in C++ need of a system besides what C needs: memory, and a line if a virtual function is called that is not there. It is
+   made of no header of C++, which may be missing. */
 #include <stddef.h>
 
 extern "C" {

@@ -1,4 +1,4 @@
-/* Readers of numbers, which are given NULL where a program takes an argument for granted: picolibc's would read what stands at address 0. A
+/* Readers of numbers, which are given NULL where a program takes an argument for granted. picolibc's would read what stands at address 0. A
    number that is too large for a `long` is noted, which has 64 bits elsewhere. The linker puts each of these in the place of the function
    whose name it has behind __wrap_. */
 #include <errno.h>

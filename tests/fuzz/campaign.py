@@ -1,4 +1,4 @@
-"""Many runs, one after another, and what is told of them."""
+"""Many runs, one after another, and the lines about them."""
 
 from __future__ import annotations
 

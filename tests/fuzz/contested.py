@@ -1,4 +1,4 @@
-"""What is contested in exchanges, by the model, and whether the lines that tell of a run tell just of that."""
+"""Contested bytes of exchanges by the model, and whether the emulator's lines list just these."""
 
 from __future__ import annotations
 

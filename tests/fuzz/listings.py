@@ -1,4 +1,4 @@
-"""Listings: which lines they have, and what becomes of these where they are assembled again."""
+"""Listings: which lines they have, and what these give when they are assembled again."""
 
 from __future__ import annotations
 

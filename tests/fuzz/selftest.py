@@ -1,4 +1,4 @@
-"""Changes the program's answers in one thing after another, and sees whether the fuzzer finds it."""
+"""Changes one thing after another in the program's answers, and looks whether the fuzzer finds each."""
 
 from __future__ import annotations
 

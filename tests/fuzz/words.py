@@ -1,4 +1,4 @@
-"""Command lines of any options and values, and what is due for those that the rules judge."""
+"""Random command lines, and what the rules say of those that they judge."""
 
 from __future__ import annotations
 

@@ -1,4 +1,4 @@
-"""Which tools commands want that a machine may lack."""
+"""Tools that commands need and a machine may lack."""
 
 from __future__ import annotations
 

@@ -1,4 +1,4 @@
-"""Memory that a part of a tool may take."""
+"""A block of a tool that takes no more than so much memory."""
 
 from __future__ import annotations
 

@@ -1,8 +1,8 @@
-"""The tools' modules, which are kept compiled in a folder of the user's: most of the time of a short run would go into compiling them.
+"""The tools' modules, compiled once and kept in a folder of the user's.
 
-Nothing is written beside the program. What is kept begins with the text that it was compiled from, and is taken where that is the module's
-text, byte for byte, whatever times and places files have. So checkouts and installations share what they have in common, and the folder has
-no more than one file for each module and version of Python.
+Most of the time of a short run would go into compiling them. Nothing is written beside the program. What is kept begins with the text that
+it was compiled from, and is taken where that is the module's text, byte for byte, whatever times and places files have. So checkouts and
+installations share what they have in common, and the folder has no more than one file for each module and version of Python.
 """
 
 from __future__ import annotations

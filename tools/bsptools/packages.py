@@ -1,4 +1,4 @@
-"""Where the packages are that the tools want beside Python's own."""
+"""Which Python has the packages that the tools need besides the standard library."""
 
 from __future__ import annotations
 

@@ -1,4 +1,7 @@
-"""Where each tool begins, and how each ends: with what its `main` answers, or with a line that says why not."""
+"""Where each tool begins and how it ends.
+
+It ends with what its `main` answers, or with a line that says why not.
+"""
 
 from __future__ import annotations
 

@@ -1,3 +1,5 @@
+//! The messages that a node has not read yet.
+
 ghost use Rattle.std.specs.Prelude.{◌≡◌, ◌^◌, ◌<◌, ◌++◌, length, drop, All, IfOk, OnOk, option_copied, slice_get};
 ghost use Rattle.bsp_requests.specs.Inbox.{payload_bytes, IsQueue};
 ghost use Rattle.bsp_requests.specs.Message.{IsShort};

@@ -1,3 +1,5 @@
+//! Puts, gets and sends, each as it was asked for.
+
 ghost use Rattle.std.specs.Prelude.{◌≡◌, ◌-◌, ◌^◌, min, IfOk};
 
 use shared_bytes::SharedBytes;

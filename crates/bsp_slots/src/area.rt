@@ -1,3 +1,5 @@
+//! An area of a node's memory.
+
 ghost use Rattle.std.specs.Prelude.{◌≡◌};
 ghost use Rattle.bsp_slots.specs.Area.{last_position};
 

@@ -1,3 +1,5 @@
+//! A push or a pop of this superstep, as it was made.
+
 ghost use Rattle.std.specs.Prelude.{◌≡◌, ◌↔◌, IsTrue, map};
 ghost use Rattle.bsp_slots.specs.Change.{removed_position};
 

@@ -1,3 +1,5 @@
+//! The areas that a node has registered: the list in effect, the next one, and the pushes and pops between them.
+
 ghost use Rattle.std.specs.Prelude.{◌≡◌, ◌↔◌, length, slice_get, false, true, IsTrue, IsNone, IsSomeAnd, IfOk, OnOk, OnErr, IsErrOf};
 ghost use Rattle.bsp_slots.specs.Area.{last_position};
 ghost use Rattle.bsp_slots.specs.Registrations.{no_registrations, next_list, is_full, pushed, popped, turned, HasSameShape, IsSound};

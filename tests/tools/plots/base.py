@@ -1,4 +1,4 @@
-"""What all parts of the check stand on: the tools that they want, folders, and runs of the repository's tools."""
+"""What all parts of the check use: the tools that they need, folders, and runs of the repository's tools."""
 
 from __future__ import annotations
 

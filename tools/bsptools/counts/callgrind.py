@@ -1,5 +1,7 @@
-"""Costs in callgrind's form, which kcachegrind and callgrind_annotate read
-(https://valgrind.org/docs/manual/cl-format.html)."""
+"""Costs in callgrind's format, which kcachegrind and callgrind_annotate read.
+
+https://valgrind.org/docs/manual/cl-format.html has the format.
+"""
 
 from __future__ import annotations
 

@@ -1,6 +1,9 @@
-"""Costs as folded stacks, of which flame graphs are made: on each line the functions from the outermost to the innermost, parted by
-semicolons, and what is paid there. A function that was called from several places has a share of its work in each of these stacks, by the
-numbers of calls; the sum of all lines is the run's total."""
+"""Costs as folded stacks, from which flame graphs are made.
+
+On each line stand the functions from the outermost to the innermost, parted by semicolons, and what is paid there. A function that was
+called from several places has a share of its work in each of these stacks, by the numbers of calls; the sum of all lines is the run's
+total.
+"""
 
 from __future__ import annotations
 

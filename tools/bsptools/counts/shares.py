@@ -1,4 +1,4 @@
-"""Parts of whole numbers."""
+"""Whole numbers split into whole shares."""
 
 from __future__ import annotations
 

@@ -1,4 +1,4 @@
-"""Where in its source an address is: file and line, and in which function."""
+"""The source line of an address."""
 
 from __future__ import annotations
 

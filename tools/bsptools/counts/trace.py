@@ -1,5 +1,7 @@
-"""A run in time, in Chrome's trace event format, which Perfetto and chrome://tracing read: a track for each rank, on which a tick is a
-microsecond (https://docs.google.com/document/d/1CvAClvFfyA5R-PhYUmn5OOQtYMH4h6I0nSsKchNAySU)."""
+"""A run over time, in Chrome's trace event format, which Perfetto reads.
+
+Each rank has a track, on which a tick is a microsecond (https://docs.google.com/document/d/1CvAClvFfyA5R-PhYUmn5OOQtYMH4h6I0nSsKchNAySU).
+"""
 
 from __future__ import annotations
 

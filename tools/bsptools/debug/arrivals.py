@@ -1,4 +1,4 @@
-"""Where a machine stands, and where one comes to that goes on."""
+"""Where a machine stands, and where it arrives when it goes on."""
 
 from __future__ import annotations
 

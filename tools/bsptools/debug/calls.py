@@ -1,4 +1,4 @@
-"""Calls at which the machine stops before they are made."""
+"""Environment calls before which the machine stops, as `monitor call` sets them."""
 
 from __future__ import annotations
 

@@ -1,4 +1,4 @@
-"""What gdb is told where the machine has stopped."""
+"""What gdb is told when the machine has stopped."""
 
 from __future__ import annotations
 

@@ -1,4 +1,4 @@
-"""The way back of a machine: each run is the same, so where it has been is found by running the program once more.
+"""The way back of a machine, found by running the program again.
 
 The history of a machine is that of the debugger's `go`: the ranks one after another through a superstep, and then the turn. Back it goes
 the other way round, from where the machine stands: what the highest rank has done in this superstep, then the one below it, and so on to

@@ -1,4 +1,4 @@
-"""The machine, as the lines of its debugger show it and move it.
+"""The machine that also goes to places it has left.
 
 A place, which is a superstep and how many instructions each rank has made, says all of a machine's state, since each run of a program is the
 same. So a machine can be brought to a place that it has left: from a state that its process has kept, from one that the process of a spare

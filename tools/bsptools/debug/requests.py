@@ -1,4 +1,4 @@
-"""The requests of supersteps, found by making these once more: each environment call that makes one is stopped at."""
+"""What was asked for in supersteps, and where it landed, found by making them again."""
 
 from __future__ import annotations
 

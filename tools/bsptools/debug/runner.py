@@ -1,4 +1,4 @@
-"""How the machine goes on or back as gdb says, to where gdb is told that it has stopped."""
+"""How the machine goes on or back as gdb says: in pieces of supersteps, or one rank alone."""
 
 from __future__ import annotations
 

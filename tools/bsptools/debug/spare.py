@@ -1,4 +1,4 @@
-"""A second machine beside a first one, which goes the same way by itself while the first one does, or while gdb's user looks at it.
+"""A second machine, which goes the way of the first one and keeps states.
 
 It keeps states on its way, so that the first one is brought back to any place without the whole run. Where the emulator keeps none, it stands
 where a superstep begins.

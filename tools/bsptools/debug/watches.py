@@ -1,4 +1,4 @@
-"""Bytes of a rank's memory at which a run stops where they are written, or read."""
+"""Bytes of a rank's memory at which a run stops when they are written or read."""
 
 from __future__ import annotations
 

@@ -1,4 +1,4 @@
-"""The dearest lines of a run: a bar for each, of what it costs by itself and with the library functions that it calls."""
+"""The picture of the most expensive lines: their own cost, and that of the library functions they call."""
 
 from __future__ import annotations
 

@@ -1,5 +1,7 @@
-"""A run once more, in which the library looks at the heap in each superstep, and memory that the program has not written has another
-byte: what it tells of mistakes that have no effect else."""
+"""A second run that checks the heap in each superstep, with another byte in fresh memory.
+
+What it shows are mistakes that have no other effect.
+"""
 
 from __future__ import annotations
 

@@ -1,4 +1,7 @@
-"""What stands in front of the input of a program that is given arguments or files. bsplib/src/system.c takes it out again."""
+"""The block of arguments and files in front of a program's input.
+
+bsplib/src/system.c takes it out again.
+"""
 
 from __future__ import annotations
 

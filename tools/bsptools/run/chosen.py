@@ -1,4 +1,4 @@
-"""The status that a program chose by exit, with which bsprun ends as it does where no node failed."""
+"""The status that a program chose by exit, with which `bsprun` ends if no node failed."""
 
 from __future__ import annotations
 

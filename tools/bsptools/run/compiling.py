@@ -1,4 +1,4 @@
-"""Programs in C, which bspcc makes executables of."""
+"""Programs in C, compiled by `bspcc`."""
 
 from __future__ import annotations
 

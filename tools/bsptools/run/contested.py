@@ -1,4 +1,7 @@
-"""Bytes to which two requests of a superstep bring different values, as `run --contested` tells of them: in which order these land is open."""
+"""The reader of what `run --contested` writes: bytes to which two requests of a superstep bring different values.
+
+In which order these land is open.
+"""
 
 from __future__ import annotations
 

@@ -1,4 +1,4 @@
-"""What bsprun --portable tells of what it has found: the calls that count, with their lines."""
+"""What `--portable` says of what it has found: the calls that count, with their lines."""
 
 from __future__ import annotations
 

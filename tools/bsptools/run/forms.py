@@ -1,4 +1,4 @@
-"""A report in the forms that files have: the emulator's lines, a table, an object. The one reader of all of them."""
+"""A report as the emulator's lines, as CSV and as JSON, and the one reader of all of them."""
 
 from __future__ import annotations
 

@@ -1,4 +1,4 @@
-"""What is told of the records that a run has written: files and notes."""
+"""What is done with a run's records: files into their folder, notes into lines."""
 
 from __future__ import annotations
 

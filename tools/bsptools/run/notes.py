@@ -1,4 +1,4 @@
-"""What a program's library notes in a run, and what is told of it at the run's end."""
+"""What a program's library notes in a run, and the lines that say so at its end."""
 
 from __future__ import annotations
 

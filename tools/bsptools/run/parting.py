@@ -1,4 +1,4 @@
-"""What the emulator writes as a run goes on, parted as it comes: the output of the nodes, their standard error, and the report at the end."""
+"""What the emulator writes, split as it comes: the nodes' output, their standard error, the report."""
 
 from __future__ import annotations
 

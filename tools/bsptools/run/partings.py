@@ -1,4 +1,4 @@
-"""Where two runs part: the first call of a rank that is another one, or has other bytes."""
+"""Where two runs diverge: the first call of a rank that differs, or has other bytes."""
 
 from __future__ import annotations
 

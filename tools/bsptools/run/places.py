@@ -1,4 +1,4 @@
-"""Where in its source a node is: the calls that led to where it stands."""
+"""Where in its source a node is: the calls that led there, from its stack and its code."""
 
 from __future__ import annotations
 

@@ -1,6 +1,7 @@
-"""A run once more, in the debugger. Runs are the same each time, so each question is a run of its own, with a script of lines.
+"""Runs made again in the debugger, by scripts of lines.
 
-Points make a run some four times as slow, so that supersteps before the one that is asked for are made without.
+Runs are the same each time, so each question is a run of its own. Points make a run some four times as slow, so that supersteps before the
+one that is asked for are made without.
 """
 
 from __future__ import annotations

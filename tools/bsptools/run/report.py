@@ -1,4 +1,4 @@
-"""The report that the emulator writes behind a program's output, parted from it."""
+"""The report behind a program's output, and what its supersteps cost."""
 
 from __future__ import annotations
 

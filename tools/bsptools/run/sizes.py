@@ -1,4 +1,4 @@
-"""How much memory a program wants before it runs, and what for."""
+"""How much memory a program needs before it runs, and what for."""
 
 from __future__ import annotations
 

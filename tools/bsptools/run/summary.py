@@ -1,4 +1,4 @@
-"""A summary of a run: its totals, and the lines of the source at which its supersteps ended, the dearest first."""
+"""The summary of a run: its totals, and the lines that end its most expensive supersteps."""
 
 from __future__ import annotations
 

@@ -1,4 +1,4 @@
-"""What is told of a run that is over: a summary, why it did not end well, what is likely a mistake."""
+"""What is said of a run that is over: a summary, why it did not end well, likely mistakes."""
 
 from __future__ import annotations
 

@@ -1,4 +1,4 @@
-"""The variables of a program: which of them are its own, and what they have at the end of a run."""
+"""The program's own variables, and the first that differs at the end of two runs."""
 
 from __future__ import annotations
 

@@ -1,4 +1,4 @@
-"""What is likely a mistake in a run, also where it ends well."""
+"""What is likely a mistake in a run, also in one that ends well."""
 
 from __future__ import annotations
 

@@ -1,4 +1,4 @@
-"""A run that a person watches: what nodes write is written superstep by superstep, and the clock or Ctrl-C may end it."""
+"""A run that a person watches: output superstep by superstep, until it ends, or the clock or Ctrl-C ends it."""
 
 from __future__ import annotations
 

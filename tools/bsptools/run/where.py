@@ -1,4 +1,4 @@
-"""Where the ranks of a run were that was broken off: it is run again for as long as it went on."""
+"""Where the ranks were when a run was broken off, found by running it for as long again."""
 
 from __future__ import annotations
 

@@ -1,4 +1,4 @@
-"""Why a run stopped: where in the source, in which call, and what was not met."""
+"""Why a run stopped: the source line, the call, and the rule that was broken."""
 
 from __future__ import annotations
 

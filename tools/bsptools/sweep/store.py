@@ -1,4 +1,4 @@
-"""What runs gave, each in a file whose name follows from all that the run rests on: so none of them is made a second time."""
+"""What runs gave, each in a file named by all that the run depends on, so that none is made twice."""
 
 from __future__ import annotations
 

@@ -1,4 +1,4 @@
-"""All areas."""
+"""The list of all areas."""
 
 from __future__ import annotations
 

@@ -114,7 +114,8 @@ fn branch(word: u32) -> Option<Instr>
 #[tactic(auto, using(crate::proofs::Lookup::by_value), unfolding(crate::proofs::Lookup::instruction_at, crate::specs::Rows::encodings))]
 fn branch_op(word: u32) -> Option<BranchOp>
     requires { Fields.opcode word ≡ 0x63 }
-    ensures { option_map (λ op. instr.Branch op (Fields.rs1 word) (Fields.rs2 word) (Fields.b_immediate word)) result ≡ instruction_of word }
+    ensures { option_map (λ op. instr.Branch op (Fields.rs1 word) (Fields.rs2 word) (Fields.b_immediate word)) result
+        ≡ instruction_of word }
 {
     listing!(Branch; met [word])
 }

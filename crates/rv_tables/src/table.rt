@@ -7,8 +7,8 @@ use crate::instr::{Form, Row};
 
 /// The list of the rows, from which the table, the decoder, the encoder and the names follow.
 ///
-/// `listing!(GROUP..; MACRO [ARGUMENT])` calls a macro with the rows of these groups, or of `all`: after the argument come, for each group, its
-/// form and its mask, and for each row the value under the mask, the instruction and its name.
+/// `listing!(GROUP..; MACRO [ARGUMENT])` calls a macro with the rows of these groups, or of `all`. After the argument come, for each group,
+/// its form and its mask, and for each row the value under the mask, the instruction and its name.
 macro_rules! listing {
     (@Upper $($then:tt)*) => {
         $crate::table::joined! { $($then)*

@@ -1,5 +1,5 @@
 -- The names of the code are those of the rows, in their order.
-use Rattle.std.proofs.Common.{◌≡◌, refl, ◌∙◌}
+use Rattle.std.proofs.Common.{refl, ◌∙◌}
 use Rattle.rv_tables.specs.Rows.{encodings}
 use Rattle.rv_tables.proofs.RowNames.{instruction_named-table}
 use Rattle.rv_tables.proofs.mnemonics.instr_named.Goals as goal

@@ -2,6 +2,7 @@ pub mod Clamps
 pub mod CommaParts
 pub mod Facts
 pub mod FloatFacts
+pub mod FormNames
 pub mod Gathered
 pub mod InRange
 pub mod Judged

@@ -4,16 +4,12 @@
 use Rattle.std.specs.Prelude.{ℕ, Bool, if◌then◌else◌, pos, nat_abs, List, [], ◌∷◌, ◌++◌, map, codes, find, Option, None, Result}
 use Rattle.std.specs.Option.{option_map, option_or}
 use Rattle.std.specs.Str.{bytes_eq}
-use Rattle.rv_tables.specs.declared.instr.Instr.TheVariants.{R, I, Shift, Load, Store, Upper, Jal, Jalr, Plain}
-use Rattle.rv_tables.specs.declared.instr.ROp.TheVariants.{Add, Sub, Sll, Slt, Sltu, Xor, Srl, Sra, Or, And, Mul, Mulh, Mulhsu, Mulhu, Div, Divu, Rem, Remu}
-use Rattle.rv_tables.specs.declared.instr.IOp.TheVariants.{Addi, Slti, Sltiu, Xori, Ori, Andi}
-use Rattle.rv_tables.specs.declared.instr.ShiftOp.TheVariants.{Slli, Srli, Srai}
-use Rattle.rv_tables.specs.declared.instr.LoadOp.TheVariants.{Lb, Lh, Lw, Lbu, Lhu}
-use Rattle.rv_tables.specs.declared.instr.StoreOp.TheVariants.{Sb, Sh, Sw}
-use Rattle.rv_tables.specs.declared.instr.BranchOp.TheVariants.{Beq, Bne, Blt, Bge, Bltu, Bgeu}
-use Rattle.rv_tables.specs.declared.instr.UpperOp.TheVariants.{Lui, Auipc}
-use Rattle.rv_tables.specs.declared.instr.PlainOp.TheVariants.{Fence, FenceI, Ecall, Ebreak}
+use Rattle.rv_tables.specs.declared.instr.Instr.{Instr}
+use Rattle.rv_tables.specs.declared.instr.Instr.TheVariants.{R, I, Shift, Load, Store, Branch, Upper, Jal, Jalr, Plain}
+use Rattle.rv_tables.specs.declared.instr.IOp.TheVariants.{Addi}
+use Rattle.rv_tables.specs.declared.instr.BranchOp.TheVariants.{Beq, Bne}
 use Rattle.rv_tables.specs.Mnemonics.{r_mnemonic, i_mnemonic, shift_mnemonic, load_mnemonic, store_mnemonic, branch_mnemonic, upper_mnemonic, plain_mnemonic, mnemonic_of}
+use Rattle.rv_tables.specs.Rows.{encodings}
 use Rattle.asm_syntax.specs.declared.form.Form.{Form}
 use Rattle.asm_syntax.specs.declared.form.Form.TheVariants.{Arithmetic, WithImmediate, ShiftByAmount, LoadFrom, StoreTo, BranchTo, UpperImmediate, JumpAndLink, JumpAndLinkRegister, NoOperands, WordData, HalfData, ByteData, TextData, ZeroData, AlignData, EntryPoint, Nop, Move, LoadImmediate, LoadAddress, Jump, JumpRegister, Return, Call, BranchIfZero, BranchIfNotZero, Float}
 use Rattle.asm_syntax.specs.declared.error.LineError.{LineError}
@@ -78,26 +74,36 @@ rule_of (Float form) = rule (float_mnemonic form) (float_operation form) float_i
 abbrev pub reading : Form → List (List Token) → Result Statement LineError
 reading form = (rule_of form).reading
 
--- the statements of the language, without those of floating point
-unfoldable pub forms : List Form
-forms =
-    map Arithmetic (Add ∷ Sub ∷ Sll ∷ Slt ∷ Sltu ∷ Xor ∷ Srl ∷ Sra ∷ Or ∷ And
-    ∷ Mul ∷ Mulh ∷ Mulhsu ∷ Mulhu ∷ Div ∷ Divu ∷ Rem ∷ Remu ∷ [])
-    ++ map WithImmediate (Addi ∷ Slti ∷ Sltiu ∷ Xori ∷ Ori ∷ Andi ∷ [])
-    ++ map ShiftByAmount (Slli ∷ Srli ∷ Srai ∷ [])
-    ++ map LoadFrom (Lb ∷ Lh ∷ Lw ∷ Lbu ∷ Lhu ∷ [])
-    ++ map StoreTo (Sb ∷ Sh ∷ Sw ∷ [])
-    ++ map BranchTo (Beq ∷ Bne ∷ Blt ∷ Bge ∷ Bltu ∷ Bgeu ∷ [])
-    ++ map UpperImmediate (Lui ∷ Auipc ∷ [])
-    ++ JumpAndLink ∷ JumpAndLinkRegister
-    ∷ map NoOperands (Fence ∷ FenceI ∷ Ecall ∷ Ebreak ∷ [])
-    ++ WordData ∷ HalfData ∷ ByteData ∷ TextData ∷ ZeroData ∷ AlignData ∷ EntryPoint
+-- the statement of an instruction
+abbrev pub form_of : Instr → Form
+form_of (R op rd rs1 rs2) = Arithmetic op
+form_of (I op rd rs1 imm) = WithImmediate op
+form_of (Shift op rd rs1 shamt) = ShiftByAmount op
+form_of (Load op rd rs1 imm) = LoadFrom op
+form_of (Store op rs1 rs2 imm) = StoreTo op
+form_of (Branch op rs1 rs2 imm) = BranchTo op
+form_of (Upper op rd imm) = UpperImmediate op
+form_of (Jal rd imm) = JumpAndLink
+form_of (Jalr rd rs1 imm) = JumpAndLinkRegister
+form_of (Plain op) = NoOperands op
+
+-- the statements of data and the pseudo-instructions
+unfoldable pub own_forms : List Form
+own_forms =
+    WordData ∷ HalfData ∷ ByteData ∷ TextData ∷ ZeroData ∷ AlignData ∷ EntryPoint
     ∷ Nop ∷ Move ∷ LoadImmediate ∷ LoadAddress ∷ Jump ∷ JumpRegister ∷ Return ∷ Call ∷ BranchIfZero ∷ BranchIfNotZero
     ∷ []
 
--- the one of these with a mnemonic
+-- the statements of the language, without those of floating point: one for each row of the instruction set, and its own
+unfoldable pub forms : List Form
+forms = map (λ e. form_of (e.read 0)) encodings ++ own_forms
+
+-- the one of these with a mnemonic, and the one among the language's own
 unfoldable pub integer_form_named : List ℕ → Option Form
 integer_form_named mnemonic = find (λ form. bytes_eq (rule_of form).mnemonic mnemonic) forms
+
+unfoldable pub own_form_named : List ℕ → Option Form
+own_form_named mnemonic = find (λ form. bytes_eq (rule_of form).mnemonic mnemonic) own_forms
 
 -- the statement with a mnemonic, in the language with statements of floating point or in that without them. None of these has the mnemonic
 -- of another one

@@ -10,7 +10,7 @@ use Rattle.rv_tables.proofs.OnlyWords.{only_r, only_i, only_shift, only_load, on
 use Rattle.rv_tables.proofs.RowReads.{IsEncodable-instruction_of}
 use Rattle.rv_asm.specs.Layout.{IsWordOf}
 use Rattle.rv_asm.proofs.FormatWords.{r_format, i_format, s_format, b_format, u_format, j_format}
-use Rattle.rv_asm.proofs.RowValues.{r_value, i_value, shift_value, load_value, store_value, branch_value, upper_value}
+use Rattle.rv_tables.proofs.RowValues.{r_value, i_value, shift_value, load_value, store_value, branch_value, upper_value}
 
 some_injective : (v w : ℕ) → Some v ≡ Some w → w ≡ v
 some_injective v w e = cc

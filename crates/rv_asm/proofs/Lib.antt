@@ -9,7 +9,6 @@ pub mod NeverMemory
 pub mod OneImage
 pub mod OnlyLabels
 pub mod Passes
-pub mod RowValues
 pub mod Sizes
 pub mod SomeImage
 pub mod Sound

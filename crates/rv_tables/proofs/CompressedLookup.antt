@@ -2,6 +2,7 @@
 use Rattle.std.proofs.Common.{◌≡◌, ℕ, Bool, ◌&&◌, eqb, Option, refl}
 use Rattle.std.specs.List.{find}
 use Rattle.std.specs.Option.{option_map}
+use Rattle.std.proofs.lemmas.Bool.Decides.{nat_tests}
 use Rattle.rv_tables.specs.Compressed.{compressed_rows, expansion_of}
 use Rattle.rv_tables.specs.CompressedTables.{CompressedRow, expanded, has, has_none}
 use Rattle.rv_tables.specs.Halfwords.{quadrant, funct3}
@@ -15,9 +16,12 @@ meets_at h q f3 r =
 unfoldable pub expansion_at : ℕ → ℕ → ℕ → Option Instr
 expansion_at h q f3 = option_map (expanded h) (find (meets_at h q f3) compressed_rows)
 
-expansion_of-fields : (h : ℕ) → expansion_of h ≡ expansion_at h (quadrant h) (funct3 h)
+pub expansion_of-fields : (h : ℕ) → expansion_of h ≡ expansion_at h (quadrant h) (funct3 h)
 unfolding expansion_of expansion_at
 expansion_of-fields h = refl
 
 pub at_fields : (h q f3 : ℕ) → quadrant h ≡ q → funct3 h ≡ f3 → expansion_of h ≡ expansion_at h q f3
 at_fields h q f3 e f = rw (← e, ← f) (expansion_of-fields h)
+
+-- what decides the instruction of a halfword: the fields that the rows ask for
+pub ruleset by_fields = (expansion_of-fields, nat_tests)

@@ -1,65 +1,49 @@
--- A row is met by the opcode, funct3 and funct7 of a word: a lookup by these three computes where they are known.
-use Rattle.std.proofs.Common.{◌≡◌, ℕ, ◌+◌, ◌*◌, ◌^◌, ◌<◌, Bool, true, ◌&&◌, cond, refl, ap, arith, eqb, bit_and, Option, inl, inr}
+-- A word meets a row where it has the row's opcode and the row's value: the rows of other opcodes drop out of the lookup.
+use Rattle.std.proofs.Common.{◌≡◌, ℕ, Some, Bool, true, false, ◌&&◌, refl, sym, ap, ◌∙◌, arith, eqb, bit_and, Option, inl, inr}
 use Rattle.std.specs.List.{find}
 use Rattle.std.specs.Option.{option_map}
-use Rattle.std.proofs.lemmas.Bool.{cases_eq, eqb-true, ne_eqb}
+use Rattle.std.proofs.lemmas.Bool.{cases_eq, eqb-true, eq-eqb, ne_eqb, and_right}
 use Rattle.std.proofs.lemmas.Bool.Decides.{nat_tests}
-use Rattle.rv_tables.specs.Fields.{opcode, funct3, funct7}
+use Rattle.std.proofs.lemmas.Nat.{and_mask, and_mod}
+use Rattle.rv_tables.specs.Fields.{opcode, rd, j_immediate}
 use Rattle.rv_tables.specs.Rows.{encodings, instruction_of}
-use Rattle.rv_tables.specs.Tables.{meets}
+use Rattle.rv_tables.specs.Tables.{RowEncoding, meets}
 use Rattle.rv_tables.specs.declared.instr.Instr.{Instr}
+use Rattle.rv_tables.specs.declared.instr.Instr.TheVariants.{Jal}
 use Rattle.rv_tables.proofs.Finds.{find-agree}
-use Rattle.rv_tables.proofs.Masks.{under_7F, under_707F, under_FE00707F, under_FFFFFFFF}
+use Rattle.rv_tables.proofs.Masks.{under_7F, under_707F, under_FE00707F}
 
--- a value with bits in the opcode and in funct3 alone
-abbrev short : ℕ → Bool
-short v = eqb v (funct3 v * 2 ^ 12 + opcode v)
+-- a mask that has the bits of the opcode leaves the opcode as it is
+opcode_under : (w m : ℕ) → opcode m ≡ 0x7F → opcode (bit_and w m) ≡ opcode w
+opcode_under w m h = and_mod w m 7 ∙ ap (bit_and (opcode w)) h ∙ and_mask (opcode w) 7 ∙ omega arith
 
--- a value with bits in the opcode, in funct3 and in funct7 alone
-abbrev long : ℕ → Bool
-long v = eqb v (funct7 v * 2 ^ 25 + (funct3 v * 2 ^ 12 + opcode v))
+-- the opcode and the value under the mask are those of the row
+abbrev pub meets_at : {F R : Type 0} → ℕ → ℕ → RowEncoding F R → Bool
+meets_at op w e = eqb op (opcode e.row.value) && meets w e
 
--- the mask is one of four, and the value has no bits outside it
-abbrev pub known : ℕ → ℕ → Bool
-known m v = cond (eqb m 0x7F) true (cond (eqb m 0x707F) (short v) (cond (eqb m 0xFE00707F) (long v) (eqb m 0xFFFFFFFF)))
-
--- the fields that the mask asks for are those of the value
-abbrev pub agrees : ℕ → ℕ → ℕ → ℕ → ℕ → ℕ → Bool
-agrees w op f3 f7 m v =
-    cond (eqb m 0x7F) (eqb op v)
-    (eqb op (opcode v) && cond (eqb m 0x707F) (eqb f3 (funct3 v))
-    (cond (eqb m 0xFE00707F) (eqb f7 (funct7 v) && eqb f3 (funct3 v)) (eqb w v)))
-
-at_707F : (w v : ℕ) → short v ≡ true → eqb (bit_and w 0x707F) v ≡ (eqb (opcode w) (opcode v) && eqb (funct3 w) (funct3 v))
-at_707F w v h = grind (arith, nat_tests, under_707F w)
-
-at_FE00707F : (w v : ℕ) → long v ≡ true → eqb (bit_and w 0xFE00707F) v ≡ (eqb (opcode w) (opcode v) && (eqb (funct7 w) (funct7 v) && eqb (funct3 w) (funct3 v)))
-at_FE00707F w v h = grind (arith, nat_tests, under_FE00707F w)
-
-at_FFFFFFFF : (w v : ℕ) → w < 2 ^ 32 → eqb (bit_and w 0xFFFFFFFF) v ≡ (eqb (opcode w) (opcode v) && eqb w v)
-at_FFFFFFFF w v fits = grind (arith, nat_tests, under_FFFFFFFF w fits)
-
-pub agrees-met : (w m v : ℕ) → w < 2 ^ 32 → known m v ≡ true → eqb (bit_and w m) v ≡ agrees w (opcode w) (funct3 w) (funct7 w) m v
-agrees-met w m v fits k =
-    elim (cases_eq m 0x7F) [
-      | inl e ↦ rw e (ap (λ n. eqb n v) (under_7F w))
-      | inr n1 ↦ let k1 = rw (ne_eqb m 0x7F n1) at k in rw (ne_eqb m 0x7F n1) (elim (cases_eq m 0x707F) [
-        | inl e ↦ let k2 = rw e at k1 in rw e (at_707F w v k2)
-        | inr n2 ↦ let k2 = rw (ne_eqb m 0x707F n2) at k1 in rw (ne_eqb m 0x707F n2) (elim (cases_eq m 0xFE00707F) [
-          | inl e ↦ let k3 = rw e at k2 in rw e (at_FE00707F w v k3)
-          | inr n3 ↦ let k3 = rw (ne_eqb m 0xFE00707F n3) at k2 in rw (ne_eqb m 0xFE00707F n3) (rw (eqb-true m 0xFFFFFFFF k3) (at_FFFFFFFF w v fits))
-        ])
-      ])
+meets-at : {F R : Type 0} (w : ℕ) (e : RowEncoding F R) → eqb (opcode e.row.mask) 0x7F ≡ true → meets w e ≡ meets_at (opcode w) w e
+meets-at w e k =
+    let same = opcode_under w e.row.mask (eqb-true (opcode e.row.mask) 0x7F k) in
+    elim (cases_eq (bit_and w e.row.mask) e.row.value) [
+      | inl met ↦ let op : opcode w ≡ opcode e.row.value = sym same ∙ ap opcode met in rw (op, eq-eqb (opcode e.row.value) (opcode e.row.value) refl)
+      | inr not_met ↦ rw (ne_eqb (bit_and w e.row.mask) e.row.value not_met) (sym (and_right (eqb (opcode w) (opcode e.row.value)) false refl))
     ]
 
--- the instruction of a word, looked up by its opcode, funct3 and funct7
-unfoldable pub instruction_at : ℕ → ℕ → ℕ → ℕ → Option Instr
-instruction_at w op f3 f7 = option_map (λ e. e.read w) (find (λ e. agrees w op f3 f7 e.row.mask e.row.value) encodings)
+-- the instruction of a word, among the rows of its opcode alone
+unfoldable pub instruction_at : ℕ → ℕ → Option Instr
+instruction_at op w = option_map (λ e. e.read w) (find (meets_at op w) encodings)
 
-pub instruction_of-fields : (w : ℕ) → w < 2 ^ 32 → instruction_of w ≡ instruction_at w (opcode w) (funct3 w) (funct7 w)
+pub of_opcode : (w : ℕ) → instruction_of w ≡ instruction_at (opcode w) w
 unfolding instruction_of instruction_at encodings
-instruction_of-fields w fits =
-    ap (option_map (λ e. e.read w)) (find-agree (meets w) _ (λ e. known e.row.mask e.row.value) encodings (λ e k. agrees-met w e.row.mask e.row.value fits k) refl)
+of_opcode w =
+    ap (option_map (λ e. e.read w)) (find-agree (meets w) (meets_at (opcode w) w) (λ e. eqb (opcode e.row.mask) 0x7F) encodings (λ e k. meets-at w e k) refl)
 
-pub at_fields : (w op f3 f7 : ℕ) → w < 2 ^ 32 → opcode w ≡ op → funct3 w ≡ f3 → funct7 w ≡ f7 → instruction_of w ≡ instruction_at w op f3 f7
-at_fields w op f3 f7 fits o f g = rw (← o, ← f, ← g) (instruction_of-fields w fits)
+-- what decides the instruction of a word: the values that it has under the masks of its opcode's rows
+pub ruleset by_value = (of_opcode, under_7F, nat_tests)
+
+-- the same where a shorter mask tells what a word has under a longer one
+pub ruleset by_values = (by_value, under_707F, under_FE00707F)
+
+pub jal : (w : ℕ) → opcode w ≡ 0x6F → instruction_of w ≡ Some (Jal (rd w) (j_immediate w))
+unfolding instruction_at encodings
+jal w o = grind (arith, by_value)

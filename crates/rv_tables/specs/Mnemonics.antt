@@ -1,5 +1,6 @@
 -- The mnemonic of each row: its name in the listings (RISC-V Unprivileged ISA 20191213, chapter 24) in lower case.
 use Rattle.std.specs.Prelude.{ℕ, List, codes, find, Option}
+use Rattle.std.specs.Option.{option_map}
 use Rattle.std.specs.Str.{bytes_eq}
 use Rattle.rv_tables.specs.declared.instr.Instr.{Instr}
 use Rattle.rv_tables.specs.declared.instr.Instr.TheVariants.{R, I, Shift, Load, Store, Branch, Upper, Jal, Jalr, Plain}
@@ -99,3 +100,7 @@ mnemonic_of (Plain op) = plain_mnemonic op
 -- the row that has a mnemonic, which is the same whatever word it reads
 unfoldable pub row_named : List ℕ → Option Encoding
 row_named name = find (λ e. bytes_eq (mnemonic_of (e.read 0)) name) encodings
+
+-- the instruction that has a mnemonic, with 0 for each operand
+unfoldable pub instruction_named : List ℕ → Option Instr
+instruction_named name = option_map (λ e. e.read 0) (row_named name)

@@ -18,7 +18,7 @@ use crate::instr::{BranchOp, IOp, Instr, LoadOp, PlainOp, ROp, ShiftOp, StoreOp,
 /// By matches on the quadrant and on funct3, and on further bits where these ask for them.
 // For speed: a node decodes a halfword in each step on compressed code.
 #[inline(always)]
-#[tactic(auto, using(crate::proofs::EachCompressedRow::no_quadrant, crate::proofs::CompressedReads::found_halfword))]
+#[tactic(auto, using(crate::proofs::CompressedLookup::by_fields, crate::proofs::CompressedReads::found_halfword), unfolding(crate::proofs::CompressedLookup::expansion_at, crate::specs::Compressed::compressed_rows))]
 pub fn decode16(half: u16) -> Option<Instr>
     ensures { IsFound IsEncodable (expansion_of half) result }
 {
@@ -32,7 +32,7 @@ pub fn decode16(half: u16) -> Option<Instr>
 }
 
 #[inline(always)]
-#[tactic(auto, using(crate::proofs::EachCompressedRow::quadrant_0))]
+#[tactic(auto, using(crate::proofs::CompressedLookup::by_fields), unfolding(crate::proofs::CompressedLookup::expansion_at, crate::specs::Compressed::compressed_rows))]
 fn quadrant_0(half: u32) -> Option<Instr>
     requires { Halfwords.quadrant half ≡ 0 }
     ensures { result ≡ expansion_of half }
@@ -56,7 +56,7 @@ fn quadrant_0(half: u32) -> Option<Instr>
 }
 
 #[inline(always)]
-#[tactic(auto, using(crate::proofs::EachCompressedRow::addi4spns))]
+#[tactic(auto, using(crate::proofs::CompressedLookup::by_fields), unfolding(crate::proofs::CompressedLookup::expansion_at, crate::specs::Compressed::compressed_rows))]
 fn addi4spn(half: u32) -> Option<Instr>
     requires quadrant { Halfwords.quadrant half ≡ 0 }
     requires funct3 { Halfwords.funct3 half ≡ 0 }
@@ -74,7 +74,7 @@ fn addi4spn(half: u32) -> Option<Instr>
 }
 
 #[inline(always)]
-#[tactic(auto, using(crate::proofs::EachCompressedRow::quadrant_1))]
+#[tactic(auto, using(crate::proofs::CompressedLookup::by_fields), unfolding(crate::proofs::CompressedLookup::expansion_at, crate::specs::Compressed::compressed_rows))]
 fn quadrant_1(half: u32) -> Option<Instr>
     requires { Halfwords.quadrant half ≡ 1 }
     ensures { result ≡ expansion_of half }
@@ -184,7 +184,7 @@ fn shift(op: ShiftOp, register: u8, half: u32) -> Option<Instr>
 
 /// The rows on two of x8 to x15, which bits 6 and 5 tell apart.
 #[inline(always)]
-#[tactic(auto, using(crate::proofs::EachCompressedRow::registers))]
+#[tactic(auto, using(crate::proofs::CompressedLookup::by_fields), unfolding(crate::proofs::CompressedLookup::expansion_at, crate::specs::Compressed::compressed_rows))]
 fn registers(half: u32) -> Option<Instr>
     requires quadrant { Halfwords.quadrant half ≡ 1 }
     requires funct3 { Halfwords.funct3 half ≡ 4 }
@@ -209,7 +209,7 @@ fn registers(half: u32) -> Option<Instr>
 }
 
 #[inline(always)]
-#[tactic(auto, using(crate::proofs::EachCompressedRow::quadrant_2))]
+#[tactic(auto, using(crate::proofs::CompressedLookup::by_fields), unfolding(crate::proofs::CompressedLookup::expansion_at, crate::specs::Compressed::compressed_rows))]
 fn quadrant_2(half: u32) -> Option<Instr>
     requires { Halfwords.quadrant half ≡ 2 }
     ensures { result ≡ expansion_of half }
@@ -234,7 +234,7 @@ fn quadrant_2(half: u32) -> Option<Instr>
 
 /// A load into x0 is reserved.
 #[inline(always)]
-#[tactic(auto, using(crate::proofs::EachCompressedRow::lwsps))]
+#[tactic(auto, using(crate::proofs::CompressedLookup::by_fields), unfolding(crate::proofs::CompressedLookup::expansion_at, crate::specs::Compressed::compressed_rows))]
 fn lwsp(half: u32) -> Option<Instr>
     requires quadrant { Halfwords.quadrant half ≡ 2 }
     requires funct3 { Halfwords.funct3 half ≡ 2 }
@@ -254,7 +254,7 @@ fn lwsp(half: u32) -> Option<Instr>
 
 /// Without rs2 a jump, to x0 a reserved one; with rs2 a copy of it.
 #[inline(always)]
-#[tactic(auto, using(crate::proofs::EachCompressedRow::without_link))]
+#[tactic(auto, using(crate::proofs::CompressedLookup::by_fields), unfolding(crate::proofs::CompressedLookup::expansion_at, crate::specs::Compressed::compressed_rows))]
 fn jr_or_mv(half: u32) -> Option<Instr>
     requires quadrant { Halfwords.quadrant half ≡ 2 }
     requires funct3 { Halfwords.funct3 half ≡ 4 }
@@ -283,7 +283,7 @@ fn jr_or_mv(half: u32) -> Option<Instr>
 
 /// Without rs2 a jump with a link, or a break where it has no register at all; with rs2 a sum.
 #[inline(always)]
-#[tactic(auto, using(crate::proofs::EachCompressedRow::with_bit_12))]
+#[tactic(auto, using(crate::proofs::CompressedLookup::by_fields), unfolding(crate::proofs::CompressedLookup::expansion_at, crate::specs::Compressed::compressed_rows))]
 fn ebreak_or_jalr_or_add(half: u32) -> Option<Instr>
     requires quadrant { Halfwords.quadrant half ≡ 2 }
     requires funct3 { Halfwords.funct3 half ≡ 4 }

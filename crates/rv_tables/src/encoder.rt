@@ -7,7 +7,17 @@ ghost use Rattle.rv_tables.specs.Rows.{instruction_of};
 ghost use Rattle.rv_tables.specs.Words.{r_row_of, i_row_of, shift_row_of, load_row_of, store_row_of, branch_row_of, upper_row_of};
 
 use crate::instr::{BranchOp, IOp, Instr, LoadOp, PlainOp, ROp, ShiftOp, StoreOp, UpperOp};
+use crate::table::listing;
 use crate::words;
+
+// The value of a row.
+macro_rules! value_of {
+    ([$row:ident] $form:ident $mask:literal: $($value:literal $op:ident::$name:ident $text:literal),*;) => {
+        match $row {
+            $($op::$name => $value,)*
+        }
+    };
+}
 
 /// The word of an instruction, or none where a register, a shift amount or an immediate does not fit its field.
 ///
@@ -36,7 +46,7 @@ pub fn encode(instr: &Instr) -> Option<u32>
 }
 
 /// The word of an instruction without operands.
-#[tactic(auto, using(crate::proofs::EachRow::plains, crate::proofs::OnlyWords::systems))]
+#[tactic(auto, using(crate::proofs::OnlyWords::systems), unfolding(crate::specs::Rows::instruction_of, crate::specs::Rows::encodings))]
 fn plain_word(op: PlainOp) -> u32
     ensures decodes { instruction_of result ≡ Some (Instr.Plain op) }
     ensures only_word { (w : ℕ) → w < 2 ^ 32 → instruction_of w ≡ Some (Instr.Plain op)
@@ -58,26 +68,7 @@ fn r_value(op: ROp) -> u32
     ensures row { row_named (r_mnemonic op) ≡ Some (r_row_of result op) }
     ensures own { bit_and result 0xFE00707F ≡ result }
 {
-    match op {
-        ROp::Add => 0x33,
-        ROp::Sub => 0x4000_0033,
-        ROp::Sll => 0x1033,
-        ROp::Slt => 0x2033,
-        ROp::Sltu => 0x3033,
-        ROp::Xor => 0x4033,
-        ROp::Srl => 0x5033,
-        ROp::Sra => 0x4000_5033,
-        ROp::Or => 0x6033,
-        ROp::And => 0x7033,
-        ROp::Mul => 0x200_0033,
-        ROp::Mulh => 0x200_1033,
-        ROp::Mulhsu => 0x200_2033,
-        ROp::Mulhu => 0x200_3033,
-        ROp::Div => 0x200_4033,
-        ROp::Divu => 0x200_5033,
-        ROp::Rem => 0x200_6033,
-        ROp::Remu => 0x200_7033,
-    }
+    listing!(R; value_of [op])
 }
 
 /// The value of a row on a register and an immediate, which has no bits outside the row's mask.
@@ -86,14 +77,7 @@ fn i_value(op: IOp) -> u32
     ensures row { row_named (i_mnemonic op) ≡ Some (i_row_of result op) }
     ensures own { bit_and result 0x707F ≡ result }
 {
-    match op {
-        IOp::Addi => 0x13,
-        IOp::Slti => 0x2013,
-        IOp::Sltiu => 0x3013,
-        IOp::Xori => 0x4013,
-        IOp::Ori => 0x6013,
-        IOp::Andi => 0x7013,
-    }
+    listing!(I; value_of [op])
 }
 
 /// The value of a row that shifts by an amount in the word, which has no bits outside the row's mask.
@@ -102,11 +86,7 @@ fn shift_value(op: ShiftOp) -> u32
     ensures row { row_named (shift_mnemonic op) ≡ Some (shift_row_of result op) }
     ensures own { bit_and result 0xFE00707F ≡ result }
 {
-    match op {
-        ShiftOp::Slli => 0x1013,
-        ShiftOp::Srli => 0x5013,
-        ShiftOp::Srai => 0x4000_5013,
-    }
+    listing!(Shift; value_of [op])
 }
 
 /// The value of a row that reads memory, which has no bits outside the row's mask.
@@ -115,13 +95,7 @@ fn load_value(op: LoadOp) -> u32
     ensures row { row_named (load_mnemonic op) ≡ Some (load_row_of result op) }
     ensures own { bit_and result 0x707F ≡ result }
 {
-    match op {
-        LoadOp::Lb => 0x3,
-        LoadOp::Lh => 0x1003,
-        LoadOp::Lw => 0x2003,
-        LoadOp::Lbu => 0x4003,
-        LoadOp::Lhu => 0x5003,
-    }
+    listing!(Load; value_of [op])
 }
 
 /// The value of a row that writes memory, which has no bits outside the row's mask.
@@ -130,11 +104,7 @@ fn store_value(op: StoreOp) -> u32
     ensures row { row_named (store_mnemonic op) ≡ Some (store_row_of result op) }
     ensures own { bit_and result 0x707F ≡ result }
 {
-    match op {
-        StoreOp::Sb => 0x23,
-        StoreOp::Sh => 0x1023,
-        StoreOp::Sw => 0x2023,
-    }
+    listing!(Store; value_of [op])
 }
 
 /// The value of a row that compares two registers and jumps, which has no bits outside the row's mask.
@@ -143,14 +113,7 @@ fn branch_value(op: BranchOp) -> u32
     ensures row { row_named (branch_mnemonic op) ≡ Some (branch_row_of result op) }
     ensures own { bit_and result 0x707F ≡ result }
 {
-    match op {
-        BranchOp::Beq => 0x63,
-        BranchOp::Bne => 0x1063,
-        BranchOp::Blt => 0x4063,
-        BranchOp::Bge => 0x5063,
-        BranchOp::Bltu => 0x6063,
-        BranchOp::Bgeu => 0x7063,
-    }
+    listing!(Branch; value_of [op])
 }
 
 /// The value of a row with a field of 20 bits, which has no bits outside the row's mask.
@@ -159,8 +122,5 @@ fn upper_value(op: UpperOp) -> u32
     ensures row { row_named (upper_mnemonic op) ≡ Some (upper_row_of result op) }
     ensures own { bit_and result 0x7F ≡ result }
 {
-    match op {
-        UpperOp::Lui => 0x37,
-        UpperOp::Auipc => 0x17,
-    }
+    listing!(Upper; value_of [op])
 }

@@ -16,7 +16,7 @@
 //!   and at most one instruction, by the two above.
 //! - [`fields`] and [`halfword`] cut a word and a halfword as the manual does, and [`named`] looks names up, for tables of further extensions
 //!   too.
-//! - [`reg_number`] and [`mnemonic`] know the names of the manual, and no others.
+//! - [`reg_number`], [`mnemonic`] and [`instr_named`] know the names of the manual, and no others.
 //! - [`laws`] has what holds of all words: each spells at most one instruction, which is the one that is decoded. And of all
 //!   halfwords: each is of at most one compressed row.
 //!
@@ -43,7 +43,7 @@ pub use compressed::decode16;
 pub use decoder::decode;
 pub use encoder::encode;
 pub use instr::{BranchOp, Form, IOp, Instr, LoadOp, PlainOp, ROp, Row, ShiftOp, StoreOp, UpperOp};
-pub use mnemonics::mnemonic;
+pub use mnemonics::{instr_named, mnemonic};
 pub use names::named;
 pub use registers::reg_number;
 pub use table::rows;

@@ -1,127 +1,65 @@
 //! The names of the instructions.
 
 ghost use Rattle.std.specs.Prelude.{◌≡◌};
-ghost use Rattle.rv_tables.specs.Mnemonics.{mnemonic_of, r_mnemonic, i_mnemonic, shift_mnemonic, load_mnemonic, store_mnemonic, branch_mnemonic, upper_mnemonic, plain_mnemonic};
+ghost use Rattle.rv_tables.specs.Mnemonics.{mnemonic_of, instruction_named};
 
 use crate::instr::{BranchOp, IOp, Instr, LoadOp, PlainOp, ROp, ShiftOp, StoreOp, UpperOp};
+use crate::names::named;
+use crate::table::{ROW_COUNT, listing};
+
+// The name of a row.
+macro_rules! name_of {
+    ([$row:ident] $($form:ident $mask:literal: $($value:literal $op:ident::$name:ident $text:literal),*;)*) => {
+        match $row {
+            $($($op::$name => $text,)*)*
+        }
+    };
+}
 
 /// The instruction's name in assembly: the row's name in lower case, as `addi` and `fence.i`.
 pub fn mnemonic(instr: &Instr) -> &'static str
     ensures { result.now ≡ mnemonic_of instr.now }
 {
     match *instr {
-        Instr::R { op, .. } => r_mnemonic(op),
-        Instr::I { op, .. } => i_mnemonic(op),
-        Instr::Shift { op, .. } => shift_mnemonic(op),
-        Instr::Load { op, .. } => load_mnemonic(op),
-        Instr::Store { op, .. } => store_mnemonic(op),
-        Instr::Branch { op, .. } => branch_mnemonic(op),
-        Instr::Upper { op, .. } => upper_mnemonic(op),
+        Instr::R { op, .. } => listing!(R; name_of [op]),
+        Instr::I { op, .. } => listing!(I; name_of [op]),
+        Instr::Shift { op, .. } => listing!(Shift; name_of [op]),
+        Instr::Load { op, .. } => listing!(Load; name_of [op]),
+        Instr::Store { op, .. } => listing!(Store; name_of [op]),
+        Instr::Branch { op, .. } => listing!(Branch; name_of [op]),
+        Instr::Upper { op, .. } => listing!(Upper; name_of [op]),
         Instr::Jal { .. } => "jal",
         Instr::Jalr { .. } => "jalr",
-        Instr::Plain { op } => plain_mnemonic(op),
+        Instr::Plain { op } => listing!(Fence System; name_of [op]),
     }
 }
 
-fn r_mnemonic(op: ROp) -> &'static str
-    ensures { result.now ≡ r_mnemonic op }
-{
-    match op {
-        ROp::Add => "add",
-        ROp::Sub => "sub",
-        ROp::Sll => "sll",
-        ROp::Slt => "slt",
-        ROp::Sltu => "sltu",
-        ROp::Xor => "xor",
-        ROp::Srl => "srl",
-        ROp::Sra => "sra",
-        ROp::Or => "or",
-        ROp::And => "and",
-        ROp::Mul => "mul",
-        ROp::Mulh => "mulh",
-        ROp::Mulhsu => "mulhsu",
-        ROp::Mulhu => "mulhu",
-        ROp::Div => "div",
-        ROp::Divu => "divu",
-        ROp::Rem => "rem",
-        ROp::Remu => "remu",
-    }
+// The instruction of a row, with 0 for each operand.
+macro_rules! bare {
+    (R $op:ident $row:ident) => { Instr::R { op: $op::$row, rd: 0, rs1: 0, rs2: 0 } };
+    (I $op:ident $row:ident) => { Instr::I { op: $op::$row, rd: 0, rs1: 0, imm: 0 } };
+    (Shift $op:ident $row:ident) => { Instr::Shift { op: $op::$row, rd: 0, rs1: 0, shamt: 0 } };
+    (Load $op:ident $row:ident) => { Instr::Load { op: $op::$row, rd: 0, rs1: 0, imm: 0 } };
+    (Store $op:ident $row:ident) => { Instr::Store { op: $op::$row, rs1: 0, rs2: 0, imm: 0 } };
+    (Branch $op:ident $row:ident) => { Instr::Branch { op: $op::$row, rs1: 0, rs2: 0, imm: 0 } };
+    (Upper $op:ident $row:ident) => { Instr::Upper { op: $op::$row, rd: 0, imm: 0 } };
+    (Jal $op:ident $row:ident) => { Instr::Jal { rd: 0, imm: 0 } };
+    (Jalr $op:ident $row:ident) => { Instr::Jalr { rd: 0, rs1: 0, imm: 0 } };
+    (Plain $op:ident $row:ident) => { Instr::Plain { op: $op::$row } };
 }
 
-fn i_mnemonic(op: IOp) -> &'static str
-    ensures { result.now ≡ i_mnemonic op }
-{
-    match op {
-        IOp::Addi => "addi",
-        IOp::Slti => "slti",
-        IOp::Sltiu => "sltiu",
-        IOp::Xori => "xori",
-        IOp::Ori => "ori",
-        IOp::Andi => "andi",
-    }
+// Each name with its instruction.
+macro_rules! names_of {
+    ([] $($form:ident $mask:literal: $($value:literal $op:ident::$row:ident $name:literal),*;)*) => {
+        [$($(($name, bare!($form $op $row)),)*)*]
+    };
 }
 
-fn shift_mnemonic(op: ShiftOp) -> &'static str
-    ensures { result.now ≡ shift_mnemonic op }
-{
-    match op {
-        ShiftOp::Slli => "slli",
-        ShiftOp::Srli => "srli",
-        ShiftOp::Srai => "srai",
-    }
-}
+static NAMES: [(&str, Instr); ROW_COUNT] = listing!(all; names_of []);
 
-fn load_mnemonic(op: LoadOp) -> &'static str
-    ensures { result.now ≡ load_mnemonic op }
+/// The instruction with a name, as [`mnemonic`] answers it, with 0 for each operand; or none where no instruction has it.
+pub fn instr_named(name: &[u8]) -> Option<Instr>
+    ensures { result ≡ instruction_named name.now }
 {
-    match op {
-        LoadOp::Lb => "lb",
-        LoadOp::Lh => "lh",
-        LoadOp::Lw => "lw",
-        LoadOp::Lbu => "lbu",
-        LoadOp::Lhu => "lhu",
-    }
-}
-
-fn store_mnemonic(op: StoreOp) -> &'static str
-    ensures { result.now ≡ store_mnemonic op }
-{
-    match op {
-        StoreOp::Sb => "sb",
-        StoreOp::Sh => "sh",
-        StoreOp::Sw => "sw",
-    }
-}
-
-fn branch_mnemonic(op: BranchOp) -> &'static str
-    ensures { result.now ≡ branch_mnemonic op }
-{
-    match op {
-        BranchOp::Beq => "beq",
-        BranchOp::Bne => "bne",
-        BranchOp::Blt => "blt",
-        BranchOp::Bge => "bge",
-        BranchOp::Bltu => "bltu",
-        BranchOp::Bgeu => "bgeu",
-    }
-}
-
-fn upper_mnemonic(op: UpperOp) -> &'static str
-    ensures { result.now ≡ upper_mnemonic op }
-{
-    match op {
-        UpperOp::Lui => "lui",
-        UpperOp::Auipc => "auipc",
-    }
-}
-
-fn plain_mnemonic(op: PlainOp) -> &'static str
-    ensures { result.now ≡ plain_mnemonic op }
-{
-    match op {
-        PlainOp::Fence => "fence",
-        PlainOp::FenceI => "fence.i",
-        PlainOp::Ecall => "ecall",
-        PlainOp::Ebreak => "ebreak",
-    }
+    named(&NAMES, name)
 }

@@ -5,68 +5,147 @@ ghost use Rattle.rv_tables.specs.Tables.{AreRowsOf};
 
 use crate::instr::{Form, Row};
 
-// One line for a row: its mask, value and form.
-macro_rules! row {
-    ($mask:literal $value:literal $form:ident) => {
-        Row {
-            mask: $mask,
-            value: $value,
-            form: Form::$form,
+/// The list of the rows, from which the table, the decoder, the encoder and the names follow.
+///
+/// `listing!(GROUP..; MACRO [ARGUMENT])` calls a macro with the rows of these groups, or of `all`. After the argument come, for each group,
+/// its form and its mask, and for each row the value under the mask, the instruction and its name.
+macro_rules! listing {
+    (@Upper $($then:tt)*) => {
+        $crate::table::joined! { $($then)*
+            Upper 0x7F:
+            0x37 UpperOp::Lui "lui",
+            0x17 UpperOp::Auipc "auipc";
         }
+    };
+    (@Jal $($then:tt)*) => {
+        $crate::table::joined! { $($then)*
+            Jal 0x7F:
+            0x6F Instr::Jal "jal";
+        }
+    };
+    (@Jalr $($then:tt)*) => {
+        $crate::table::joined! { $($then)*
+            Jalr 0x707F:
+            0x67 Instr::Jalr "jalr";
+        }
+    };
+    (@Branch $($then:tt)*) => {
+        $crate::table::joined! { $($then)*
+            Branch 0x707F:
+            0x63 BranchOp::Beq "beq",
+            0x1063 BranchOp::Bne "bne",
+            0x4063 BranchOp::Blt "blt",
+            0x5063 BranchOp::Bge "bge",
+            0x6063 BranchOp::Bltu "bltu",
+            0x7063 BranchOp::Bgeu "bgeu";
+        }
+    };
+    (@Load $($then:tt)*) => {
+        $crate::table::joined! { $($then)*
+            Load 0x707F:
+            0x3 LoadOp::Lb "lb",
+            0x1003 LoadOp::Lh "lh",
+            0x2003 LoadOp::Lw "lw",
+            0x4003 LoadOp::Lbu "lbu",
+            0x5003 LoadOp::Lhu "lhu";
+        }
+    };
+    (@Store $($then:tt)*) => {
+        $crate::table::joined! { $($then)*
+            Store 0x707F:
+            0x23 StoreOp::Sb "sb",
+            0x1023 StoreOp::Sh "sh",
+            0x2023 StoreOp::Sw "sw";
+        }
+    };
+    (@I $($then:tt)*) => {
+        $crate::table::joined! { $($then)*
+            I 0x707F:
+            0x13 IOp::Addi "addi",
+            0x2013 IOp::Slti "slti",
+            0x3013 IOp::Sltiu "sltiu",
+            0x4013 IOp::Xori "xori",
+            0x6013 IOp::Ori "ori",
+            0x7013 IOp::Andi "andi";
+        }
+    };
+    (@Fence $($then:tt)*) => {
+        $crate::table::joined! { $($then)*
+            Plain 0x707F:
+            0xF PlainOp::Fence "fence",
+            0x100F PlainOp::FenceI "fence.i";
+        }
+    };
+    (@Shift $($then:tt)*) => {
+        $crate::table::joined! { $($then)*
+            Shift 0xFE00_707F:
+            0x1013 ShiftOp::Slli "slli",
+            0x5013 ShiftOp::Srli "srli",
+            0x4000_5013 ShiftOp::Srai "srai";
+        }
+    };
+    (@R $($then:tt)*) => {
+        $crate::table::joined! { $($then)*
+            R 0xFE00_707F:
+            0x33 ROp::Add "add",
+            0x4000_0033 ROp::Sub "sub",
+            0x1033 ROp::Sll "sll",
+            0x2033 ROp::Slt "slt",
+            0x3033 ROp::Sltu "sltu",
+            0x4033 ROp::Xor "xor",
+            0x5033 ROp::Srl "srl",
+            0x4000_5033 ROp::Sra "sra",
+            0x6033 ROp::Or "or",
+            0x7033 ROp::And "and",
+            0x200_0033 ROp::Mul "mul",
+            0x200_1033 ROp::Mulh "mulh",
+            0x200_2033 ROp::Mulhsu "mulhsu",
+            0x200_3033 ROp::Mulhu "mulhu",
+            0x200_4033 ROp::Div "div",
+            0x200_5033 ROp::Divu "divu",
+            0x200_6033 ROp::Rem "rem",
+            0x200_7033 ROp::Remu "remu";
+        }
+    };
+    (@System $($then:tt)*) => {
+        $crate::table::joined! { $($then)*
+            Plain 0xFFFF_FFFF:
+            0x73 PlainOp::Ecall "ecall",
+            0x10_0073 PlainOp::Ebreak "ebreak";
+        }
+    };
+    (all; $then:ident $argument:tt) => {
+        $crate::table::listing! { Upper Jal Jalr Branch Load Store I Fence Shift R System; $then $argument }
+    };
+    ($group:ident $($more:ident)*; $then:ident $argument:tt) => {
+        $crate::table::listing! { @$group [$($more)*] $then $argument }
     };
 }
 
-static ROWS: [Row<Form>; 49] = [
-    row!(0x7F 0x37 Upper), // LUI
-    row!(0x7F 0x17 Upper), // AUIPC
-    row!(0x7F 0x6F Jal), // JAL
-    row!(0x707F 0x67 Jalr), // JALR
-    row!(0x707F 0x63 Branch), // BEQ
-    row!(0x707F 0x1063 Branch), // BNE
-    row!(0x707F 0x4063 Branch), // BLT
-    row!(0x707F 0x5063 Branch), // BGE
-    row!(0x707F 0x6063 Branch), // BLTU
-    row!(0x707F 0x7063 Branch), // BGEU
-    row!(0x707F 0x3 Load), // LB
-    row!(0x707F 0x1003 Load), // LH
-    row!(0x707F 0x2003 Load), // LW
-    row!(0x707F 0x4003 Load), // LBU
-    row!(0x707F 0x5003 Load), // LHU
-    row!(0x707F 0x23 Store), // SB
-    row!(0x707F 0x1023 Store), // SH
-    row!(0x707F 0x2023 Store), // SW
-    row!(0x707F 0x13 I), // ADDI
-    row!(0x707F 0x2013 I), // SLTI
-    row!(0x707F 0x3013 I), // SLTIU
-    row!(0x707F 0x4013 I), // XORI
-    row!(0x707F 0x6013 I), // ORI
-    row!(0x707F 0x7013 I), // ANDI
-    row!(0x707F 0xF Plain), // FENCE
-    row!(0x707F 0x100F Plain), // FENCE.I
-    row!(0xFE00_707F 0x1013 Shift), // SLLI
-    row!(0xFE00_707F 0x5013 Shift), // SRLI
-    row!(0xFE00_707F 0x4000_5013 Shift), // SRAI
-    row!(0xFE00_707F 0x33 R), // ADD
-    row!(0xFE00_707F 0x4000_0033 R), // SUB
-    row!(0xFE00_707F 0x1033 R), // SLL
-    row!(0xFE00_707F 0x2033 R), // SLT
-    row!(0xFE00_707F 0x3033 R), // SLTU
-    row!(0xFE00_707F 0x4033 R), // XOR
-    row!(0xFE00_707F 0x5033 R), // SRL
-    row!(0xFE00_707F 0x4000_5033 R), // SRA
-    row!(0xFE00_707F 0x6033 R), // OR
-    row!(0xFE00_707F 0x7033 R), // AND
-    row!(0xFE00_707F 0x200_0033 R), // MUL
-    row!(0xFE00_707F 0x200_1033 R), // MULH
-    row!(0xFE00_707F 0x200_2033 R), // MULHSU
-    row!(0xFE00_707F 0x200_3033 R), // MULHU
-    row!(0xFE00_707F 0x200_4033 R), // DIV
-    row!(0xFE00_707F 0x200_5033 R), // DIVU
-    row!(0xFE00_707F 0x200_6033 R), // REM
-    row!(0xFE00_707F 0x200_7033 R), // REMU
-    row!(0xFFFF_FFFF 0x73 Plain), // ECALL
-    row!(0xFFFF_FFFF 0x10_0073 Plain), // EBREAK
-];
+// Goes on with the next group, or calls the macro after the last one.
+macro_rules! joined {
+    ([] $then:ident $argument:tt $($rows:tt)*) => {
+        $then! { $argument $($rows)* }
+    };
+    ([$group:ident $($more:ident)*] $then:ident $argument:tt $($rows:tt)*) => {
+        $crate::table::listing! { @$group [$($more)*] $then $argument $($rows)* }
+    };
+}
+
+pub(crate) use joined;
+pub(crate) use listing;
+
+/// How many rows there are.
+pub(crate) const ROW_COUNT: usize = 49;
+
+// The mask, value and form of each row.
+macro_rules! table_of {
+    ([] $($form:ident $mask:literal: $($value:literal $op:ident::$row:ident $name:literal),*;)*) => {
+        [$($(Row { mask: $mask, value: $value, form: Form::$form },)*)*]
+    };
+}
+
+static ROWS: [Row<Form>; ROW_COUNT] = listing!(all; table_of []);
 
 /// The rows of RV32I, Zifencei and M: first those told by the opcode alone, then those by funct3 too, then those by
 /// funct7 too, then the two of whole words; each of these groups in the order of the manual's listings.

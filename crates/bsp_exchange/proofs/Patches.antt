@@ -7,7 +7,7 @@ use Rattle.std.proofs.lemmas.Grind.{same_number_lists}
 use Rattle.std.proofs.lemmas.List.{places, length-map, map-append}
 use Rattle.std.proofs.lemmas.List.Sums.{sum_by-cons}
 use Rattle.node_memory.specs.Bytes.{fits, bytes_at, with_bytes}
-use Rattle.node_memory.specs.Pages.{Owns, KeepsOwn}
+use Rattle.node_memory.specs.Pages.{KeepsOwn}
 use Rattle.node_memory.proofs.Owned.{Owns-kept}
 use Rattle.bsp_exchange.specs.declared.landings.Range.{Range}
 use Rattle.bsp_exchange.specs.Arrivals.{patches_of, StandInTurn}

@@ -3,6 +3,7 @@
 ghost use Rattle.std.specs.Prelude.{◌≡◌, ◌+◌, ◌⊎◌, [], length, slice_get, option_copied, true, false, Some, None, IsSome, is_none, is_some, Err, IfOk, IfErr, OnOk, OnErr, if◌then◌else◌};
 ghost use Rattle.std.specs.Result.{result_err};
 ghost use Rattle.machine_core.specs.Events.{after};
+ghost use Rattle.machine_core.specs.Sound.{IsSoundMachine};
 ghost use Rattle.bsp_debug.specs.declared.command.Command.TheVariants.{Bytes as bytes_command};
 ghost use Rattle.bsp_debug.specs.declared.error.DebugError.{DebugError as DebugErrorValue};
 ghost use Rattle.bsp_debug.specs.Debugger.{has_rank, unit_at, refused_unless, add_fault, remove_fault, command_fault, Makes, MakesPart};
@@ -65,8 +66,7 @@ impl<A: Allocator + Copy> Debugger<A> {
     pub fn new(alloc: A, machine: Machine<A>) -> Self
         ensures { result ≡ record { first = machine; machine = machine; kept = []; points = []; last = [] } }
     {
-        // That a machine is sound is among what this call ensures.
-        let _outcome = machine.outcome();
+        recall_sound(&machine);
         Debugger {
             alloc,
             first: Snapshot::of(&machine),
@@ -390,6 +390,14 @@ fn reply_to<A: Allocator + Copy>(
         Command::Queue { rank } => queue_of(alloc, node_of(trace.machine(), rank)),
         Command::Costs => costs_of(alloc, trace.machine()),
     }
+}
+
+/// Does nothing at run time. A proof learns from it that a machine is sound.
+#[inline(always)]
+fn recall_sound<A: Allocator>(machine: &Machine<A>)
+    ensures { IsSoundMachine machine.now }
+{
+    let _ = machine.outcome();
 }
 
 /// The node of a rank that there is.

@@ -2,6 +2,7 @@
 
 ghost use Rattle.std.specs.Prelude.{◌≡◌, length, IfOk, IsTrue};
 ghost use Rattle.node_memory.specs.Bytes.{fits, bytes_at};
+ghost use Rattle.node_core.specs.Hart.{IsHart};
 ghost use Rattle.bsp_debug.specs.Debugger.{floats_of as floats_of_unit, registers_of as registers_of_node};
 ghost use Rattle.bsp_debug.specs.Reply.{answer, bytes as bytes_answer, queue as queue_answer, costs as costs_answer};
 
@@ -18,8 +19,7 @@ use std::alloc::{AllocError, Allocator};
 pub(crate) fn registers_of<A: Allocator>(node: &Node<A>) -> Reply<A>
     ensures { answer result ≡ registers_of_node node.now.node }
 {
-    // That a node has 32 registers is among what this call ensures.
-    let _memory = node.memory();
+    recall_sound(node);
     let mut x = [0; 32];
     for n in 0..32u8 {
         x[usize::from(n)] = node.reg(n);
@@ -31,6 +31,14 @@ pub(crate) fn registers_of<A: Allocator>(node: &Node<A>) -> Reply<A>
         state: node.state(),
         x,
     }
+}
+
+/// Does nothing at run time. A proof learns from it that a node's hart is sound, and so has 32 registers.
+#[inline(always)]
+fn recall_sound<A: Allocator>(node: &Node<A>)
+    ensures { IsHart node.now.node.hart }
+{
+    let _ = node.memory();
 }
 
 /// The registers of floating point and fcsr of the unit of the node of a rank.

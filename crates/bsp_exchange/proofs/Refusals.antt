@@ -1,6 +1,6 @@
 -- Which fault is the first, and what the answer of an exchange says of it.
 use Rattle.std.proofs.Common.{◌≡◌, ℕ, List, Result, Ok, Err, Option, Some, None, ap, ap₂, refl, sym, ◌∙◌}
-use Rattle.std.specs.Prelude.{◌↔◌, IsErrOf, IsErrAnd, option_map}
+use Rattle.std.specs.Prelude.{◌↔◌, IsErrAnd, option_map}
 use Rattle.std.specs.Option.{option_or}
 use Rattle.node_core.specs.Node.{NodeState}
 use Rattle.bsp_exchange.specs.declared.fault.ExchangeFault.{ExchangeFault}

@@ -1,6 +1,6 @@
 -- What arrives at each node in an exchange, gathered request by request before anything lands. The exchange's definitions do not
 -- rest on this: it is what the code keeps of them, gets and puts apart.
-use Rattle.std.specs.Prelude.{◌≡◌, ℕ, false, ◌+◌, ◌==◌, List, [], ◌∷◌, ◌++◌, length, map, take, drop, filter, filter_map, sum_by, IsTrue}
+use Rattle.std.specs.Prelude.{◌≡◌, ℕ, false, ◌+◌, ◌==◌, List, [], ◌∷◌, ◌++◌, length, map, filter, filter_map, IsTrue}
 use Rattle.std.specs.List.{fold}
 use Rattle.node_memory.specs.Bytes.{bytes_at}
 use Rattle.bsp_requests.specs.declared.request.Get.{Get}
@@ -19,17 +19,21 @@ use Rattle.bsp_exchange.specs.Parts.{Patch, PartState, OwnsEach, changed_at, pat
 use Rattle.bsp_exchange.specs.Queues.{queue_after}
 pub use Rattle.bsp_exchange.specs.Parts.{LieIn}
 
--- the patches whose bytes stand one after another
+-- the patches whose bytes stand in one list, each from its range's start on
 abbrev pub patches_of : List Range → List ℕ → List Patch
-patches_of [] bytes = []
-patches_of (r ∷ ranges) bytes = record { addr = r.addr; bytes = take r.len bytes } ∷ patches_of ranges (drop r.len bytes)
+patches_of ranges bytes = map (λ (r : Range). record { addr = r.addr; bytes = bytes_at bytes r.start r.len }) ranges
 
 abbrev pub patches_view : {A : Type 0} → Inside A → List Patch
 patches_view l = patches_of l.ranges.items l.bytes.items
 
+-- ranges stand one after another, the first one from `start` on, and the last one ends at `end`
+abbrev pub StandInTurn : List Range → ℕ → ℕ → Type 0
+StandInTurn [] start end = start ≡ end
+StandInTurn (r ∷ ranges) start end = (r.start ≡ start) × StandInTurn ranges (start + r.len) end
+
 -- the bytes are those of the ranges
 abbrev pub AreCovered : {A : Type 0} → Inside A → Type 0
-AreCovered l = sum_by (λ (r : Range). r.len) l.ranges.items ≡ length l.bytes.items
+AreCovered l = StandInTurn l.ranges.items 0 (length l.bytes.items)
 
 -- what one node receives: what its gets fetch, what is put into its areas, and the messages that are sent to it
 pub record Received : Type 0 where

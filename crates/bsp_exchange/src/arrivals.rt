@@ -7,6 +7,7 @@ ghost use Rattle.bsp_exchange.specs.Arrivals.{nothing, FitsIn, IsPrepared, CanTa
 ghost use Rattle.bsp_exchange.specs.Parts.{bytes_in};
 
 use crate::landings::Landings;
+use crate::patch_list::{land, prepare};
 use crate::puts::Puts;
 use crate::smalls::Smalls;
 use bsp_requests::{Inbox, Message};
@@ -125,10 +126,10 @@ impl<A: Allocator + Copy> Arrivals<A> {
         ensures own { KeepsOwn node.old.own node.new.own }
         ensures ok { OnOk result (IsPrepared self.now node.new) }
     {
-        self.small_gets.prepare(node)?;
-        self.gets.prepare(node)?;
-        self.small_puts.prepare(node)?;
-        self.puts.prepare(node)?;
+        prepare(&self.small_gets, node)?;
+        prepare(&self.gets, node)?;
+        prepare(&self.small_puts, node)?;
+        prepare(&self.puts, node)?;
         node.prepare_turn()
     }
 
@@ -149,10 +150,10 @@ impl<A: Allocator + Copy> Arrivals<A> {
         ensures node { node.new ≡ with_arrivals self.old node.old }
         ensures rest { self.new ≡ record self.old { messages = [] } }
     {
-        self.small_gets.land(node);
-        self.gets.land(node);
-        self.small_puts.land(node);
-        self.puts.land(node);
+        land(&self.small_gets, node);
+        land(&self.gets, node);
+        land(&self.small_puts, node);
+        land(&self.puts, node);
         let messages = mem::replace(&mut self.messages, Vec::new(self.alloc));
         node.finish_turn(Inbox::of(messages));
     }

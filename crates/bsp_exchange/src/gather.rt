@@ -243,9 +243,16 @@ fn start_inside<A: Allocator + Copy>(
     if ends_past(area.size, offset, len) {
         return None;
     }
-    // Its contract says that the node is sound, and so that its areas lie in its memory.
-    let _memory = nodes[target as usize].memory();
+    recall_sound(&nodes[target as usize]);
     Some(area.addr + offset)
+}
+
+/// Does nothing at run time. A proof learns from it that a node's hart is sound, and so that its areas lie in its memory.
+#[inline(always)]
+fn recall_sound<A: Allocator>(node: &Node<A>)
+    ensures { IsHart node.now.node.hart }
+{
+    let _ = node.memory();
 }
 
 /// Where a transfer of `len` bytes begins that keeps to its area, in the memory of the area's node.

@@ -2,23 +2,20 @@
 
 ghost use Rattle.std.specs.Prelude.{◌≡◌, ◌<◌, ◌^◌, ◌∷◌, ◌++◌, [], length, IsTrue, OnOk, OnErr};
 ghost use Rattle.node_memory.specs.Bytes.{fits, bytes_at};
-ghost use Rattle.node_core.specs.declared.state.State.TheVariants.{Synced};
-ghost use Rattle.node_memory.specs.Pages.{KeepsOwn};
-ghost use Rattle.bsp_exchange.specs.Arrivals.{LieIn};
-ghost use Rattle.bsp_exchange.specs.Parts.{OwnsEach, bytes_in, with_patches};
+ghost use Rattle.bsp_exchange.specs.Parts.{bytes_in};
 
+use crate::patch_list::PatchList;
 use crate::room::grow;
-use crate::span::Span;
-use node_core::Node;
 use node_memory::Memory;
 use std::alloc::{AllocError, Allocator};
 use std::marker::Model;
 
-/// So many bytes go to an address.
+/// So many bytes, from a place of the buffer on, go to an address.
 #[derive(Clone, Copy)]
 struct Range {
     addr: u32,
     len: u32,
+    start: usize,
 }
 
 /// Bytes that were fetched and wait to land in one node's memory, in the order in which they land.
@@ -75,8 +72,9 @@ impl<A: Allocator + Copy> Landings<A> {
         if self.ranges.len() == self.ranges.capacity() {
             grow(&mut self.ranges, self.expected)?;
         }
+        let start = self.bytes.len();
         memory.append_range(from, len, &mut self.bytes)?;
-        self.ranges.push_reserved(Range { addr, len });
+        self.ranges.push_reserved(Range { addr, len, start });
         Ok(())
     }
 
@@ -95,50 +93,21 @@ impl<A: Allocator + Copy> Landings<A> {
     {
         self.bytes.len()
     }
+}
 
-    /// Whether the pages in which they come to lie are the node's own already, as far as a look at the whole range tells.
-    fn lie_in_own(&self, node: &Node<A>) -> bool
-        requires within { LieIn (length node.now.node.hart.memory) self.now }
-        ensures { IsTrue result → OwnsEach node.now.own self.now }
-    {
-        // Its contract says that a memory has at most 2^24 bytes.
-        let _size = node.memory().size();
-        let mut span = Span::of_none();
-        for range in &self.ranges {
-            span = span.with(range.addr, range.len);
-        }
-        span.is_owned_by(node)
+impl<A: Allocator> PatchList for Landings<A> {
+    ghost patches = { λ p. p };
+
+    fn count(&self) -> usize {
+        self.ranges.len()
     }
 
-    /// Makes the pages in which they come to lie the node's own. They lie in its memory.
-    #[inline(never)]
-    pub(crate) fn prepare(&self, node: &mut Node<A>) -> Result<(), AllocError>
-        requires within { LieIn (length node.old.node.hart.memory) self.now }
-        ensures node { node.new.node ≡ node.old.node }
-        ensures ready { node.new.ready ≡ node.old.ready }
-        ensures own { KeepsOwn node.old.own node.new.own }
-        ensures ok { OnOk result (OwnsEach node.new.own self.now) }
-    {
-        if self.lie_in_own(node) {
-            return Ok(());
-        }
-        for range in &self.ranges {
-            node.prepare_land(range.addr, range.len)?;
-        }
-        Ok(())
+    fn addr(&self, place: usize) -> u32 {
+        self.ranges[place].addr
     }
 
-    /// Lands them in the memory of a node that waits, in pages of its own.
-    pub(crate) fn land(&self, node: &mut Node<A>)
-        requires synced { node.old.node.state ≡ Synced }
-        requires own { OwnsEach node.old.own self.now }
-        ensures { node.new ≡ record node.old { node = with_patches self.now node.old.node } }
-    {
-        let mut rest = self.bytes.as_slice();
-        for range in &self.ranges {
-            let (bytes, after) = rest.split_at(range.len as usize);
-            node.land(range.addr, bytes);
-            rest = after;
-        }
+    fn bytes(&self, place: usize) -> &[u8] {
+        let range = self.ranges[place];
+        &self.bytes[range.start..range.start + range.len as usize]
     }
 }

@@ -41,6 +41,7 @@ mod gather;
 mod landings;
 pub mod laws;
 mod part;
+mod patch_list;
 mod planning;
 mod puts;
 mod room;

@@ -1,14 +1,10 @@
 //! Bytes that are put and wait to land in one memory.
 
-ghost use Rattle.std.specs.Prelude.{◌≡◌, ◌<◌, ◌^◌, ◌∷◌, ◌++◌, [], length, OnOk, IsTrue};
-ghost use Rattle.node_core.specs.declared.state.State.TheVariants.{Synced};
-ghost use Rattle.node_memory.specs.Pages.{KeepsOwn};
-ghost use Rattle.bsp_exchange.specs.Arrivals.{LieIn};
-ghost use Rattle.bsp_exchange.specs.Parts.{OwnsEach, bytes_in, with_patches};
+ghost use Rattle.std.specs.Prelude.{◌≡◌, ◌<◌, ◌^◌, ◌∷◌, ◌++◌, [], OnOk, IsTrue};
+ghost use Rattle.bsp_exchange.specs.Parts.{bytes_in};
 
+use crate::patch_list::PatchList;
 use crate::room::grow;
-use crate::span::Span;
-use node_core::Node;
 use shared_bytes::SharedBytes;
 use std::alloc::{AllocError, Allocator};
 use std::marker::Model;
@@ -94,49 +90,20 @@ impl<A: Allocator + Copy> Puts<A> {
             .map(|patch| patch.bytes.len() as u64)
             .sum()
     }
+}
 
-    /// Whether the pages in which they come to lie are the node's own already, as far as a look at the whole range tells.
-    fn lie_in_own(&self, node: &Node<A>) -> bool
-        requires within { LieIn (length node.now.node.hart.memory) self.now }
-        ensures { IsTrue result → OwnsEach node.now.own self.now }
-    {
-        // Its contract says that a memory has at most 2^24 bytes.
-        let _size = node.memory().size();
-        let mut span = Span::of_none();
-        for patch in &self.patches {
-            span = span.with(patch.addr, patch.bytes.len() as u32);
-        }
-        span.is_owned_by(node)
+impl<A: Allocator> PatchList for Puts<A> {
+    ghost patches = { λ p. p };
+
+    fn count(&self) -> usize {
+        self.patches.len()
     }
 
-    /// Makes the pages in which they come to lie the node's own. They lie in its memory.
-    #[inline(never)]
-    pub(crate) fn prepare(&self, node: &mut Node<A>) -> Result<(), AllocError>
-        requires within { LieIn (length node.old.node.hart.memory) self.now }
-        ensures node { node.new.node ≡ node.old.node }
-        ensures ready { node.new.ready ≡ node.old.ready }
-        ensures own { KeepsOwn node.old.own node.new.own }
-        ensures ok { OnOk result (OwnsEach node.new.own self.now) }
-    {
-        if self.lie_in_own(node) {
-            return Ok(());
-        }
-        // Its contract says that a memory has at most 2^24 bytes.
-        let _size = node.memory().size();
-        for patch in &self.patches {
-            node.prepare_land(patch.addr, patch.bytes.len() as u32)?;
-        }
-        Ok(())
+    fn addr(&self, place: usize) -> u32 {
+        self.patches[place].addr
     }
 
-    /// Lands them in the memory of a node that waits, in pages of its own.
-    pub(crate) fn land(&self, node: &mut Node<A>)
-        requires synced { node.old.node.state ≡ Synced }
-        requires own { OwnsEach node.old.own self.now }
-        ensures { node.new ≡ record node.old { node = with_patches self.now node.old.node } }
-    {
-        for patch in &self.patches {
-            node.land(patch.addr, patch.bytes.as_slice());
-        }
+    fn bytes(&self, place: usize) -> &[u8] {
+        self.patches[place].bytes.as_slice()
     }
 }

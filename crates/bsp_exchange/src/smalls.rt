@@ -1,14 +1,10 @@
 //! Bytes of small puts and gets that wait to land in one memory.
 
-ghost use Rattle.std.specs.Prelude.{◌≡◌, ◌<◌, ◌≤◌, ◌^◌, ◌∷◌, ◌++◌, [], length, take, OnOk, IsTrue};
-ghost use Rattle.node_core.specs.declared.state.State.TheVariants.{Synced};
-ghost use Rattle.node_memory.specs.Pages.{KeepsOwn};
-ghost use Rattle.bsp_exchange.specs.Arrivals.{LieIn};
-ghost use Rattle.bsp_exchange.specs.Parts.{OwnsEach, bytes_in, with_patches};
+ghost use Rattle.std.specs.Prelude.{◌≡◌, ◌<◌, ◌≤◌, ◌^◌, ◌∷◌, ◌++◌, [], take, OnOk};
+ghost use Rattle.bsp_exchange.specs.Parts.{bytes_in};
 
+use crate::patch_list::PatchList;
 use crate::room::grow;
-use crate::span::Span;
-use node_core::Node;
 use std::alloc::{AllocError, Allocator};
 use std::marker::Model;
 
@@ -85,47 +81,21 @@ impl<A: Allocator + Copy> Smalls<A> {
     {
         self.patches.iter().map(|patch| u64::from(patch.len)).sum()
     }
+}
 
-    /// Whether the pages in which they come to lie are the node's own already, as far as a look at the whole range tells.
-    fn lie_in_own(&self, node: &Node<A>) -> bool
-        requires within { LieIn (length node.now.node.hart.memory) self.now }
-        ensures { IsTrue result → OwnsEach node.now.own self.now }
-    {
-        // Its contract says that a memory has at most 2^24 bytes.
-        let _size = node.memory().size();
-        let mut span = Span::of_none();
-        for patch in &self.patches {
-            span = span.with(patch.addr, patch.len);
-        }
-        span.is_owned_by(node)
+impl<A: Allocator> PatchList for Smalls<A> {
+    ghost patches = { λ p. p };
+
+    fn count(&self) -> usize {
+        self.patches.len()
     }
 
-    /// Makes the pages in which they come to lie the node's own. They lie in its memory.
-    #[inline(never)]
-    pub(crate) fn prepare(&self, node: &mut Node<A>) -> Result<(), AllocError>
-        requires within { LieIn (length node.old.node.hart.memory) self.now }
-        ensures node { node.new.node ≡ node.old.node }
-        ensures ready { node.new.ready ≡ node.old.ready }
-        ensures own { KeepsOwn node.old.own node.new.own }
-        ensures ok { OnOk result (OwnsEach node.new.own self.now) }
-    {
-        if self.lie_in_own(node) {
-            return Ok(());
-        }
-        for patch in &self.patches {
-            node.prepare_land(patch.addr, patch.len)?;
-        }
-        Ok(())
+    fn addr(&self, place: usize) -> u32 {
+        self.patches[place].addr
     }
 
-    /// Lands them in the memory of a node that waits, in pages of its own.
-    pub(crate) fn land(&self, node: &mut Node<A>)
-        requires synced { node.old.node.state ≡ Synced }
-        requires own { OwnsEach node.old.own self.now }
-        ensures { node.new ≡ record node.old { node = with_patches self.now node.old.node } }
-    {
-        for patch in &self.patches {
-            node.land(patch.addr, &patch.room[..patch.len as usize]);
-        }
+    fn bytes(&self, place: usize) -> &[u8] {
+        let patch = &self.patches[place];
+        &patch.room[..patch.len as usize]
     }
 }

@@ -3,7 +3,7 @@
 ghost use Rattle.std.specs.Prelude.{ℕ, ◌+◌, ◌<◌, ◌≤◌, ◌^◌, IsTrue};
 ghost use Rattle.node_memory.specs.Pages.{Owns};
 
-use node_core::Node;
+use node_memory::Memory;
 use std::alloc::Allocator;
 
 /// From the lowest address of some ranges on to the highest end of one. Where there are none, it ends before it begins.
@@ -34,10 +34,10 @@ impl Span {
         }
     }
 
-    /// Whether all of it lies in a node's memory, in pages of its own, and so each of its ranges does. Where there are none, it says no.
-    pub(crate) fn is_owned_by<A: Allocator>(self, node: &Node<A>) -> bool
-        ensures { IsTrue result → (addr len : ℕ) → self.low ≤ addr → addr + len ≤ self.end → Owns node.now.own addr len }
+    /// Whether all of it lies in a memory, in pages of its own, and so each of its ranges does. Where there are none, it says no.
+    pub(crate) fn is_owned_by<A: Allocator>(self, memory: &Memory<A>) -> bool
+        ensures { IsTrue result → (addr len : ℕ) → self.low ≤ addr → addr + len ≤ self.end → Owns memory.now.own addr len }
     {
-        self.low <= self.end && node.memory().owns(self.low, self.end - self.low)
+        self.low <= self.end && memory.owns(self.low, self.end - self.low)
     }
 }

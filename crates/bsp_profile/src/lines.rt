@@ -1,6 +1,7 @@
 //! The lines of one superstep.
 
 ghost use Rattle.std.specs.Prelude.{◌≡◌, ◌<◌, ◌++◌, Some, IfOk, OnOk, length, slice_get, string_bytes};
+ghost use Rattle.machine_core.specs.Sound.{IsSoundMachine};
 ghost use Rattle.bsp_profile.specs.Lines.{superstep_lines as superstep_lines_of, row_lines, flow_lines, flow_lines_from};
 ghost use Rattle.bsp_profile.specs.Moves.{rows};
 ghost use Rattle.bsp_profile.specs.Tally.{Tells};
@@ -17,11 +18,20 @@ pub(crate) fn superstep_lines<A: Allocator + Copy>(
 ) -> Result<String<A>, AllocError>
     ensures { IfOk result (λ text. string_bytes text ≡ superstep_lines_of machine.now) }
 {
+    recall_sound(machine);
     let tally = Tally::of(alloc, machine)?;
     let mut text = String::new(alloc);
     write_rows(machine, &tally, &mut text)?;
     write_flows(machine, &tally, &mut text)?;
     Ok(text)
+}
+
+/// Does nothing at run time. A proof learns from it that a machine is sound, and so has few nodes, each at the place of its rank.
+#[inline(always)]
+fn recall_sound<A: Allocator + Copy>(machine: &Machine<A>)
+    ensures { IsSoundMachine machine.now }
+{
+    let _ = machine.settings();
 }
 
 /// Appends the lines of the ranks.
@@ -30,7 +40,8 @@ fn write_rows<A: Allocator + Copy>(
     tally: &Tally<A>,
     text: &mut String<A>,
 ) -> Result<(), AllocError>
-    requires { Tells machine.now.nodes tally.now.count tally.now.cells.items }
+    requires sound { IsSoundMachine machine.now }
+    requires tally { Tells machine.now.nodes tally.now.count tally.now.cells.items }
     ensures { OnOk result (string_bytes text.new ≡ string_bytes text.old ++ row_lines machine.now) }
 {
     for rank in 0..tally.count {
@@ -42,11 +53,11 @@ fn write_rows<A: Allocator + Copy>(
 
 /// The row of a rank.
 fn row_at<A: Allocator + Copy>(machine: &Machine<A>, tally: &Tally<A>, rank: usize) -> Row
+    requires sound { IsSoundMachine machine.now }
     requires tally { Tells machine.now.nodes tally.now.count tally.now.cells.items }
     requires rank { rank < tally.now.count }
     ensures { slice_get (rows machine.now) rank ≡ Some result }
 {
-    let _settings = machine.settings();
     let node = &machine.nodes()[rank];
     Row {
         superstep: machine.superstep(),

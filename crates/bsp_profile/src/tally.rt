@@ -7,6 +7,7 @@ ghost use Rattle.bsp_requests.specs.Requests.{IsWithinLimits};
 ghost use Rattle.node_core.specs.Hart.{max_nodes};
 ghost use Rattle.bsp_exchange.specs.Exchange.{states};
 ghost use Rattle.bsp_exchange.specs.Parts.{target_of};
+ghost use Rattle.machine_core.specs.Sound.{IsSoundMachine};
 ghost use Rattle.bsp_profile.specs.Moves.{others};
 ghost use Rattle.bsp_profile.specs.Tally.{place as place_of, bytes_added, message_added, added, added_by, IsNodeAmong, IsWithin, Tells};
 
@@ -27,11 +28,11 @@ pub(crate) struct Tally<A: Allocator> {
 impl<A: Allocator + Copy> Tally<A> {
     /// What the exchange at the end of this superstep moves, none of whose nodes runs any more: nothing where none is made.
     pub(crate) fn of(alloc: A, machine: &Machine<A>) -> Result<Tally<A>, AllocError>
+        requires sound { IsSoundMachine machine.now }
         ensures { IfOk result (λ t. Tells machine.now.nodes t.count t.cells.items) }
     {
         let nodes = machine.nodes();
         let count = nodes.len();
-        let _settings = machine.settings();
         let mut cells = empty_cells(alloc, count)?;
         if machine.makes_exchange() {
             add_nodes(count, nodes, &mut cells);

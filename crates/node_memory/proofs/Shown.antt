@@ -1,6 +1,6 @@
 -- What a table of pages shows as a memory: the pages' bytes one after another, and which pages are own. `f` gives a page's
 -- bytes, and `g` says whether it is own.
-use Rattle.std.proofs.Common.{◌≡◌, ℕ, ◌+◌, ◌*◌, ◌/◌, ◌%◌, ◌<◌, ◌≤◌, ◌^◌, Bool, true, false, List, [], ◌∷◌, ◌++◌, length, get_or, set, take, map, replicate, refl, sym, ap, ◌∙◌, arith, Some, None, Fits, w64}
+use Rattle.std.proofs.Common.{◌≡◌, ℕ, ◌+◌, ◌*◌, ◌/◌, ◌%◌, ◌<◌, ◌≤◌, ◌^◌, Bool, true, false, List, [], ◌∷◌, ◌++◌, length, get_or, set, take, map, replicate, refl, sym, ap, ◌∙◌, arith, Some, None}
 use Rattle.std.specs.Prelude.{slice_get, IsTrue, if◌then◌else◌}
 use Rattle.std.specs.List.{flat_map}
 use Rattle.std.proofs.lemmas.List.{length-map, map-set, map_push, take_more, append-nil, get_or-map, set-get_or, length_push, replicate_more, replicate-append-replicate}
@@ -10,7 +10,7 @@ use Rattle.std.proofs.lemmas.Option.{same_Some, slice_get_read, slice_get_within
 use Rattle.std.proofs.lemmas.Grind.{common_steps}
 use Rattle.std.proofs.lemmas.Bool.Decides.{nat_tests}
 use Rattle.node_memory.specs.Bytes.{is_memory_size, fits, bytes_at, with_bytes, byte_at, half_at, word_at, double_word_at}
-use Rattle.node_memory.specs.Pages.{PagedMemory, none_own, Owns}
+use Rattle.node_memory.specs.Pages.{PagedMemory, none_own}
 use Rattle.node_memory.proofs.Flat.{AllWhole, length-flat, get_or-flat_at, bytes_at-flat, flat-set, flat-set_same}
 use Rattle.node_memory.proofs.WordBytes.{half_read, word_read}
 
@@ -56,20 +56,11 @@ end_past-shown {X} {f} {g} {xs} {m} h end len long past =
 pub paged-shown : {X : Type 0} {f : X → List ℕ} {g : X → Bool} {xs : List X} {m : PagedMemory} → Shows f g xs m → length m.own * 4096 ≡ length m.bytes
 paged-shown {X} {f} {g} {xs} {m} h = ap (λ k. k * 4096) (pages-shown h) ∙ size-shown h
 
--- places in an owned range, and how many bytes of it there are up to them
-pub owned_place-fits : {X : Type 0} {f : X → List ℕ} {g : X → Bool} {xs : List X} {m : PagedMemory} → Shows f g xs m → (addr len done : ℕ) → Owns m.own addr len → done ≤ len → Fits w64 (addr + done)
-owned_place-fits {X} {f} {g} {xs} {m} h addr len done owns le =
-    let paged = paged-shown h in
-    let most = most-shown h in
-    let within = owns.within in
-    omega arith
-
-pub owned_part-fits : {X : Type 0} {f : X → List ℕ} {g : X → Bool} {xs : List X} {m : PagedMemory} → Shows f g xs m → (addr len done : ℕ) → Owns m.own addr len → done ≤ len → Fits w64 done
-owned_part-fits {X} {f} {g} {xs} {m} h addr len done owns le =
-    let paged = paged-shown h in
-    let most = most-shown h in
-    let within = owns.within in
-    omega arith
+-- a range within a page that is own lies in the memory
+pub own_range-within : {X : Type 0} {f : X → List ℕ} {g : X → Bool} {xs : List X} {m : PagedMemory} → Shows f g xs m → (addr len : ℕ) → slice_get m.own (addr / 4096) ≡ Some true → addr % 4096 + len ≤ 4096 → addr + len ≤ length m.bytes
+own_range-within h addr len own one_page =
+    let page = own_page-shown h (addr / 4096) _ refl own in
+    omega (arith, page, size-shown h)
 
 pub byte-shown : {X : Type 0} {f : X → List ℕ} {g : X → Bool} {xs : List X} {m : PagedMemory} → Shows f g xs m → (addr : ℕ) (x : X) → addr / 4096 < length xs → x ≡ get_or xs (addr / 4096) x → get_or (f x) (addr % 4096) 0 ≡ get_or m.bytes addr 0
 byte-shown {X} {f} {g} {xs} {m} h addr x in' is =

@@ -153,14 +153,24 @@ impl<A: Allocator> Memory<A> {
         page < self.pages.len() && !self.pages[page].is_own()
     }
 
-    /// The `len` bytes from `addr` on, which lie within one page.
+    /// The `len` bytes from an address of the memory on, which lie within one page.
     fn window(&self, addr: usize, len: usize) -> &[u8]
-        requires within { addr + len ≤ length self.now.bytes }
-        requires some { 0 < len }
+        requires begins { addr < length self.now.bytes }
         requires one_page { addr % 4096 + len ≤ 4096 }
-        ensures { result.now ≡ bytes_at self.now.bytes addr len }
+        ensures value { result.now ≡ bytes_at self.now.bytes addr len }
+        ensures long { length result.now ≡ len }
     {
         let offset = addr % PAGE;
         &self.pages[addr / PAGE].bytes()[offset..offset + len]
+    }
+
+    /// Does nothing at run time. A proof learns from it that a memory has at most 2^24 bytes, and a flag for each page of them.
+    #[inline(always)]
+    fn recall_size(&self)
+        ensures most { length self.now.bytes ≤ 2 ^ 24 }
+        ensures pages { length self.now.own * 4096 ≡ length self.now.bytes }
+    {
+        // The use of a field brings the invariant into the proof.
+        let _ = &self.pages;
     }
 }

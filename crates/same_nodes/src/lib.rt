@@ -8,6 +8,7 @@
 ghost use Rattle.std.specs.Prelude.{◌≡◌, length, slice_get, slice_index, IfOk, IsTrue, option_map};
 ghost use Rattle.bsp_requests.specs.Request.{asked};
 ghost use Rattle.bsp_slots.specs.Registrations.{HasSameShape};
+ghost use Rattle.node_core.specs.Hart.{IsHart};
 ghost use Rattle.same_nodes.specs.Same.{CommunicationLooksAlike, HartsLookAlike, LookAlike, OptionalUnitsLookAlike, RowsLookAlike, UnitsLookAlike};
 
 use bsp_requests::{Inbox, Message, Request, Requests};
@@ -25,13 +26,14 @@ use std::alloc::Allocator;
 pub fn are_same<A: Allocator + Copy>(node: &Node<A>, other: &Node<A>) -> Result<bool, ReadError>
     ensures { IfOk result (λ same. IsTrue same → LookAlike node.now.node other.now.node) }
 {
+    let (memory, other_memory) = (node.memory(), other.memory());
     if !have_come_as_far(node, other)
         || !have_same_harts(node, other)
         || !have_same_communication(node, other)
     {
         return Ok(false);
     }
-    have_same_bytes(node.memory(), other.memory())
+    have_same_bytes(memory, other_memory)
 }
 
 /// Whether two rows have equally many nodes, and those at one place equal records, as far as the crate's page says.
@@ -66,6 +68,8 @@ fn have_come_as_far<A: Allocator>(node: &Node<A>, other: &Node<A>) -> bool
 
 /// Whether two nodes have the same rank, number of nodes, registers, pc, place in the input and unit of floating point.
 fn have_same_harts<A: Allocator>(node: &Node<A>, other: &Node<A>) -> bool
+    requires sound { IsHart node.now.node.hart }
+    requires other_sound { IsHart other.now.node.hart }
     ensures { IsTrue result → HartsLookAlike node.now.node.hart other.now.node.hart }
 {
     node.rank() == other.rank()
@@ -77,11 +81,10 @@ fn have_same_harts<A: Allocator>(node: &Node<A>, other: &Node<A>) -> bool
 }
 
 fn have_same_registers<A: Allocator>(node: &Node<A>, other: &Node<A>) -> bool
+    requires sound { IsHart node.now.node.hart }
+    requires other_sound { IsHart other.now.node.hart }
     ensures { IsTrue result → node.now.node.hart.registers ≡ other.now.node.hart.registers }
 {
-    // That a node has 32 registers is among what these calls ensure.
-    let _memory = node.memory();
-    let _memory_of_other = other.memory();
     for n in 0..32u8 {
         if node.reg(n) != other.reg(n) {
             return false;

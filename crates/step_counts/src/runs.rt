@@ -25,7 +25,7 @@ pub fn run<A: Allocator + Copy>(alloc: A, machine: &mut Machine<A>) -> Result<St
     ensures ticks { (k : ℕ) → AllCountsAreTicks (iterate superstep k machine.old) }
     ensures err { OnErr result ((k : ℕ) × (machine.new ≡ walked k machine.old)) }
 {
-    read_pcs(machine);
+    recall_word_pcs(machine);
     let mut table = Table::new(alloc, machine.settings().memory);
     let mut text = String::from_str(alloc, HEADER)?;
     while machine.outcome().is_none() {
@@ -35,11 +35,12 @@ pub fn run<A: Allocator + Copy>(alloc: A, machine: &mut Machine<A>) -> Result<St
     Ok(text)
 }
 
-/// Reads each node's pc, for its contract alone: that pc is a word is a fact of its type, and a contract has that only of one that is read.
-fn read_pcs<A: Allocator + Copy>(machine: &Machine<A>)
+/// Changes nothing. A proof learns from it that each node's pc is a word: that is a fact of its type, which a contract has only of a pc that
+/// is read.
+fn recall_word_pcs<A: Allocator + Copy>(machine: &Machine<A>)
     ensures { HasWordPcs machine.now }
 {
     for node in machine.nodes() {
-        let _pc = node.pc();
+        let _ = node.pc();
     }
 }

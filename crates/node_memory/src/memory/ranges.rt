@@ -55,7 +55,6 @@ impl<A: Allocator> Memory<A> {
         ensures first { IfSome result (λ few. take len few ≡ bytes_at self.now.bytes addr len) }
         ensures most { IfSome result (λ few. len ≤ 16) }
     {
-        let _ = &self.pages;
         let at = addr as usize;
         if len != 0 && len <= 16 && at % PAGE <= PAGE - 16 {
             let mut few = [0; 16];
@@ -113,7 +112,6 @@ impl<A: Allocator + Copy> Memory<A> {
         requires { IsTrue (fits (length self.now.bytes) addr len) }
         ensures { IfSome result (λ v. v ≡ bytes_at self.now.bytes addr len) }
     {
-        let _ = &self.pages;
         let (at, len) = (addr as usize, len as usize);
         if len != 0 && len <= FEW && at % PAGE <= PAGE - FEW {
             Some(SharedBytes::few_of(self.window(at, FEW), len))

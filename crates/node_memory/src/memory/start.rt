@@ -90,7 +90,7 @@ impl<A: Allocator + Copy> Memory<A> {
         ensures bytes { OnOk result (self.new.bytes ≡ with_bytes self.old.bytes addr (replicate len 0)) }
         ensures rest { OnOk result (SharesZeros self.new) }
     {
-        let _ = &self.pages;
+        self.recall_size();
         if len == 0 {
             return Ok(());
         }

@@ -1,3 +1,4 @@
+-- The 32 registers that were read are all that the hart has.
 use Rattle.std.proofs.Common.{◌≡◌, ◌≢◌, ◌<◌, length, arith, sym, ◌∙◌, refl, below_more, get_or-set_other, get_or-set_same}
 use Rattle.std.proofs.Math.ListN.{length-set}
 use Rattle.std.proofs.lemmas.Grind.{same_number_lists}
@@ -17,7 +18,7 @@ loop-n-preserved g c = rw c.from.ensures (record {
 pub returns : goal.returns
 returns g c =
     let same : c.loop-n.x ≡ c.args.node.now.node.hart.registers = same_number_lists _ _
-    (c.loop-n.invariant.thirty_two ∙ sym c.memory-memory.ensures.sound.thirty_two)
+    (c.loop-n.invariant.thirty_two ∙ sym c.recall_sound.ensures.thirty_two)
     (λ k below. c.loop-n.invariant.read k (omega (arith, below))) in
     let ticks = c.ticks.ensures.value in
     cc

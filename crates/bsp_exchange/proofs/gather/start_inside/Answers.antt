@@ -1,3 +1,4 @@
+-- A transfer that keeps to its area lies in the memory of the area's node, since the node is sound.
 use Rattle.std.proofs.Common.{◌≡◌, ◌+◌, ℕ, List, Option, Some, None, Bool, true, false, not, sym, ap, ◌∙◌, arith}
 use Rattle.std.specs.Prelude.{nat_le}
 use Rattle.std.specs.Option.{option_map_or}
@@ -34,7 +35,7 @@ overflow_add-result g c =
     let found = sym c.area_at.ensures ∙ c.in-Some.is in
     let inside = of_area (states c.args.nodes.now) c.args.target c.args.slot c.args.offset c.args.len c.in-Some.area _ false found c.ends_past.ensures c.if-ends_past.false in
     let there = node_there c.args.nodes.now c.args.target c.args.slot c.args.offset c.args.len inside in
-    omega (arith, transfer_most c.args.nodes.now c.args.target c.args.slot c.args.offset c.args.len c.in-Some.area c.index-nodes-target.result there c.index-nodes-target.is c.memory-memory.ensures.sound found inside)
+    omega (arith, transfer_most c.args.nodes.now c.args.target c.args.slot c.args.offset c.args.len c.in-Some.area c.index-nodes-target.result there c.index-nodes-target.is c.recall_sound.ensures found inside)
 
 pub returns-in_default-clause-inside : goal.returns-in_default-clause-inside
 returns-in_default-clause-inside g c = sym (of_none (states c.args.nodes.now) c.args.target c.args.slot c.args.offset c.args.len (sym c.area_at.ensures ∙ c.in_default.is))
@@ -51,6 +52,6 @@ returns g c =
     record {
       inside = sym inside;
       value = start_at c.args.nodes.now c.args.target c.args.slot c.args.offset c.in-Some.area found;
-      within = transfer_range c.args.nodes.now c.args.target c.args.slot c.args.offset c.args.len c.in-Some.area c.index-nodes-target.result there c.index-nodes-target.is c.memory-memory.ensures.sound found inside;
-      most = transfer_most c.args.nodes.now c.args.target c.args.slot c.args.offset c.args.len c.in-Some.area c.index-nodes-target.result there c.index-nodes-target.is c.memory-memory.ensures.sound found inside;
+      within = transfer_range c.args.nodes.now c.args.target c.args.slot c.args.offset c.args.len c.in-Some.area c.index-nodes-target.result there c.index-nodes-target.is c.recall_sound.ensures found inside;
+      most = transfer_most c.args.nodes.now c.args.target c.args.slot c.args.offset c.args.len c.in-Some.area c.index-nodes-target.result there c.index-nodes-target.is c.recall_sound.ensures found inside;
     }

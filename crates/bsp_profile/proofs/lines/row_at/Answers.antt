@@ -18,7 +18,7 @@ bounds-nodes-rank g c =
 pub bounds-started-rank : goal.bounds-started-rank
 bounds-started-rank g c =
     let m = c.args.machine.now in
-    omega (arith, ap length c.started.ensures, length-started m c.settings-settings.ensures.sound, c.requires.tally.long, c.requires.rank)
+    omega (arith, ap length c.started.ensures, length-started m c.requires.sound, c.requires.tally.long, c.requires.rank)
 
 pub returns : goal.returns
 returns g c =
@@ -28,7 +28,7 @@ returns g c =
     let ps = c.nodes.result.now in
     let p = c.index-nodes-rank.result in
     let n = p.node in
-    let sound = c.settings-settings.ensures.sound in
+    let sound = c.requires.sound in
     let long = length-row ps m.nodes c.nodes.ensures in
     let inside : i < length m.nodes = omega (arith, c.requires.tally.long, c.requires.rank) in
     let s = get_or c.started.result.now i 0 in

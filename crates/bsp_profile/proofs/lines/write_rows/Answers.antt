@@ -17,4 +17,4 @@ pub returns : goal.returns
 returns g c =
     c.loop-rank.invariant
     ∙ ap (λ (rs : List Row). string_bytes c.args.text.now ++ flat_map row_line rs)
-    (take_all c.loop-rank.rank (rows c.args.machine.now) (omega (arith, length-rows-le c.args.machine.now, c.requires.long, c.loop-rank-test.false)))
+    (take_all c.loop-rank.rank (rows c.args.machine.now) (omega (arith, length-rows-le c.args.machine.now, c.requires.tally.long, c.loop-rank-test.false)))

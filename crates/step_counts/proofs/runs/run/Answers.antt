@@ -21,7 +21,7 @@ returns-in_err-text-clause-err g c =
     rw p.1 (0, sym (walked-zero c.args.machine.now))
 
 pub returns-in_err-text-clause-ticks : goal.returns-in_err-text-clause-ticks
-returns-in_err-text-clause-ticks g c = λ k. AllCountsAreTicks-supersteps k c.args.machine.now c.settings.ensures.sound c.read_pcs.ensures
+returns-in_err-text-clause-ticks g c = λ k. AllCountsAreTicks-supersteps k c.args.machine.now c.settings.ensures.sound c.recall_word_pcs.ensures
 
 pub loop-machine-init : goal.loop-machine-init
 loop-machine-init g c = record {
@@ -37,7 +37,7 @@ returns-in_err-count_parts-clause-err g c =
     rw p.1 (IsWalked-on c.args.machine.now c.loop-machine.machine c.count_parts.new.machine c.loop-machine.invariant.so_far c.in_err-count_parts.ensures.err)
 
 pub returns-in_err-count_parts-clause-ticks : goal.returns-in_err-count_parts-clause-ticks
-returns-in_err-count_parts-clause-ticks g c = λ k. AllCountsAreTicks-supersteps k c.args.machine.now c.settings.ensures.sound c.read_pcs.ensures
+returns-in_err-count_parts-clause-ticks g c = λ k. AllCountsAreTicks-supersteps k c.args.machine.now c.settings.ensures.sound c.recall_word_pcs.ensures
 
 pub loop-machine-smaller : goal.loop-machine-smaller
 loop-machine-smaller g c =
@@ -70,7 +70,7 @@ returns-in_err-turn-clause-err g c =
     rw p.1 (phases.0, c.in_err-turn.ensures.err ∙ c.in_ok-count_parts.ensures.ok ∙ phases.1)
 
 pub returns-in_err-turn-clause-ticks : goal.returns-in_err-turn-clause-ticks
-returns-in_err-turn-clause-ticks g c = λ k. AllCountsAreTicks-supersteps k c.args.machine.now c.settings.ensures.sound c.read_pcs.ensures
+returns-in_err-turn-clause-ticks g c = λ k. AllCountsAreTicks-supersteps k c.args.machine.now c.settings.ensures.sound c.recall_word_pcs.ensures
 
 pub returns-clause-ok : goal.returns-clause-ok
 returns-clause-ok g c =
@@ -78,7 +78,7 @@ returns-clause-ok g c =
     record { end = sym (end_of-there c.loop-machine.machine over) ∙ c.loop-machine.invariant.same_end; over = over }
 
 pub returns-clause-ticks : goal.returns-clause-ticks
-returns-clause-ticks g c = λ k. AllCountsAreTicks-supersteps k c.args.machine.now c.settings.ensures.sound c.read_pcs.ensures
+returns-clause-ticks g c = λ k. AllCountsAreTicks-supersteps k c.args.machine.now c.settings.ensures.sound c.recall_word_pcs.ensures
 
 pub returns-clause-counts : goal.returns-clause-counts
 returns-clause-counts g c =

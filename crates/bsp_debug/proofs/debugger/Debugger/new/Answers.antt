@@ -1,3 +1,4 @@
+-- A sound machine is the first of the states that are reached.
 use Rattle.std.proofs.Common.{◌∙◌, sym, ap, subst}
 use Rattle.machine_core.specs.Sound.{IsSoundMachine}
 use Rattle.bsp_debug.specs.Trace.{Traced}
@@ -6,5 +7,5 @@ use Rattle.bsp_debug.proofs.debugger.Debugger.new.Goals as goal
 
 pub invariant_of-result : goal.invariant_of-result
 invariant_of-result g c =
-    reached-new _ (subst IsSoundMachine (sym c.of.ensures) c.outcome-outcome.ensures.sound)
+    reached-new _ (subst IsSoundMachine (sym c.of.ensures) c.recall_sound.ensures)
     (ap (λ (t : Traced). t.machine) c.new.ensures ∙ sym c.of.ensures) c.new-2.ensures.items

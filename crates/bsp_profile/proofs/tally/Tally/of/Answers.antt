@@ -13,24 +13,24 @@ use Rattle.bsp_profile.proofs.tally.Tally.of.Goals as goal
 pub empty_cells-requires : goal.empty_cells-requires
 empty_cells-requires g c =
     let m = c.args.machine.now in
-    omega (arith, length-row c.nodes-nodes.result.now m.nodes c.nodes-nodes.ensures, few_nodes m c.settings-settings.ensures.sound)
+    omega (arith, length-row c.nodes-nodes.result.now m.nodes c.nodes-nodes.ensures, few_nodes m c.requires.sound)
 
 pub add_nodes-requires-clause-few : goal.add_nodes-requires-clause-few
 add_nodes-requires-clause-few g c =
     let m = c.args.machine.now in
-    omega (arith, length-row c.nodes-nodes.result.now m.nodes c.nodes-nodes.ensures, few_nodes m c.settings-settings.ensures.sound)
+    omega (arith, length-row c.nodes-nodes.result.now m.nodes c.nodes-nodes.ensures, few_nodes m c.requires.sound)
 
 pub add_nodes-requires-clause-nodes : goal.add_nodes-requires-clause-nodes
 add_nodes-requires-clause-nodes g c =
     let m = c.args.machine.now in
     let ps = c.nodes-nodes.result.now in
-    All-same (IsNodeAmong (length ps)) (states ps) m.nodes c.nodes-nodes.ensures (among m (length ps) c.settings-settings.ensures.sound (length-row ps m.nodes c.nodes-nodes.ensures))
+    All-same (IsNodeAmong (length ps)) (states ps) m.nodes c.nodes-nodes.ensures (among m (length ps) c.requires.sound (length-row ps m.nodes c.nodes-nodes.ensures))
 
 pub returns : goal.returns
 returns g c =
     let m = c.args.machine.now in
     let ps = c.nodes-nodes.result.now in
-    let sound = c.settings-settings.ensures.sound in
+    let sound = c.requires.sound in
     let counts = length-row ps m.nodes c.nodes-nodes.ensures in
     elim c.if-makes_exchange.branch [
       | then-makes_exchange w ↦

@@ -1,11 +1,10 @@
+-- A range is cleared page by page; a page that is shared has zeros already.
 use Rattle.std.proofs.Common.{◌≡◌, ◌/◌, ◌<◌, ℕ, length, replicate, refl, sym, ap, ◌∙◌, arith}
 use Rattle.std.proofs.lemmas.List.{length-replicate}
 use Rattle.std.proofs.lemmas.Bool.{false≢true}
 use Rattle.node_memory.specs.Bytes.{with_bytes}
 use Rattle.node_memory.specs.Pages.{IsOwn, IsShared}
 use borrow.Author.Count.{falls}
-use Rattle.node_memory.proofs.Shown.{size-shown, pages-shown, most-shown}
-use Rattle.node_memory.proofs.Table.{table}
 use Rattle.node_memory.proofs.Writes.{length-with_bytes}
 use Rattle.node_memory.proofs.Zeros.{below_page, below_first, below_end, cleared_none, end_page-fits, page_start-fits, part-ordered, part-in_page, some-end, start-within, cleared_more, cleared_shared, own_or_shared}
 use Rattle.node_memory.proofs.memory.Memory.clear.Goals.{then-not-shares+in_ok-clear_window, else-not-shares}
@@ -21,7 +20,7 @@ pub overflow_sub-page-end : goal.overflow_sub-page-end
 overflow_sub-page-end g c = some-end _ _ c.if-len-eq0.false
 
 pub overflow_add-page-end : goal.overflow_add-page-end
-overflow_add-page-end g c = end_page-fits _ _ c.requires.within (most-shown (table _ _ c.self.view_is c.self.invariant))
+overflow_add-page-end g c = end_page-fits _ _ c.requires.within c.recall_size.ensures.most
 
 pub loop-page-init : goal.loop-page-init
 loop-page-init g c = (
@@ -31,7 +30,7 @@ loop-page-init g c = (
 )
 
 pub overflow_mul-page-then-not-shares : goal.overflow_mul-page-then-not-shares
-overflow_mul-page-then-not-shares g c = page_start-fits _ _ c.loop-page.page c.loop-page-test.true c.requires.within (most-shown (table _ _ c.self.view_is c.self.invariant))
+overflow_mul-page-then-not-shares g c = page_start-fits _ _ c.loop-page.page c.loop-page-test.true c.requires.within c.recall_size.ensures.most
 
 pub overflow_sub-to : goal.overflow_sub-to
 overflow_sub-to g c = part-ordered _ _ _ _ _ c.max-from.ensures c.min-to.ensures c.loop-page.auto.page c.loop-page-test.true c.if-len-eq0.false
@@ -58,19 +57,13 @@ pub returns-clause-rest : goal.returns-clause-rest
 returns-clause-rest g c = c.loop-page.invariant.1
 
 pub overflow_add-end : goal.overflow_add-end
-overflow_add-end g c =
-    let most = most-shown (table _ _ c.self.view_is c.self.invariant) in
-    omega (arith, c.requires.within)
+overflow_add-end g c = omega (arith, c.recall_size.ensures.most, c.requires.within)
 
 pub overflow_mul-page : goal.overflow_mul-page
-overflow_mul-page g c =
-    let most = most-shown (table _ _ c.self.view_is c.self.invariant) in
-    omega (arith, c.requires.within)
+overflow_mul-page g c = omega (arith, c.recall_size.ensures.most, c.requires.within)
 
 pub overflow_add-page : goal.overflow_add-page
-overflow_add-page g c =
-    let most = most-shown (table _ _ c.self.view_is c.self.invariant) in
-    omega (arith, c.requires.within)
+overflow_add-page g c = omega (arith, c.recall_size.ensures.most, c.requires.within)
 
 pub clear_window-requires-clause-within : goal.clear_window-requires-clause-within
 clear_window-requires-clause-within g c =
@@ -81,12 +74,9 @@ clear_window-requires-clause-within g c =
 
 pub clear_window-requires-clause-own : goal.clear_window-requires-clause-own
 clear_window-requires-clause-own g c =
-    let t = table _ _ c.self.view_is c.self.invariant in
-    let size = size-shown t in
-    let pages = pages-shown t in
     let count = c.loop-page.invariant.2 in
     let page = c.loop-page.page in
-    let in' : page < length c.loop-page.self.own = omega (arith, size, pages, count, c.requires.within) in
+    let in' : page < length c.loop-page.self.own = omega (arith, c.recall_size.ensures.pages, count, c.requires.within) in
     let own : IsOwn c.loop-page.self.own page = own_or_shared c.loop-page.self.own page in' (λ shared. false≢true (sym c.if-not-shares.true ∙ c.shares.ensures.1 shared)) in
     let at : c.max-from.result / 4096 ≡ page = omega arith in
     rw at own

@@ -1,16 +1,12 @@
+-- The pages of a range become own one after another, from the first on.
 use Rattle.std.proofs.Common.{◌∙◌, arith, rules}
-use Rattle.node_memory.proofs.Table.{table}
-use Rattle.node_memory.proofs.Shown.{fits-shown}
 use Rattle.node_memory.proofs.Owned.{Owns-empty, OwnUpTo-more, Owns-from_up_to, OwnsMore-from_up_to, same_own-from_up_to}
 use Rattle.node_memory.proofs.memory.Memory.own_pages.Goals as goal
 
 pub returns-then-len-eq0 : goal.returns-then-len-eq0
 returns-then-len-eq0 g c = record {
   bytes = search rules;
-  owned =
-      let t = table _ _ c.self.view_is c.self.invariant in
-      let within = fits-shown t c.args.addr c.args.len c.requires in
-      Owns-empty _ _ _ c.if-len-eq0.true within;
+  owned = Owns-empty _ _ _ c.if-len-eq0.true c.requires.within;
   more = search rules;
   same_own = search rules;
   refused = search rules;
@@ -18,25 +14,18 @@ returns-then-len-eq0 g c = record {
 
 pub own_page-requires : goal.own_page-requires
 own_page-requires g c =
-    let t = table _ _ c.self.view_is c.self.invariant in
-    let within = fits-shown t c.args.addr c.args.len c.requires in
     let pages = c.loop-page.invariant.1.pages in
-    omega arith
+    omega (arith, c.requires.within)
 
 pub loop-page-preserved : goal.loop-page-preserved
 loop-page-preserved g c =
-    let t = table _ _ c.self.view_is c.self.invariant in
-    let within = fits-shown t c.args.addr c.args.len c.requires in
     let pages = c.loop-page.invariant.1.pages in
-    (c.own_page.ensures.bytes ∙ c.loop-page.invariant.0, OwnUpTo-more _ _ _ _ _ c.loop-page.invariant.1 (omega arith) (omega arith) c.in_ok-own_page.ensures.ok)
+    (c.own_page.ensures.bytes ∙ c.loop-page.invariant.0, OwnUpTo-more _ _ _ _ _ c.loop-page.invariant.1 (omega arith) (omega (arith, c.requires.within)) c.in_ok-own_page.ensures.ok)
 
 pub returns : goal.returns
 returns g c = record {
   bytes = search rules;
-  owned =
-      let t = table _ _ c.self.view_is c.self.invariant in
-      let within = fits-shown t c.args.addr c.args.len c.requires in
-      Owns-from_up_to _ _ c.args.addr c.args.len c.loop-page.page c.loop-page.invariant.1 (omega arith) (omega arith) within;
+  owned = Owns-from_up_to _ _ c.args.addr c.args.len c.loop-page.page c.loop-page.invariant.1 (omega arith) (omega arith) c.requires.within;
   more = OwnsMore-from_up_to _ _ c.args.addr c.args.len c.loop-page.page c.loop-page.invariant.1 (omega arith) (omega arith);
   same_own = same_own-from_up_to _ _ c.args.addr c.args.len c.loop-page.page c.loop-page.invariant.1 (omega arith) (omega arith);
   refused = search rules;

@@ -1,15 +1,14 @@
-use Rattle.std.proofs.Common.{◌≡◌, ◌+◌, ◌≤◌, length, take, refl, ap, ◌∙◌, arith}
-use Rattle.node_memory.proofs.Table.{table}
-use Rattle.node_memory.proofs.Shown.{paged-shown, owned_place-fits, owned_part-fits}
-use Rattle.std.proofs.lemmas.List.{length-take-le, take_all}
-use Rattle.node_memory.proofs.Writes.{write_more, step-within, step-in_page, step-less_left, place-mod-le, length-with_bytes}
-use Rattle.node_memory.proofs.Owned.{IsOwn-past}
-use Rattle.node_memory.specs.Bytes.{with_bytes}
+-- A range whose pages are own is written page by page: what is written at each time is the range's first bytes.
+use Rattle.std.proofs.Common.{◌+◌, ◌≤◌, length, refl, ap, ◌∙◌, arith}
 use Rattle.std.proofs.Math.Nat.{le-add_right}
+use Rattle.std.proofs.lemmas.List.{take_all}
+use Rattle.node_memory.specs.Bytes.{with_bytes}
+use Rattle.node_memory.proofs.Owned.{IsOwn-past}
+use Rattle.node_memory.proofs.Writes.{write_more, step-within, step-in_page, step-less_left, place-mod-le}
 use Rattle.node_memory.proofs.memory.Memory.write_owned_pages.Goals as goal
 
 pub overflow_add-at : goal.overflow_add-at
-overflow_add-at g c = owned_place-fits (table _ _ c.self.view_is c.self.invariant) c.args.addr _ c.loop-done.done c.requires c.loop-done.invariant.2
+overflow_add-at g c = omega (arith, c.recall_size.ensures.most, c.recall_size.ensures.pages, c.requires.within, c.loop-done.invariant.2)
 
 pub overflow_sub-at : goal.overflow_sub-at
 overflow_sub-at g c = place-mod-le _
@@ -19,7 +18,8 @@ overflow_sub-bytes g c = c.loop-done.invariant.2
 
 pub overflow_add-done : goal.overflow_add-done
 overflow_add-done g c =
-    owned_part-fits (table _ _ c.self.view_is c.self.invariant) c.args.addr _ _ c.requires (step-within _ _ _ _ c.min-len.ensures c.loop-done.invariant.2)
+    let step = step-within _ _ _ _ c.min-len.ensures c.loop-done.invariant.2 in
+    omega (arith, c.recall_size.ensures.most, c.recall_size.ensures.pages, c.requires.within, step)
 
 pub slice_bounds-write_window-count : goal.slice_bounds-write_window-count
 slice_bounds-write_window-count g c = le-add_right _ _
@@ -32,10 +32,14 @@ write_window-requires-clause-own g c = IsOwn-past _ _ c.args.addr _ c.loop-done.
 
 pub overflow_add-done-in-loop-done : goal.overflow_add-done-in-loop-done
 overflow_add-done-in-loop-done g c =
-    owned_part-fits (table _ _ c.self.view_is c.self.invariant) c.args.addr _ _ c.requires (step-within _ _ _ _ c.min-len.ensures c.loop-done.invariant.2)
+    let step = step-within _ _ _ _ c.min-len.ensures c.loop-done.invariant.2 in
+    omega (arith, c.recall_size.ensures.most, c.recall_size.ensures.pages, c.requires.within, step)
 
 pub loop-done-smaller : goal.loop-done-smaller
 loop-done-smaller g c = step-less_left _ _ _ _ c.min-len.ensures c.loop-done-test.true
+
+pub returns-clause-within : goal.returns-clause-within
+returns-clause-within g c = omega (arith, c.recall_size.ensures.pages, c.requires.within)
 
 pub returns-clause-bytes : goal.returns-clause-bytes
 returns-clause-bytes g c =
@@ -46,22 +50,10 @@ returns-clause-same_own g c = c.loop-done.invariant.1
 
 pub loop-done-preserved : goal.loop-done-preserved
 loop-done-preserved g c =
-    let t = table _ _ c.self.view_is c.self.invariant in
-    let paged = paged-shown t in
-    let within : c.args.addr + length c.args.bytes.now ≤ length c.args.self.now.bytes = omega (arith, paged, c.requires.within) in
+    let within : c.args.addr + length c.args.bytes.now ≤ length c.args.self.now.bytes = omega (arith, c.recall_size.ensures.pages, c.requires.within) in
     let h = c.loop-done.invariant in
     let len = c.min-len.result in (
       write_more c.args.self.now.bytes _ _ c.args.bytes.now _ c.args.addr (c.args.addr + c.loop-done.done) c.loop-done.done len h.0 refl refl c.write_window.ensures.bytes (omega arith) within,
       c.write_window.ensures.same_own ∙ h.1,
       omega arith,
     )
-
-pub returns-clause-same_size : goal.returns-clause-same_size
-returns-clause-same_size g c =
-    let t = table _ _ c.self.view_is c.self.invariant in
-    let paged = paged-shown t in
-    let done = c.loop-done.done in
-    let written = take done c.args.bytes.now in
-    let len : length written ≡ done = length-take-le done c.args.bytes.now c.loop-done.invariant.2 in
-    let within : c.args.addr + length written ≤ length c.args.self.now.bytes = omega (arith, paged, c.requires.within, len, c.loop-done.invariant.2) in
-    ap length c.loop-done.invariant.0 ∙ length-with_bytes c.args.self.now.bytes c.args.addr written within

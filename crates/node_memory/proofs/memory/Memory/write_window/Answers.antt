@@ -1,3 +1,4 @@
+-- A range within a page of the memory's own is written in that page alone.
 use Rattle.std.proofs.Common.{◌≡◌, ◌/◌, ◌%◌, true, false, length, refl, sym, ap, ◌∙◌, arith}
 use Rattle.std.proofs.Math.Nat.{le-add_right}
 use Rattle.node_memory.specs.Table.{page_bytes, is_own}
@@ -5,7 +6,7 @@ use Rattle.node_memory.specs.declared.page.OwnBytes.{OwnBytes}
 use Rattle.node_memory.proofs.Table.{table, IsTable-set, IsTable-same}
 use Rattle.std.proofs.lemmas.Bool.{false≢true}
 use Rattle.std.proofs.lemmas.Option.{same_Some}
-use Rattle.node_memory.proofs.Shown.{own_page-shown, write-shown, flags-kept, flag-is, whole-at}
+use Rattle.node_memory.proofs.Shown.{own_page-shown, own_range-within, write-shown, flags-kept, flag-is, whole-at}
 use Rattle.node_memory.proofs.Writes.{put_mid-with_bytes, put_mid-length, page_place-fits}
 use Rattle.node_memory.proofs.memory.Memory.write_window.Goals as goal
 
@@ -38,6 +39,12 @@ returns-in-Shared-clause-same_own g c =
     let t = table _ _ c.self.view_is c.self.invariant in
     let in_table = own_page-shown t (c.args.addr / 4096) _ refl c.requires.own in
     flags-kept t _ c.index_mut.result.now _ _ in_table c.index_mut.ensures.value refl refl
+
+pub returns-in-Own-clause-within : goal.returns-in-Own-clause-within
+returns-in-Own-clause-within g c = own_range-within (table _ _ c.self.view_is c.self.invariant) c.args.addr (length c.args.bytes.now) c.requires.own c.requires.one_page
+
+pub returns-in-Shared-clause-within : goal.returns-in-Shared-clause-within
+returns-in-Shared-clause-within g c = own_range-within (table _ _ c.self.view_is c.self.invariant) c.args.addr (length c.args.bytes.now) c.requires.own c.requires.one_page
 
 pub returns-in-Own-clause-bytes : goal.returns-in-Own-clause-bytes
 returns-in-Own-clause-bytes g c =

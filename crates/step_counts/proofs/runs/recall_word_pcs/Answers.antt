@@ -1,6 +1,7 @@
+-- Each pc that was read is a word, and all of them were read.
 use Rattle.std.proofs.Common.{arith}
 use Rattle.step_counts.proofs.Words.{words-read}
-use Rattle.step_counts.proofs.runs.read_pcs.Goals as goal
+use Rattle.step_counts.proofs.runs.recall_word_pcs.Goals as goal
 
 pub returns : goal.returns
 returns g c =

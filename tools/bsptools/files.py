@@ -1,4 +1,4 @@
-"""Files that tools read and write."""
+"""Files that the tools read, and replace as a whole; never an input."""
 
 from __future__ import annotations
 

@@ -1,4 +1,7 @@
-"""The machine's limits, and what settings are where nothing is said. tests/tools/limits compares them with the emulator's own help."""
+"""The machine's limits, and the defaults of settings.
+
+tests/tools/limits compares them with the emulator's own help.
+"""
 
 from __future__ import annotations
 

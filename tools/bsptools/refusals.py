@@ -1,4 +1,4 @@
-"""How a tool says that it cannot do what it was told, and the exit statuses of all of them."""
+"""How a tool says what it cannot do; exit statuses; lines in which no name is a command to a terminal."""
 
 from __future__ import annotations
 

@@ -1,5 +1,8 @@
-"""The standard streams, with whichever a tool is started: no file takes the number of one that is closed, what cannot be told on standard
-error changes no status, and what cannot be written on standard output is told with its name."""
+"""The standard streams, also when they are closed or full.
+
+No file takes the number of one that is closed, what cannot be told on standard error changes no status, and what cannot be written on
+standard output is told with its name.
+"""
 
 from __future__ import annotations
 

@@ -1,15 +1,17 @@
-"""Costs in callgrind's form, which kcachegrind and callgrind_annotate read
-(https://valgrind.org/docs/manual/cl-format.html)."""
+"""Costs in callgrind's format, which kcachegrind and callgrind_annotate read.
+
+https://valgrind.org/docs/manual/cl-format.html has the format.
+"""
 
 from __future__ import annotations
 
 from collections.abc import Iterator
 
 from .. import VERSION
+from ..program.line_table import Place
 from ..refusals import printable
-from .costs import Work, summed
-from .flow import Call
-from .source import Place
+from .call_counts import Call
+from .line_costs import Work, summed
 
 UNKNOWN = "???"
 

@@ -1,19 +1,19 @@
-"""What gdb's `monitor` can ask for: what the machine has and gdb has no word for."""
+"""What gdb's `monitor` can ask for: what the machine has and gdb has no command for."""
 
 from __future__ import annotations
 
 import re
 from typing import Callable, List, Optional, Sequence, Tuple
 
-from ..debugger import Node
+from ..framed.environment_calls import spelled
+from ..framed.session import Node
 from ..refusals import Refused, printable
-from ..run.calls import spelled
-from .arrivals import Interrupted
-from .calls import Awaited, addresses_of, awaited
-from .machine import MOST_BREAKPOINTS
-from .names import STACK, Names
+from ..reverse.reversible_machine import MOST_BREAKPOINTS
+from ..reverse.run_places import Interrupted
+from ..reverse.symbol_names import STACK, Names
+from ..reverse.wrote_sent import BY_CTRL_C, Teller
+from .catchpoints import Awaited, addresses_of, awaited
 from .runner import Runner
-from .telling import BY_CTRL_C, Teller
 
 HELP = """\
 monitor superstep K     stop where superstep K begins: a point, to which continue goes, and reverse-continue

@@ -131,7 +131,7 @@ int main()
 }
 """
 # For how long what goes beside a run is waited for behind it, as forked.NUMBERS has it.
-PATIENT = "bsptools.run.longs.MORE_SECONDS=300"
+PATIENT = "bsptools.run.long_overflows.MORE_SECONDS=300"
 # A run on one processor that is as patient.
 ON_ONE = """
 import os, sys

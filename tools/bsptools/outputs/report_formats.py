@@ -1,0 +1,70 @@
+"""A report as the emulator's lines, as CSV and as JSON, and the one reader of all of them."""
+
+from __future__ import annotations
+
+import csv
+import io
+import json
+from typing import Any
+
+from ..files import whole
+from ..refusals import Refused
+from .report import MOST_COST, Report, Superstep, checked, part
+
+
+def read(content: bytes) -> Report | None:
+    """The report of a file in any of its three forms. It is refused where it begins as one and is none that the emulator writes, and None
+    where it is something else."""
+    try:
+        if content.startswith(b"{"):
+            return of_json(json.loads(content))
+        if content.split(b"\n", 1)[0].split(b",")[:3] == [b"superstep", b"w", b"h"]:
+            return of_csv(content.decode())
+        parted = part(content)
+    except (ValueError, KeyError, TypeError, AttributeError, RecursionError, csv.Error) as error:
+        raise Refused(f"it begins as a report, and goes on as none: {error}") from error
+    return parted[1] if parted else None
+
+
+def of_json(content: dict[str, Any]) -> Report:
+    """A report from an object as `as_json` makes it."""
+    supersteps = [superstep_by_names(it) for it in content["supersteps"]]
+    return checked(Report(supersteps, whole(content["total"]), str(content["outcome"]), b""))
+
+
+def of_csv(text: str) -> Report:
+    """A report from a table as `as_csv` makes it, which has no outcome and no prices."""
+    supersteps = [superstep_by_names(row) for row in csv.DictReader(io.StringIO(text))]
+    return checked(Report(supersteps, 0, "", b""))
+
+
+def superstep_by_names(row: dict[str, Any]) -> Superstep:
+    """A superstep from its values by their names."""
+    values = {name: whole(value, MOST_COST) for name, value in row.items() if name not in ("superstep", "end")}
+    return Superstep(whole(row["superstep"], MOST_COST), values, row["end"])
+
+
+def as_csv(report: Report) -> bytes:
+    """A row for each superstep, below the names of the columns."""
+    text = io.StringIO()
+    names = list(report.supersteps[0].costs)
+    rows = csv.writer(text, lineterminator="\n")
+    rows.writerow(["superstep", *names, "end"])
+    rows.writerows([it.number, *(it.costs[name] for name in names), it.end] for it in report.supersteps)
+    return text.getvalue().encode()
+
+
+def as_json(report: Report) -> bytes:
+    """An object with the supersteps, the total and the outcome."""
+    supersteps = [{"superstep": it.number, **it.costs, "end": it.end} for it in report.supersteps]
+    content = {"supersteps": supersteps, "total": report.total, "outcome": report.outcome}
+    return json.dumps(content, indent=1).encode() + b"\n"
+
+
+def spelled_for(path: str, report: Report) -> bytes:
+    """The report as the name of its file asks for: `.csv`, `.json`, or else the emulator's lines."""
+    if path.endswith(".csv"):
+        return as_csv(report)
+    if path.endswith(".json"):
+        return as_json(report)
+    return report.text

@@ -5,7 +5,8 @@ from __future__ import annotations
 import re
 from typing import Callable, Dict, Iterator, List, Optional, Sequence, Set
 
-from ..framed.session import DebuggerEnded, Node, Reply, Session, floats_of
+from ..framed.session import DebuggerEnded, Node, RefusalCode, Reply, Session, floats_of
+from ..limits import MOST_POINTS
 from ..program.register_names import FLOATS, REGISTERS
 from ..refusals import Refused, printable, put
 from ..reverse import named_views
@@ -14,17 +15,14 @@ from ..reverse.reversible_machine import RESERVE, Machine
 from ..reverse.run_places import Asked as Question, Interrupted, Place, rank_of, told
 from ..reverse.symbol_names import STACK, Names
 from ..reverse.wrote_sent import BY_CTRL_C, Teller
-from .line_syntax import VERBS, Asked, following, help_of, parsed, ranks_of
+from .line_syntax import Asked, Denied, Lines, ranks_of
 
-# How many bytes, words and instructions are shown, if it is not said, of how many at the most, and of how many bytes a text.
-DEFAULTS = {"bytes": 16, "words": 8, "list": 8, "wrote": 4}
+# How many bytes are shown at the most, and of how many bytes a text.
 MOST_SHOWN, MOST_TEXT = 1 << 16, 1 << 12
 # Lines that go on for as long as the program does, and those that bring a state back.
 LONG = {"go", "over", "phase", "step", "turn"}
 # The bytes of an environment call, and the states of ranks that have stopped for good by one.
 CALL, OVER = 4, ("ended", "aborted")
-# How a refusal begins.
-REFUSAL = "refused: "
 # Of so many ranks it is told where they are when the run is over.
 MOST_PLACES = 16
 
@@ -48,13 +46,14 @@ class Dialogue:
         self._command, self._is_interrupted = list(command), is_interrupted
         self.names = Names(command)
         self._session = Session(self._command)
+        self._lines = Lines(self._session.ask("help").accepted())
         settings = self._session.settings()
         self._ranks, self._size = settings["nodes"], settings["memory"]
         self._points: Set[str] = set()
         self._is_told = self._is_kept = False
         self._past: Optional[Machine] = None
         self._own: Dict[str, Callable[[Asked], Iterator[str]]] = {
-            "help": lambda asked: iter(help_of("".join(asked.words))),
+            "help": lambda asked: self._lines.help_of("".join(asked.words)),
             "regs": lambda asked: iter(named_views.registers(self.names, self._node(asked.operands["RANK"]))),
             "fregs": self._fregs,
             "bytes": self._bytes,
@@ -81,7 +80,7 @@ class Dialogue:
             put("nothing is kept any more: a new process goes on from here\n" if self._is_kept else "")
             self._is_kept = False
         try:
-            asked = parsed(line, self._ranks, self._address)
+            asked = self._lines.parsed(line, self._ranks, self._address)
             if asked.verb == "quit":
                 return False
             own = self._own.get(asked.verb)
@@ -93,8 +92,7 @@ class Dialogue:
         except DebuggerEnded:
             raise
         except Refused as refused:
-            why = str(refused.args[0])
-            _tell(why if why.startswith(REFUSAL) else REFUSAL + why, *refused.args[1:])
+            _tell(f"refused: {refused.args[0]}", *refused.args[1:])
         except Interrupted:
             put("broken off\n")
         return True
@@ -104,10 +102,10 @@ class Dialogue:
         operands: Dict[str, Callable[[], List[str]]] = {
             "RANK": lambda: [str(rank) for rank in range(self._ranks)],
             "ADDR": lambda: [*self.names.all(), "$pc", *(f"${name}" for name in REGISTERS)],
-            "LINE": lambda: VERBS,
+            "LINE": lambda: self._lines.verbs,
             "NAME": lambda: FLOATS,
         }
-        found = [operands[it]() if it in operands else [it] if it.islower() else [] for it in following(words)]
+        found = [operands[it]() if it in operands else [it] if it.islower() else [] for it in self._lines.following(words)]
         return sorted({word for part in found for word in part})
 
     # The debugger's own lines.
@@ -122,7 +120,7 @@ class Dialogue:
             self._is_kept = False
             return
         if not reply.is_done:
-            raise Refused(f"{reply.lines[0]}{self._why(reply.lines[0])}")
+            raise Denied(reply.code, self._why(reply.code))
         if asked.verb in ("output", "costs"):
             put(reply.data)
             return
@@ -179,19 +177,20 @@ class Dialogue:
         """A line with the names of the addresses that it tells."""
         return _ADDRESS.sub(lambda found: f"{found[1]} {named_views.behind(self.names, int(found[2], 16))}", line)
 
-    def _why(self, refusal: str) -> str:
+    def _why(self, code: str) -> str:
         """What would be accepted where the debugger refuses a line."""
+        if code == RefusalCode.OVER:
+            return f"the run is over; all can be looked at, and {self._way_back()}"
         texts = {
-            "BadRank": ranks_of(self._ranks),
-            "BadRange": "there is not so much yet; without a number all is shown",
-            "TooMany": "1,024 points are set; clear takes one away",
-            "NoSuchBreak": "points tells which are set",
-            "NoSuchKept": "kept tells which are",
-            "Over": f"the run is over; all can be looked at, and {self._way_back()}",
-            "BadCommand": "this emulator has no such line",
+            RefusalCode.BAD_RANK: ranks_of(self._ranks),
+            RefusalCode.BAD_RANGE: "there is not so much yet; without a number all is shown",
+            RefusalCode.NO_FLOAT_UNIT: "the program does not say that it wants one; bspgdb --float gives it to nodes",
+            RefusalCode.TOO_MANY: f"{MOST_POINTS:,} points are set; clear takes one away",
+            RefusalCode.NO_SUCH_BREAK: "points tells which are set",
+            RefusalCode.NO_SUCH_KEPT: "kept tells which are",
+            RefusalCode.BAD_COMMAND: "this emulator has no such line",
         }
-        text = texts.get(refusal.rpartition(" ")[2])
-        return f": {text}" if text else ""
+        return texts.get(code, "")
 
     def _way_back(self) -> str:
         """What leads away from the end of a run."""
@@ -231,7 +230,7 @@ class Dialogue:
         rank = asked.operands["RANK"]
         reply = self._session.ask(f"fregs {rank}")
         if not reply.is_done:
-            raise Refused("refused: NoFloatUnit: the program does not say that it wants one; bspgdb --float gives it to nodes")
+            raise Denied(reply.code, self._why(reply.code))
         name = "".join(asked.words)
         rows = named_views.floats(rank, floats_of(reply.lines))
         known = dict(zip(("fcsr", *FLOATS), rows))
@@ -243,20 +242,19 @@ class Dialogue:
     def _memory(self, rank: int, addr: int, count: int) -> bytes:
         """Bytes of a rank; those that come before the memory's end."""
         if addr >= self._size:
-            raise Refused(f"refused: BadRange: there is nothing at {addr:#x}: a rank's memory ends at {self._size:#x}")
+            raise Denied(RefusalCode.BAD_RANGE, f"there is nothing at {addr:#x}: a rank's memory ends at {self._size:#x}")
         count = min(count, self._size - addr)
         return bytes.fromhex(" ".join(self._session.ask(f"bytes {rank} {addr} {count}").accepted()))
 
     def _shown(self, asked: Asked, unit: int) -> bytes:
         """The memory that a line asks for, in units of so many bytes."""
-        count = asked.operands.get("N", DEFAULTS[asked.verb])
-        if count * unit > MOST_SHOWN:
-            raise Refused(f"refused: BadRange: {MOST_SHOWN // unit} are the most that are shown at once")
-        return self._memory(asked.operands["RANK"], asked.operands["ADDR"], count * unit)
+        if asked.how_many * unit > MOST_SHOWN:
+            raise Denied(RefusalCode.BAD_RANGE, f"{MOST_SHOWN // unit} are the most that are shown at once")
+        return self._memory(asked.operands["RANK"], asked.operands["ADDR"], asked.how_many * unit)
 
     def _end(self, asked: Asked, unit: int) -> Iterator[str]:
         """What says that the memory ends before all that was asked for."""
-        if asked.operands["ADDR"] + asked.operands.get("N", DEFAULTS[asked.verb]) * unit > self._size:
+        if asked.operands["ADDR"] + asked.how_many * unit > self._size:
             yield f"no more: a rank's memory ends at {self._size:#x}"
 
     def _bytes(self, asked: Asked) -> Iterator[str]:
@@ -277,9 +275,8 @@ class Dialogue:
         if addr % 2:
             count = asked.operands.get("N", addr)
             what = f"instructions stand at even addresses, and {addr:#x} is odd"
-            raise Refused(f"refused: BadCommand: {what}; {count} of them from where the rank stands are list {node.rank} $pc {count}")
-        count = asked.operands.get("N", DEFAULTS["list"])
-        yield from named_views.instructions(self.names, asked.operands["ADDR"], self._shown(asked, 4), count, node.pc)
+            raise Denied(RefusalCode.BAD_COMMAND, f"{what}; {count} of them from where the rank stands are list {node.rank} $pc {count}")
+        yield from named_views.instructions(self.names, asked.operands["ADDR"], self._shown(asked, 4), asked.how_many, node.pc)
 
     def _where(self, asked: Asked) -> Iterator[str]:
         """Where the ranks are, with function and line of each."""
@@ -298,7 +295,7 @@ class Dialogue:
     def _place(self) -> Place:
         """Where all stands."""
         ticks = tuple(self._node(rank).ticks for rank in range(self._ranks))
-        return Place(self._session.superstep(), ticks, not self._session.ask("step 0 0").is_done)
+        return Place(self._session.superstep(), ticks, self._session.ask("step 0 0").code == RefusalCode.OVER)
 
     def _machine(self) -> Machine:
         """A machine by which earlier places are found."""
@@ -311,7 +308,7 @@ class Dialogue:
 
     def _wrote(self, asked: Asked) -> Iterator[str]:
         operands = asked.operands
-        yield from self._teller().wrote(operands["RANK"], operands["ADDR"], operands.get("N", DEFAULTS["wrote"]))
+        yield from self._teller().wrote(operands["RANK"], operands["ADDR"], asked.how_many)
 
     def _sent(self, asked: Asked) -> Iterator[str]:
         teller = self._teller()

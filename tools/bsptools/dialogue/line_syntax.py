@@ -1,54 +1,42 @@
-"""The lines of a dialogue: which there are, and what the words of one mean."""
+"""The lines of a dialogue: which there are, and what the words of one mean.
+
+They are those of the debugger, which tells them: how each is spelled, and what it does. What is added here is what a dialogue has besides:
+names of addresses, operands that can be left out, lines of its own, and the words that other debuggers have.
+"""
 
 from __future__ import annotations
 
 import re
-from typing import Callable, Dict, List, NamedTuple, Optional, Sequence
+from typing import Callable, Dict, Iterator, List, NamedTuple, Sequence
 
+from ..framed.session import RefusalCode
 from ..refusals import Refused, printable
 
-# Each line as it is spelled, with operands in capitals and in brackets what may be left out, and what it does.
-LINES = {
-    "break RANK ADDR": "a point: go stops before this rank makes the instruction there",
-    "break superstep K": "a point: go stops where superstep K begins",
-    "clear RANK ADDR": "takes the point away",
-    "clear superstep K": "takes the point away",
-    "points": "the points that are set",
-    "go": "goes on to a point or to the outcome",
-    "go RANK COUNT": "so many instructions of a rank at the most, and up to a point of its own",
-    "step RANK [COUNT]": "so many instructions of a rank, or one",
-    "step": "the next instruction of all: that of the lowest rank that runs",
-    "over RANK": "an instruction of a rank, with all of a function that it calls",
-    "phase": "every rank goes on until it stops by itself",
-    "turn": "ends the superstep, if no rank runs any more",
-    "where [RANK]": "where the ranks are, or one",
-    "regs RANK": "the registers of a rank",
-    "fregs RANK [NAME]": "the registers of floating point of a rank, and fcsr; or one, as fa0 or f10",
-    "list RANK [ADDR] [N]": "N instructions, or 8, of a rank's memory, from ADDR or from where it stands",
-    "bytes RANK ADDR [N]": "N bytes, or 16",
-    "words RANK ADDR [N]": "N words, or 8",
-    "text RANK ADDR [N]": "the text there, up to its end or to N bytes",
-    "areas RANK": "the areas that a rank has registered",
-    "requests RANK": "what a rank has asked for in this superstep",
-    "queue RANK": "the messages that a rank has received and not moved yet",
-    "wrote RANK ADDR [N]": "who wrote each of N bytes last, or of 4",
+# Lines of a dialogue alone, with what they do, and behind which of the debugger's they are told.
+OWN = {
+    "wrote RANK ADDR [N]": "who wrote each of N bytes last",
     "sent [K]": "the requests of superstep K, or of this one so far: the first 256",
     "sent K from RANK": "all requests of a rank in superstep K",
-    "keep": "keeps the state under the next number",
-    "kept": "the states that are kept",
-    "back N": "goes back to a state that is kept",
-    "forget N": "keeps a state no longer",
-    "costs [FROM]": "what the supersteps that are over cost",
-    "output [FROM]": "what was written in the supersteps that are over",
-    "nodes": "how many ranks there are, and the other settings",
-    "help [LINE]": "the lines, or one",
-    "quit": "ends the session; so do exit, q and Ctrl-D",
+}
+BEFORE_OWN = "queue"
+# The operands of the debugger's lines that can be left out, and those that a dialogue adds.
+LEFT_OUT = {"list": ("ADDR", "N"), "bytes": ("LEN",), "words": ("N",), "text": ("N",)}
+ADDED = {"fregs": "[NAME]"}
+# How many bytes, words and instructions are looked at, if it is not said.
+DEFAULTS = {"bytes": 16, "words": 8, "list": 8, "wrote": 4}
+# What is told of some lines besides.
+MORE = {
+    "list": f"; without ADDR from where the rank stands, without N {DEFAULTS['list']}",
+    "bytes": f"; without LEN {DEFAULTS['bytes']}",
+    "words": f"; without N {DEFAULTS['words']}",
+    "wrote": f"; without N {DEFAULTS['wrote']}",
+    "fregs": "; or one, as fa0 or f10",
+    "quit": "; so do exit, q and Ctrl-D",
 }
 OPERANDS = (
-    "RANK, K, N, COUNT and FROM are numbers. ADDR is a number, a name of the program, or a register, as $sp or $a0, and behind each"
+    "RANK, K, N, LEN, COUNT and FROM are numbers. ADDR is a number, a name of the program, or a register, as $sp or $a0, and behind each"
     " may be +N, as table+4."
 )
-VERBS = sorted({usage.split()[0] for usage in LINES})
 # Words that other debuggers have for some of them.
 ALSO = {"exit": "quit", "q": "quit", "?": "help"}
 # Words that gdb has for what other lines do here.
@@ -79,6 +67,16 @@ IN_GDB = {
 MOST = (1 << 64) - 1
 
 _NUMBER = re.compile(r"[0-9]{1,99}|0[xX][0-9a-fA-F]{1,99}")
+# What the debugger tells of the lines with a first word: how they are spelled, what they do, and which of them a framed session alone has.
+_TOLD = re.compile(r"([^:]*): (.*)")
+_FRAMED = re.compile(r"with --framed (?!alone)|, with --framed alone")
+
+
+class Denied(Refused):
+    """A line is refused, with the name that the debugger has for that, and what would be accepted."""
+
+    def __init__(self, code: str, why: str) -> None:
+        super().__init__(f"{code}: {why}" if why else code)
 
 
 class Asked(NamedTuple):
@@ -87,6 +85,11 @@ class Asked(NamedTuple):
     verb: str
     operands: Dict[str, int]
     words: List[str]
+
+    @property
+    def how_many(self) -> int:
+        """How many of something it asks for."""
+        return self.operands.get("N", self.operands.get("LEN", DEFAULTS[self.verb]))
 
 
 class NoRank(Refused):
@@ -105,39 +108,94 @@ class Mismatch(Refused):
 Reader = Callable[[str, int], int]
 
 
-def parsed(text: str, ranks: int, address: Reader) -> Asked:
-    """What a line asks for. What is no line is refused, with what would be one."""
-    verb, *words = text.split()
-    verb = ALSO.get(verb, verb)
-    usages = [usage for usage in LINES if usage.split()[0] == verb]
-    if not usages:
-        raise Refused(f"refused: BadCommand: there is no line {printable(verb)}{_meant(verb)}; help tells the lines")
-    # Where the word behind the verb is that of a line, it is that line.
-    usages = [usage for usage in usages if usage.split()[1:2] == words[:1]] or usages
-    refusals: List[Mismatch] = []
-    for usage in usages:
-        try:
-            return Asked(verb, *_matched(usage.split()[1:], words, ranks, address))
-        except NoRank as refused:
-            raise Refused(f"refused: BadRank: {refused}") from refused
-        except Mismatch as refused:
-            refusals.append(refused)
-    # The line that was meant is that of which most of the words are there.
-    nearest = max(it.count for it in refusals)
-    told = [str(it) for it in refusals if it.count == nearest and str(it)]
-    accepted = ", or ".join(usages)
-    raise Refused(f"refused: BadCommand: {told[0] + '; ' if told else ''}the line is {accepted}")
+class Lines:
+    """The lines of a dialogue: each as it is spelled, with operands in capitals and in brackets what may be left out, and what it does.
+    `told` is what the debugger says to `help`."""
+
+    def __init__(self, told: Sequence[str]) -> None:
+        self.purposes: Dict[str, str] = {}
+        for line in told:
+            self._take(line)
+            if line.startswith(BEFORE_OWN):
+                self.purposes.update((usage, purpose + MORE.get(usage.split()[0], "")) for usage, purpose in OWN.items())
+        self.verbs = sorted({usage.split()[0] for usage in self.purposes})
+
+    def _take(self, line: str) -> None:
+        """Takes what the debugger tells of the lines with one first word. What it says in parts is said of one line each."""
+        found = _TOLD.fullmatch(line)
+        if found is None:
+            raise Refused(f"the debugger tells of no line: {line}")
+        usages = _FRAMED.sub("", found[1]).split(", or ")
+        purposes = found[2].split("; ")
+        verb = usages[0].split()[0]
+        for at, usage in enumerate(usages):
+            if not any(other.startswith(f"{usage} [") for other in usages):
+                purpose = purposes[at] if len(purposes) == len(usages) else found[2]
+                self.purposes[_spelled_here(usage)] = purpose + MORE.get(verb, "")
+
+    def of(self, verb: str) -> List[str]:
+        """How the lines with a verb are spelled."""
+        return [usage for usage in self.purposes if usage.split()[0] == verb]
+
+    def parsed(self, text: str, ranks: int, address: Reader) -> Asked:
+        """What a line asks for. What is no line is refused, with what would be one."""
+        verb, *words = text.split()
+        verb = ALSO.get(verb, verb)
+        usages = self.of(verb)
+        if not usages:
+            raise Denied(RefusalCode.BAD_COMMAND, f"there is no line {printable(verb)}{self._meant(verb)}; help tells the lines")
+        # Where the word behind the verb is that of a line, it is that line.
+        usages = [usage for usage in usages if usage.split()[1:2] == words[:1]] or usages
+        refusals: List[Mismatch] = []
+        for usage in sorted(usages, key=lambda it: -len(it.split())):
+            try:
+                return Asked(verb, *_matched(usage.split()[1:], words, ranks, address))
+            except NoRank as refused:
+                raise Denied(RefusalCode.BAD_RANK, str(refused)) from refused
+            except Mismatch as refused:
+                refusals.append(refused)
+        # The line that was meant is that of which most of the words are there.
+        nearest = max(it.count for it in refusals)
+        told = [str(it) for it in refusals if it.count == nearest and str(it)]
+        accepted = ", or ".join(usages)
+        raise Denied(RefusalCode.BAD_COMMAND, f"{told[0] + '; ' if told else ''}the line is {accepted}")
+
+    def _meant(self, verb: str) -> str:
+        """What says which line is meant by a word that none begins with, if that is known."""
+        if verb in IN_GDB:
+            return f"; what gdb does by that is done by {IN_GDB[verb]}"
+        # Only what is mistyped wants it.
+        import difflib
+
+        near = difflib.get_close_matches(verb.lower(), self.verbs, 1)
+        return f"; {near[0]} may be meant" if near else ""
+
+    def following(self, words: Sequence[str]) -> List[str]:
+        """What may stand behind the first words of a line: words, and operands in capitals."""
+        if not words:
+            return self.verbs
+        found: List[str] = []
+        for usage in self.of(words[0]):
+            names = [it.strip("[]") for it in usage.split()[1:]]
+            if len(words) <= len(names) and all(map(_may_be, names, words[1:])):
+                found.append(names[len(words) - 1])
+        return found
+
+    def help_of(self, verb: str) -> Iterator[str]:
+        """What is told of all lines, or of those with a verb."""
+        usages = self.of(verb) if verb else list(self.purposes)
+        if not usages:
+            raise Denied(RefusalCode.BAD_COMMAND, f"there is no line {printable(verb)}; help tells the lines")
+        width = max(map(len, usages))
+        yield from (f"{usage:{width}}  {self.purposes[usage]}" for usage in usages)
+        yield from [] if verb else [OPERANDS]
 
 
-def _meant(verb: str) -> str:
-    """What says which line is meant by a word that none begins with, if that is known."""
-    if verb in IN_GDB:
-        return f"; what gdb does by that is done by {IN_GDB[verb]}"
-    # Only what is mistyped wants it.
-    import difflib
-
-    near = difflib.get_close_matches(verb.lower(), VERBS, 1)
-    return f"; {near[0]} may be meant" if near else ""
+def _spelled_here(usage: str) -> str:
+    """A line of the debugger as a dialogue takes it."""
+    verb, *names = usage.split()
+    left_out = LEFT_OUT.get(verb, ())
+    return " ".join([verb, *(f"[{name}]" if name in left_out else name for name in names), *([ADDED[verb]] if verb in ADDED else [])])
 
 
 def _matched(usage: Sequence[str], words: Sequence[str], ranks: int, address: Reader) -> tuple[Dict[str, int], List[str]]:
@@ -190,30 +248,8 @@ def ranks_of(count: int) -> str:
     return f"the ranks are 0 to {count - 1}" if count > 1 else "the only rank is 0"
 
 
-def following(words: Sequence[str]) -> List[str]:
-    """What may stand behind the first words of a line: words, and operands in capitals."""
-    if not words:
-        return VERBS
-    found: List[str] = []
-    for usage in LINES:
-        verb, *rest = usage.split()
-        names = [it.strip("[]") for it in rest]
-        if verb == words[0] and len(words) <= len(names) and all(map(_may_be, names, words[1:])):
-            found.append(names[len(words) - 1])
-    return found
-
-
 def _may_be(name: str, word: str) -> bool:
     """Whether a word may stand where a line has this one, or this operand."""
     if name.islower():
         return name == word
     return name in ("ADDR", "LINE", "NAME") or word[0].isdigit()
-
-
-def help_of(verb: str) -> List[str]:
-    """What is told of all lines, or of those with a verb."""
-    usages = [usage for usage in LINES if verb in ("", usage.split()[0])]
-    if not usages:
-        raise Refused(f"refused: BadCommand: there is no line {printable(verb)}; help tells the lines")
-    width = max(map(len, usages))
-    return [f"{usage:{width}}  {LINES[usage]}" for usage in usages] + ([OPERANDS] if not verb else [])

@@ -34,13 +34,21 @@ LOOK = 0.05
 # gdb reads memory by a few bytes, which lie side by side: so many bytes are read at once, and so many of these blocks are kept of a rank.
 BLOCK, MOST_BLOCKS = 256, 256
 # The lines that only show something, or only say where to stop.
-SHOWING = ("regs ", "bytes ", "queue ", "costs", "output ", "where ", "nodes", "break ", "clear ")
+SHOWING = ("regs ", "bytes ", "queue ", "costs", "output ", "where ", "nodes", "help", "break ", "clear ")
 
 _HEADER = re.compile(rb"(done|refused) (\d+)\n")
+_REFUSAL = re.compile(rb"refused: (\w+)")
 _NODE = re.compile(r"rank (\d+) pc ([0-9a-f]{8}) ticks (\d+) state (.+)")
 _REGISTER = re.compile(r"=([0-9a-f]{8})")
 _FCSR = re.compile(r"rank \d+ fcsr ([0-9a-f]{8}) .+")
 _FLOAT = re.compile(r"=([0-9a-f]{16})")
+
+
+class RefusalCode:
+    """The names of the debugger's refusals."""
+
+    BAD_COMMAND, BAD_RANK, BAD_RANGE, NO_FLOAT_UNIT = "BadCommand", "BadRank", "BadRange", "NoFloatUnit"
+    TOO_MANY, NO_SUCH_BREAK, NO_SUCH_KEPT, OVER = "TooMany", "NoSuchBreak", "NoSuchKept", "Over"
 
 
 class DebuggerEnded(Refused):
@@ -123,6 +131,12 @@ class Reply(NamedTuple):
     def lines(self) -> list[str]:
         """The lines of a reply that is text."""
         return self.data.decode(errors="replace").split("\n")[:-1]
+
+    @property
+    def code(self) -> str:
+        """The name of its refusal; nothing of a line that was done."""
+        found = None if self.is_done else _REFUSAL.match(self.data)
+        return found[1].decode() if found else ""
 
     def accepted(self) -> list[str]:
         """The lines of a reply to what cannot be refused."""

@@ -92,11 +92,11 @@ def deliver(job: Job, done: Done) -> int:
     chosen, is_whole = None, True
     if done.records or options.out is not None:
         from ..run.exit_status import chosen_status
-        from ..run.record_messages import tell_noted
+        from ..run.record_messages import tell_records
         from ..outputs.library_notes import STATUS
 
         chosen = chosen_status(job, found, done.records)
-        is_whole = tell_noted(job, done.records, found, untold=STATUS if chosen is not None else "")
+        is_whole = tell_records(job, done.records, found, untold=STATUS if chosen is not None else "")
     if options.summary or options.warn or wants_counts(options) or (found.outcome != "ended" and chosen is None):
         from ..run.closing_messages import tell_of
 

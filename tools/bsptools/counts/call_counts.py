@@ -49,7 +49,7 @@ class Functions:
         return self.starts[bisect.bisect_right(self.starts, address) - 1]
 
 
-class Flow:
+class CallCounts:
     """The functions and the calls of a run."""
 
     def __init__(self, code: Code, counts: step_counts.Counts) -> None:

@@ -7,7 +7,7 @@ from typing import NamedTuple
 
 from ..framed.environment_calls import GETS, PUTS, SEND, SYNC, TAGSIZE, Call, Tracer
 from ..framed.session import node_of
-from ..framed.superstep_calls import TRACED, Steps
+from ..framed.superstep_calls import TRACED, SuperstepCalls
 from ..outputs.report import Report
 from ..program.line_table import Place
 from .line_costs import Work
@@ -59,7 +59,7 @@ class Traffic:
         """The h of each superstep in which there is one; none where there are too many requests for it."""
         if self.stops > MOST_STOPS or not any(it.costs["h"] for it in report.supersteps):
             return []
-        steps = Steps(self.trace, self.work.counts.nodes)
+        steps = SuperstepCalls(self.trace, self.work.counts.nodes)
         has_messages = any(call.number == SEND for made in steps.made for calls in made for call in calls)
         tags = tag_sizes(self.trace, len(report.supersteps)) if has_messages else [0] * len(report.supersteps)
         found: list[Relation] = []

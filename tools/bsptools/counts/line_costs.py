@@ -10,7 +10,7 @@ from typing import NamedTuple, TypeVar
 from ..program.code import Code
 from ..program.line_table import Place, Source
 from .apportionment import WHOLE, shared
-from .call_counts import Call, Flow
+from .call_counts import Call, CallCounts
 from .call_graph import Graph, Passed
 from .step_counts import Counts
 
@@ -39,7 +39,7 @@ class Work:
     def __init__(self, code: Code, counts: Counts) -> None:
         self.counts = counts
         self.paid, self.made = counts.paid(), counts.by_all()
-        self.flow = Flow(code, counts)
+        self.flow = CallCounts(code, counts)
         self.names = self.flow.functions.names
         self.graph = Graph(self.names, self.flow.calls, self.flow.unexplained)
         source = Source(code)

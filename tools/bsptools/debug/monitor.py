@@ -11,7 +11,7 @@ from ..refusals import Refused, printable
 from ..reverse.reversible_machine import MOST_BREAKPOINTS
 from ..reverse.run_places import Interrupted
 from ..reverse.symbol_names import STACK, Names
-from ..reverse.wrote_sent import BY_CTRL_C, Teller
+from ..reverse.wrote_sent import BY_CTRL_C, PastTeller
 from .catchpoints import Awaited, addresses_of, awaited
 from .runner import Runner
 
@@ -105,10 +105,10 @@ class Monitor:
             return runner.machine.costs()
         return HELP.splitlines() if name == "help" else None
 
-    def _teller(self) -> Teller:
+    def _teller(self) -> PastTeller:
         runner = self._runner
         way_off = BY_CTRL_C if self._typed else ""
-        return Teller(runner.machine, self._names, runner.machine.place(), self._is_interrupted, lambda *_: FURTHER, "monitor sent", way_off)
+        return PastTeller(runner.machine, self._names, runner.machine.place(), self._is_interrupted, lambda *_: FURTHER, "monitor sent", way_off)
 
     def _is_interrupted(self) -> bool:
         """Whether to break off. gdb waits for an answer here, and sends nothing of a Ctrl-C."""

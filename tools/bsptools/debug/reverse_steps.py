@@ -17,7 +17,7 @@ BETWEEN = ("H", "g", "p", "m", "Z", "z")
 TYPED = "m0,1"
 
 
-class Over:
+class ReverseSteps:
     """Follows the packets that came, up to such a step."""
 
     def __init__(self) -> None:

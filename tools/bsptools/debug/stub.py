@@ -12,7 +12,7 @@ from . import gdb_terms, packet_numbers
 from .catchpoints import addresses_of
 from .monitor import Monitor, Typed
 from .packets import INTERRUPT, PACKET_SIZE, Closed, Connection, escape, hexadecimal
-from .reverse_steps import Over
+from .reverse_steps import ReverseSteps
 from .runner import Runner
 from .stop_replies import Exit, Halt, Stop
 from .watchpoints import KINDS, Watch
@@ -54,7 +54,7 @@ class Stub:
         # Whether the last stop is that bytes were met which are watched, and those that are taken away for a step past that.
         self._is_met = False
         self._passed: List[Watch] = []
-        self._over = Over()
+        self._over = ReverseSteps()
         self._is_over = False
         self._interrupted_at: Optional[float] = None
         self._exact = self._answers_to_words()

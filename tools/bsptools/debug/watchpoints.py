@@ -11,7 +11,7 @@ from ..reverse.history import Hit
 from ..reverse.last_writers import Own, Search
 from ..reverse.reversible_machine import Machine
 from ..reverse.run_places import Asked, Place, never
-from ..reverse.single_steps import Step, Walk
+from ..reverse.single_steps import SingleSteps, Step
 from ..reverse.superstep_requests import Made
 from ..reverse.symbol_names import Names
 
@@ -165,7 +165,7 @@ class Reader:
     """Reads of the instructions that a rank makes which of them is an access to its bytes that are watched."""
 
     def __init__(self, machine: Machine, rank: int, watches: Sequence[Watch]) -> None:
-        self._walk = Walk(machine, rank, never)
+        self._walk = SingleSteps(machine, rank, never)
         self._watches = watches
         self._are_loads = any(it.kind != "watch" for it in watches)
         self._contents = {it: bytearray(machine.memory(rank, it.addr, it.length)) for it in watches if it.kind == "watch"}

@@ -8,7 +8,7 @@ from typing import NamedTuple
 from ..framed.backtrace import place
 from ..framed.environment_calls import GETS, PUTS, SEND, WRITE, Call, read_by
 from ..framed.session import BATCH, Node, Session, node_of
-from ..framed.superstep_calls import Finding, Steps
+from ..framed.superstep_calls import Finding, SuperstepCalls
 from ..program.code import ECALL, Code
 from ..program.memory_accesses import loaded
 
@@ -47,7 +47,7 @@ def moves(session: Session, rank: int, most: int) -> Iterator[Node]:
 class Looks:
     """Looks for reads of targets behind gets, in one run for each rank, as long as there are instructions left to look at."""
 
-    def __init__(self, steps: Steps, last: int) -> None:
+    def __init__(self, steps: SuperstepCalls, last: int) -> None:
         self.steps, self.last, self.is_whole = steps, last, True
         self.most = max(MOST_LOOKED_AT // steps.nodes, LEAST_LOOKED_AT)
         self.seen: set[tuple[int, int]] = set()
@@ -101,7 +101,7 @@ def targets_of(call: Call) -> list[Target]:
     return [Target(start, start + count, call)] if count > 0 else []
 
 
-def early_reads(steps: Steps, last: int) -> tuple[list[Finding], bool]:
+def early_reads(steps: SuperstepCalls, last: int) -> tuple[list[Finding], bool]:
     """Reads of targets of gets in the superstep of the get, and whether all instructions were looked at that may read them."""
     looks = Looks(steps, last)
     found = [it for rank in range(steps.nodes) for it in looks.look(rank)]

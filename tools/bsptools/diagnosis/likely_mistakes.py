@@ -7,7 +7,7 @@ import itertools
 from ..framed.backtrace import written
 from ..framed.environment_calls import GETS, MOVE, PUSH, PUTS, REQUESTS, SEND, TAGSIZE, TAKES, Tracer
 from ..framed.replays import MOST_STOPS
-from ..framed.superstep_calls import Finding, Landing, Steps, landings_in
+from ..framed.superstep_calls import Finding, Landing, SuperstepCalls, landings_in
 from ..outputs.report import Report
 from .early_reads import early_reads
 
@@ -18,7 +18,7 @@ SIZES, WORD = (2, 4, 8), 4
 
 def warnings(trace: Tracer, nodes: int, report: Report, others: dict[str, list[str]]) -> list[str]:
     """Lines of what was found, by `others` too, and a last one of what was looked for and not found."""
-    steps = Steps(trace, nodes)
+    steps = SuperstepCalls(trace, nodes)
     last = report.supersteps[-1].number
     met = meeting(steps, last)
     early_targets, are_all_looked_at = early_reads(steps, last)
@@ -42,7 +42,7 @@ def warnings(trace: Tracer, nodes: int, report: Report, others: dict[str, list[s
     return [f"bsprun: warning: {it}" for it in texts] + more + ([f"bsprun: looked for, and not found: {absent}"] if absent else [])
 
 
-def pending(steps: Steps, last: int) -> list[Finding]:
+def pending(steps: SuperstepCalls, last: int) -> list[Finding]:
     """The requests of the last superstep, which come to nothing, the first of each rank."""
     found: list[Finding] = []
     for rank in range(steps.nodes):
@@ -53,7 +53,7 @@ def pending(steps: Steps, last: int) -> list[Finding]:
     return found
 
 
-def other_order(steps: Steps, last: int) -> list[Finding]:
+def other_order(steps: SuperstepCalls, last: int) -> list[Finding]:
     """Registrations that a rank makes of the same addresses as rank 0, but in another order."""
     found: list[Finding] = []
     for superstep in range(last + 1):
@@ -69,7 +69,7 @@ def other_order(steps: Steps, last: int) -> list[Finding]:
     return found
 
 
-def meeting(steps: Steps, last: int) -> list[Finding]:
+def meeting(steps: SuperstepCalls, last: int) -> list[Finding]:
     """Puts of one superstep that write the same byte and are neighbours by their first bytes, each pair of places once."""
     found: list[Finding] = []
     told = set()
@@ -91,7 +91,7 @@ def counted_in_bytes(one: Landing, other: Landing) -> str:
     return f"; offset {max(offsets)} is no multiple of the {size} bytes of a put: offsets count bytes"
 
 
-def crooked(steps: Steps, last: int, met: list[Finding]) -> list[Finding]:
+def crooked(steps: SuperstepCalls, last: int, met: list[Finding]) -> list[Finding]:
     """Puts and gets of as many bytes as a number has, from or to where one may stand, at an offset where none may; each place once. Of puts
     that meet it is told there."""
     told = {it[1].node.x[1] for finding in met if finding[-1] for it in finding if not isinstance(it, str)}
@@ -107,7 +107,7 @@ def crooked(steps: Steps, last: int, met: list[Finding]) -> list[Finding]:
     return found
 
 
-def late(steps: Steps, last: int) -> list[Finding]:
+def late(steps: SuperstepCalls, last: int) -> list[Finding]:
     """Takings of messages where none is left, one superstep after some were left in the queue, the first of each rank."""
     found: list[Finding] = []
     for rank in range(steps.nodes):
@@ -126,7 +126,7 @@ def late(steps: Steps, last: int) -> list[Finding]:
     return found
 
 
-def early(steps: Steps, last: int) -> list[Finding]:
+def early(steps: SuperstepCalls, last: int) -> list[Finding]:
     """Messages behind a call that sets another tag size in the same superstep, the first of each rank."""
     found: list[Finding] = []
     for rank in range(steps.nodes):

@@ -14,7 +14,7 @@ from ..framed.replays import Replays
 from ..outputs import output_records
 from ..outputs.output_demux import ERROR, OUTPUT, Marks
 from ..outputs.report import Report, part
-from ..portable.divergence import first_parting
+from ..portable.divergence import first_divergence
 from ..prepare.job import Job
 from ..prepare.library_choices import Choices
 from ..program.code import Code
@@ -81,7 +81,7 @@ def reads(first: Run, again: Run, fill: int) -> list[str]:
 
 def parted(one: Filled, other: Filled) -> str:
     """Where two runs part whose outputs differ: the first call of a rank that is another one."""
-    found = first_parting((one, Choices()), (other, Choices()))
+    found = first_divergence((one, Choices()), (other, Choices()))
     if found is None:
         return ""
     what = found.one.told.partition(",")[0]
@@ -100,7 +100,7 @@ def run_of(job: Job, flags: int, fill: int | None) -> tuple[Run, Report] | None:
     return Run(own + marks.left(), parted[1].outcome), parted[1]
 
 
-def findings(job: Job) -> dict[str, list[str]]:
+def memory_findings(job: Job) -> dict[str, list[str]]:
     """What a run once more tells, by the names of what it looks for, where the program's library can look."""
     options = job.options
     if not job.mark or output_records.PLACE not in job.content:

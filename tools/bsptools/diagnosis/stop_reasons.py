@@ -11,7 +11,7 @@ from ..framed.session import Node, Session, floats_of, node_of, signed
 from ..limits import MOST_AREAS, MOST_BYTES, MOST_REQUESTS, MOST_STACK, MOST_TAG, MOST_TICKS
 from ..outputs.report import Report
 from ..program.code import ECALL, Code, float_name
-from ..program.memory_need import spelled as spelled_size
+from ..program.memory_need import size_text
 from ..refusals import counted
 
 # Of a run of more instructions, what was registered before its last superstep is looked for where likely mistakes are.
@@ -180,7 +180,7 @@ class Why:
         texts = [f"address {address:#x} ({signed(address)}) is not in the memory, which ends at {self.replays.memory:#x}"]
         texts = [f"{texts[0]}: the pointer was read through NULL"] if is_of_null(address) else texts
         if top and (node.x[2] >= self.replays.memory or node.x[2] < 64):
-            more = spelled_size(min(4 * top, MOST_STACK // 2))
+            more = size_text(min(4 * top, MOST_STACK // 2))
             texts = [f"the stack is too deep: its room is {top} bytes; give --stack {more}, of an ELF file to bspcc, or make large arrays static"]
         return texts
 

@@ -14,7 +14,7 @@ from ..reverse.debugger_process import POLL
 from ..reverse.reversible_machine import RESERVE, Machine
 from ..reverse.run_places import Asked as Question, Interrupted, Place, rank_of, told
 from ..reverse.symbol_names import STACK, Names
-from ..reverse.wrote_sent import BY_CTRL_C, Teller
+from ..reverse.wrote_sent import BY_CTRL_C, PastTeller
 from .line_syntax import Asked, Denied, Lines, ranks_of
 
 # How many bytes are shown at the most, and of how many bytes a text.
@@ -303,8 +303,8 @@ class Dialogue:
             self._past = Machine(self._command)
         return self._past
 
-    def _teller(self) -> Teller:
-        return Teller(self._machine(), self.names, self._place(), self._is_interrupted, further, "sent", BY_CTRL_C)
+    def _teller(self) -> PastTeller:
+        return PastTeller(self._machine(), self.names, self._place(), self._is_interrupted, further, "sent", BY_CTRL_C)
 
     def _wrote(self, asked: Asked) -> Iterator[str]:
         operands = asked.operands

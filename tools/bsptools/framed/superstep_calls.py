@@ -24,7 +24,7 @@ class Landing(NamedTuple):
     call: Call
 
 
-class Steps:
+class SuperstepCalls:
     """The calls of each rank, superstep by superstep."""
 
     def __init__(self, trace: Tracer, nodes: int) -> None:
@@ -58,7 +58,7 @@ class Steps:
         return piece if isinstance(piece, str) else f"rank {piece[0]} at {self.trace.place_of(piece[0], TRACED, 0, piece[1])}"
 
 
-def landings_in(steps: Steps, last: int, numbers: tuple[int, ...]) -> Iterator[tuple[int, list[tuple[int, Landing]]]]:
+def landings_in(steps: SuperstepCalls, last: int, numbers: tuple[int, ...]) -> Iterator[tuple[int, list[tuple[int, Landing]]]]:
     """Each superstep but the last, with where its requests of these numbers land or read, by the targets' ranks and the first bytes."""
     areas = [Areas() for _ in range(steps.nodes)]
     for superstep in range(last):
@@ -69,7 +69,7 @@ def landings_in(steps: Steps, last: int, numbers: tuple[int, ...]) -> Iterator[t
                     areas[rank].take(call)
 
 
-def landings_of(steps: Steps, areas: list[Areas], superstep: int, numbers: tuple[int, ...]) -> list[tuple[int, Landing]]:
+def landings_of(steps: SuperstepCalls, areas: list[Areas], superstep: int, numbers: tuple[int, ...]) -> list[tuple[int, Landing]]:
     """The bytes of areas that the requests of these numbers name in a superstep, with the target's rank."""
     found = []
     for rank in range(steps.nodes):

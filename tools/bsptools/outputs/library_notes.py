@@ -49,7 +49,7 @@ def note_of(record: Record) -> Note | None:
     return Note(chr(what & 0x7F), record.rank, superstep, place, one, other, os.fsdecode(content[_HEAD.size :]))
 
 
-class Teller:
+class NoteTeller:
     """Makes lines of notes. `written` has the ranks that wrote a file, by its name; `given` is the file of --input, if there is one;
     `seconds` says what a second is; `where` tells function and line at which a note was made, or nothing, for those that do not tell it
     themselves."""

@@ -77,7 +77,7 @@ class Files:
 
     def writers(self) -> dict[str, int]:
         """The rank that wrote each file first, by the name by which it knows it."""
-        return {shown(it.name): it.rank for it in reversed(list(self.files.values()))}
+        return {file_name(it.name): it.rank for it in reversed(list(self.files.values()))}
 
     def put(self, folder: str, inputs: list[str]) -> list[str]:
         """Puts the files into a folder, those of one name one behind another by their ranks. Lines of what is to be said of that."""
@@ -86,7 +86,7 @@ class Files:
         for it in self.files.values():
             others = found.setdefault(it.last, [])
             if not it.last or (others and others[0].name != it.name):
-                lines.append(f"{shown(it.name)} was not written: {'it has no last name' if not it.last else shown(others[0].name) + ' has its last name'}")
+                lines.append(f"{file_name(it.name)} was not written: {'it has no last name' if not it.last else file_name(others[0].name) + ' has its last name'}")
             else:
                 others.append(it)
         for last, parts in found.items():
@@ -94,13 +94,13 @@ class Files:
                 lines += put_one(folder, last, sorted(parts, key=lambda it: it.rank), inputs) if parts else []
             except Refused as refused:
                 self.is_put = False
-                lines.append(f"{refused} ({shown(parts[0].name)} was not written)")
+                lines.append(f"{refused} ({file_name(parts[0].name)} was not written)")
         if not self.is_whole:
             lines.append(f"not all was written: {MOST_FILES} files and {MOST_WRITTEN} bytes are the most of a run")
         return lines[:MOST_LINES] + ([f"and {len(lines) - MOST_LINES} more such lines"] if len(lines) > MOST_LINES else [])
 
 
-def shown(name: bytes) -> str:
+def file_name(name: bytes) -> str:
     """A name as it is told."""
     return os.fsdecode(name)
 

@@ -37,7 +37,7 @@ class Runs(Protocol):
         """The run under these choices in the debugger, up to the next one that is asked for."""
 
 
-class Deed(NamedTuple):
+class TracedCall(NamedTuple):
     """A call of a rank: its superstep, its number, its operands but addresses, and the bytes that it reads."""
 
     superstep: int
@@ -52,13 +52,13 @@ class Deed(NamedTuple):
         return f"{name}, {shown(self.content)}" if self.content else name
 
 
-class Parting(NamedTuple):
+class Divergence(NamedTuple):
     """The first calls in which a rank's runs differ, and where the first of them is made."""
 
     rank: int
     where: str
-    one: Deed
-    other: Deed | None
+    one: TracedCall
+    other: TracedCall | None
 
 
 def shown(content: bytes, most: int = 16) -> str:
@@ -76,9 +76,9 @@ def calls_of(trials: Runs, choices: Choices) -> Iterator[Stop]:
     return itertools.islice(stops(trials.replays(choices), trials.code, [], points, read_by), MOST_CALLS)
 
 
-def deeds(trials: Runs, choices: Choices) -> dict[int, list[tuple[Deed, Node]]]:
+def traced_calls(trials: Runs, choices: Choices) -> dict[int, list[tuple[TracedCall, Node]]]:
     """The calls of each rank, with where it stands at each."""
-    found: dict[int, list[tuple[Deed, Node]]] = {}
+    found: dict[int, list[tuple[TracedCall, Node]]] = {}
     supersteps: dict[int, int] = {}
     for stop in calls_of(trials, choices):
         node, number = stop.node, stop.node.x[17]
@@ -87,18 +87,18 @@ def deeds(trials: Runs, choices: Choices) -> dict[int, list[tuple[Deed, Node]]]:
         superstep = supersteps.setdefault(node.rank, 0)
         supersteps[node.rank] += number == SYNC
         operands = tuple(node.x[10 + i] for i, it in enumerate(NAMES[number][1]) if not it.startswith("*"))
-        found.setdefault(node.rank, []).append((Deed(superstep, number, operands, stop.content), node))
+        found.setdefault(node.rank, []).append((TracedCall(superstep, number, operands, stop.content), node))
     return found
 
 
-def first_parting(one: tuple[Runs, Choices], other: tuple[Runs, Choices]) -> Parting | None:
+def first_divergence(one: tuple[Runs, Choices], other: tuple[Runs, Choices]) -> Divergence | None:
     """Where two runs of a program part: in the first superstep, and in it the lowest rank."""
-    here, there = deeds(*one), deeds(*other)
-    found: list[Parting] = []
+    here, there = traced_calls(*one), traced_calls(*other)
+    found: list[Divergence] = []
     for rank, made in there.items():
         before = [deed for deed, _ in here.get(rank, [])]
         for i, (deed, node) in enumerate(made):
             if i >= len(before) or before[i] != deed:
-                found.append(Parting(rank, place(other[0].code, node), deed, before[i] if i < len(before) else None))
+                found.append(Divergence(rank, place(other[0].code, node), deed, before[i] if i < len(before) else None))
                 break
     return min(found, key=lambda it: (it.one.superstep, it.rank)) if found else None

@@ -11,7 +11,7 @@ from dataclasses import dataclass, field
 from ..files import content_of
 from ..framed.environment_calls import Tracer
 from ..framed.replays import Replays
-from ..framed.superstep_calls import Steps
+from ..framed.superstep_calls import SuperstepCalls
 from ..limits import MOST_NODES, MOST_PROGRAM
 from ..outputs import contested_bytes, output_records
 from ..prepare.compilation import compiled
@@ -72,9 +72,9 @@ class Portable:
         return Findings(self.trials, self.trace)
 
     @functools.cached_property
-    def steps(self) -> Steps:
+    def steps(self) -> SuperstepCalls:
         """The calls of the run as it is."""
-        return Steps(self.trace, self.trials.nodes)
+        return SuperstepCalls(self.trace, self.trials.nodes)
 
     @property
     def is_silent(self) -> bool:
@@ -183,7 +183,7 @@ class Portable:
         """bsp_hpput and bsp_hpget at other times."""
         if not self.has(*CALLS):
             return
-        if (touched := unbuffered_races.touched(self.steps, self.ended.last)) is not None:
+        if (touched := unbuffered_races.first_race(self.steps, self.ended.last)) is not None:
             self.verdict.found.append(self.findings.touched(touched))
             return
         watched = self.trials.run(Choices(unbuffered=WATCHED))

@@ -13,14 +13,14 @@ from ..framed.replays import Replays
 from ..framed.session import ALL, Node
 from ..framed.superstep_calls import TRACED
 from ..outputs.contested_bytes import Contested
-from ..outputs.written_files import shown as shown_name
+from ..outputs.written_files import file_name
 from ..prepare.compilation import compiled
 from ..prepare.library_choices import EARLY, REVERSED, Choices, Point, swaps
 from ..refusals import Refused, counted
 from . import final_variables
-from .divergence import first_parting, shown
+from .divergence import first_divergence, shown
 from .trial_runs import Ending, Stop, Trials, least, looked, memory_of, stops
-from .unbuffered_races import Touched
+from .unbuffered_races import Race
 
 # What the linker calls in the place of these functions, in a program that has them.
 TAKING = ("__wrap_bsp_move", "__wrap_bsp_hpmove")
@@ -127,7 +127,7 @@ class Findings:
         steps = least(0, end.ticks - after(0)[0].ticks, lambda it: after(it)[1] != content)
         return place(trace.code, after(steps - 1)[0]), other
 
-    def touched(self, it: Touched) -> list[str]:
+    def touched(self, it: Race) -> list[str]:
         """An unbuffered call whose bytes at the other rank are written there."""
         lines = [f"rank {it.owner} writes in a superstep what an unbuffered call of rank {it.rank} names there"]
         lines.append(f"superstep {it.superstep}, rank {it.rank}: {spelled(self.trace.code, it.call.node)}")
@@ -159,11 +159,11 @@ class Findings:
         lines = ["something else where a variable of a function that was given no value has other bytes"]
         for found in list(filter(None, map(UNSET.match, said if said is not None else self.warned())))[:MOST_TOLD]:
             lines.append(f"GCC    {pathlib.PurePath(found[1]).name}:{found[2]}: {found[3]}")
-        parting = first_parting((self.trials, Choices()), (trials, choices))
-        if parting is not None:
-            lines.append(f"superstep {parting.one.superstep}, rank {parting.rank}: the first call that is another one")
-            lines.append(f"at     {parting.where}: {parting.one.told}")
-            lines.append(f"before {parting.other.told if parting.other else 'no call'}")
+        divergence = first_divergence((self.trials, Choices()), (trials, choices))
+        if divergence is not None:
+            lines.append(f"superstep {divergence.one.superstep}, rank {divergence.rank}: the first call that is another one")
+            lines.append(f"at     {divergence.where}: {divergence.one.told}")
+            lines.append(f"before {divergence.other.told if divergence.other else 'no call'}")
         return [*lines, f"then   {difference}", f"why    {WHY_STACK}"]
 
     def warned(self) -> list[str]:
@@ -219,7 +219,7 @@ def parted(one: Ending, other: Ending) -> str:
         return parted_text("the output", one.output, other.output)
     files = [{it[:2]: it[2] for it in of.files} for of in (one, other)]
     rank, name = next(it for it in sorted(files[0].keys() | files[1].keys()) if files[0].get(it) != files[1].get(it))
-    return parted_text(f"{shown_name(name)}, which rank {rank} writes,", *(of.get((rank, name), b"") for of in files))
+    return parted_text(f"{file_name(name)}, which rank {rank} writes,", *(of.get((rank, name), b"") for of in files))
 
 
 def parted_text(what: str, one: bytes, other: bytes) -> str:

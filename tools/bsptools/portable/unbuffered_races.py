@@ -9,14 +9,14 @@ import itertools
 from typing import NamedTuple
 
 from ..framed.environment_calls import HPGET, HPPUT, Call
-from ..framed.superstep_calls import TRACED, Landing, Steps, landings_in
+from ..framed.superstep_calls import TRACED, Landing, SuperstepCalls, landings_in
 from .trial_runs import memory_of
 
 # How many supersteps with such calls are looked at.
 MOST_SUPERSTEPS = 64
 
 
-class Touched(NamedTuple):
+class Race(NamedTuple):
     """A call of a rank, and the bytes that it names at another one, or at its own: where they are, what they are where a script comes to,
     and what when that rank has come to the end of the superstep."""
 
@@ -30,14 +30,14 @@ class Touched(NamedTuple):
     after: bytes
 
 
-def touched(steps: Steps, last: int) -> Touched | None:
+def first_race(steps: SuperstepCalls, last: int) -> Race | None:
     """The first such call of a run."""
     with_calls = ((superstep, made) for superstep, made in landings_in(steps, last, (HPPUT, HPGET)) if made)
-    found = (touched_in(steps, superstep, made) for superstep, made in itertools.islice(with_calls, MOST_SUPERSTEPS))
+    found = (race_in(steps, superstep, made) for superstep, made in itertools.islice(with_calls, MOST_SUPERSTEPS))
     return next((it for it in found if it is not None), None)
 
 
-def touched_in(steps: Steps, superstep: int, made: list[tuple[int, Landing]]) -> Touched | None:
+def race_in(steps: SuperstepCalls, superstep: int, made: list[tuple[int, Landing]]) -> Race | None:
     """The first such call of a superstep."""
     replays = steps.trace.replays
     script = replays.begin(superstep)
@@ -53,5 +53,5 @@ def touched_in(steps: Steps, superstep: int, made: list[tuple[int, Landing]]) ->
                 here = steps.trace.up_to(it.rank, TRACED, 0, it.call)
                 one = replays.bytes(here, owner, it.start, it.end - it.start)
             if one != other:
-                return Touched(superstep, it.rank, it.call, owner, it.start, here, one, other)
+                return Race(superstep, it.rank, it.call, owner, it.start, here, one, other)
     return None

@@ -13,7 +13,7 @@ PLACE = b"\0bsprun\5"
 CLOCK = struct.Struct("<IId")
 
 
-def timed(content: bytes, rate: float) -> bytes:
+def with_clock_rate(content: bytes, rate: float) -> bytes:
     """An image whose program reads a clock at so many ticks a second, if it has a place for that; else as it is."""
     at = content.find(PLACE)
     if at < 0:

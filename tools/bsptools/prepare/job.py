@@ -20,7 +20,7 @@ from ..program import elf, memory_need
 from ..program.code import Code, kind_of, read_elf, read_text
 from ..refusals import Refused, about, tell
 from .argument_block import MAGIC, block
-from .clock_rate import timed
+from .clock_rate import with_clock_rate
 from .compilation import compiled, take_sources
 from .given_files import TOO_LONG, given_files
 
@@ -67,7 +67,7 @@ class Job(NamedTuple):
         flags |= output_records.RECORDS | (output_records.WRITES_FILES if self.options.out is not None else 0)
         flags |= output_records.FILLED if fill is not None else 0
         content = output_records.settings_in(self.content, flags, fill or 0, self.mark)
-        self.image.write_bytes(timed(content, self.options.rate) if is_timed else content)
+        self.image.write_bytes(with_clock_rate(content, self.options.rate) if is_timed else content)
 
     def give_nodes(self, count: int) -> None:
         """Has this job run on so many nodes."""
@@ -114,7 +114,7 @@ def prepared(
     run, mark = marked(content, given or b"") if is_marked else (content, b"")
     if is_marked and options.out is not None and (not mark or output_records.PLACE not in content):
         raise Refused(f"{options.program} writes no files: it was not built by this bspcc")
-    whole = timed(run, options.rate)
+    whole = with_clock_rate(run, options.rate)
     if mark or whole != content or not is_text(image):
         # The emulator takes no name that is no text.
         image = folder / "image"

@@ -14,7 +14,7 @@ LEAST_NAMED = 1 << 12
 SUFFIXES = ((1 << 20, "M"), (1 << 10, "K"))
 
 
-def spelled(size: int) -> str:
+def size_text(size: int) -> str:
     """A number of bytes as an option takes it, as short as it can be."""
     return next((f"{size // unit}{suffix}" for unit, suffix in SUFFIXES if size % unit == 0), str(size))
 

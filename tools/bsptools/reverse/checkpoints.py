@@ -36,7 +36,7 @@ class State(NamedTuple):
         return self.place.superstep, sum(self.place.ticks)
 
 
-class Kept:
+class Checkpoints:
     """What a process keeps."""
 
     def __init__(self, session: Session) -> None:

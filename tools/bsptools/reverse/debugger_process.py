@@ -7,7 +7,7 @@ from typing import Dict, Iterable, List, Optional, Sequence
 
 from ..framed.session import Floats, Node, Reply, Session, Shown, floats_of
 from .run_places import Arrival, Asked, AtRank, AtSuperstep, Interrupted, Over, Place, Point, Points, never, spelled, told
-from .undo_log import Trace
+from .undo_log import UndoLog
 
 # How long an answer is waited for before it is asked whether to break off, in seconds.
 POLL = 0.05
@@ -26,7 +26,7 @@ class Process(abc.ABC):
         self._nodes: Dict[int, Node] = {}
         self._superstep: Optional[int] = 0
         self._is_at_begin = True
-        self._trace: Optional[Trace] = None
+        self._trace: Optional[UndoLog] = None
         self.outcome: Optional[str] = None
         # Whether an answer was not waited for.
         self._is_unheard = False

@@ -13,7 +13,7 @@ from ..framed.environment_calls import CHANGES, GETS, PUTS, SEND, Areas
 from ..framed.session import Node
 from .reversible_machine import Machine
 from .run_places import Asked, Place
-from .single_steps import Step, Walk
+from .single_steps import SingleSteps, Step
 from .superstep_requests import Made, Requests, landings
 from .symbol_names import Names
 
@@ -125,7 +125,7 @@ class Search:
     def _instructions(self, superstep: int, start: int, count: int) -> Dict[int, Writer]:
         """What so many instructions of the rank have written."""
         with self._at(superstep, start) as machine:
-            return self._walk(Walk(machine, self._rank, self._must_break_off), superstep, count)
+            return self._walk(SingleSteps(machine, self._rank, self._must_break_off), superstep, count)
 
     def _landed(self, first: int, end: int) -> Dict[int, Writer]:
         """What the exchanges at the ends of some supersteps have written."""
@@ -144,7 +144,7 @@ class Search:
         # A walk is told how many instructions the rank makes: each one more would be asked for, and answered, in vain.
         counts = {it: self._begin(it + 1) - self._begin(it) for it in range(first, end)}
         with self._at(first) as machine:
-            walk = Walk(machine, self._rank, self._must_break_off)
+            walk = SingleSteps(machine, self._rank, self._must_break_off)
             for superstep in range(first, end):
                 written.update(self._walk(walk, superstep, counts[superstep]))
                 has_landed = self._land(written, asked[superstep], areas)
@@ -152,7 +152,7 @@ class Search:
                 walk.begin(has_landed)
         return written
 
-    def _walk(self, walk: Walk, superstep: int, count: int) -> Dict[int, Writer]:
+    def _walk(self, walk: SingleSteps, superstep: int, count: int) -> Dict[int, Writer]:
         """What a rank writes in its next instructions, up to so many of them."""
         written: Dict[int, Writer] = {}
         for step in walk.steps(count):

@@ -17,11 +17,11 @@ from ..framed.session import Floats, Session, floats_of
 from ..limits import MOST_POINTS
 from ..program.memory_accesses import changes_floats, stored
 from ..refusals import Refused
-from .checkpoints import Kept, State
+from .checkpoints import Checkpoints, State
 from .debugger_process import Process
-from .run_places import Arrival, Asked, AtSuperstep, BrokenOff, Interrupted, Over, Place, Point, never
+from .run_places import Arrival, Asked, AtSuperstep, BrokenOff, Interrupted, Place, Point, never
 from .spare_machine import PIECE, Spare
-from .undo_log import Moment, Trace
+from .undo_log import Moment, UndoLog
 
 # How many addresses may have breakpoints: beside these a superstep and a rank are points of the bridge's own.
 MOST_BREAKPOINTS = MOST_POINTS - 2
@@ -43,7 +43,7 @@ class Machine(Process):
     def __init__(self, command: Sequence[str]) -> None:
         super().__init__(command)
         self._begins: Dict[int, Tuple[int, ...]] = {}
-        self._kept = Kept(self._session)
+        self._kept = Checkpoints(self._session)
         # What is done with a machine of which another one has no more need; without that its process ends.
         self._give_back: Optional[Callable[[Machine], None]] = None
         # The state that comes back then, where the process is that of another machine, and the rank that goes on by itself.
@@ -333,7 +333,7 @@ class Machine(Process):
                 moments.clear()
                 code.clear()
             self._keep(replies[-1])
-        self._trace = Trace(rank, moments)
+        self._trace = UndoLog(rank, moments)
 
     def recall(self, rank: int) -> bool:
         """A rank goes an instruction back, if it is the one of which it is kept what this has changed."""

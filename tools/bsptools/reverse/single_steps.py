@@ -32,7 +32,7 @@ class Message(NamedTuple):
     payload: int
 
 
-class Walk:
+class SingleSteps:
     """Takes a rank of a machine through a superstep. What the machine's other ranks do is none of its concern."""
 
     def __init__(self, machine: Machine, rank: int, must_break_off: Asked) -> None:

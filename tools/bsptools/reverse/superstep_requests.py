@@ -3,7 +3,7 @@
 from __future__ import annotations
 
 import contextlib
-from typing import Dict, FrozenSet, Iterable, List, NamedTuple, Optional, Sequence, Tuple
+from typing import Dict, FrozenSet, Iterable, List, NamedTuple, Sequence, Tuple
 
 from ..framed.environment_calls import CHANGES, FUNCTIONS, GETS, NAMES, PUTS, REQUESTS, Areas, Call
 from ..framed.session import Node

@@ -16,7 +16,7 @@ class Moment(NamedTuple):
     overwritten: bytes
 
 
-class Trace:
+class UndoLog:
     """Moments of a rank, one instruction apart, the last of which stands just before where the machine is."""
 
     def __init__(self, rank: int, moments: List[Moment]) -> None:

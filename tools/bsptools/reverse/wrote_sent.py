@@ -26,7 +26,7 @@ BY_CTRL_C = "; Ctrl-C breaks it off"
 Advice = Callable[[int, int, int], str]
 
 
-class Teller:
+class PastTeller:
     """Tells of a machine that stands at a place. `advice` says how to go on where a search was given up, `verb` is what asks for requests, and
     `way_off` is what is said of how to break off."""
 

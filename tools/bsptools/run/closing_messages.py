@@ -4,7 +4,7 @@ from __future__ import annotations
 
 from .. import children, emulator, python_packages
 from ..diagnosis.likely_mistakes import warnings
-from ..diagnosis.memory_checks import findings
+from ..diagnosis.memory_checks import memory_findings
 from ..diagnosis.stop_reasons import Why
 from ..framed.environment_calls import Tracer
 from ..options import Parser
@@ -36,7 +36,7 @@ def tell_of(job: Job, found: Report, parser: Parser, is_chosen: bool) -> None:
         if job.is_for_gdb:
             tell([f"  gdb  {gdb_line(job, parser, why.gdb)}"])
     if options.warn:
-        others = findings(job)
+        others = memory_findings(job)
         tell(warnings(Tracer(job.code, job.replays()), options.nodes, found, others))
     missing = python_packages.missing(python_packages.ELFTOOLS)
     if job.code.debug and missing:

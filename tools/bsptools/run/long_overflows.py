@@ -21,9 +21,9 @@ from .. import children
 from ..files import content_of
 from ..limits import MOST_PROGRAM, MOST_TICKS
 from ..outputs import output_records
-from ..outputs.library_notes import LONG, SHORT, Note, Teller, note_of
+from ..outputs.library_notes import LONG, SHORT, Note, NoteTeller, note_of
 from ..outputs.output_demux import Marks
-from ..prepare.clock_rate import timed
+from ..prepare.clock_rate import with_clock_rate
 from ..prepare.compilation import command
 from ..prepare.job import Job
 from ..refusals import Refused
@@ -193,7 +193,7 @@ class Beside:
         """What was found."""
         if self._job is None:
             return []
-        return Teller(self._job.code, self._job.options.memory, {}, None, "", lambda _: "").lines(self.notes)
+        return NoteTeller(self._job.code, self._job.options.memory, {}, None, "", lambda _: "").lines(self.notes)
 
     def close(self) -> None:
         """Ends it."""
@@ -225,7 +225,7 @@ class Beside:
         content = output_records.settings_in(self._built, flags, options.fill or 0, job.mark)
         with self._or_over():
             self._end()
-            self.image.write_bytes(timed(content, options.rate))
+            self.image.write_bytes(with_clock_rate(content, options.rate))
             self.run_began = time.monotonic()
             self._run(FIRST // options.nodes)
 

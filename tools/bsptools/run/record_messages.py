@@ -5,7 +5,7 @@ from __future__ import annotations
 from ..diagnosis.stop_reasons import MOST_TRACED
 from ..framed.backtrace import frames, place, users_frames
 from ..outputs import output_records
-from ..outputs.library_notes import Note, Teller, note_of
+from ..outputs.library_notes import Note, NoteTeller, note_of
 from ..outputs.output_records import Record
 from ..outputs.report import Report
 from ..outputs.written_files import Files
@@ -14,7 +14,7 @@ from ..prepare.job import Job
 from ..refusals import tell
 
 
-def tell_noted(job: Job, made: list[Record], found: Report, untold: str = "") -> bool:
+def tell_records(job: Job, made: list[Record], found: Report, untold: str = "") -> bool:
     """Puts the files that were written where they belong, and tells what the program's library noted, but for one kind of notes; whether no
     file is lacking."""
     options, written = job.options, Files()
@@ -30,7 +30,7 @@ def tell_noted(job: Job, made: list[Record], found: Report, untold: str = "") ->
     def where(note: Note) -> str:
         return place_of(job, found, notes, note)
 
-    tell(Teller(job.code, options.memory, written.writers(), options.input, seconds(options), where).lines([it for it in notes if it.what != untold]))
+    tell(NoteTeller(job.code, options.memory, written.writers(), options.input, seconds(options), where).lines([it for it in notes if it.what != untold]))
     return written.is_put and written.is_whole
 
 

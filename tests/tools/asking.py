@@ -1,4 +1,6 @@
-"""Has a process that has loaded a tool make a run of it in this one's place: `python3 -I -S -B asking.py SOCKET NAME WORDS..`.
+"""A stand-in for a tool, which has a process that has loaded the tool make the run.
+
+Usage: `python3 -I -S -B asking.py SOCKET NAME WORDS..`.
 
 It stands where gdb starts a tool (`forked.py`), and loads no more than it has to, as nearly all that such a start costs is loading.
 """

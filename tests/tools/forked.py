@@ -1,10 +1,11 @@
-"""Runs of the tools by processes that have loaded them already: most of the time of a short run goes into starting Python and loading parts.
+"""Runs of the tools by processes that have loaded them already.
 
-A check that looks at what a tool tells, and not at how it starts and ends, makes its runs so. One process, which has loaded the tools, is
-asked for a run over a socket, and splits off a child that makes it, with the standard streams, the folder and the environment that it was
-given. All runs of a tool have the order of sets in common, so that who looks for the same bytes twice starts it. The bridge that gdb starts at
-the other end of its pipe is split off, too, for a process that stands in its place (`asking.py`). `tests/tools/guards`, but for its outputs,
-`starts`, `statuses` and `watched`, the pages and the cases start the tools as people do.
+Most of the time of a short run goes into starting Python and loading parts. A check that looks at what a tool tells, and not at how it
+starts and ends, makes its runs so. One process, which has loaded the tools, is asked for a run over a socket, and splits off a child that
+makes it, with the standard streams, the folder and the environment that it was given. All runs of a tool have the order of sets in common,
+so that who looks for the same bytes twice starts it. The bridge that gdb starts at the other end of its pipe is split off, too, for a
+process that stands in its place (`asking.py`). `tests/tools/guards`, but for its outputs, `starts`, `statuses` and `watched`, the pages and
+the cases start the tools as people do.
 """
 
 from __future__ import annotations

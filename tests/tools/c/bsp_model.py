@@ -1,5 +1,8 @@
-"""What a program comes to that makes calls of bsp.h and bsp_level1.h, by the rules of docs/manual/machine.md and docs/manual/c.md: each byte of
-each rank's memory, each answer, and h and m of each superstep. It knows nothing of the library."""
+"""What random scripts of BSPlib's calls come to, by the rules of the manual.
+
+It says each byte of each rank's memory, each answer, and h and m of each superstep, by docs/manual/machine.md and docs/manual/c.md. It
+knows nothing of the library.
+"""
 
 from __future__ import annotations
 

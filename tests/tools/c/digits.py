@@ -1,5 +1,8 @@
-"""What tests/tools/c/digits.c reads, and what it has to print: numbers of all sizes by formats of all kinds, and numbers that lie halfway
-between two, or a little beside that. Python prints and reads numbers exactly."""
+"""What tests/tools/c/digits.c reads, and what it has to print.
+
+There are numbers of all sizes by formats of all kinds, and numbers that lie halfway between two, or a little beside that. Python prints and
+reads numbers exactly.
+"""
 
 from __future__ import annotations
 

@@ -1,5 +1,7 @@
-"""Cases of going back from the middle of a superstep, for tests/tools/gdb/run: what gdb shows is compared with a plain run, of which each
-instruction was looked at."""
+"""Cases of going back from the middle of a superstep, for tests/tools/gdb/run.
+
+What gdb shows is compared with a plain run, of which each instruction was looked at.
+"""
 
 from __future__ import annotations
 

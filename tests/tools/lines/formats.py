@@ -1,5 +1,7 @@
-"""What other programs read: each form is read by the program that it is for, or by what its description says, and the sums are those of the
-report."""
+"""The forms of costs, each read by the program that it is for.
+
+Where there is no such program, it is read by what its description says. The sums are those of the report.
+"""
 
 from __future__ import annotations
 

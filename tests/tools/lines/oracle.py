@@ -1,5 +1,8 @@
-"""A run by the fuzzer's model of the machine, step by step: what `run --counts` has to write, and how many steps were really made while
-functions and places were being called, which counts alone do not always tell."""
+"""A run by the fuzzer's model of the machine, step by step.
+
+It says what `run --counts` has to write, and how many steps were really made while functions and places were being called, which counts
+alone do not always tell.
+"""
 
 from __future__ import annotations
 

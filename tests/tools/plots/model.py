@@ -1,7 +1,8 @@
 #!/usr/bin/env python3
-"""Makes the profile of a run by the debugger's lines alone, to compare with what `run --profile`
-writes: ticks and states are what `regs` shows at the end of each superstep's local part, and bytes are counted from the
-calls at which the ranks stop.
+"""The profile of a run by the debugger's lines alone, to compare with what `run --profile` writes.
+
+Ticks and states are what `regs` shows at the end of each superstep's local part, and bytes are counted from the calls at which the ranks
+stop.
 
 Usage: tests/tools/plots/model.py [-n P] [--input FILE] [--limit COUNT] PROGRAM > PROFILE.csv
 """

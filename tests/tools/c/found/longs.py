@@ -1,5 +1,7 @@
-"""Parts of run: programs that compute in a `long`, which has 64 bits elsewhere, by default options. Where something does not fit it is told
-behind the run, which is as it is without that."""
+"""Programs that compute in a `long`, which has 64 bits elsewhere, by default options.
+
+Where something does not fit it is told behind the run, which is as it is without that.
+"""
 
 from __future__ import annotations
 

@@ -1,5 +1,7 @@
-"""Parts of run: programs of ported/, in the styles in which they are found, with files in and out, prompts, C of each age and C++, and
-projects for make and for CMake. Each is built as it is, and run with default options.
+"""Programs of ported/, in the styles in which they are found.
+
+They have files in and out, prompts, C of each age and C++, and projects for make and for CMake. Each is built as it is, and run with
+default options.
 
 What each has to write is in ported/expected: its output, and for each file its bytes and their sum. It was written by the host's own
 processor, where each program was compiled by GCC with functions of BSPlib for one process; so no number of nodes has another answer.

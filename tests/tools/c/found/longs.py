@@ -139,8 +139,8 @@ ON_ONE = """
 import os, sys
 sys.path.insert(0, sys.argv[1])
 from bsptools import start
-from bsptools.run import longs
-longs.MORE_SECONDS = 300
+from bsptools.run import long_overflows
+long_overflows.MORE_SECONDS = 300
 os.sched_setaffinity(0, {int(sys.argv[2])})
 sys.exit(start.process("bsprun", sys.argv[3:]))
 """

@@ -50,7 +50,8 @@ def modules(tools: pathlib.Path) -> List[Module]:
     found = []
     for name, path in paths.items():
         own = name.rpartition(".")[0]
-        imports = [Import(line, it) for line, text in imported(ast.parse(path.read_bytes(), str(path)), own) for it in known(text, paths.keys())]
+        asked = imported(ast.parse(path.read_bytes(), str(path)), own)
+        imports = [Import(line, it) for line, text in asked for it in known(text, paths.keys())]
         found.append(Module(str(path.relative_to(tools.parent)), name, imports))
     return found
 

@@ -289,7 +289,8 @@ def back_after_long(bench: Bench) -> None:
         try:
             there.go(0)
             place = run.place()
-            ways: List[Tuple[Callable[[int], stop_replies.Halt], int]] = [(there.step_back, 1), (there.step_back, 2), (there.step, 1), (there.step_back, 2)]
+            back, on = there.step_back, there.step
+            ways: List[Tuple[Callable[[int], stop_replies.Halt], int]] = [(back, 1), (back, 2), (on, 1), (back, 2)]
             for way, left in ways:
                 Counting.made = 0
                 way(0)

@@ -106,9 +106,9 @@ class Monitor:
         return HELP.splitlines() if name == "help" else None
 
     def _teller(self) -> PastTeller:
-        runner = self._runner
+        machine = self._runner.machine
         way_off = BY_CTRL_C if self._typed else ""
-        return PastTeller(runner.machine, self._names, runner.machine.place(), self._is_interrupted, lambda *_: FURTHER, "monitor sent", way_off)
+        return PastTeller(machine, self._names, machine.place(), self._is_interrupted, lambda *_: FURTHER, "monitor sent", way_off)
 
     def _is_interrupted(self) -> bool:
         """Whether to break off. gdb waits for an answer here, and sends nothing of a Ctrl-C."""

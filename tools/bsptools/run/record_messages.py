@@ -30,7 +30,8 @@ def tell_records(job: Job, made: list[Record], found: Report, untold: str = "") 
     def where(note: Note) -> str:
         return place_of(job, found, notes, note)
 
-    tell(NoteTeller(job.code, options.memory, written.writers(), options.input, seconds(options), where).lines([it for it in notes if it.what != untold]))
+    teller = NoteTeller(job.code, options.memory, written.writers(), options.input, seconds(options), where)
+    tell(teller.lines([it for it in notes if it.what != untold]))
     return written.is_put and written.is_whole
 
 

@@ -19,9 +19,9 @@ if signal.getsignal(signal.SIGINT) != signal.SIG_IGN:
 if sys.version_info < (3, 8):
     sys.exit("%s: Python 3.8 or later is wanted, and this is %s" % (sys.argv[1], sys.version.split()[0]))
 
-from bsptools import modules  # noqa: E402
+from bsptools import module_cache  # noqa: E402
 
-modules.keep()
+module_cache.keep()
 from bsptools import start  # noqa: E402
 
 status = start.process(sys.argv[1], sys.argv[2:])

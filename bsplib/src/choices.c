@@ -11,8 +11,8 @@ extern int memcmp(const void *left, const void *right, size_t count);
 enum order { AS_SENT, REVERSED, SHUFFLED };
 enum unbuffered { AS_BUFFERED, EARLY, LATE, WATCHED };
 
-/* tools/bsptools/run/choices.py writes these. A choice is made at each point before `until`: a superstep, in it a rank, and of that
-   rank which swap of messages, unbuffered call or piece of malloc's memory, each from 0 on. */
+/* tools/bsptools/prepare/library_choices.py writes these. A choice is made at each point before `until`: a superstep, in it a rank, and of
+   that rank which swap of messages, unbuffered call or piece of malloc's memory, each from 0 on. */
 struct point {
     unsigned superstep, rank, index;
 };
@@ -222,7 +222,7 @@ void __wrap_bsp_set_tagsize(int *tag_nbytes)
     queue.next_tag = wanted;
 }
 
-/* Swaps messages as far as they are chosen. tools/bsptools/run/choices.py makes the same swaps. */
+/* Swaps messages as far as they are chosen. tools/bsptools/prepare/library_choices.py makes the same swaps. */
 static void swap_messages(void)
 {
     unsigned random = bsp_choices.seed + here.superstep * 2654435761u + (unsigned)bsp_pid() * 40503u;

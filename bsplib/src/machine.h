@@ -150,7 +150,7 @@ double bsp_tick(void);
 extern int bsp_superstep;
 
 /* What goes to bsprun through the output: records, each behind a mark, its kind and how many bytes it has. Where bsprun does not ask for
-   them, nobody would part them from the output, and none is written. tools/bsptools/run/records.py reads them. */
+   them, nobody would part them from the output, and none is written. tools/bsptools/outputs/output_records.py reads them. */
 enum {
     RECORD_NAME = 'f', /* number and name of a file that is written */
     RECORD_BYTES = 'b', /* number, place in the file, and bytes that stand there */

@@ -25,7 +25,8 @@ sys.path.append(str(REPO / "tools"))
 
 import lanes  # noqa: E402
 
-from bsptools import elf, packages  # noqa: E402
+from bsptools import python_packages  # noqa: E402
+from bsptools.program import elf  # noqa: E402
 
 # Only what hangs takes so long, also on a busy machine.
 SECONDS = 1800
@@ -107,9 +108,9 @@ GCC = Tool("riscv64-unknown-elf-gcc", "gcc-riscv64-unknown-elf")
 BINUTILS = Tool("riscv64-unknown-elf-ld", "binutils-riscv64-unknown-elf")
 C_LIBRARY = Tool("picolibc.specs", "picolibc-riscv64-unknown-elf", in_compiler)
 CLASSES = Tool("c++", "g++", in_includes)
-PYELFTOOLS = Tool(packages.ELFTOOLS, packages.PACKAGES[packages.ELFTOOLS], in_python)
+PYELFTOOLS = Tool(python_packages.ELFTOOLS, python_packages.PACKAGES[python_packages.ELFTOOLS], in_python)
 # What bspplot wants to draw.
-MATPLOTLIB = Tool(packages.MATPLOTLIB, packages.PACKAGES[packages.MATPLOTLIB], in_python)
+MATPLOTLIB = Tool(python_packages.MATPLOTLIB, python_packages.PACKAGES[python_packages.MATPLOTLIB], in_python)
 # What builds a project as it is found.
 MAKE, CMAKE = Tool("make", "make"), Tool("cmake", "cmake")
 GDB = Tool("gdb-multiarch", "gdb-multiarch")

@@ -1,10 +1,11 @@
-"""Runs of the tools by processes that have loaded them already: most of the time of a short run goes into starting Python and loading parts.
+"""Runs of the tools by processes that have loaded them already.
 
-A check that looks at what a tool tells, and not at how it starts and ends, makes its runs so. One process, which has loaded the tools, is
-asked for a run over a socket, and splits off a child that makes it, with the standard streams, the folder and the environment that it was
-given. All runs of a tool have the order of sets in common, so that who looks for the same bytes twice starts it. The bridge that gdb starts at
-the other end of its pipe is split off, too, for a process that stands in its place (`asking.py`). `tests/tools/guards`, but for its outputs,
-`starts`, `statuses` and `watched`, the pages and the cases start the tools as people do.
+Most of the time of a short run goes into starting Python and loading parts. A check that looks at what a tool tells, and not at how it
+starts and ends, makes its runs so. One process, which has loaded the tools, is asked for a run over a socket, and splits off a child that
+makes it, with the standard streams, the folder and the environment that it was given. All runs of a tool have the order of sets in common,
+so that who looks for the same bytes twice starts it. The bridge that gdb starts at the other end of its pipe is split off, too, for a
+process that stands in its place (`asking.py`). `tests/tools/guards`, but for its outputs, `starts`, `statuses` and `watched`, the pages and
+the cases start the tools as people do.
 """
 
 from __future__ import annotations
@@ -33,7 +34,13 @@ from typing import Dict, List, Mapping, NoReturn, Optional, Sequence, Tuple
 
 REPO = pathlib.Path(__file__).resolve().parents[2]
 # Each tool, with the packages whose parts it loads.
-PACKAGES = {"bsprun": ("run", "counts"), "bspplot": ("run", "counts", "plot"), "bspsweep": ("run", "sweep"), "bspgdb": ("run", "debug")}
+SHARED = ("program", "framed", "outputs", "prepare")
+PACKAGES = {
+    "bsprun": (*SHARED, "counts", "portable", "diagnosis", "run"),
+    "bspplot": (*SHARED, "counts", "plot"),
+    "bspsweep": (*SHARED, "sweep"),
+    "bspgdb": (*SHARED, "reverse", "debug", "dialogue"),
+}
 # What a tool cannot be loaded without.
 WANTED = {"bspplot": "matplotlib"}
 # Of other people's, which one of the parts loads where it is wanted.
@@ -44,7 +51,7 @@ MOST_STREAMS = 1 << 10
 LENGTH = 8
 # The tool that has gdb start it once more, in the folder of such a process: a script, which asks that one.
 BRIDGED, STARTER = "bspgdb", "#!/bin/sh\nexec "
-# In the environment of a run, and so of what it starts: numbers of the tools' modules, as `bsptools.debug.writers.MOST=99`.
+# In the environment of a run, and so of what it starts: numbers of the tools' modules, as `bsptools.reverse.last_writers.MOST=99`.
 NUMBERS = "BSPTOOLS_NUMBERS"
 # Only what hangs takes so long, also on a busy machine.
 SECONDS = 1800
@@ -128,12 +135,12 @@ def write(pipe: int, given: bytes) -> None:
 
 def load(tools: Sequence[str]) -> None:
     """Loads all parts of these tools, as each begins."""
-    from bsptools import modules  # pylint: disable=import-outside-toplevel
+    from bsptools import module_cache  # pylint: disable=import-outside-toplevel
 
-    modules.keep()
-    from bsptools import packages, start  # pylint: disable=import-outside-toplevel
+    module_cache.keep()
+    from bsptools import python_packages, start  # pylint: disable=import-outside-toplevel
 
-    packages.borrow(packages.ELFTOOLS)
+    python_packages.borrow(python_packages.ELFTOOLS)
     # matplotlib takes its settings from the folder that it is imported in, as bspplot has it.
     os.chdir(REPO / "tools/bsptools/plot")
     for tool in tools:

@@ -1,4 +1,4 @@
-"""Processes that end with the one that started them, in whatever way that ends."""
+"""Child processes, which end with this process, in whatever way that ends."""
 
 from __future__ import annotations
 

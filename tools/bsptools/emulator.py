@@ -1,4 +1,4 @@
-"""The emulator and the compiler: where they are, what they are, and runs of the emulator for a person who waits."""
+"""Where the emulator and the compiler are, what they are, and runs of the emulator while a person waits."""
 
 from __future__ import annotations
 

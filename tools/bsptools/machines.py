@@ -1,4 +1,4 @@
-"""BSP machines by their names: how many nodes they have, how fast these are, and the prices of communication, from a table with sources."""
+"""BSP machines by their names: nodes, speed and prices of communication, from a table with sources."""
 
 from __future__ import annotations
 

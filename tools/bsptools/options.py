@@ -1,4 +1,4 @@
-"""Command lines: one parser for all tools, and readers of the values of options."""
+"""One parser of command lines for all tools, and readers of the values of options."""
 
 from __future__ import annotations
 

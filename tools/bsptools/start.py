@@ -12,15 +12,15 @@ import signal
 import subprocess
 import sys
 
-from . import children, packages, streams
+from . import children, python_packages, streams
 from .refusals import BUG, BY_SIGNAL, REFUSED, Refused, put, tell
 
 # The module whose `main` a tool is, and the package that it wants, without which some do less. Modules are imported as they are asked for.
 TOOLS = {
-    "bsprun": ("run.cli", ""),
-    "bspgdb": ("debug.cli", ""),
-    "bspplot": ("plot.cli", packages.MATPLOTLIB),
-    "bspsweep": ("sweep.cli", ""),
+    "bsprun": ("commands.bsprun", ""),
+    "bspgdb": ("commands.bspgdb", ""),
+    "bspplot": ("commands.bspplot", python_packages.MATPLOTLIB),
+    "bspsweep": ("commands.bspsweep", ""),
 }
 FOLDER = pathlib.Path(__file__).resolve().parents[1]
 
@@ -30,7 +30,7 @@ def begin(name: str, words: list[str]) -> int:
     module, package = TOOLS[name]
     again = [str(FOLDER), name, *words] if (FOLDER / "__main__.py").exists() else []
     if package:
-        packages.find(package, again)
+        python_packages.find(package, again)
     # Threads of matplotlib's arithmetic, each with memory of its own, would serve no picture.
     os.environ.setdefault("OPENBLAS_NUM_THREADS", "1")
     children.end_by_signals()

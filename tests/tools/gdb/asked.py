@@ -6,7 +6,8 @@ import math
 import re
 from typing import Callable, Dict, List, Tuple
 
-from bsptools.debug import arrivals, dialogue, machine, names, telling, writers
+from bsptools.dialogue import line_answers
+from bsptools.reverse import last_writers, reversible_machine, run_places, symbol_names, wrote_sent
 from checks import REPO, units
 from sessions import Bench, expect, in_order
 from terminals import Terminal
@@ -160,19 +161,19 @@ def who_wrote_by_pieces(bench: Bench) -> None:
     command = [bench.bspemu, "debug", program, *units(program), "--format", "elf", "--nodes", "3"]
     addr = bench.pointers(program, ["first"])[0]
     with bench.machines:
-        kept = writers.PIECE, writers.MOST_PIECE
-        run = machine.Machine(command)
+        kept = last_writers.PIECE, last_writers.MOST_PIECE
+        run = reversible_machine.Machine(command)
         try:
             for superstep in (1, 2, 3, 20):
                 run.go([superstep])
                 run.step(0, 300)
                 found = []
-                for writers.PIECE, writers.MOST_PIECE in ((1 << 16, 1 << 16), (40, 160), (1000, 2000)):
-                    search = writers.Search(run, names.Names(command), run.place(), 0, arrivals.never)
+                for last_writers.PIECE, last_writers.MOST_PIECE in ((1 << 16, 1 << 16), (40, 160), (1000, 2000)):
+                    search = last_writers.Search(run, symbol_names.Names(command), run.place(), 0, run_places.never)
                     found.append({at: (it.superstep, it.node.rank, it.node.ticks) for at, it in search.find(addr, 80).writers.items()})
                 expect(found[0] == found[1] == found[2] and len(found[0]) > 8, (superstep, found))
         finally:
-            writers.PIECE, writers.MOST_PIECE = kept
+            last_writers.PIECE, last_writers.MOST_PIECE = kept
             run.close()
 
 
@@ -183,7 +184,7 @@ def who_wrote_by_changes(bench: Bench) -> None:
     command = [bench.bspemu, "debug", program, *units(program), "--format", "elf", "--nodes", "3"]
     addr = bench.pointers(program, ["first"])[0] - 32
     changed: Dict[int, Tuple[int, float]] = {}
-    run = machine.Machine(command)
+    run = reversible_machine.Machine(command)
     before = run.memory(0, addr, SIZE)
     while run.superstep < 4:
         superstep = run.superstep
@@ -195,13 +196,13 @@ def who_wrote_by_changes(bench: Bench) -> None:
             before = note_changes(changed, addr, before, run.memory(0, addr, SIZE), (superstep, ticks))
         run.turn()
         before = note_changes(changed, addr, before, run.memory(0, addr, SIZE), (superstep, math.inf))
-    found = writers.Search(run, names.Names(command), run.place(), 0, arrivals.never).find(addr, SIZE)
+    found = last_writers.Search(run, symbol_names.Names(command), run.place(), 0, run_places.never).find(addr, SIZE)
     run.close()
     for place, when in changed.items():
         writer = found.writers.get(place)
         expect(writer is not None, (hex(place), when))
         assert writer is not None
-        last = (writer.superstep, writer.node.ticks if isinstance(writer, writers.Own) else math.inf)
+        last = (writer.superstep, writer.node.ticks if isinstance(writer, last_writers.Own) else math.inf)
         expect(last >= when, (hex(place), when, writer))
     expect(found.is_whole or len(found.writers) == SIZE, found)
     expect(len(changed) > 15, changed)
@@ -219,7 +220,7 @@ def who_wrote_is_bounded(bench: Bench) -> None:
     program = bench.build(SOURCE, "-DREST=100000")
     commands = ["monitor end", "continue", "monitor wrote 0 first", "monitor superstep 2", "reverse-continue", "monitor wrote 0 first"]
     text = bench.gdb(program, commands, "-n", "3")
-    in_order(text, f"not written in the last {writers.MOST} instructions of rank 0, back into superstep 2; ", "watch it, and reverse-continue looks on from there")
+    in_order(text, f"not written in the last {last_writers.MOST} instructions of rank 0, back into superstep 2; ", "watch it, and reverse-continue looks on from there")
     in_order(text, "superstep 2 begins", marked("a store by rank 0 in superstep 0: main, writers.c:<first>"))
 
 
@@ -228,18 +229,18 @@ def who_wrote_goes_on(bench: Bench) -> None:
     """The lines that lead to where a search was given up, as the dialogue has them: behind many supersteps, and in the midst of one."""
     program = bench.build(SOURCE, "-DREST=50")
     command = [bench.bspemu, "debug", program, *units(program), "--format", "elf", "--nodes", "3"]
-    known = names.Names(command)
+    known = symbol_names.Names(command)
     addr = known.address("first") or 0
     with bench.machines:
-        kept, run = (writers.MOST_SUPERSTEPS, writers.MOST, writers.PIECE), machine.Machine(command)
+        kept, run = (last_writers.MOST_SUPERSTEPS, last_writers.MOST, last_writers.PIECE), reversible_machine.Machine(command)
         asked = ((3, (50, 100, 40), r"break superstep 2, go, step 0 \d\d+,"), (30, (20, *kept[1:]), "break superstep 10, go,"))
         try:
-            for superstep, (writers.MOST_SUPERSTEPS, writers.MOST, writers.PIECE), lines in asked:
+            for superstep, (last_writers.MOST_SUPERSTEPS, last_writers.MOST, last_writers.PIECE), lines in asked:
                 run.go([superstep])
-                told = telling.Teller(run, known, run.place(), arrivals.never, dialogue.further, "sent", "").wrote(0, addr, 1)
+                told = wrote_sent.PastTeller(run, known, run.place(), run_places.never, line_answers.further, "sent", "").wrote(0, addr, 1)
                 expect(len(told) == 1 and re.search(f"; what was before is not looked at: ask again there: {lines} in a new", told[0]) is not None, told)
         finally:
-            writers.MOST_SUPERSTEPS, writers.MOST, writers.PIECE = kept
+            last_writers.MOST_SUPERSTEPS, last_writers.MOST, last_writers.PIECE = kept
             run.close()
 
 

@@ -9,7 +9,8 @@ import re
 import tempfile
 from typing import Callable, Iterable, Iterator, List, NamedTuple, Optional, Sequence, Set, Tuple
 
-from bsptools.debug import arrivals, halts, history, kept, machine, monitor, runner
+from bsptools.debug import monitor, runner, stop_replies
+from bsptools.reverse import checkpoints, history, reversible_machine, run_places
 from checks import units
 from sessions import SHOW_REGISTERS, Bench, expect, in_order, registers_in
 
@@ -169,43 +170,43 @@ class Past:
     def __init__(self, command: List[str], addresses: Sequence[int]) -> None:
         self.hits: List[Hit] = []
         self.begins: List[Tuple[int, ...]] = []
-        run = machine.Machine(command)
+        run = reversible_machine.Machine(command)
         while run.outcome is None:
             self.begins.append(tuple(node.ticks for node in run.nodes()))
             if run.node(0).pc in addresses:
                 self._note(run, 0)
             points = [(rank, addr) for rank in range(run.ranks) for addr in addresses]
             arrival = run.advance([*points, run.superstep + 1])
-            while isinstance(arrival, arrivals.AtRank):
+            while isinstance(arrival, run_places.AtRank):
                 self._note(run, arrival.rank)
                 arrival = run.advance([*points, run.superstep + 1])
         run.close()
 
-    def _note(self, run: machine.Machine, rank: int) -> None:
+    def _note(self, run: reversible_machine.Machine, rank: int) -> None:
         node = run.node(rank)
         self.hits.append(Hit(run.superstep, rank, node.ticks, node.pc))
 
-    def before(self, place: arrivals.Place, addresses: Set[int], rank: Optional[int]) -> Optional[Hit]:
+    def before(self, place: run_places.Place, addresses: Set[int], rank: Optional[int]) -> Optional[Hit]:
         """The last time before a place at which a rank, or this one, was at one of these addresses."""
         hits = [it for it in self.hits if it.pc in addresses and rank in (None, it.rank)]
         behind = [it for it in hits if it.superstep < place.superstep or it[0] == place.superstep and it.ticks < place.ticks[it.rank]]
         return behind[-1] if behind else None
 
-    def back_at(self, hit: Optional[Hit], place: arrivals.Place, is_alone: bool) -> arrivals.Place:
+    def back_at(self, hit: Optional[Hit], place: run_places.Place, is_alone: bool) -> run_places.Place:
         """Where a machine stands that has gone back to a hit, or to the start."""
         if hit is None:
-            return arrivals.Place(0, self.begins[0], False)
+            return run_places.Place(0, self.begins[0], False)
         begin = self.begins[hit.superstep]
         end = place.ticks if hit.superstep == place.superstep else self.begins[hit.superstep + 1]
         ticks = end[: hit.rank] + (hit.ticks,) + (end if is_alone else begin)[hit.rank + 1 :]
-        return arrivals.Place(hit.superstep, ticks, False)
+        return run_places.Place(hit.superstep, ticks, False)
 
-    def step_back(self, place: arrivals.Place, rank: int) -> arrivals.Place:
+    def step_back(self, place: run_places.Place, rank: int) -> run_places.Place:
         """Where a machine stands of which a rank has gone an instruction back."""
         begin = self.begins[place.superstep]
         if place.ticks[rank] > begin[rank]:
-            return arrivals.Place(place.superstep, _one_less(place.ticks, rank), False)
-        return arrivals.Place(place.superstep - 1, _one_less(begin, rank), False) if place.superstep else place
+            return run_places.Place(place.superstep, _one_less(place.ticks, rank), False)
+        return run_places.Place(place.superstep - 1, _one_less(begin, rank), False) if place.superstep else place
 
 
 def _one_less(ticks: Tuple[int, ...], rank: int) -> Tuple[int, ...]:
@@ -237,12 +238,12 @@ def back_in_any_order(bench: Bench) -> None:
 @contextlib.contextmanager
 def _keeping(every: float, most: int, latest: int) -> Iterator[None]:
     """While this lasts, states are kept so often, and so many of them."""
-    before = kept.EVERY, kept.MOST_KEPT, kept.LATEST
-    kept.EVERY, kept.MOST_KEPT, kept.LATEST = every, most, latest
+    before = checkpoints.EVERY, checkpoints.MOST_KEPT, checkpoints.LATEST
+    checkpoints.EVERY, checkpoints.MOST_KEPT, checkpoints.LATEST = every, most, latest
     try:
         yield
     finally:
-        kept.EVERY, kept.MOST_KEPT, kept.LATEST = before
+        checkpoints.EVERY, checkpoints.MOST_KEPT, checkpoints.LATEST = before
 
 
 # A rank that makes 100 million instructions in a superstep.
@@ -255,22 +256,22 @@ loop:   addi s0, s0, -1
 """
 
 
-class Counting(machine.Machine):
+class Counting(reversible_machine.Machine):
     """A machine that counts, with all that come from it, the instructions that are made by steps."""
 
     made = 0
 
-    def step(self, rank: int, count: int, must_break_off: arrivals.Asked = arrivals.never) -> int:
+    def step(self, rank: int, count: int, must_break_off: run_places.Asked = run_places.never) -> int:
         moved = super().step(rank, count, must_break_off)
         Counting.made += moved
         return moved
 
-    def run_to(self, points: Iterable[arrivals.Point], rank: int, count: int, must_break_off: arrivals.Asked = arrivals.never) -> int:
+    def run_to(self, points: Iterable[run_places.Point], rank: int, count: int, must_break_off: run_places.Asked = run_places.never) -> int:
         moved = super().run_to(points, rank, count, must_break_off)
         Counting.made += moved
         return moved
 
-    def started(self) -> machine.Machine:
+    def started(self) -> reversible_machine.Machine:
         other = super().started()
         other.__class__ = Counting
         return other
@@ -288,7 +289,8 @@ def back_after_long(bench: Bench) -> None:
         try:
             there.go(0)
             place = run.place()
-            ways: List[Tuple[Callable[[int], halts.Halt], int]] = [(there.step_back, 1), (there.step_back, 2), (there.step, 1), (there.step_back, 2)]
+            back, on = there.step_back, there.step
+            ways: List[Tuple[Callable[[int], stop_replies.Halt], int]] = [(back, 1), (back, 2), (on, 1), (back, 2)]
             for way, left in ways:
                 Counting.made = 0
                 way(0)
@@ -317,12 +319,12 @@ mark:   .word 0
 """
 
 
-class Noting(machine.Machine):
+class Noting(reversible_machine.Machine):
     """A machine that notes how many others are begun at the start of the run."""
 
     begun = 0
 
-    def started(self) -> machine.Machine:
+    def started(self) -> reversible_machine.Machine:
         other = super().started()
         other.__class__ = Noting
         Noting.begun += 1
@@ -349,7 +351,7 @@ def back_in_a_superstep_that_has_just_begun(bench: Bench) -> None:
             told = [monitor.Monitor(there, None).answer(it, 0).decode() for it in ("sent", "wrote 1 mark")]
             expect(told[0] == "superstep 30: 0 requests so far\n" and "a store by rank 1 in superstep 29: count, many.s:6" in told[1], told)
             stops = [(there.go_back(None, 0), run.superstep) for _ in range(4)]
-            found = [(superstep, it.rank) for it, superstep in stops if isinstance(it, halts.Stop) and it.is_breakpoint]
+            found = [(superstep, it.rank) for it, superstep in stops if isinstance(it, stop_replies.Stop) and it.is_breakpoint]
             expect(found == [(30, 1), (30, 0), (29, 1), (29, 0)], stops)
             expect(Noting.begun == begun, Noting.begun)
         finally:
@@ -391,7 +393,7 @@ def back_far_in_a_rank_that_runs(bench: Bench) -> None:
     expect(registers_in(text, 2) == bench.registers_told(str(program), lines, 2), text)
 
     with bench.machines:
-        run = machine.Machine([bench.bspemu, "debug", str(program), "--format", "elf", "--nodes", "2", "--limit", "1000000000"])
+        run = reversible_machine.Machine([bench.bspemu, "debug", str(program), "--format", "elf", "--nodes", "2", "--limit", "1000000000"])
         there = runner.Runner(run, lambda text: None, lambda: False)
         there.supersteps = {1}
         try:
@@ -405,7 +407,7 @@ def back_far_in_a_rank_that_runs(bench: Bench) -> None:
             for breakpoints, rank, count in ways:
                 there.breakpoints = breakpoints
                 halt, node = there.go_back(None, 1), run.node(rank)
-                expect(halt == halts.Stop(rank, 5, is_breakpoint=True) and node.pc in breakpoints, (halt, node))
+                expect(halt == stop_replies.Stop(rank, 5, is_breakpoint=True) and node.pc in breakpoints, (halt, node))
                 expect(node.ticks == begin[rank] + count, (count, node, begin))
         finally:
             run.close()
@@ -416,7 +418,7 @@ class Walk:
 
     def __init__(self, seed: int, command: List[str], past: Past, addresses: List[int]) -> None:
         self.chance, self.past, self.addresses = random.Random(seed), past, addresses
-        self.machine = machine.Machine(command)
+        self.machine = reversible_machine.Machine(command)
         self.machine.spare.is_wanted = seed % 2 == 0
         self.shown = bytearray()
         self.runner = runner.Runner(self.machine, self.shown.extend, lambda: False)
@@ -429,7 +431,7 @@ class Walk:
             self.chance.choice([self._forth, self._step_back, self._step_back, self._go_back])(rank)
             self._compare()
         self.runner.breakpoints = set()
-        while not isinstance(self.runner.go(0), halts.Exit):
+        while not isinstance(self.runner.go(0), stop_replies.Exit):
             pass
         wanted = "".join(f"rank {rank} has made round {round}\n" for round in range(4) for rank in range(3)).encode()
         expect(bytes(self.shown).replace(runner.ENDS, b"").replace(b"ended\n", b"") == wanted, self.shown)
@@ -437,7 +439,7 @@ class Walk:
 
     def _forth(self, rank: int) -> None:
         pc = self.machine.node(rank).pc
-        ways: List[Callable[[int], halts.Halt]] = [self.runner.go, self.runner.go_alone]
+        ways: List[Callable[[int], stop_replies.Halt]] = [self.runner.go, self.runner.go_alone]
         ways.append(lambda rank: self.runner.step_range(rank, pc - 64, pc + 64))
         if self.machine.outcome is None:
             self.chance.choice(ways)(rank)
@@ -448,7 +450,7 @@ class Walk:
             wanted = self.past.step_back(place, rank)
             halt = self.runner.step_back(rank)
             found = self.machine.place()
-            expect(found == wanted and halt == halts.Stop(rank, 5, is_begin=wanted == place), (rank, place, wanted, found, halt))
+            expect(found == wanted and halt == stop_replies.Stop(rank, 5, is_begin=wanted == place), (rank, place, wanted, found, halt))
 
     def _go_back(self, rank: int) -> None:
         alone = self.chance.choice([None, rank])
@@ -456,12 +458,12 @@ class Walk:
         hit = self.past.before(place, self.runner.breakpoints, alone)
         halt = self.runner.go_back(alone, rank)
         wanted, found = self.past.back_at(hit, place, alone is not None), self.machine.place()
-        right = halts.Stop(rank, 5, is_begin=True) if hit is None else halts.Stop(hit.rank, 5, is_breakpoint=True)
+        right = stop_replies.Stop(rank, 5, is_begin=True) if hit is None else stop_replies.Stop(hit.rank, 5, is_breakpoint=True)
         expect(found == wanted and halt == right, (alone, place, wanted, found, halt))
 
     def _compare(self) -> None:
         """With a machine that has come to this place from the start."""
-        fresh = machine.Machine(self.machine.command)
+        fresh = reversible_machine.Machine(self.machine.command)
         fresh.restart_at(self.machine.place())
         expect(fresh.nodes() == self.machine.nodes() and fresh.superstep == self.machine.superstep, self.machine.place())
         for node in fresh.nodes():

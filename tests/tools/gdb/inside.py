@@ -10,8 +10,8 @@ import re
 from typing import Callable, Dict, List, NamedTuple, Optional, Sequence, Set, Tuple
 
 from back import NO_MORE
-from bsptools.debug.arrivals import Place
-from bsptools.debugger import Node, Reply, Session, node_of
+from bsptools.framed.session import Node, Reply, Session, node_of
+from bsptools.reverse.run_places import Place
 from checks import units
 from sessions import SHOW_REGISTERS, Bench, Wrong, expect, in_order, registers_in
 

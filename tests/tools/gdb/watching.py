@@ -5,8 +5,9 @@ from __future__ import annotations
 from typing import Callable, List, Tuple
 
 from back import SOON_INTERRUPTED
-from bsptools.debug import halts, machine, runner, watches
-from bsptools.debug.machine import MOST_BREAKPOINTS
+from bsptools.debug import runner, stop_replies, watchpoints
+from bsptools.reverse import reversible_machine
+from bsptools.reverse.reversible_machine import MOST_BREAKPOINTS
 from checks import units
 from sessions import Bench, expect, in_order
 
@@ -114,7 +115,7 @@ def watch_far_back(bench: Bench) -> None:
     """To a store behind more supersteps than are looked at in one go, of which there are fewer here: there it stops, and goes on from there."""
     program = bench.build(PROGRAM, "-DLOOP=450")
     commands = ["monitor superstep 450", "continue", "watch seen", *["reverse-continue"] * 2]
-    text = bench.gdb(program, commands, "-n", "2", numbers="bsptools.debug.writers.MOST_SUPERSTEPS=400")
+    text = bench.gdb(program, commands, "-n", "2", numbers="bsptools.reverse.last_writers.MOST_SUPERSTEPS=400")
     in_order(text, "superstep 450 begins", "what is watched was not written from here on; reverse-continue looks further back", "stopped.")
     in_order(text, "stopped.", "hit Hardware watchpoint 1: seen", "44\t")
 
@@ -136,10 +137,10 @@ def watch_by_changes(bench: Bench) -> None:
     for place, rank in (("received.numbers[1]", 1), ("mine.numbers[2]", 2), ("seen", 0)):
         addr = bench.pointers(program, [place])[0]
         wanted = looked_at(command, rank, addr)
-        run = machine.Machine(command)
+        run = reversible_machine.Machine(command)
         goes = runner.Runner(run, lambda _: None, lambda: False)
         goes.stops_at_end = True
-        watch = watches.Watch("watch", rank, addr, 4)
+        watch = watchpoints.Watch("watch", rank, addr, 4)
         forth = stops(goes, watch, goes.go, goes.step)
         expect(forth == wanted and len(wanted) > 0, (place, wanted, forth))
         back = stops(goes, watch, lambda at: goes.go_back(None, at), goes.step_back)
@@ -149,7 +150,7 @@ def watch_by_changes(bench: Bench) -> None:
 
 
 def stops(
-    goes: runner.Runner, watch: watches.Watch, go: Callable[[int], halts.Halt], step: Callable[[int], halts.Halt]
+    goes: runner.Runner, watch: watchpoints.Watch, go: Callable[[int], stop_replies.Halt], step: Callable[[int], stop_replies.Halt]
 ) -> List[Tuple[int, bytes]]:
     """The supersteps of the stops at which gdb sees a change, and the bytes behind it: it makes a step from each stop, and then looks."""
     found: List[Tuple[int, bytes]] = []
@@ -157,7 +158,7 @@ def stops(
     while True:
         goes.watches.all = [watch]
         halt = go(watch.rank)
-        if not isinstance(halt, halts.Stop) or halt.watch is None:
+        if not isinstance(halt, stop_replies.Stop) or halt.watch is None:
             return found
         goes.watches.all = []
         superstep = goes.machine.superstep
@@ -170,7 +171,7 @@ def stops(
 
 def looked_at(command: List[str], rank: int, addr: int) -> List[Tuple[int, bytes]]:
     """The supersteps in which a word of a rank changes, or before which, and what it is then."""
-    run = machine.Machine(command)
+    run = reversible_machine.Machine(command)
     found: List[Tuple[int, bytes]] = []
     old = run.memory(rank, addr, 4)
     while run.outcome is None:

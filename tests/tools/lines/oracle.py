@@ -15,7 +15,7 @@ sys.path[:0] = [str(REPO / "tests")]
 
 from fuzz import images, machines, reports  # noqa: E402
 
-from bsptools import elf  # noqa: E402
+from bsptools.program import elf  # noqa: E402
 
 LINKS = (1, 5)
 LIMIT = 1_000_000

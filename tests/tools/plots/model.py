@@ -22,12 +22,12 @@ sys.dont_write_bytecode = True
 REPO = pathlib.Path(__file__).resolve().parents[3]
 sys.path.insert(0, str(REPO / "tools"))
 
-from bsptools.debugger import Node, node_of  # noqa: E402
+from bsptools.framed.environment_calls import GETS, PUTS, REQUESTS, TAGSIZE, Call, Tracer  # noqa: E402
+from bsptools.framed.replays import Replays  # noqa: E402
+from bsptools.framed.session import Node, node_of  # noqa: E402
+from bsptools.outputs import report  # noqa: E402
 from bsptools.plot.profile import HEADER  # noqa: E402
-from bsptools.run import report  # noqa: E402
-from bsptools.run.calls import GETS, PUTS, REQUESTS, TAGSIZE, Call, Tracer  # noqa: E402
-from bsptools.run.program import kind_of, read_elf, read_text  # noqa: E402
-from bsptools.run.replays import Replays  # noqa: E402
+from bsptools.program.code import kind_of, read_elf, read_text  # noqa: E402
 
 MEMORY = 1 << 20
 Bytes = Dict[Tuple[int, int], int]

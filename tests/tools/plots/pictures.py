@@ -15,12 +15,12 @@ from base import REPO, SECONDS, Check, Parts
 from checks import Part
 from profiles import RUNS, file_of, profile_of
 
-from bsptools.plot import costs, series, sweep
+from bsptools.plot import superstep_costs, sweep_curves, sweep_table
 from bsptools.plot.canvas import EXCHANGE, thousands
 from bsptools.plot.profile import Profile, Reading
 
 G, L = 3, 70
-PRICES = costs.Prices(G, L)
+PRICES = superstep_costs.Prices(G, L)
 WORDS = ["--g", str(G), "--l", str(L)]
 SWEEP = """\
 program,nodes,g,l,input,args,N,supersteps,w,h,total,outcome
@@ -126,7 +126,7 @@ def split(found: Profile, picture: svg.Drawing) -> str:
     wanted: Dict[str, str] = {}
     places: List[Tuple[str, float, float]] = []
     sums = [0, 0, 0]
-    for cost in costs.of_profile(found, Reading.OTHERS):
+    for cost in superstep_costs.of_profile(found, Reading.OTHERS):
         low = 0
         for i, (name, label, part) in enumerate(zip(("w", "gh", "l"), ("w", "g·h", "l"), cost.parts(PRICES))):
             sums[i] += part
@@ -250,9 +250,9 @@ def sweeps(check: Check) -> None:
     """Pictures of a sweep: each point's number, its place, and the crossing."""
     source = check.folder / "table.csv"
     source.write_text(SWEEP)
-    lines = sweep.lines(sweep.parse(SWEEP))
+    lines = sweep_table.lines(sweep_table.parse(SWEEP))
     picture = drawn(check, "sweep", source)
-    values = {"total": lambda line, it: line.totals[it], "speedup": sweep.Line.speedup, "efficiency": sweep.Line.efficiency}
+    values = {"total": lambda line, it: line.totals[it], "speedup": sweep_table.Line.speedup, "efficiency": sweep_table.Line.efficiency}
     for kind, value in values.items():
         wanted = {f"{kind}-{i}-{it}": value(line, it) for i, line in enumerate(lines) for it in line.totals}
         marks = picture.named(f"{kind}-")
@@ -289,13 +289,13 @@ def scales(check: Check) -> None:
         (1, 2e30): [10.0**it for it in range(0, 31, 3)],
     }
     for (low, high), wanted in tried.items():
-        found = series.ticks(low, high)
+        found = sweep_curves.ticks(low, high)
         inside = [it for it in found if low <= it <= high]
         check.expect(f"numbers from {low} to {high}", inside == wanted, found)
     doubled = [1 << it for it in range(11)]
-    kept = series.apart(doubled, series.PANEL)
+    kept = sweep_curves.apart(doubled, sweep_curves.PANEL)
     check.expect("nodes beside one another", kept == [1, 2, 4, 8, 16, 32, 64, 256, 1024], kept)
-    check.expect("nodes over a whole width", series.apart(doubled, series.ALONE) == doubled, "some are left out")
+    check.expect("nodes over a whole width", sweep_curves.apart(doubled, sweep_curves.ALONE) == doubled, "some are left out")
 
 
 def names(check: Check) -> None:
@@ -307,7 +307,7 @@ def names(check: Check) -> None:
         "a constant": (SWEEP.replace("two.s,1,1,10,,,100", "one.s,1,1,10,,,200"), ["one.s, N 100", "one.s, N 200", "two.s, N 100"]),
     }
     for name, (text, wanted) in tried.items():
-        found = sweep.labels(sweep.lines(sweep.parse(text)))
+        found = sweep_table.labels(sweep_table.lines(sweep_table.parse(text)))
         check.expect(f"names of lines, {name}", found == wanted, found)
 
 

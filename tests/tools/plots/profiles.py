@@ -12,9 +12,9 @@ import forked
 from base import HERE, MADE, REPO, Check, Parts
 from checks import Part
 
-from bsptools.plot import costs, profile, sources
+from bsptools.outputs import report_formats
+from bsptools.plot import plot_inputs, profile, superstep_costs
 from bsptools.refusals import Refused
-from bsptools.run import forms
 
 # Each profile, with the arguments of its run.
 RUNS = {
@@ -130,21 +130,21 @@ def damaged(check: Check) -> None:
             check.tell(f"profile with {name}", "it is taken")
         except Refused as refused:
             check.expect(f"profile with {name}", said in str(refused), refused)
-    known = forms.read(REPORT.encode())
+    known = report_formats.read(REPORT.encode())
     assert known is not None
-    spelled = {"text": REPORT, "csv": forms.as_csv(known).decode(), "json": forms.as_json(known).decode()}
+    spelled = {"text": REPORT, "csv": report_formats.as_csv(known).decode(), "json": report_formats.as_json(known).decode()}
     for name, (form, before, after, said) in REPORTS.items():
         check.tell(f"report with {name}", taken(spelled[form], before, after, said))
     for name, (before, after, said) in TABLES.items():
         check.tell(f"table with {name}", taken(TABLE, before, after, said))
     for name, text in {**spelled, "table": TABLE}.items():
-        check.expect(f"{name} as it was", sources.understood(name, text.encode(), profile.Reading.OTHERS).name == name, "")
+        check.expect(f"{name} as it was", plot_inputs.understood(name, text.encode(), profile.Reading.OTHERS).name == name, "")
 
 
 def taken(text: str, before: str, after: str, said: str) -> str:
     """What is wrong where a text stands in another's place, once: it is to be refused by a line that says this."""
     try:
-        sources.understood("source", text.replace(before, after, 1).encode(), profile.Reading.OTHERS)
+        plot_inputs.understood("source", text.replace(before, after, 1).encode(), profile.Reading.OTHERS)
     except Refused as refused:
         return "" if before in text and said in str(refused) else str(refused)[:300]
     return "it is taken"
@@ -155,10 +155,10 @@ def by_report(check: Check, name: str) -> str:
     path = check.folder / "report.json"
     words = [str(REPO / "bsprun"), "--report", str(path), *RUNS[name]]
     forked.run(words, cwd=REPO)
-    found = forms.of_json(json.loads(path.read_text()))
+    found = report_formats.of_json(json.loads(path.read_text()))
     here = profile_of(name)
-    if costs.of_report(found) != costs.of_profile(here, profile.Reading.OTHERS):
-        return f"{costs.of_profile(here, profile.Reading.OTHERS)} and not {costs.of_report(found)}"
+    if superstep_costs.of_report(found) != superstep_costs.of_profile(here, profile.Reading.OTHERS):
+        return f"{superstep_costs.of_profile(here, profile.Reading.OTHERS)} and not {superstep_costs.of_report(found)}"
     wanted = OUTCOMES.get(name, found.outcome)
     return "" if here.outcome() == wanted else f"{here.outcome()} and not {wanted}"
 

@@ -19,7 +19,7 @@ import cluster
 from base import PARALLEL, REPO, Check, Parts
 from checks import COMPILER, Part
 
-from bsptools.sweep.store import Place
+from bsptools.sweep.result_store import Place
 
 PROGRAMS = [str(REPO / "examples/broadcast.s"), str(REPO / "examples/broadcast2.s")]
 TWELVE = ["--nodes", "2,3,8", "--prices", "1:100,4:1000", *PROGRAMS]

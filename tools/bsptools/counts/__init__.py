@@ -1,1 +1,1 @@
-"""What a run's exact counts tell: its work by line, by function and by call, and the forms in which other programs read it."""
+"""What a run's exact counts show: work by line, function and call, and the formats in which other programs read it."""

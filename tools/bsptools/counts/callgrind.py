@@ -8,10 +8,10 @@ from __future__ import annotations
 from collections.abc import Iterator
 
 from .. import VERSION
+from ..program.line_table import Place
 from ..refusals import printable
-from .costs import Work, summed
-from .flow import Call
-from .source import Place
+from .call_counts import Call
+from .line_costs import Work, summed
 
 UNKNOWN = "???"
 

@@ -1,19 +1,19 @@
-"""What gdb's `monitor` can ask for: what the machine has and gdb has no word for."""
+"""What gdb's `monitor` can ask for: what the machine has and gdb has no command for."""
 
 from __future__ import annotations
 
 import re
 from typing import Callable, List, Optional, Sequence, Tuple
 
-from ..debugger import Node
+from ..framed.environment_calls import spelled
+from ..framed.session import Node
 from ..refusals import Refused, printable
-from ..run.calls import spelled
-from .arrivals import Interrupted
-from .calls import Awaited, addresses_of, awaited
-from .machine import MOST_BREAKPOINTS
-from .names import STACK, Names
+from ..reverse.reversible_machine import MOST_BREAKPOINTS
+from ..reverse.run_places import Interrupted
+from ..reverse.symbol_names import STACK, Names
+from ..reverse.wrote_sent import BY_CTRL_C, PastTeller
+from .catchpoints import Awaited, addresses_of, awaited
 from .runner import Runner
-from .telling import BY_CTRL_C, Teller
 
 HELP = """\
 monitor superstep K     stop where superstep K begins: a point, to which continue goes, and reverse-continue
@@ -105,10 +105,10 @@ class Monitor:
             return runner.machine.costs()
         return HELP.splitlines() if name == "help" else None
 
-    def _teller(self) -> Teller:
-        runner = self._runner
+    def _teller(self) -> PastTeller:
+        machine = self._runner.machine
         way_off = BY_CTRL_C if self._typed else ""
-        return Teller(runner.machine, self._names, runner.machine.place(), self._is_interrupted, lambda *_: FURTHER, "monitor sent", way_off)
+        return PastTeller(machine, self._names, machine.place(), self._is_interrupted, lambda *_: FURTHER, "monitor sent", way_off)
 
     def _is_interrupted(self) -> bool:
         """Whether to break off. gdb waits for an answer here, and sends nothing of a Ctrl-C."""

@@ -1,4 +1,4 @@
-"""gdb's remote serial protocol as bytes: packets with their checksums, acknowledgements, and the byte that interrupts."""
+"""gdb's remote serial protocol as bytes: packets, checksums, acknowledgements, the byte that interrupts."""
 
 from __future__ import annotations
 

@@ -5,16 +5,17 @@ from __future__ import annotations
 import time
 from typing import Callable, Iterable, List, Optional, Sequence, Set
 
-from ..debugger import Node
+from ..framed.session import Node
 from ..refusals import Refused
-from . import showing, words
-from .arrivals import Arrival, AtRank, AtSuperstep, BrokenOff, Interrupted, Over, Place, Point
-from .calls import Awaited, addresses_of
-from .halts import Exit, Halt, Stop, halt_of_outcome
-from .history import BEGIN, Goal, History, Hit
-from .machine import LONG, MOST_BREAKPOINTS, Machine
-from .names import Names
-from .watches import Watch, Watches, Written, last_written
+from ..reverse import named_views
+from ..reverse.history import BEGIN, Goal, History, Hit
+from ..reverse.reversible_machine import LONG, MOST_BREAKPOINTS, Machine
+from ..reverse.run_places import Arrival, AtRank, AtSuperstep, BrokenOff, Interrupted, Over, Place, Point, rank_of
+from ..reverse.symbol_names import Names
+from . import gdb_terms
+from .catchpoints import Awaited, addresses_of
+from .stop_replies import Exit, Halt, Stop, halt_of_outcome
+from .watchpoints import Watch, Watches, Written, last_written
 
 # For how many seconds an interrupt waits for the superstep's end, and for how many the ranks then go on a little.
 PATIENCE, LOOK = 0.15, 0.1
@@ -100,16 +101,16 @@ class Runner:
         if self.watches.of(rank):
             watch = self.watches.step(rank)
             if watch is not None:
-                return Stop(rank, words.TRAP, watch=watch)
+                return Stop(rank, gdb_terms.TRAP, watch=watch)
         else:
             self.machine.step(rank, 1)
-        return self._as_end_of_step(self._stop_at(rank) or Stop(rank, words.TRAP))
+        return self._as_end_of_step(self._stop_at(rank) or Stop(rank, gdb_terms.TRAP))
 
     def step_range(self, rank: int, start: int, end: int) -> Halt:
         """A rank makes an instruction, and more as long as it stands in this range and at no breakpoint."""
         while True:
             halt = self.step(rank)
-            if halt != Stop(rank, words.TRAP):
+            if halt != Stop(rank, gdb_terms.TRAP):
                 return halt
             node = self.machine.node(rank)
             if not start <= node.pc < end or node.pc in self.breakpoints:
@@ -117,7 +118,7 @@ class Runner:
             if self._stops_at(node):
                 return self._stop_before(node)
             if self.is_interrupted():
-                return Stop(rank, words.INTERRUPTED)
+                return Stop(rank, gdb_terms.INTERRUPTED)
 
     def step_back(self, rank: int, is_over: bool = False) -> Halt:
         """A rank goes an instruction back, and where it has made none in this superstep, all go back over the turn.
@@ -133,7 +134,7 @@ class Runner:
             watch = None if is_begin or self.watches.passed is not None else self.watches.changed(before)
             if watch is not None:
                 self.watches.stay_at(place, watch)
-            return Stop(rank, words.TRAP, is_begin=is_begin, watch=watch)
+            return Stop(rank, gdb_terms.TRAP, is_begin=is_begin, watch=watch)
         except (Interrupted, Refused) as fault:
             return self._stay(rank, fault)
 
@@ -161,11 +162,11 @@ class Runner:
         except (Interrupted, Refused) as fault:
             return self._stay(current, fault)
         if hit is None:
-            return Stop(current, words.TRAP, is_begin=True)
+            return Stop(current, gdb_terms.TRAP, is_begin=True)
         if hit.rank != BEGIN:
             return self._stop_before(self.machine.node(hit.rank))
         self.show(f"superstep {hit.superstep} begins\n".encode())
-        return Stop(current, words.NONE)
+        return Stop(current, gdb_terms.NONE)
 
     def _tell_of_reads(self) -> None:
         """Says once of each watch for reads that it does not stop on the way back: gdb goes back several times for one command."""
@@ -187,7 +188,7 @@ class Runner:
             self.watches.meet()
         else:
             self.show(b"bspgdb: what is watched was not written from here on; reverse-continue looks further back\n")
-        return Stop(written.hit.rank, words.TRAP if written.watch else words.NONE, watch=written.watch)
+        return Stop(written.hit.rank, gdb_terms.TRAP if written.watch else gdb_terms.NONE, watch=written.watch)
 
     def settle(self, current: int) -> Optional[Halt]:
         """To be called before anything goes on: what stands where it has gone back to is made to go on from there. Answers where it is
@@ -202,8 +203,8 @@ class Runner:
         """What gdb is told where it was broken off that a machine comes to another place, or another process was not to be had."""
         if isinstance(fault, Refused):
             self.show(f"bspgdb: it stays where it is: {fault}\n".encode())
-            return Stop(current, words.NONE)
-        return Stop(current, words.INTERRUPTED)
+            return Stop(current, gdb_terms.NONE)
+        return Stop(current, gdb_terms.INTERRUPTED)
 
     def turn(self) -> str:
         """Makes the turn, if no rank runs. Answers the debugger's line."""
@@ -221,7 +222,7 @@ class Runner:
             before = self.watches.contents()
             halt = self._go_piece(1, current)
             watch = self.watches.changed(before)
-            return halt if watch is None or isinstance(halt, Exit) else Stop(watch.rank, words.TRAP, watch=watch)
+            return halt if watch is None or isinstance(halt, Exit) else Stop(watch.rank, gdb_terms.TRAP, watch=watch)
         if watched == 0:
             return self._follow(running[0].rank)
         size = min(watched, max(1, MOST_BREAKPOINTS // max(1, self._size())))
@@ -236,15 +237,15 @@ class Runner:
         watch = self.watches.follow(rank, lambda it: it.pc in addresses and self._stops_at(it.node), self.is_interrupted)
         node = self.machine.node(rank)
         if watch is not None:
-            return Stop(rank, words.TRAP, watch=watch)
+            return Stop(rank, gdb_terms.TRAP, watch=watch)
         if node.runs:
-            return self._stop_before(node) if self._stops_at(node) else Stop(rank, words.INTERRUPTED)
+            return self._stop_before(node) if self._stops_at(node) else Stop(rank, gdb_terms.INTERRUPTED)
         return None
 
     def _go_piece(self, count: int, current: int) -> Optional[Halt]:
         """All ranks go on for up to so many supersteps. Answers nothing where there is nothing to stop for."""
         if self.machine.outcome is not None:
-            return Exit(words.status_of(self.machine.outcome))
+            return Exit(gdb_terms.status_of(self.machine.outcome))
         before, self._count = self.machine.superstep, count
         if self._size() * self.machine.ranks <= MOST_BREAKPOINTS:
             ahead = [superstep for superstep in self.supersteps if superstep > before]
@@ -258,7 +259,7 @@ class Runner:
             self._show_output()
         if isinstance(arrival, Over):
             self.show(f"{arrival.outcome}\n".encode() + (ENDS if isinstance(halt, Exit) else b""))
-            self._tell_unit_wanted(words.rank_of(arrival.outcome, current))
+            self._tell_unit_wanted(rank_of(arrival.outcome, current))
         elif arrival == AtSuperstep(self.machine.superstep) and halt is not None:
             self.show(f"superstep {self.machine.superstep} begins\n".encode())
         return halt
@@ -286,7 +287,7 @@ class Runner:
             if node.runs and self._stops_at(node):
                 return self._stop_before(node)
             if self.is_interrupted():
-                return Stop(rank, words.INTERRUPTED)
+                return Stop(rank, gdb_terms.INTERRUPTED)
         return self._stop_at(rank)
 
     def _go_singly(self, count: int, current: int) -> Optional[Halt]:
@@ -309,14 +310,14 @@ class Runner:
                     return halt
         finally:
             self._is_searching = False
-        return Stop(current, words.INTERRUPTED)
+        return Stop(current, gdb_terms.INTERRUPTED)
 
     def _creep(self, until: float) -> Optional[Halt]:
         """All ranks go on to the superstep's end, where there are no breakpoints, for no longer than this. Answers where that ends it."""
         for rank in range(self.machine.ranks):
             while self.machine.node(rank).runs:
                 if time.monotonic() > until:
-                    return Stop(rank, words.INTERRUPTED)
+                    return Stop(rank, gdb_terms.INTERRUPTED)
                 self.machine.step(rank, FAR)
         return None
 
@@ -328,7 +329,7 @@ class Runner:
             self.machine.step(rank, count)
             if self._stops_at(self.machine.node(rank)):
                 return self._stop_before(self.machine.node(rank))
-        return Stop(rank, words.INTERRUPTED)
+        return Stop(rank, gdb_terms.INTERRUPTED)
 
     # Parts of a piece.
 
@@ -346,9 +347,9 @@ class Runner:
     def _stop_before(self, node: Node) -> Stop:
         """The stop at such a place. Of a call gdb knows nothing, so that a line says which it is."""
         if node.pc in self.breakpoints:
-            return Stop(node.rank, words.TRAP, is_breakpoint=True)
+            return Stop(node.rank, gdb_terms.TRAP, is_breakpoint=True)
         self.show(f"rank {node.rank} is about to call {self.spell(node)}\n".encode())
-        return Stop(node.rank, words.NONE)
+        return Stop(node.rank, gdb_terms.NONE)
 
     def _go_to(self, points: List[Point], guards: Sequence[AtRank] = ()) -> Arrival:
         """Goes on to one of these points at which gdb wants to stop, or to a guard."""
@@ -391,8 +392,8 @@ class Runner:
             running = [node.rank for node in self.machine.nodes() if node.runs]
             return self._look_on(running[0] if running else current)
         if arrival.superstep in self.supersteps:
-            return Stop(current, words.NONE)
-        return Stop(current, words.INTERRUPTED) if self._has_interrupt() and not self._is_searching else None
+            return Stop(current, gdb_terms.NONE)
+        return Stop(current, gdb_terms.INTERRUPTED) if self._has_interrupt() and not self._is_searching else None
 
     def _stop_at(self, rank: int) -> Optional[Stop]:
         """The stop of a rank that has failed by itself, with a line that says at what."""
@@ -401,20 +402,20 @@ class Runner:
             return None
         self.show(f"rank {rank}: {state}\n".encode())
         self._tell_unit_wanted(rank)
-        return Stop(rank, words.signal_of(state))
+        return Stop(rank, gdb_terms.signal_of(state))
 
     def _tell_unit_wanted(self, rank: int) -> None:
         """Says what gives nodes units of floating point where a rank has stopped for want of one."""
         if self.machine.has_floats:
             return
         node = self.machine.node(rank)
-        for line in showing.unit_wanted(node.state, self.machine.memory(rank, node.pc, 4)):
+        for line in named_views.unit_wanted(node.state, self.machine.memory(rank, node.pc, 4)):
             self.show(f"bspgdb: {line}\n".encode())
 
     def _as_end_of_step(self, halt: Halt) -> Halt:
         """gdb takes the signal of EBREAK for the end of a step, and would go on. So at a step another one says it."""
         if isinstance(halt, Stop) and self.machine.node(halt.rank).state == "fault Break":
-            return halt._replace(signal=words.NONE)
+            return halt._replace(signal=gdb_terms.NONE)
         return halt
 
     def _show_output(self) -> None:

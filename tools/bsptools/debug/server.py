@@ -1,4 +1,4 @@
-"""Sessions with gdb: one over a connection that is there, or the first that comes over a socket."""
+"""Sessions with gdb: over a connection that is there, or the first one that comes over a socket."""
 
 from __future__ import annotations
 
@@ -8,7 +8,7 @@ import socket
 from typing import Iterator, Sequence, Tuple, Union
 
 from ..refusals import about, tell
-from .machine import Machine
+from ..reverse.reversible_machine import Machine
 from .monitor import Typed
 from .packets import Broken, Connection
 from .stub import Stub

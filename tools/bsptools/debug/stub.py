@@ -1,4 +1,4 @@
-"""The answers to gdb's packets."""
+"""The answer to each of gdb's packets."""
 
 from __future__ import annotations
 
@@ -7,15 +7,15 @@ import re
 import time
 from typing import Callable, Dict, List, Optional, Tuple
 
-from . import numbers, words
-from .calls import addresses_of
-from .halts import Exit, Halt, Stop
-from .machine import MOST_BREAKPOINTS, Machine
+from ..reverse.reversible_machine import MOST_BREAKPOINTS, Machine
+from . import gdb_terms, packet_numbers
+from .catchpoints import addresses_of
 from .monitor import Monitor, Typed
-from .over import Over
 from .packets import INTERRUPT, PACKET_SIZE, Closed, Connection, escape, hexadecimal
+from .reverse_steps import ReverseSteps
 from .runner import Runner
-from .watches import KINDS, Watch
+from .stop_replies import Exit, Halt, Stop
+from .watchpoints import KINDS, Watch
 
 OK = b"OK"
 # What the protocol has for a packet that is not known.
@@ -49,12 +49,12 @@ class Stub:
         self._monitored = Monitor(self._runner, typed)
         self._current = 0
         self._resumed: Optional[int] = None
-        self._halt: Halt = Stop(0, words.TRAP)
+        self._halt: Halt = Stop(0, gdb_terms.TRAP)
         self._is_hardware: Dict[int, bool] = {}
         # Whether the last stop is that bytes were met which are watched, and those that are taken away for a step past that.
         self._is_met = False
         self._passed: List[Watch] = []
-        self._over = Over()
+        self._over = ReverseSteps()
         self._is_over = False
         self._interrupted_at: Optional[float] = None
         self._exact = self._answers_to_words()
@@ -159,11 +159,11 @@ class Stub:
     def _transfer(self, text: str) -> bytes:
         """A part of a text: `OBJECT:read:ANNEX:OFFSET,LENGTH`."""
         kind, operation, annex, place = text.split(":")
-        offset, length = numbers.pair(place)
+        offset, length = packet_numbers.pair(place)
         if (kind, operation, annex) == ("features", "read", "target.xml"):
-            whole = words.target_description(self._machine.has_floats)
+            whole = gdb_terms.target_description(self._machine.has_floats)
         elif (kind, operation, annex) == ("threads", "read", ""):
-            whole = words.thread_list(self._machine.superstep, (node.state for node in self._machine.nodes()))
+            whole = gdb_terms.thread_list(self._machine.superstep, (node.state for node in self._machine.nodes()))
         else:
             return UNKNOWN if operation != "read" else BAD
         data = whole.encode()
@@ -175,10 +175,10 @@ class Stub:
         return f"{self._machine.node(rank).state}, superstep {self._machine.superstep}"
 
     def _rank(self, text: str) -> int:
-        return numbers.rank(text, self._machine.ranks)
+        return packet_numbers.rank(text, self._machine.ranks)
 
     def _rank_or_all(self, text: str) -> Optional[int]:
-        return numbers.rank_or_all(text, self._machine.ranks)
+        return packet_numbers.rank_or_all(text, self._machine.ranks)
 
     def _tell_of_thread(self, text: str) -> bytes:
         """Whether there is a thread."""
@@ -209,18 +209,18 @@ class Stub:
         return [*(_double(it) for it in floats.f), *(_register(it) for it in (floats.fflags, floats.frm, floats.fcsr))]
 
     def _read_register(self, text: str) -> bytes:
-        number = numbers.number(text)
-        return self._registers()[number] if number < words.FIRST_FLOAT else self._floats()[number - words.FIRST_FLOAT]
+        number = packet_numbers.number(text)
+        return self._registers()[number] if number < gdb_terms.FIRST_FLOAT else self._floats()[number - gdb_terms.FIRST_FLOAT]
 
     def _read_memory(self, text: str) -> bytes:
-        addr, length = numbers.pair(text)
+        addr, length = packet_numbers.pair(text)
         data = self._machine.memory(self._current, addr, min(length, PACKET_SIZE // 2))
         return hexadecimal(data) if data or length == 0 else BAD
 
     # Going on.
 
     def _add_breakpoint(self, text: str, is_hardware: bool) -> bytes:
-        addr = numbers.address(text.split(",")[0])
+        addr = packet_numbers.address(text.split(",")[0])
         if addr >= self._machine.size:
             # No rank comes there, and it takes no room.
             return OK
@@ -232,14 +232,14 @@ class Stub:
         return OK
 
     def _remove_breakpoint(self, text: str) -> bytes:
-        addr = numbers.address(text.split(",")[0])
+        addr = packet_numbers.address(text.split(",")[0])
         self._runner.breakpoints.discard(addr)
         self._over.take_away(addr)
         return OK
 
     def _add_watch(self, text: str, kind: str) -> bytes:
         """Bytes are watched of the rank that gdb looks at, since each has a memory of its own; or again of that of which they were."""
-        addr, length = numbers.pair(text)
+        addr, length = packet_numbers.pair(text)
         if addr + length > self._machine.size or length > MOST_WATCHED or len(self._runner.watches.all) >= MOST_WATCHES:
             return b"E.these bytes cannot be watched"
         again = [it for it in self._passed if it.is_of(kind, addr, length)]
@@ -250,7 +250,7 @@ class Stub:
 
     def _remove_watch(self, text: str, kind: str) -> bytes:
         """Where they have just been met, gdb takes them away only for a step."""
-        addr, length = numbers.pair(text)
+        addr, length = packet_numbers.pair(text)
         found = [it for it in self._runner.watches.all if it.is_of(kind, addr, length)]
         for it in found[-1:]:
             self._runner.watches.all.remove(it)
@@ -286,7 +286,7 @@ class Stub:
 
     def _go_on(self, action: str, rank: Optional[int]) -> bytes:
         if self._is_interrupted_late():
-            return self._tell(Stop(self._current, words.INTERRUPTED))
+            return self._tell(Stop(self._current, gdb_terms.INTERRUPTED))
         halt = self._runner.settle(self._current)
         return self._tell(halt if halt is not None else self._halt_of(action, rank))
 
@@ -297,7 +297,7 @@ class Stub:
             return self._runner.go(self._current)
         if action[0] in "cC":
             return self._runner.go_alone(rank)
-        return self._runner.step_range(rank, *numbers.pair(action[1:])) if action[0] == "r" else self._runner.step(rank)
+        return self._runner.step_range(rank, *packet_numbers.pair(action[1:])) if action[0] == "r" else self._runner.step(rank)
 
     def _forget_passed(self) -> None:
         """What gdb has not watched again as it goes on, it watches no more; but for the step for which it has taken them away."""
@@ -308,7 +308,7 @@ class Stub:
         self._forget_passed()
         rank = self._current if self._resumed is None else self._resumed
         if self._is_interrupted_late():
-            return self._tell(Stop(rank, words.INTERRUPTED))
+            return self._tell(Stop(rank, gdb_terms.INTERRUPTED))
         is_over = self._over.is_begun_at(self._machine.node(rank).pc, self._machine.place())
         return self._tell(self._runner.step_back(rank, is_over))
 
@@ -317,7 +317,7 @@ class Stub:
         self._forget_passed()
         begun = self._over.end()
         if self._is_interrupted_late():
-            return self._tell(Stop(self._current, words.INTERRUPTED))
+            return self._tell(Stop(self._current, gdb_terms.INTERRUPTED))
         return self._tell(self._runner.go_back(self._resumed, self._current, begun))
 
     def _is_interrupted_late(self) -> bool:
@@ -339,7 +339,7 @@ class Stub:
             return b"W%02x" % halt.status
         node = self._machine.node(halt.rank)
         values = [*node.x, node.pc]
-        parts = [b"%02x:%s" % (number, _register(values[number])) for number in words.TOLD]
+        parts = [b"%02x:%s" % (number, _register(values[number])) for number in gdb_terms.TOLD]
         parts.append(b"thread:%x" % (halt.rank + 1))
         if halt.is_breakpoint:
             parts.append(b"hwbreak:" if self._is_hardware.get(node.pc) else b"swbreak:")

@@ -1,4 +1,4 @@
-"""Figures as all pictures have them: sizes, colours, marks with names, and files that have the same bytes each time."""
+"""Figures: sizes, colours, marks with names, and files that have the same bytes each time."""
 
 from __future__ import annotations
 
@@ -19,7 +19,7 @@ from matplotlib.text import Text
 
 from .. import files
 from ..refusals import about, printable
-from .kinds import KINDS
+from .picture_formats import KINDS
 
 # Colours that stay apart in grey too, and for those who do not see all of them. What stands beside one another differs in lightness.
 WORK, WAIT, EXCHANGE, SYNC = "#0072b2", "#dadada", "#e69f00", "#4b2a6b"

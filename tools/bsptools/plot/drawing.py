@@ -1,4 +1,4 @@
-"""What is to be drawn, and from what: pictures, and pages of them."""
+"""What is drawn, and from what: pictures, and pages of them."""
 
 from __future__ import annotations
 
@@ -8,12 +8,12 @@ from dataclasses import dataclass, field
 from typing import TypeVar
 
 from .. import files
-from ..counts.listing import Listing
+from ..counts.source_listing import Listing
 from ..refusals import Refused, tell
-from . import annotated, lines, matrix, page, series, split, sources, sweep, timeline
+from . import annotated_source, byte_matrix, cost_split, line_bars, page, plot_inputs, sweep_curves, sweep_table, timeline
 from .canvas import Picture, thousands
-from .costs import Cost, Prices, total
 from .profile import Superstep
+from .superstep_costs import Cost, Prices, total
 
 # A picture has at most so many supersteps, and a timeline so many bars.
 MOST_SUPERSTEPS = 100
@@ -28,7 +28,7 @@ class Plan:
     """What is to be drawn, and from what."""
 
     options: argparse.Namespace
-    source: sources.Source
+    source: plot_inputs.Source
     notes: list[str] = field(default_factory=list)
 
     @property
@@ -73,11 +73,11 @@ class Plan:
 
     def matrix(self) -> Picture:
         """The matrix of bytes, of all supersteps that are chosen."""
-        return matrix.draw(self.supersteps(1 << 60), self.options.h, self.title)
+        return byte_matrix.draw(self.supersteps(1 << 60), self.options.h, self.title)
 
     def split(self) -> Picture:
         """The split of the costs."""
-        return split.draw(self.costs(), self.prices, self.title)
+        return cost_split.draw(self.costs(), self.prices, self.title)
 
     def listing(self) -> Listing:
         """The costs of lines."""
@@ -87,21 +87,21 @@ class Plan:
 
     def dearest(self) -> Picture:
         """The dearest lines."""
-        return lines.draw(self.listing(), self.title)
+        return line_bars.draw(self.listing(), self.title)
 
-    def lines(self) -> list[sweep.Line]:
+    def lines(self) -> list[sweep_table.Line]:
         """The lines of a sweep."""
         if not self.source.rows:
             raise Refused(f"{self.source.name} has no sweep: give the table of bspsweep for --sweep and --compare")
-        return sweep.lines(self.source.rows)
+        return sweep_table.lines(self.source.rows)
 
     def sweep(self) -> Picture:
         """Totals, speedups, efficiencies."""
-        return series.draw(self.lines(), self.title)
+        return sweep_curves.draw(self.lines(), self.title)
 
     def compare(self) -> Picture:
         """Programs against one another."""
-        return series.compare(self.lines(), self.title, self.options.rate)
+        return sweep_curves.compare(self.lines(), self.title, self.options.rate)
 
 
 def settings(plan: Plan) -> list[tuple[str, str]]:
@@ -128,7 +128,7 @@ def sections(plan: Plan) -> list[page.Section]:
         found.append(page.Section("Who sent to whom", page.MATRIX, page.inline(plan.matrix(), "matrix")))
     if plan.source.rows:
         found.append(page.Section("Over the number of nodes", page.SWEEP, page.inline(plan.sweep(), "sweep")))
-        if sweep.crossings(plan.lines()):
+        if sweep_table.crossings(plan.lines()):
             found.append(page.Section("One against another", page.COMPARE, page.inline(plan.compare(), "compare")))
         return [*found, page.sweep_table(plan.source.rows)]
     return [*found, page.cost_table(plan.source.costs, plan.source.profile, plan.prices, plan.options.h)]
@@ -138,7 +138,7 @@ def source_sections(plan: Plan) -> list[page.Section]:
     """What a page of a source has."""
     costs = page.Section("What the supersteps cost", page.COSTS, page.inline(plan.split(), "costs"))
     dear = page.Section("The dearest lines", page.LINES, page.inline(plan.dearest(), "lines"))
-    return [costs, dear, *annotated.sections(plan.listing())]
+    return [costs, dear, *annotated_source.sections(plan.listing())]
 
 
 def write_page(plan: Plan, path: str, made: Callable[[Plan], list[page.Section]], style: str = "") -> None:
@@ -154,7 +154,7 @@ def draw(options: argparse.Namespace) -> None:
     """Draws all that was asked for."""
     pictures = [getattr(options, name) for name in PICTURES]
     files.expect_apart([*pictures, options.page, options.html], [options.source])
-    plan = Plan(options, sources.read(options.source, options.h))
+    plan = Plan(options, plot_inputs.read(options.source, options.h))
     drawers = (plan.timeline, plan.matrix, plan.split, plan.dearest, plan.sweep, plan.compare)
     wanted = {name: make for name, make in zip(PICTURES, drawers) if getattr(options, name)}
     if not wanted and not options.page and not options.html:
@@ -162,7 +162,7 @@ def draw(options: argparse.Namespace) -> None:
     for name, make in wanted.items():
         make().save(getattr(options, name))
     if options.page:
-        write_page(plan, options.page, source_sections, annotated.style(plan.listing()))
+        write_page(plan, options.page, source_sections, annotated_source.style(plan.listing()))
     if options.html:
         write_page(plan, options.html, sections)
     tell(plan.notes, "bspplot: ")

@@ -1,4 +1,4 @@
-"""A page in one file: pictures, the table of supersteps or of runs, the program's name and its settings."""
+"""A page in one file: pictures, the table of supersteps or runs, the program and its settings."""
 
 from __future__ import annotations
 
@@ -9,9 +9,9 @@ from collections.abc import Sequence
 from typing import NamedTuple
 
 from .canvas import Picture, thousands
-from .costs import Cost, Prices, total
 from .profile import Profile, Reading
-from .sweep import Row
+from .superstep_costs import Cost, Prices, total
+from .sweep_table import Row
 
 MOST_ROWS = 500
 # Of a row with letters of the usual size.

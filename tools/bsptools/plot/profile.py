@@ -1,4 +1,4 @@
-"""The profile that `run --profile` writes: what each rank did in each superstep, and which bytes went from rank to rank."""
+"""The reader of what `run --profile` writes: the steps of each rank and the bytes between ranks, by superstep."""
 
 from __future__ import annotations
 

@@ -1,4 +1,4 @@
-"""The timeline: a bar for each rank's work, with its waiting beside it, and then the exchange and the end of the superstep."""
+"""The timeline: each rank's work and waiting, then the exchange and the end of the superstep."""
 
 from __future__ import annotations
 
@@ -6,8 +6,8 @@ from matplotlib.axes import Axes
 from matplotlib.patches import Patch, Rectangle
 
 from .canvas import EXCHANGE, SMALL, SYNC, WAIT, WORK, Picture, fits, picture, thousands, whole_numbers, width
-from .costs import Cost, Prices
 from .profile import Reading, Superstep
+from .superstep_costs import Cost, Prices
 
 BAR = 0.8
 KINDS = {WORK: "work", WAIT: "waiting for the slowest rank", EXCHANGE: "exchange, g·h", SYNC: "end of the superstep, l"}

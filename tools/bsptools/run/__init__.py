@@ -1,1 +1,1 @@
-"""The parts of bsprun, the person's way to run a program. Python's standard library is all that they want."""
+"""What `bsprun` does with a run: watches it, ends it, and says what came of it."""

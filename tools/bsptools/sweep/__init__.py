@@ -1,1 +1,1 @@
-"""The parts of bspsweep, which runs programs over lists of settings. Python's standard library is all that they want."""
+"""What `bspsweep` does: runs of programs over lists of settings, and their table."""

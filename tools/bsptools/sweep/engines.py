@@ -1,5 +1,8 @@
-"""Who makes the runs: GNU parallel, here and over hosts; Slurm, as an array of jobs; or the shell, one after another. Each is given a
-file with a command in each line."""
+"""Who makes the runs: GNU parallel, Slurm, or the shell.
+
+GNU parallel makes them here and over hosts, Slurm as an array of jobs, the shell one after another. Each is given a file with a command in
+each line.
+"""
 
 from __future__ import annotations
 

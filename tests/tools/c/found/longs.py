@@ -1,5 +1,7 @@
-"""Parts of run: programs that compute in a `long`, which has 64 bits elsewhere, by default options. Where something does not fit it is told
-behind the run, which is as it is without that."""
+"""Programs that compute in a `long`, which has 64 bits elsewhere, by default options.
+
+Where something does not fit it is told behind the run, which is as it is without that.
+"""
 
 from __future__ import annotations
 
@@ -131,14 +133,14 @@ int main()
 }
 """
 # For how long what goes beside a run is waited for behind it, as forked.NUMBERS has it.
-PATIENT = "bsptools.run.longs.MORE_SECONDS=300"
+PATIENT = "bsptools.run.long_overflows.MORE_SECONDS=300"
 # A run on one processor that is as patient.
 ON_ONE = """
 import os, sys
 sys.path.insert(0, sys.argv[1])
 from bsptools import start
-from bsptools.run import longs
-longs.MORE_SECONDS = 300
+from bsptools.run import long_overflows
+long_overflows.MORE_SECONDS = 300
 os.sched_setaffinity(0, {int(sys.argv[2])})
 sys.exit(start.process("bsprun", sys.argv[3:]))
 """

@@ -1,4 +1,4 @@
-"""Parts of run: files that programs write, what they are given, and mistakes that would pass in silence."""
+"""Files that programs write, what they are given, and mistakes that would pass in silence."""
 
 from __future__ import annotations
 

@@ -1,0 +1,1 @@
+"""Changes of files by chance, and the readers and commands that are given them."""

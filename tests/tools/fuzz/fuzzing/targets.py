@@ -17,16 +17,17 @@ from dataclasses import dataclass
 from typing import Callable, Dict, List, Optional, Sequence, Tuple
 
 from bsptools import start
-from bsptools.counts import table
-from bsptools.debug import cli as _debug  # noqa: F401  pylint: disable=unused-import
-from bsptools.plot import profile, sources, sweep
-from bsptools.plot.costs import Prices, total
+from bsptools.commands import bspgdb as _debug  # noqa: F401  pylint: disable=unused-import
+from bsptools.commands import bsprun as _run  # noqa: F401  pylint: disable=unused-import
+from bsptools.commands import bspsweep as _sweep  # noqa: F401  pylint: disable=unused-import
+from bsptools.counts import step_counts
+from bsptools.outputs import contested_bytes, report_formats
+from bsptools.plot import plot_inputs, profile, sweep_table
+from bsptools.plot.superstep_costs import Prices, total
+from bsptools.program.code import read_elf, source_lines
 from bsptools.refusals import Refused
-from bsptools.run import cli as _run  # noqa: F401  pylint: disable=unused-import
-from bsptools.run import contested, forms, program
-from bsptools.sweep import cli as _sweep  # noqa: F401  pylint: disable=unused-import
-from bsptools.sweep import job
-from bsptools.sweep.store import Place
+from bsptools.sweep import sweep_job
+from bsptools.sweep.result_store import Place
 
 from fuzzing.mutations import mutated, patched
 
@@ -93,7 +94,7 @@ class Trial:
     def read_contested(self) -> str:
         """What is contested in a run, which is told as that of a run of two nodes and three supersteps alone."""
         (self.folder / "contested").write_bytes(mutated(self.bases.contested, self.chance))
-        return quietly(lambda: contested.read(self.folder / "contested", 2, 2))
+        return quietly(lambda: contested_bytes.read(self.folder / "contested", 2, 2))
 
     def read_record(self) -> str:
         """What a sweep keeps: a changed record counts as not made."""
@@ -102,7 +103,7 @@ class Trial:
         for name, content in zip(("run.json", "job.json"), self.bases.records):
             (place.folder / name).write_bytes(mutated(content, self.chance))
         before = (place.folder / "run.json").read_bytes()
-        fault = quietly(lambda: job.described(place))
+        fault = quietly(lambda: sweep_job.described(place))
         found = place.found()
         if found is not None and b"".join(before.split()) != b"".join(self.bases.records[0].split()) and found != self.original():
             fault = fault or "a record is taken that was changed"
@@ -176,33 +177,33 @@ class Trial:
 def counted(content: bytes) -> None:
     """Reads a source, and counts what pictures show of it."""
     for reading in profile.Reading:
-        found = sources.understood("source", content, reading)
+        found = plot_inputs.understood("source", content, reading)
         if found.profile:
             total(found.costs, Prices(1 << 63, 1 << 63))
             assert all(it.balance <= 1 for it in found.profile.supersteps)
         if found.rows:
-            lines = sweep.lines(found.rows)
-            sweep.labels(lines)
-            sweep.crossings(lines)
+            lines = sweep_table.lines(found.rows)
+            sweep_table.labels(lines)
+            sweep_table.crossings(lines)
             assert all(line.efficiency(nodes) >= 0 for line in lines for nodes in line.totals)
 
 
 def compared(path: pathlib.Path, content: bytes) -> None:
     """Reads counts, and compares them with the report."""
-    told = forms.read(content)
+    told = report_formats.read(content)
     assert told is not None
-    found = table.read(path, 2, told)
+    found = step_counts.read(path, 2, told)
     assert [it.w for it in found.supersteps] == [it.costs["w"] for it in told.supersteps]
     assert sum(found.paid().values()) == sum(it.w for it in found.supersteps)
 
 
 def named(content: bytes, chance: random.Random) -> None:
     """Reads an executable, and looks up some addresses."""
-    code = program.read_elf(content).know_names()
+    code = read_elf(content).know_names()
     places = [0, 4, 1 << 31, (1 << 32) - 1]
     places += [start + 2 * chance.randrange(30) for start, *_ in chance.sample(code.functions, min(3, len(code.functions)))]
     for address in places:
-        program.source_lines(code, address)
+        source_lines(code, address)
         code.name_at(address)
         code.variable(address)
         code.stored(address)

@@ -1,0 +1,166 @@
+"""The command line of `bspgdb`: it starts gdb, serves gdb's protocol, or begins a dialogue."""
+
+from __future__ import annotations
+
+import argparse
+import contextlib
+import functools
+import os
+import pathlib
+import shlex
+import shutil
+import signal
+import subprocess
+import sys
+from typing import List, Optional, Sequence
+
+from .. import children, emulator
+from ..debug import server
+from ..debug.packets import Closed, Connection
+from ..debug.symbol_file import symbol_file
+from ..dialogue import prompt
+from ..framed.session import DebuggerEnded
+from ..machines import Take
+from ..options import Parser
+from ..prepare.job import Job, prepared
+from ..refusals import BY_SIGNAL, NO_MEMORY, Refused, about, tell
+
+GDB = "gdb-multiarch"
+SETTINGS = pathlib.Path(__file__).resolve().parents[1] / "debug/settings.gdb"
+# How the bridge is started that gdb has at the other end of a pipe: behind this stand the file that has a byte for each Ctrl-C, and the
+# debugger's command.
+PIPE = "--pipe"
+
+
+def arguments(words: Sequence[str]) -> argparse.Namespace:
+    """What a command line asks for. What stands behind `--` is for gdb."""
+    end = words.index("--") if "--" in words else len(words)
+    parser = Parser(
+        "bspgdb",
+        usage="bspgdb [-n P] [options] PROGRAM [ARGS..] [-- OPTIONS OF GDB]",
+        description="Debugs a BSP program on P nodes with gdb-multiarch, rank R being thread R + 1. PROGRAM is what bsprun takes: an ELF"
+        " file that was compiled with -g, or a C program (.c), which is compiled first. docs/manual/gdb.md says what there is.",
+    )
+    parser.add_program()
+    parser.add_machine()
+    parser.add_prices()
+    parser.add_rate()
+    parser.add_argument("--machine", action=Take, metavar="NAME", help="nodes, prices and rate of a machine of the literature, as bsprun has it")
+    parser.add_argument("--server", action="store_true", help="no gdb is started: one session is served on a Unix socket, which none but"
+        " this user can reach; a line says where")  # fmt: skip
+    parser.add_number("--tcp", what="a port", least=0, most=65535, metavar="PORT", help="as --server, but on this port of 127.0.0.1, which"
+        " every user of this host can reach; 0 is any that is free")  # fmt: skip
+    parser.add_argument("--stdio", action="store_true", help="as --server, but on standard input and output, for gdb's"
+        " `target remote | bspgdb --stdio ..`")  # fmt: skip
+    parser.add_argument("--dialogue", "--lines", action="store_true", help="no gdb: the debugger's own lines, with a prompt, history, and names"
+        " for addresses; help there tells them. --lines is its older name")  # fmt: skip
+    parser.add_argument("--bspemu", metavar="PATH", help="the emulator, if it is another than bspemu beside this")
+    asked = parser.parse_args(words[:end])
+    asked.gdb_options = list(words[end + 1 :])
+    if asked.dialogue and (asked.server or asked.stdio or asked.tcp is not None or asked.gdb_options):
+        raise Refused("--dialogue is without gdb: leave out --server, --tcp, --stdio and what stands behind --")
+    tell([f"bspgdb: {it} behind PROGRAM is an argument of the program" for it in parser.own(list(words[:end]), asked.args)])
+    return asked
+
+
+def command(job: Job) -> List[str]:
+    """The command that starts the debugger."""
+    return [*job.program, "debug", *job.settings]
+
+
+def main(words: Sequence[str]) -> int:
+    """Does what the command line says. Answers the exit status."""
+    if words[:1] == [PIPE]:
+        return bridge(words[2:], pathlib.Path(words[1]))
+    asked = arguments(words)
+    with children.folder("bspgdb") as folder:
+        job = prepared(asked, folder, "bspgdb")
+        check(job)
+        if not (asked.stdio or asked.dialogue or asked.server or asked.tcp is not None):
+            return start_gdb(job, folder)
+        with children.looking_for_signals():
+            if asked.stdio:
+                bridge(command(job))
+            elif asked.dialogue:
+                return talk(job)
+            elif asked.tcp is not None:
+                server.serve(command(job), server.Loopback(asked.tcp))
+            else:
+                server.serve(command(job), server.LocalSocket(folder / "socket"))
+    return 0
+
+
+def talk(job: Job) -> int:
+    """Makes a session of lines. Answers the exit status: the debugger's, where that was refused memory, which it says by itself."""
+    try:
+        prompt.talk(command(job))
+    except DebuggerEnded as ended:
+        if ended.status != NO_MEMORY:
+            raise
+        return NO_MEMORY
+    return 0
+
+
+def bridge(command: Sequence[str], typed: Optional[pathlib.Path] = None) -> int:
+    """Makes a session at the other end of gdb's pipe. At a terminal Ctrl-C is for gdb, which closes the pipe where it is ended. But while it
+    waits for an answer, it tells nothing of that: a file does, whose size is how often it was typed."""
+    signal.signal(signal.SIGINT, signal.SIG_IGN)
+
+    def count() -> int:
+        return typed.stat().st_size if typed is not None and typed.exists() else 0
+
+    if typed is not None:
+        children.stop_by_signal(0)
+        with about(number_file(typed)):
+            number_file(typed).write_text(str(os.getpid()))
+    with contextlib.suppress(Closed):
+        server.make_session(command, Connection(0, 1), count if typed is not None else None)
+    return 0
+
+
+def number_file(typed: pathlib.Path) -> pathlib.Path:
+    """The file beside this one in which the bridge says its process number."""
+    return typed.with_name("bridge")
+
+
+def tell_bridge(typed: pathlib.Path, number: int) -> None:
+    """Sends the bridge a signal, if it is there, since gdb has put it where the terminal's signals do not come."""
+    with contextlib.suppress(OSError, ValueError):
+        process = int(number_file(typed).read_text())
+        if os.fsencode(typed) in pathlib.Path(f"/proc/{process}/cmdline").read_bytes().split(b"\0"):
+            os.kill(process, number)
+
+
+def check(job: Job) -> None:
+    """Lets the debugger look at the program and the settings, before anything waits for it. It says by itself what is wrong."""
+    status = subprocess.run(command(job), stdin=subprocess.DEVNULL, check=False).returncode
+    if status != 0:
+        sys.exit(status)
+
+
+def file_for_gdb(job: Job, folder: pathlib.Path) -> List[str]:
+    """The file from which gdb takes names and lines, where there is one. Of a text one is made."""
+    if job.kind != "asm":
+        return [str(job.image)] if job.is_for_gdb else []
+    content = symbol_file(job.code, job.options.program, job.content.decode(errors="surrogateescape"))
+    path = folder / "symbols.elf"
+    with about(path):
+        path.write_bytes(content)
+    return [str(path)] if content else []
+
+
+def start_gdb(job: Job, folder: pathlib.Path) -> int:
+    """Runs gdb on the program, with a bridge at the other end of a pipe, and takes down in a file how often Ctrl-C is typed. Answers gdb's exit
+    status."""
+    if shutil.which(GDB) is None:
+        raise Refused(f"{GDB} is missing: install the package {GDB}")
+    typed = folder / "typed"
+    pipe = shlex.join([emulator.program("bspgdb"), PIPE, str(typed), *command(job)])
+    words = [GDB, "-q", "-x", str(SETTINGS), "-ex", f"target remote | {pipe}", *job.options.gdb_options, *file_for_gdb(job, folder)]
+
+    def note() -> None:
+        with contextlib.suppress(OSError), typed.open("ab") as file:
+            file.write(b"C")
+
+    status = children.at_terminal(words, note, functools.partial(tell_bridge, typed))
+    return status if status >= 0 else BY_SIGNAL - status

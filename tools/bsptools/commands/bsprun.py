@@ -1,0 +1,170 @@
+"""The command line of `bsprun`."""
+
+from __future__ import annotations
+
+import argparse
+import contextlib
+import os
+import signal
+import sys
+
+from .. import children, files, streams
+from ..limits import MOST_WORKERS, WORKERS
+from ..machines import Take
+from ..options import Parser
+from ..prepare.given_files import files_read
+from ..prepare.job import Job, prepared
+from ..refusals import BY_SIGNAL, REFUSED, UNWRITTEN, Refused, about, show, tell
+from ..run.cost_formats import form, wants_counts
+from ..run.long_overflows import Beside
+from ..run.watched_run import Done, Fewer, Interrupted, Stopped, Watch
+
+# The status of a run that the clock has ended, as that of timeout(1), and the longest that --wall takes.
+WALL, MOST_SECONDS = 124, 10_000_000
+# That of a program which comes to something else where a library chooses otherwise.
+OTHERWISE = 10
+
+
+def parser() -> Parser:
+    """The reader of bsprun's command line."""
+    found = Parser(
+        "bsprun",
+        usage="bsprun [-n P] [options] PROGRAM [ARGS..]",
+        description="Runs a BSP program on P nodes. PROGRAM is an ELF file, a text of assembly (.s), a raw image (.raw), or a"
+        " C program (.c), which is compiled first. Standard output has the program's output alone, superstep by superstep, and standard"
+        " error what it writes there. Standard input is the program's, where it reads it.",
+    )
+    add = found.add_argument
+    found.add_program()
+    found.add_machine()
+    found.add_prices()
+    found.add_rate()
+    add("--machine", action=Take, metavar="NAME", help="nodes, prices and rate of a machine of the literature, as t3e-8; options behind it count")
+    add("--out", metavar="DIR", help="where files go that the program writes; without it there are none")
+    add("--report", metavar="FILE", help="the costs, into FILE: as CSV or JSON where its name says so; - is standard error")
+    add("--profile", metavar="FILE", help="what each rank did in each superstep, into FILE as CSV: bspplot draws it")
+    add("--summary", action="store_true", help="the totals and the dearest lines of supersteps, on standard error")
+    add("--lines", action="store_true", help="where w and h come from, by line and by function, on standard error")
+    add("--fold", action="store_true", help="as --lines, with the work of library functions at the lines that called them")
+    add("--lines-as", type=form, action="append", default=[], metavar="KIND=FILE", help="that as a file of this kind: callgrind,"
+        " folded (stacks for a flame graph), trace (for Perfetto) or json (for bspplot --source); any number of them")  # fmt: skip
+    add("--no-check", action="store_true", help="leave out the look at what does not fit into a long, which goes beside a .c program's run")
+    found.add_number("--fill", what="the byte of fresh memory", least=0, most=255, metavar="BYTE",
+        help="the byte that stack and malloc have at first, for a program that reads what it did not write; 0 by default")  # fmt: skip
+    add("--warn", action="store_true", help="look for what is likely a mistake, also in a run that ends well; takes long")
+    add("--portable", action="store_true", help="then run a .c program again under each choice that BSPlib leaves to a library")
+    found.add_number("--wall", what="the time of a run in seconds", least=1, most=MOST_SECONDS, metavar="SECONDS",
+        help="end the run after so long, with a line that says where the ranks were")  # fmt: skip
+    found.add_number("--workers", what="the number of threads", least=1, most=MOST_WORKERS, default=WORKERS, metavar="COUNT",
+        help="threads of the host, 1 by default")  # fmt: skip
+    return found
+
+
+def arguments(words: list[str]) -> argparse.Namespace:
+    """What the command line asks for."""
+    reader = parser()
+    asked = reader.parse_args(words)
+    tell([f"bsprun: {it} behind PROGRAM is an argument of the program" for it in reader.own(words, asked.args)])
+    return asked
+
+
+def deliver(job: Job, done: Done) -> int:
+    """Writes all that was asked for beside the output, and says why a run did not end well."""
+    # Also where the report is whole: a profile is written after it.
+    tell(done.said.decode(errors="replace").splitlines())
+    found, options = done.report, job.options
+    if done.status < 0:
+        why = signal.strsignal(-done.status) or f"signal {-done.status}"
+        why += ", as by a host that has no memory left" if -done.status == signal.SIGKILL else ""
+        tell([f"bsprun: the emulator was ended after {done.seconds:.1f} s: {why}"])
+        return BY_SIGNAL - done.status
+    if found is None:
+        return done.status
+    if done.status == UNWRITTEN and options.profile is not None:
+        tell([f"bsprun: {options.profile}: the profile could not be written there; the output is whole"])
+    # What has no part in most runs is loaded where it is wanted, so that these begin sooner.
+    if options.report == "-":
+        streams.report(found.text)
+    elif options.report is not None:
+        from ..outputs.report_formats import spelled_for
+
+        files.write(options.report, spelled_for(options.report, found))
+    chosen, is_whole = None, True
+    if done.records or options.out is not None:
+        from ..run.exit_status import chosen_status
+        from ..run.record_messages import tell_records
+        from ..outputs.library_notes import STATUS
+
+        chosen = chosen_status(job, found, done.records)
+        is_whole = tell_records(job, done.records, found, untold=STATUS if chosen is not None else "")
+    if options.summary or options.warn or wants_counts(options) or (found.outcome != "ended" and chosen is None):
+        from ..run.closing_messages import tell_of
+
+        tell_of(job, found, parser(), is_chosen=chosen is not None)
+    if options.portable and found.outcome != "ended":
+        tell(["bsprun: not tried: other choices, since the run does not end well as it is"])
+    status = done.status if chosen is None else chosen
+    return status if is_whole else status or REFUSED
+
+
+def tell_where(job: Job, begin: str, stopped: Stopped) -> None:
+    """Says in a line where the ranks of a run were that was broken off."""
+    from ..run.rank_positions import ranks_at
+
+    show("bsprun: looking for where the ranks were: Ctrl-C leaves that out")
+    try:
+        line = f"bsprun: {begin} after {stopped.seconds:.1f} s, in {ranks_at(job, stopped.seconds, stopped.written)}"
+    finally:
+        show("")
+    tell([line])
+
+
+def run(job: Job, beside: Beside) -> int:
+    """Runs a job, with what goes beside it; the status is that of the emulator, unless the clock or Ctrl-C has ended it."""
+    beside.run(job)
+    watch = Watch(job, job.options.wall, beside)
+    try:
+        done = watch.run()
+        status = deliver(job, done)
+        beside.wait(done.seconds)
+        tell(beside.lines())
+        return status
+    except Fewer as fewer:
+        count, nodes = fewer.count, job.options.nodes
+        tell([f"bsprun: the program takes {count} nodes in bsp_begin, and so it has these, and not {nodes}"])
+        job.give_nodes(count)
+        return run(job, beside)
+    except Interrupted as interrupted:
+        children.end_by_signals_again()
+        beside.close()
+        # The terminal shows Ctrl-C in its line.
+        show("", "\n" if sys.stderr.isatty() else "")
+        tell_where(job, "ended by Ctrl-C", interrupted)
+        tell(beside.lines())
+        return BY_SIGNAL + signal.SIGINT
+    except Stopped as stopped:
+        beside.close()
+        tell_where(job, "ended by --wall", stopped)
+        tell(beside.lines())
+        return WALL
+
+
+def main(words: list[str]) -> int:
+    """Runs a program; the status is the emulator's, or says what ended it."""
+    options = arguments(words)
+    outputs = [options.report if options.report != "-" else None, options.profile, *(path for _, path in options.lines_as)]
+    files.expect_apart(outputs, files_read(options))
+    files.expect_writable(outputs)
+    if options.out is not None and not os.path.isdir(options.out):
+        if os.path.lexists(options.out):
+            raise Refused(f"--out wants a folder, which {options.out} is not")
+        with about(options.out):
+            os.mkdir(options.out)
+    with children.folder("bsprun") as folder, contextlib.closing(Beside(folder)) as beside:
+        job = prepared(options, folder, "bsprun", is_marked=True, beside=beside.build)
+        status = run(job, beside)
+        if options.portable and status == 0:
+            from ..portable.portability import is_portable
+
+            return 0 if is_portable(job, folder) else OTHERWISE
+        return status

@@ -1,0 +1,1 @@
+"""Why runs stop, and what in them is likely a mistake."""

@@ -1,0 +1,137 @@
+"""What a program's library notes in a run, and the lines that say so at its end."""
+
+from __future__ import annotations
+
+import os
+import pathlib
+import re
+import struct
+from collections.abc import Callable
+from typing import NamedTuple
+
+from ..limits import MOST_MEMORY, PAGE
+from ..program.code import Code, source_lines
+from ..refusals import counted
+from .output_records import Record
+
+REFUSED, ABSENT, UNWRITTEN, LOST, PENDING, EMPTY, CLOCK, STATUS, READ, LONG = "m", "r", "w", "l", "p", "i", "c", "s", "d", "o"
+MOST_TOLD = 10
+# What does not fit into a `long`: path, line, and what it is of which type.
+SHORT = r"(?s)(.*):(\d+): (.*'(.*)', which has 32 bits here)"
+_HEAD = struct.Struct("<5I")
+
+
+class Note(NamedTuple):
+    """A note: what it is, which rank made it in which superstep, the place behind the call of which it tells, numbers and a text."""
+
+    what: str
+    rank: int
+    superstep: int
+    place: int
+    one: int
+    other: int
+    text: str
+
+    @property
+    def kind(self) -> tuple[str, int, str]:
+        """What notes have in common that are told once."""
+        found = re.fullmatch(SHORT, self.text) if self.what == LONG else None
+        text = "" if self.what == READ else f"{found[1]}:{found[2]}" if found else self.text
+        return self.what, self.place if self.what in (REFUSED, PENDING) else 0, text
+
+
+def note_of(record: Record) -> Note | None:
+    """The note of a record, if it is one."""
+    content = record.content
+    if len(content) < _HEAD.size:
+        return None
+    what, superstep, place, one, other = _HEAD.unpack_from(content)
+    return Note(chr(what & 0x7F), record.rank, superstep, place, one, other, os.fsdecode(content[_HEAD.size :]))
+
+
+class NoteTeller:
+    """Makes lines of notes. `written` has the ranks that wrote a file, by its name; `given` is the file of --input, if there is one;
+    `seconds` says what a second is; `where` tells function and line at which a note was made, or nothing, for those that do not tell it
+    themselves."""
+
+    def __init__(
+        self, code: Code, memory: int, written: dict[str, int], given: str | None, seconds: str, where: Callable[[Note], str]
+    ) -> None:
+        self.code, self.memory, self.written = code, memory, written
+        self.given, self.seconds, self.where = given, seconds, where
+
+    def lines(self, notes: list[Note]) -> list[str]:
+        """A line for each kind of note, with how many more ranks made it."""
+        kinds: dict[tuple[str, int, str], list[Note]] = {}
+        for it in notes:
+            kinds.setdefault(it.kind, []).append(it)
+        lines = []
+        for same in list(kinds.values())[:MOST_TOLD]:
+            ranks = len({it.rank for it in same}) - 1
+            more = f", and so {counted(ranks, 'more rank')}" if ranks else ""
+            lines.append(f"bsprun: rank {same[0].rank}, superstep {same[0].superstep}: {self.text(same[0])}{more}")
+        return lines + ([f"bsprun: and {len(kinds) - MOST_TOLD} more of this kind"] if len(kinds) > MOST_TOLD else [])
+
+    def text(self, note: Note) -> str:
+        """What is told of a note."""
+        tellers = {REFUSED: self.refused, ABSENT: self.absent, PENDING: self.pending, LONG: too_short}
+        what = self.empty() if note.what == EMPTY else ""
+        at = self.at(note) if note.what in (UNWRITTEN, LOST, EMPTY, READ) else ""
+        texts = {
+            UNWRITTEN: f"{note.text} was to be written{at}: give --out DIR",
+            LOST: f"{note.text} was to be read{at}, and the node had no memory to keep what was written: give --memory",
+            EMPTY: f"a number is read{at}, and {what}",
+            READ: f"{note.text.partition(' ')[0]} is read{at}, and does not fit into a long, which has 32 bits here: write long long, %lld and strtoll",
+            CLOCK: f"the time is what the run has cost so far by the model, and no host's: {self.seconds}",
+            STATUS: f"the program ended with status {note.one if note.one < 2**31 else note.one - 2**32}",
+        }
+        return tellers[note.what](note) if note.what in tellers else texts.get(note.what, "a note that is not known")
+
+    def refused(self, note: Note) -> str:
+        """A request for memory that was refused."""
+        need = -(-(note.one + note.other + PAGE) // PAGE) * PAGE
+        more = self.memory < need <= MOST_MEMORY
+        advice = f"give --memory {need}" if more else f"a node has {MOST_MEMORY} at most, so give each rank a smaller part"
+        used = f"{note.other} of the node's {self.memory} are in use"
+        return f"{note.text} of {note.one} bytes was refused at {self.place(note.place)}; {used}; {advice}"
+
+    def at(self, note: Note) -> str:
+        """Where a note was made, behind a verb."""
+        where = self.where(note)
+        return f" at {where}" if where else ""
+
+    def empty(self) -> str:
+        """What is so of an input that has no number."""
+        return "the input is empty: give --input FILE" if self.given is None else f"{self.given}, the file of --input, is empty"
+
+    def absent(self, note: Note) -> str:
+        """A file that is not there."""
+        name, read = note.text, f"{note.text} was to be read{self.at(note)}"
+        if name in self.written and self.written[name] != note.rank:
+            return f"{read}: rank {self.written[name]} has written it, and ranks share no files, so send what it has"
+        if os.path.isfile(name):
+            return f"{read}: it is in this folder, give --file {name}"
+        return f"{read}, and no file of this name is given or in this folder: give --file PATH/{os.path.basename(name)}"
+
+    def pending(self, note: Note) -> str:
+        """Requests that come to nothing."""
+        return f"what was asked for comes to nothing, since no bsp_sync follows: the last of it at {self.place(note.place)}"
+
+    def place(self, back: int) -> str:
+        """Function and line of the call that goes back to an address."""
+        self.code.know_names()
+        call = self.code.call_before(back) or back - 2
+        known = source_lines(self.code, call)
+        known = [it for it in known if pathlib.Path(it[1].rpartition(":")[0]).exists()] or known
+        if known:
+            path, _, number = known[0][1].rpartition(":")
+            line = f"{pathlib.PurePath(path).name}:{number}"
+            return f"{known[0][0]}, {line}" if known[0][0] else line
+        return self.code.name_at(call) or f"address {call:#x}"
+
+
+def too_short(note: Note) -> str:
+    """What does not fit into a `long`, and what to write."""
+    found = re.fullmatch(SHORT, note.text)
+    where = f"{pathlib.PurePath(found[1]).name}:{found[2]}: {found[3]}" if found else note.text
+    return f"{where}: write " + ("uint64_t or unsigned long long" if found and "unsigned" in found[4] else "int64_t or long long")

@@ -1,0 +1,66 @@
+"""What `bspplot` reads: a profile, a report, the costs of lines, or the table of a sweep."""
+
+from __future__ import annotations
+
+import pathlib
+from dataclasses import dataclass, field
+
+from ..counts import source_listing
+from ..files import content_of
+from ..limits import MOST_TABLE
+from ..outputs import report, report_formats
+from ..refusals import Refused, printable
+from . import profile, superstep_costs, sweep_table
+
+
+@dataclass(frozen=True)
+class Source:
+    """What a file tells. A profile and the costs of lines tell the costs of supersteps too; a report has these alone, and the table of a
+    sweep has none."""
+
+    name: str
+    costs: list[superstep_costs.Cost] = field(default_factory=list)
+    profile: profile.Profile | None = None
+    rows: list[sweep_table.Row] = field(default_factory=list)
+    listing: source_listing.Listing | None = None
+    outcome: str = ""
+
+
+def read(path: str, reading: profile.Reading) -> Source:
+    """What a file tells; it refuses one that is nothing of this."""
+    content = content_of(path, MOST_TABLE)
+    try:
+        return understood(printable(pathlib.Path(path).name), content, reading)
+    except Refused as refused:
+        raise Refused(f"{path}: {refused}") from refused
+
+
+def understood(name: str, content: bytes, reading: profile.Reading) -> Source:
+    """What these bytes tell."""
+    text = content.decode(errors="replace")
+    if profile.is_profile(text):
+        found = profile.parse(text)
+        return Source(name, superstep_costs.of_profile(found, reading), found, outcome=found.outcome())
+    if source_listing.is_listing(text):
+        lines = source_listing.parse(text)
+        expect_reading(reading, profile.Reading.OTHERS, "the costs of lines have")
+        return Source(name, superstep_costs.of_listing(lines), listing=lines, outcome=lines.outcome)
+    if sweep_table.is_table(text):
+        return Source(name, rows=sweep_table.parse(text))
+    known = report_formats.read(content)
+    if known is None:
+        raise Refused("this is no profile, no report, no costs of lines, and no table of a sweep")
+    expect_reading(reading, reading_of(known), "a report has")
+    return Source(name, superstep_costs.of_report(known), outcome=known.outcome)
+
+
+def expect_reading(asked: profile.Reading, told: profile.Reading, has: str) -> None:
+    """Refuses another h than the only one that is told."""
+    if asked is not told:
+        raise Refused(f"{has} one h, and this one's is that of --h {told.value}: say so, or give a profile")
+
+
+def reading_of(known: report.Report) -> profile.Reading:
+    """Which bytes the h of a report counts: the version of the ledger that tells of messages leaves out what ranks move to themselves."""
+    tells_messages = all("m" in it.costs for it in known.supersteps)
+    return profile.Reading.OTHERS if tells_messages else profile.Reading.ALL

@@ -1,0 +1,165 @@
+"""The reader of the table that `bspsweep` writes, and its curves: one program and its settings over numbers of nodes."""
+
+from __future__ import annotations
+
+import csv
+import io
+from dataclasses import dataclass, field
+from typing import Any, NamedTuple
+
+from ..files import whole
+from ..limits import MOST_NODES, MOST_PRICE
+from ..outputs.report import OUTCOME
+from ..refusals import Refused, printable
+
+# The columns that each table has; between `l` and `supersteps` stand the settings, and from `supersteps` on what came out.
+FIRST = ["program", "nodes", "g", "l"]
+RESULTS = "supersteps"
+NOT_RUN = "not run"
+# More than a sum of w, h or supersteps is.
+MOST_SUM = 1 << 60
+
+
+class Row(NamedTuple):
+    """A run: a program with its settings at these prices, and its total; none where it did not end."""
+
+    program: str
+    nodes: int
+    g: int
+    l: int
+    settings: tuple[tuple[str, str], ...]
+    total: int | None
+
+
+@dataclass(frozen=True)
+class Line:
+    """The totals of one program, with its settings and prices, by the number of nodes, the fewest first."""
+
+    program: str
+    settings: tuple[tuple[str, str], ...]
+    g: int
+    l: int
+    totals: dict[int, int] = field(default_factory=dict)
+
+    @property
+    def fewest(self) -> int:
+        """The fewest nodes, which speedups are told against."""
+        return min(self.totals)
+
+    def speedup(self, nodes: int) -> float:
+        """How many times quicker it is than on the fewest nodes."""
+        return self.totals[self.fewest] / max(self.totals[nodes], 1)
+
+    def efficiency(self, nodes: int) -> float:
+        """The speedup for each time that there are more nodes."""
+        return self.speedup(nodes) * self.fewest / nodes
+
+
+def is_table(text: str) -> bool:
+    """Whether a text begins as the table of a sweep does."""
+    return text.startswith(",".join(FIRST))
+
+
+def parse(text: str) -> list[Row]:
+    """The runs of a table; it refuses one that is none that bspsweep writes, and names the line."""
+    table = csv.DictReader(io.StringIO(text), strict=True)
+    try:
+        names = list(table.fieldnames or [])
+        if names[: len(FIRST)] != FIRST or not set(names) >= {RESULTS, "w", "h", "total", "outcome"} or len(set(names)) < len(names):
+            raise ValueError("the table of a sweep has columns supersteps, w, h, total and outcome")
+        settings = names[len(FIRST) : names.index(RESULTS)]
+        return [row_of(row, settings) for row in table]
+    except (ValueError, TypeError, csv.Error) as error:
+        raise Refused(f"line {table.line_num}: {error}") from error
+
+
+def row_of(row: dict[Any, Any], settings: list[str]) -> Row:
+    """A run from its values by their names."""
+    if None in row or None in row.values():
+        raise ValueError("its columns are not those of the first line")
+    known = tuple((printable(name), printable(row[name])) for name in settings if row[name])
+    nodes, g, l = whole(row["nodes"], MOST_NODES), whole(row["g"], MOST_PRICE), whole(row["l"], MOST_PRICE)
+    if nodes == 0:
+        raise ValueError("0 nodes")
+    total = None
+    if row["outcome"] != NOT_RUN:
+        w, h, supersteps, total = whole(row["w"], MOST_SUM), whole(row["h"], MOST_SUM), whole(row[RESULTS], MOST_SUM), whole(row["total"])
+        if not OUTCOME.match(row["outcome"].encode()):
+            raise ValueError(f"{row['outcome']!r} is no outcome")
+        if supersteps == 0 or total != w + g * h + l * supersteps:
+            raise ValueError(f"the total {total} is not {w} + {g} * {h} + {l} * {supersteps}")
+    return Row(printable(row["program"]), nodes, g, l, known, total if row["outcome"] == "ended" else None)
+
+
+def lines(rows: list[Row]) -> list[Line]:
+    """The lines of a table in the order in which they begin in it; runs that did not end are left out."""
+    found: dict[tuple[str, tuple[tuple[str, str], ...], int, int], Line] = {}
+    names = short_names({it.program for it in rows})
+    for row in rows:
+        if row.total is not None:
+            key = (names[row.program], row.settings, row.g, row.l)
+            found.setdefault(key, Line(*key)).totals[row.nodes] = row.total
+    if not found:
+        raise Refused("no run in it ended")
+    return [Line(it.program, it.settings, it.g, it.l, dict(sorted(it.totals.items()))) for it in found.values()]
+
+
+def short_names(programs: set[str]) -> dict[str, str]:
+    """The programs without the folders that they lie in, where that tells them apart."""
+    names = {it: it.rpartition("/")[2] for it in programs}
+    return names if len(set(names.values())) == len(programs) else {it: it for it in programs}
+
+
+def labels(them: list[Line]) -> list[str]:
+    """A text for each line, of what tells them apart; the program where nothing does."""
+    return telling([[*named(it), ("", f"g {it.g}, l {it.l}")] for it in them])
+
+
+def named(line: Line) -> list[tuple[str, str]]:
+    """A line's program and its settings."""
+    return [("", line.program), *line.settings]
+
+
+def telling(parts: list[list[tuple[str, str]]]) -> list[str]:
+    """A text for each of these lists of names and values, of the values that not all of them have; the first one where there are none."""
+    common = set(parts[0]).intersection(*parts[1:])
+    texts = []
+    for part in parts:
+        words = [f"{name} {value}".strip() for name, value in part if (name, value) not in common]
+        texts.append(", ".join(words) or part[0][1])
+    return texts
+
+
+class Crossing(NamedTuple):
+    """The first number of nodes at which a line, which cost more on fewer nodes, costs less than another; and a name for it."""
+
+    cheaper: Line
+    nodes: int
+    name: str
+
+    def __str__(self) -> str:
+        return f"from {self.nodes} nodes on {self.name} costs less, at g {self.cheaper.g} and l {self.cheaper.l}"
+
+
+def crossings(them: list[Line]) -> list[Crossing]:
+    """The crossings of each two lines with the same prices that differ in the program, or in one setting, and in nothing else."""
+    names = telling([named(it) for it in them])
+    found = []
+    for i, one in enumerate(them):
+        for j, other in enumerate(them[i + 1 :], i + 1):
+            differing = set(named(one)).symmetric_difference(named(other))
+            if (one.g, one.l) == (other.g, other.l) and len(differing) == 2:
+                found += crossings_of(one, other, (names[i], names[j]))
+    return found
+
+
+def crossings_of(one: Line, other: Line, names: tuple[str, str]) -> list[Crossing]:
+    """The crossings of two lines, along the numbers of nodes that both have."""
+    found: list[Crossing] = []
+    ahead = None
+    for nodes in (it for it in one.totals if it in other.totals and one.totals[it] != other.totals[it]):
+        cheaper, name = (one, names[0]) if one.totals[nodes] < other.totals[nodes] else (other, names[1])
+        if ahead is not None and cheaper is not ahead:
+            found.append(Crossing(cheaper, nodes, name))
+        ahead = cheaper
+    return found

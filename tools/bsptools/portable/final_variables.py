@@ -1,0 +1,75 @@
+"""The program's own variables, and the first that differs at the end of two runs."""
+
+from __future__ import annotations
+
+from typing import NamedTuple
+
+from ..framed.replays import Replays
+from ..program import elf
+from ..program.code import Code
+from .trial_runs import memory_of
+
+# The first file of bsplib/ in a program: its own come before it.
+LIBRARY = "system.c"
+# What bsplib and a C library have, by the beginnings of names and by whole names.
+OTHERS = ("bsp_", "__", "_ZSt", "_ZNSt", "_ZTVN10__cxx", "_ZGVNSt")
+C_LIBRARY = {"errno", "environ", "stdin", "stdout", "stderr", "optarg", "optind", "opterr", "optopt", "signgam", "suboptarg", "tzname"}
+# Bytes of variables that are compared, over all ranks: those of the lower ranks where there are more.
+MOST_COMPARED = 1 << 24
+MOST_AT_ONCE = 1 << 16
+
+
+class Variable(NamedTuple):
+    """A variable outside of all functions, or one that is static in one."""
+
+    address: int
+    size: int
+    name: str
+
+
+class Difference(NamedTuple):
+    """The first byte of a variable that differs between two ends, with what it has at each."""
+
+    rank: int
+    variable: Variable
+    offset: int
+    one: bytes
+    other: bytes
+
+
+def of_program(code: Code) -> list[Variable]:
+    """The variables of a program that can be written, by their addresses."""
+    found: list[Variable] = []
+    is_own = True
+    for it in code.debug.symbols if code.debug else ():
+        kind, binding = it["st_info"]["type"], it["st_info"]["bind"]
+        if kind == "STT_FILE":
+            is_own = is_own and it.name != LIBRARY
+        elif kind == elf.OBJECT and it["st_size"] > 0 and it["st_value"] >= code.names.get("bsp_guard", 1 << 32):
+            if is_own if binding == "STB_LOCAL" else not (it.name.startswith(OTHERS) or it.name in C_LIBRARY):
+                found.append(Variable(it["st_value"], it["st_size"], it.name.partition(".")[0]))
+    return sorted(found)
+
+
+def at_end(replays: Replays, nodes: int, variables: list[Variable]) -> list[bytes]:
+    """The memory of each rank at the end of a run, from the first variable to the end of the last one."""
+    start, end = variables[0].address, max(it.address + it.size for it in variables)
+    memories = []
+    with replays.session() as session:
+        session.ask("go")
+        for rank in range(min(nodes, max(MOST_COMPARED // (end - start), 1))):
+            places = range(start, end, MOST_AT_ONCE)
+            memories.append(b"".join(memory_of(session, rank, it, min(end - it, MOST_AT_ONCE)) for it in places))
+    return memories
+
+
+def difference(variables: list[Variable], one: list[bytes], other: list[bytes]) -> Difference | None:
+    """The first difference between two ends, by ranks and then by addresses."""
+    for rank, (a, b) in enumerate(zip(one, other)):
+        for it in variables if a != b else ():
+            start = it.address - variables[0].address
+            here, there = a[start : start + it.size], b[start : start + it.size]
+            if here != there:
+                offset = next(i for i, (x, y) in enumerate(zip(here, there)) if x != y)
+                return Difference(rank, it, offset, here[offset : offset + 4], there[offset : offset + 4])
+    return None

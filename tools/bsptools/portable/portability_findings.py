@@ -1,0 +1,230 @@
+"""What `--portable` says of what it has found: the calls that count, with their lines."""
+
+from __future__ import annotations
+
+import pathlib
+import re
+from collections.abc import Callable
+from typing import NamedTuple
+
+from ..framed.backtrace import place
+from ..framed.environment_calls import HPGET, HPPUT, REQUESTS, SEND, Tracer, spelled
+from ..framed.replays import Replays
+from ..framed.session import ALL, Node
+from ..framed.superstep_calls import TRACED
+from ..outputs.contested_bytes import Contested
+from ..outputs.written_files import file_name
+from ..prepare.compilation import compiled
+from ..prepare.library_choices import EARLY, REVERSED, Choices, Point, swaps
+from ..refusals import Refused, counted
+from . import final_variables
+from .divergence import first_divergence, shown
+from .trial_runs import Ending, Stop, Trials, least, looked, memory_of, stops
+from .unbuffered_races import Race
+
+# What the linker calls in the place of these functions, in a program that has them.
+TAKING = ("__wrap_bsp_move", "__wrap_bsp_hpmove")
+QUEUE = (*TAKING, "__wrap_bsp_qsize", "__wrap_bsp_get_tag")
+CALLS = ("__wrap_bsp_hpput", "__wrap_bsp_hpget")
+UNSET = re.compile(r"^(.*?):(\d+):\d+: warning: (.*) \[-W(?:maybe-)?uninitialized\]$")
+MOST_TOLD = 3
+
+WHY_PUTS = "BSPlib leaves open in which order the puts and gets of a superstep write"
+WHY_MESSAGES = "BSPlib leaves open in which order the messages of a superstep come"
+WHY_UNBUFFERED = "BSPlib lets bsp_hpput and bsp_hpget read and write at any time from the call to the end of bsp_sync"
+WHY_HEAP = "C leaves open which bytes malloc's memory has"
+WHY_STACK = "C leaves open what a variable of a function has before it is given a value"
+
+
+class Other(NamedTuple):
+    """Choices with which a run comes to something else, and the question that says so of any choices."""
+
+    choices: Choices
+    is_other: Callable[[Choices], bool]
+    difference: str
+
+
+class Findings:
+    """Tells of a program by runs of its build that takes choices. `trace` has the run as it is."""
+
+    def __init__(self, trials: Trials, trace: Tracer) -> None:
+        self.trials, self.trace = trials, trace
+        self.code = trials.code.know_names()
+
+    def messages(self, other: Other) -> list[str]:
+        """Two messages of which the order counts: where they were sent, and where they are taken."""
+        lines = [f"another output where {described(other.choices)}"]
+        chosen = self.trials.first(other.choices, other.is_other)
+        superstep, rank, index = chosen.until
+        replays = self.trials.replays(chosen)
+        sends = self.messages_to(replays, superstep - 1, rank)
+        order = list(range(len(sends)))
+        changes = swaps(chosen, superstep, rank, len(sends))
+        for one, two in changes[:index]:
+            order[one], order[two] = order[two], order[one]
+        lines.append(f"superstep {superstep}, rank {rank}: two messages of its queue change places")
+        for at in changes[index] if index < len(changes) else ():
+            it = sends[order[at]]
+            where = place(self.code, it.node)
+            lines.append(f"sent   by rank {it.node.rank} in superstep {superstep - 1}, at {where}: {shown(it.content)}")
+        taker = self.entries(replays, chosen.until, *TAKING) or self.entries(replays, Point(superstep, rank, 0), *QUEUE)
+        if taker is not None:
+            lines.append(f"taken  by rank {rank}, at {place(self.code, taker.node)}")
+        return [*lines, f"then   {other.difference}", f"why    {WHY_MESSAGES}"]
+
+    def messages_to(self, replays: Replays, superstep: int, rank: int) -> list[Stop]:
+        """The messages that are sent to a rank in a superstep, in the order in which they come here; none where ranks are too many."""
+        sites = Tracer(self.code, replays).sites((SEND,))
+        points = [(it, site) for it in range(self.trials.nodes) for site in sites]
+        script = [*replays.begin(superstep), f"break superstep {superstep + 1}"]
+        found = list(stops(replays, self.code, script, points, lambda node: (node.x[12], node.x[13]))) if len(points) < 1000 else []
+        return sorted((it for it in found if it.node.x[10] == rank and it.node.x[17] == SEND), key=lambda it: it.node.rank)
+
+    def entries(self, replays: Replays, point: Point, *names: str) -> Stop | None:
+        """A rank where it calls one of these functions in a superstep for the n-th time, `point` says for which."""
+        points = [(point.rank, self.code.names[it]) for it in names if it in self.code.names]
+        script = [*replays.begin(point.superstep), f"break superstep {point.superstep + 1}"]
+        calls = stops(replays, self.code, script, points, lambda node: (node.x[11], node.x[14]))
+        return next((it for it in calls if it.number == point.which), None) if points else None
+
+    def source(self, point: Point) -> list[str]:
+        """A bsp_hpput whose source is another one at bsp_sync."""
+        replays = self.trials.replays(Choices())
+        lines = ["bsp_hpput has other bytes at its source at bsp_sync than at the call"]
+        call = self.entries(replays, point, *CALLS)
+        lines += self.entry(point, call)
+        if call is not None:
+            lines += self.change(replays, point, call)
+        return [*lines, f"why    {WHY_UNBUFFERED}"]
+
+    def entry(self, point: Point, call: Stop | None) -> list[str]:
+        """An unbuffered call."""
+        lines = [f"superstep {point.superstep}, rank {point.rank}: its unbuffered call {point.which}"]
+        if call is not None:
+            number = HPPUT if call.node.pc == self.code.names.get("__wrap_bsp_hpput") else HPGET
+            node = call.node._replace(x=(*call.node.x[:17], number, *call.node.x[18:]))
+            lines += [f"at     {place(self.code, node)}", f"call   {spelled(self.code, node)}"]
+        return lines
+
+    def change(self, replays: Replays, point: Point, call: Stop) -> list[str]:
+        """Where the source of a call changes, and what it has before and behind that."""
+        entries = [self.code.names[it] for it in CALLS if it in self.code.names]
+        script = [*replays.begin(point.superstep), *(f"break {point.rank} {it}" for it in entries), *["go"] * (call.number + 1)]
+        script += [f"clear {point.rank} {it}" for it in entries]
+        where, content = self.changed_at(Tracer(self.code, replays), script, point.rank, call.node.x[11], call.content)
+        return [f"other  at {where}: {differing(call.content, content)}"]
+
+    def changed_at(self, trace: Tracer, script: list[str], rank: int, address: int, content: bytes) -> tuple[str, bytes]:
+        """Where a rank changes bytes of its memory in the superstep to which a script comes, and what they are at its end."""
+
+        def after(steps: int) -> tuple[Node, bytes]:
+            with trace.replays.session() as session:
+                session.ask_all([*script, f"step {rank} {steps}"])
+                return looked(session, trace.code, rank), memory_of(session, rank, address, len(content))
+            raise Refused("the run could not be made again")
+
+        end, other = after(ALL)
+        steps = least(0, end.ticks - after(0)[0].ticks, lambda it: after(it)[1] != content)
+        return place(trace.code, after(steps - 1)[0]), other
+
+    def touched(self, it: Race) -> list[str]:
+        """An unbuffered call whose bytes at the other rank are written there."""
+        lines = [f"rank {it.owner} writes in a superstep what an unbuffered call of rank {it.rank} names there"]
+        lines.append(f"superstep {it.superstep}, rank {it.rank}: {spelled(self.trace.code, it.call.node)}")
+        lines.append(f"at     {self.trace.place_of(it.rank, TRACED, 0, it.call)}")
+        where, _ = self.changed_at(self.trace, it.script, it.owner, it.address, it.before)
+        lines.append(f"and    rank {it.owner} at {where}: {differing(it.before, it.after)}")
+        return [*lines, f"why    {WHY_UNBUFFERED}"]
+
+    def call(self, other: Other) -> list[str]:
+        """An unbuffered call of which the time counts."""
+        chosen = self.trials.first(other.choices, other.is_other)
+        call = self.entries(self.trials.replays(chosen), chosen.until, *CALLS)
+        lines = [f"something else where {described(other.choices)}", *self.entry(chosen.until, call)]
+        return [*lines, f"then   {other.difference}", f"why    {WHY_UNBUFFERED}"]
+
+    def heap(self, other: Other) -> list[str]:
+        """A piece of malloc's memory of which the bytes count."""
+        chosen = self.trials.first(other.choices, other.is_other)
+        superstep, rank, index = chosen.until
+        lines = [f"something else where {described(other.choices)}"]
+        piece = self.entries(self.trials.replays(chosen), chosen.until, "__wrap_malloc")
+        if piece is not None:
+            size = counted(piece.node.x[10], "byte")
+            lines.append(f"superstep {superstep}, rank {rank}: {size} are taken at {place(self.code, piece.node)}")
+        return [*lines, f"then   {other.difference}", f"why    {WHY_HEAP}"]
+
+    def stack(self, trials: Trials, choices: Choices, difference: str, said: list[str] | None = None) -> list[str]:
+        """A variable of a function that is used before it has a value: what GCC says of such, and where the runs part."""
+        lines = ["something else where a variable of a function that was given no value has other bytes"]
+        for found in list(filter(None, map(UNSET.match, said if said is not None else self.warned())))[:MOST_TOLD]:
+            lines.append(f"GCC    {pathlib.PurePath(found[1]).name}:{found[2]}: {found[3]}")
+        divergence = first_divergence((self.trials, Choices()), (trials, choices))
+        if divergence is not None:
+            lines.append(f"superstep {divergence.one.superstep}, rank {divergence.rank}: the first call that is another one")
+            lines.append(f"at     {divergence.where}: {divergence.one.told}")
+            lines.append(f"before {divergence.other.told if divergence.other else 'no call'}")
+        return [*lines, f"then   {difference}", f"why    {WHY_STACK}"]
+
+    def warned(self) -> list[str]:
+        """What GCC says of variables that have no value."""
+        if not self.trials.subject.options.sources:
+            return []
+        return compiled(self.trials.subject.options, self.trials.subject.folder / "warned.elf", "-Wuninitialized", "-Wmaybe-uninitialized")
+
+
+def told_contested(trace: Tracer, it: Contested, others: int) -> list[str]:
+    """Two requests that bring different values to one place, and how many more places there are."""
+    variable = trace.code.variable(it.address)
+    named = f" ({variable})" if variable else ""
+    end = f" to {it.address + it.size - 1:#x}" if it.size > 1 else ""
+    lines = ["two requests of a superstep write other bytes to one place"]
+    lines.append(f"superstep {it.superstep}, rank {it.rank}: byte {it.address:#x}{named}{end}")
+    for _, rank, number, byte in sorted((it.first, it.second), key=lambda asked: asked[1:3]):
+        made = trace.calls_in(rank, REQUESTS, it.superstep)
+        if number < len(made):
+            where = trace.place_of(rank, REQUESTS, it.superstep, made[number])
+            lines.append(f"{byte:02x}     by rank {rank} at {where}: {spelled(trace.code, made[number].node)}")
+    return [*lines, *([f"and    {counted(others, 'more place')}"] if others else []), f"why    {WHY_PUTS}"]
+
+
+def differing(one: bytes, other: bytes) -> str:
+    """The first bytes in which two texts of the same length differ."""
+    at = next((i for i, (a, b) in enumerate(zip(one, other)) if a != b), 0)
+    return f"from byte {at} on {shown(one[at:])}, and then {shown(other[at:])}"
+
+
+def told_variable(found: final_variables.Difference) -> str:
+    """A variable that has something else at the end."""
+    offset = f" + {found.offset}" if found.offset else ""
+    values = f"{found.one.hex(' ')}, and then {found.other.hex(' ')}"
+    return f"at the end rank {found.rank} has in {found.variable.name}{offset} the bytes {values}"
+
+
+def described(choices: Choices) -> str:
+    """What is chosen."""
+    if choices.order:
+        return "messages come in reverse" if choices.order == REVERSED else f"messages come shuffled (seed {choices.seed})"
+    if choices.unbuffered:
+        when = "at the call" if choices.unbuffered == EARLY else "at bsp_sync"
+        return f"bsp_hpput and bsp_hpget read and write {when}"
+    return f"fresh memory{'' if choices.stack else ' of malloc'} has bytes {choices.heap:#04x}"
+
+
+def parted(one: Ending, other: Ending) -> str:
+    """In what two ends differ."""
+    if one.outcome != other.outcome:
+        return f"the outcome is {other.outcome!r}, and not {one.outcome!r}"
+    if one.output != other.output:
+        return parted_text("the output", one.output, other.output)
+    files = [{it[:2]: it[2] for it in of.files} for of in (one, other)]
+    rank, name = next(it for it in sorted(files[0].keys() | files[1].keys()) if files[0].get(it) != files[1].get(it))
+    return parted_text(f"{file_name(name)}, which rank {rank} writes,", *(of.get((rank, name), b"") for of in files))
+
+
+def parted_text(what: str, one: bytes, other: bytes) -> str:
+    """In which line two texts differ."""
+    here, there = one.split(b"\n"), other.split(b"\n")
+    at = next((i for i, (a, b) in enumerate(zip(here, there)) if a != b), min(len(here), len(there)))
+    texts = [repr(it[at][:60].decode(errors="replace")) if at < len(it) else "not there" for it in (here, there)]
+    return f"line {at + 1} of {what} is {texts[1]}, and not {texts[0]}"

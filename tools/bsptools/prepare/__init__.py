@@ -1,0 +1,1 @@
+"""Programs made ready to run: compiled, with their settings and their input."""

@@ -1,0 +1,47 @@
+"""The files that a program is given by `--file` and `--files`."""
+
+from __future__ import annotations
+
+import argparse
+import os
+
+from ..files import content_of
+from ..limits import MOST_INPUT
+from ..refusals import Refused, about
+
+TOO_LONG = f"input, arguments and files have more than {MOST_INPUT} bytes"
+# Of a folder that is given.
+MOST_FILES = 1000
+
+
+def given_files(options: argparse.Namespace) -> list[tuple[bytes, bytes]]:
+    """Files, each with its name. Those behind what fills an input are not read. Words of ARGS that are files are given as they stand."""
+    names = [*options.file, *(it for folder in options.files for it in files_of(folder))]
+    found, size = [], 0
+    for name in names:
+        content = content_of(name, MOST_INPUT)
+        size += len(content)
+        if size > MOST_INPUT:
+            raise Refused(TOO_LONG)
+        found.append((os.fsencode(name), content))
+    for word in dict.fromkeys(options.args):
+        if word not in names and os.path.isfile(word) and size + os.path.getsize(word) <= MOST_INPUT:
+            content = content_of(word, MOST_INPUT)
+            size += len(content)
+            found.append((os.fsencode(word), content))
+    return found
+
+
+def files_read(options: argparse.Namespace) -> list[str]:
+    """All files that a run reads: the program, with more sources of it, its input, and what it is given."""
+    names = [options.program, *filter(None, [options.input]), *options.file, *filter(os.path.isfile, options.args)]
+    return [*names, *(it for folder in options.files for it in files_of(folder))]
+
+
+def files_of(folder: str) -> list[str]:
+    """The files of a folder, and none of those below it."""
+    with about(folder), os.scandir(folder) as entries:
+        names = sorted(it.path for it in entries if it.is_file())
+    if len(names) > MOST_FILES:
+        raise Refused(f"{folder} has {len(names)} files, and {MOST_FILES} are the most that --files gives: give those that are read by --file")
+    return names

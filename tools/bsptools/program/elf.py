@@ -1,0 +1,198 @@
+"""ELF files: segments, and by pyelftools their symbols and lines."""
+
+from __future__ import annotations
+
+import contextlib
+import io
+import posixpath
+import struct
+from collections.abc import Iterator
+from typing import Any
+
+from .. import limits, memory_bound
+from ..python_packages import ELFTOOLS, borrow
+
+LOAD = 1
+# The first bytes of a file, and of one for 32 bits, little-endian, of version 1; the number of RISC-V; and an object, which is not linked.
+MAGIC = b"\x7fELF"
+ELF32_LITTLE, RISCV, OBJECT_FILE = MAGIC + b"\x01\x01\x01", 243, 1
+# The bytes of a file's header, for 32 bits.
+HEADER = 52
+# The bits of a file's flags that say in which registers of floating point functions take values; zero where in none.
+FLOAT_ABI = 0x6
+# A section of symbols, the bytes of one of them, and of a name at the most.
+SYMBOLS, SYMBOL_BYTES, MOST_NAME = 2, 16, 1 << 12
+FUNCTION, OBJECT = "STT_FUNC", "STT_OBJECT"
+# What makes a scope of a function's debug information, with the blocks in it.
+CALLED, PUT_IN, BLOCK = "DW_TAG_subprogram", "DW_TAG_inlined_subroutine", "DW_TAG_lexical_block"
+# What is read for debuggers takes no more bytes than these, and is none of a file with more sections than compilers make.
+MOST_MEMORY, MOST_SECTIONS = 1 << 29, 256
+OTHERS = ("DW_AT_abstract_origin", "DW_AT_specification")
+# From a function to where it is declared, in a file that is not broken.
+MOST_STEPS = 8
+
+
+def segments(content: bytes) -> Iterator[tuple[int, memoryview, int]]:
+    """Address, bytes and end of each segment that is loaded, as far as they can be read: a broken file is the emulator's to refuse. So
+    is one whose segments have more bytes than a node's memory, and what is beyond is left out here."""
+    room = limits.MOST_MEMORY
+    with contextlib.suppress(struct.error):
+        (start,) = struct.unpack_from("<I", content, 28)
+        size, count = struct.unpack_from("<HH", content, 42)
+        for i in range(count):
+            kind, offset, address, _, filesize, memsize = struct.unpack_from("<6I", content, start + i * size)
+            if kind == LOAD:
+                stored = memoryview(content)[offset : offset + filesize][:room]
+                room -= len(stored)
+                yield address, stored, address + memsize
+
+
+def misfit(content: bytes) -> str:
+    """Why an ELF file can be no program of nodes, whatever else it has: nothing, where its header speaks of one. A broken file, or one that is
+    none, is the emulator's to refuse."""
+    if not content.startswith(MAGIC) or len(content) < HEADER:
+        return ""
+    kind, machine = struct.unpack_from("<HH", content, 16)
+    if not content.startswith(ELF32_LITTLE) or machine != RISCV:
+        return "was compiled for another machine, and nodes have the instructions of RISC-V with 32 bits: compile its sources by bspcc"
+    return "is an object, which is not linked: bspcc -o PROGRAM.elf makes a program of it" if kind == OBJECT_FILE else ""
+
+
+def entry(content: bytes) -> int:
+    """Where execution begins; 0 where the file is too short to say."""
+    return int.from_bytes(content[24:28], "little")
+
+
+def wants_floats(content: bytes) -> bool:
+    """Whether an ELF file's functions take values in registers of floating point."""
+    return int.from_bytes(content[36:40], "little") & FLOAT_ABI != 0
+
+
+def names(content: bytes) -> set[str]:
+    """The names of an ELF file's symbols; none of a file that has none, or is broken."""
+    with contextlib.suppress(struct.error, IndexError):
+        (start,) = struct.unpack_from("<I", content, 32)
+        size, count = struct.unpack_from("<HH", content, 46)
+        sections = [struct.unpack_from("<10I", content, start + i * size) for i in range(min(count, MOST_SECTIONS))]
+        table = next((it for it in sections if it[1] == SYMBOLS), None)
+        if table is not None:
+            _, _, _, _, begin, length, link, *_ = table
+            texts, room = sections[link][4:6]
+            places = [struct.unpack_from("<I", content, begin + at)[0] for at in range(0, length, SYMBOL_BYTES)]
+            text = content[texts : texts + room]
+            return {text[at : text.index(b"\0", at)].decode(errors="replace") for at in places if b"\0" in text[at : at + MOST_NAME]}
+    return set()
+
+
+class Debug:
+    """What a file has for debuggers. What cannot be read, as in a file that is broken, is left out: pyelftools raises errors of all kinds."""
+
+    def __init__(self, content: bytes) -> None:
+        self.symbols: list[Any] = []
+        self.info: Any = None
+        if not borrow(ELFTOOLS):
+            from elftools.elf.elffile import ELFFile
+
+            with contextlib.suppress(Exception), memory_bound.at_most(MOST_MEMORY):
+                file = ELFFile(io.BytesIO(content))
+                if file.num_sections() > MOST_SECTIONS:
+                    return
+                table = file.get_section_by_name(".symtab")
+                self.symbols = list(table.iter_symbols()) if table else []
+                self.info = file.get_dwarf_info()
+
+    def lines(self, address: int) -> list[tuple[str, str]]:
+        """Function and line, such as `a/b.c:12`, of an address, innermost first where functions were put into others."""
+        with contextlib.suppress(Exception), memory_bound.at_most(MOST_MEMORY):
+            unit = next(it for it in self.info.iter_CUs() if self._has(it.get_top_DIE(), address))
+            return list(self._lines(unit, self.info.line_program_for_CU(unit), address))
+        return []
+
+    def pieces(self) -> list[tuple[int, int, str, int]]:
+        """Start, end, path and line of each piece of code of which the line is known, by their addresses. Where a function was put into
+        another, it is the line of the inner one. Units whose source is not here, as those of a C library, are left out."""
+        found: list[tuple[int, int, str, int]] = []
+        with contextlib.suppress(Exception), memory_bound.at_most(MOST_MEMORY):
+            for unit in self.info.iter_CUs():
+                program = self.info.line_program_for_CU(unit) if is_here(unit) else None
+                found += pieces(unit, program) if program else ()
+        return sorted(found)
+
+    def _lines(self, unit: Any, program: Any, address: int) -> Iterator[tuple[str, str]]:
+        number, line = row(program, address)
+        for scope in reversed(list(self._scopes(unit.get_top_DIE(), address))):
+            if scope.tag == BLOCK:
+                continue
+            if line:
+                yield name(scope), f"{path(unit, program, number)}:{line}"
+            if scope.tag == CALLED:
+                return
+            number, line = (scope.attributes[it].value for it in ("DW_AT_call_file", "DW_AT_call_line"))
+        if line:
+            yield "", f"{path(unit, program, number)}:{line}"
+
+    def _scopes(self, parent: Any, address: int) -> Iterator[Any]:
+        """The functions and blocks that an address lies in, outermost first."""
+        for child in parent.iter_children():
+            if child.tag in (CALLED, PUT_IN, BLOCK) and self._has(child, address):
+                yield child
+                yield from self._scopes(child, address)
+                return
+
+    def _has(self, scope: Any, address: int) -> bool:
+        """Whether an address lies in the code of a unit, a function or a block."""
+        low, high, ranges = (scope.attributes.get(f"DW_AT_{it}") for it in ("low_pc", "high_pc", "ranges"))
+        if low and high:
+            return bool(low.value <= address < (high.value if high.form == "DW_FORM_addr" else low.value + high.value))
+        base = scope.cu.get_top_DIE().attributes["DW_AT_low_pc"].value if ranges else 0
+        for it in self.info.range_lists().get_range_list_at_offset(ranges.value, scope.cu) if ranges else ():
+            base = getattr(it, "base_address", base)
+            if hasattr(it, "end_offset") and it.begin_offset <= address - (0 if it.is_absolute else base) < it.end_offset:
+                return True
+        return False
+
+
+def row(program: Any, address: int) -> tuple[int, int]:
+    """File and line of an address in a table of lines; line 0 where there is none."""
+    states = [entry.state for entry in program.get_entries() if entry.state]
+    for now, then in zip(states, states[1:]):
+        if not now.end_sequence and now.address <= address < then.address:
+            return now.file, now.line
+    return 0, 0
+
+
+def is_here(unit: Any) -> bool:
+    """Whether the source of a unit is here."""
+    folder, file = (unit.get_top_DIE().attributes.get(f"DW_AT_{it}") for it in ("comp_dir", "name"))
+    return file is not None and posixpath.isfile(posixpath.join(folder.value if folder else b"", file.value))
+
+
+def pieces(unit: Any, program: Any) -> Iterator[tuple[int, int, str, int]]:
+    """Those of a table of lines, but for code that the linker left out, which begins at address 0."""
+    paths: dict[int, str] = {}
+    is_here = False
+    before = None
+    for now in (entry.state for entry in program.get_entries() if entry.state):
+        is_here = is_here if before else now.address > 0
+        if is_here and before and before.line and before.address < now.address:
+            if before.file not in paths:
+                paths[before.file] = path(unit, program, before.file)
+            yield before.address, now.address, paths[before.file], before.line
+        before = None if now.end_sequence else now
+
+
+def path(unit: Any, program: Any, number: int) -> str:
+    """The path of a file of a table of lines. Files and folders are counted from 1 before version 5."""
+    first = 0 if program.header["version"] >= 5 else 1
+    file = program.header["file_entry"][number - first]
+    folder = program.header["include_directory"][file.dir_index - first] if file.dir_index >= first else b""
+    return str(posixpath.join(unit.get_top_DIE().attributes["DW_AT_comp_dir"].value, folder, file.name).decode(errors="replace"))
+
+
+def name(scope: Any) -> str:
+    """The name of a function, which may stand where it is declared, and that again elsewhere."""
+    for _ in range(MOST_STEPS):
+        if "DW_AT_name" in scope.attributes:
+            return str(scope.attributes["DW_AT_name"].value.decode(errors="replace"))
+        scope = scope.get_DIE_from_attribute(next(it for it in OTHERS if it in scope.attributes))
+    return ""

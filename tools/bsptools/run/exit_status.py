@@ -1,0 +1,28 @@
+"""The status that a program chose by exit, with which `bsprun` ends if no node failed."""
+
+from __future__ import annotations
+
+import re
+
+from ..diagnosis.stop_reasons import Why
+from ..outputs import output_records
+from ..outputs.library_notes import STATUS, note_of
+from ..outputs.output_records import Record
+from ..outputs.report import Report
+from ..prepare.job import Job
+
+
+def chosen_status(job: Job, found: Report, made: list[Record]) -> int | None:
+    """The status other than 0 with which the lowest rank that was stopped ended the program, where all that were stopped ended it. Where
+    some ranks did, the run is made again to see the others."""
+    notes = [it for it in (note_of(record) for record in made if record.kind == output_records.NOTE) if it is not None]
+    statuses = {it.rank: it.one & 0xFF for it in notes if it.what == STATUS}
+    outcome = re.fullmatch(r"rank (\d+) stopped: aborted", found.outcome)
+    if outcome is None or not statuses.get(int(outcome[1])):
+        return None
+    nodes = job.options.nodes
+    if len(statuses) < nodes:
+        why = Why(job.code, job.replays(), nodes, job.options.limit)
+        if not statuses.keys() >= set(why.stopped_at_end(found)):
+            return None
+    return statuses[int(outcome[1])]

@@ -1,0 +1,262 @@
+"""A run beside the program's, of a build that notes what does not fit into a `long` of 32 bits.
+
+It is no part of the run, and what it finds is told behind all else.
+"""
+
+from __future__ import annotations
+
+import argparse
+import contextlib
+import os
+import pathlib
+import re
+import select
+import signal
+import subprocess
+import time
+from collections.abc import Iterator
+from typing import Tuple
+
+from .. import children
+from ..files import content_of
+from ..limits import MOST_PROGRAM, MOST_TICKS
+from ..outputs import output_records
+from ..outputs.library_notes import LONG, SHORT, Note, NoteTeller, note_of
+from ..outputs.output_demux import Marks
+from ..prepare.clock_rate import with_clock_rate
+from ..prepare.compilation import command
+from ..prepare.job import Job
+from ..refusals import Refused
+
+# Expressions that a run of an executable does not want are compiled where they are looked for.
+# What has no words of a program in it, and a `long` that is none here, since it has 64 bits or a point.
+LEFT_OUT = r'(?s)//[^\n]*|/\*.*?\*/|"(?:\\.|[^"\\\n])*"|\'(?:\\.|[^\'\\\n])\''
+OTHERS = r"\blong(?:\s+(?:unsigned|signed|int))*\s+(?:long|double)\b"
+# What makes a `long`, or what is one elsewhere: types, numbers, and functions of C and POSIX.
+LONGS = (
+    r"\blong\b|\b(?:0[xX][\da-fA-F]+|\d+)(?:[uU]?[lL]|[lL][uU])\b|\bU?LONG_M(?:AX|IN)\b"
+    r"|\b(?:s?size|ptrdiff|intptr|off|time|clock|int_fast16|int_fast32)_t\b"
+    r"|\b(?:atol|strtoul?|labs|ldiv|ftello?|random|[lmnj]rand48|lrintf?|lroundf?|clock|time)\s*\("
+)
+INCLUDED = r'(?m)^[ \t]*#[ \t]*include[ \t]*["<]([^">\n]+)[">]'
+MOST_SOURCES = 1000
+# The tables of bspcc --check=long: a text, a type, and a place with the types of the values there, of which a number with a point that becomes
+# a whole one is the first.
+TEXT = r'(?m)^(\.LC\d+):\n\t\.string\t"(.*)"$'
+TYPE = r"(?m)^(\.Lubsan_type\d+):\n\t\.half\t(\d+)\n\t\.half\t\d+\n\t\.string\t\"'(.*)'\"$"
+PLACE = (
+    r"(?m)^\.Lubsan_data\d+:\n\t\.dword\t(\.LC\d+)\n\t\.word\t(\d+)\n\t\.word\t(\d+)\n\t\.dword\t(\.Lubsan_type\d+)(?:\n\t\.dword\t(\.Lubsan_type\d+))?"
+)
+WHOLE, LONG_TYPES = "0", ("long int", "long unsigned int")
+# For how long this may go on behind the run, and how many times as long where the host is busy; and in how many threads, since what looks
+# at values makes half as many instructions again.
+MORE_SECONDS, MOST_BUSY, MOST_WORKERS = 0.5, 4.0, 2
+# What is found in a superstep comes at its end. So the nodes have few instructions at first, of all of them together, and as long as they come
+# to the end of these and nothing is found, the run is made again with more.
+FIRST, TIMES = 1 << 27, 4
+EXHAUSTED = 3
+CHUNK = 1 << 16
+
+
+def has_longs(text: str) -> bool:
+    """Whether a text in C may compute in a type that has 32 bits here and 64 elsewhere."""
+    return re.search(LONGS, re.sub(OTHERS, "", re.sub(LEFT_OUT, " ", text))) is not None
+
+
+def texts(sources: list[str], folders: list[str]) -> Iterator[str]:
+    """These sources, and what they include from beside them or from these folders."""
+    left = [os.path.abspath(it) for it in sources]
+    seen = set(left)
+    while left and len(seen) < MOST_SOURCES:
+        path = left.pop()
+        with contextlib.suppress(OSError):
+            text = pathlib.Path(path).read_text(encoding="utf-8", errors="replace")
+            yield text
+            named = [os.path.abspath(os.path.join(it, name)) for name in re.findall(INCLUDED, text) for it in (os.path.dirname(path), *folders)]
+            more = [it for it in dict.fromkeys(named) if it not in seen and os.path.isfile(it)]
+            seen.update(more)
+            left += more
+
+
+def may_have_longs(options: argparse.Namespace) -> bool:
+    """Whether the program of a command line may compute in such a type."""
+    words = options.compiled or []
+    folders = [it[len("-I") :] for it in words if it.startswith("-I")]
+    return any(map(has_longs, words)) or any(map(has_longs, texts(options.sources, folders)))
+
+
+def spare(options: argparse.Namespace) -> int:
+    """How many processors a run leaves to others."""
+    return len(os.sched_getaffinity(0)) - int(options.workers)
+
+
+Place = Tuple[str, int, int]
+
+
+def long_places(tables: str) -> dict[Place, str]:
+    """Where a value of one source has 32 bits here and 64 elsewhere: path, line and column, and the type."""
+    paths = {name: unescaped(text) for name, text in re.findall(TEXT, tables)}
+    types = {name: spelled for name, kind, spelled in re.findall(TYPE, tables) if kind == WHOLE}
+    found = {}
+    for text, line, column, *names in re.findall(PLACE, tables):
+        spelled = next((types[it] for it in names if it in types), "")
+        if spelled in LONG_TYPES and text in paths:
+            found[paths[text], int(line), int(column)] = spelled
+    return found
+
+
+def unescaped(text: str) -> str:
+    """A path as the assembler would have it."""
+    return os.fsdecode(text.encode("ascii", "replace").decode("unicode_escape").encode("latin-1", "replace"))
+
+
+def patience() -> float:
+    """How many seconds this may go on behind the run: a process has a part of a processor where there are more of them than processors."""
+    busy = os.getloadavg()[0] / len(os.sched_getaffinity(0))
+    return MORE_SECONDS * min(max(busy, 1.0), MOST_BUSY)
+
+
+class Beside:
+    """A build of a program's sources that notes where something does not fit into a `long`, and then a run of it. It goes on by itself but
+    for what there is to `take` from its file `number`. Where it cannot go on, it is over."""
+
+    def __init__(self, folder: pathlib.Path) -> None:
+        self.image = folder / "long.elf"
+        self.began = self.run_began = 0.0
+        self.notes: list[Note] = []
+        self._options: argparse.Namespace | None = None
+        self._job: Job | None = None
+        self._said = b""
+        self._built = b""
+        self._places: dict[Place, str] = {}
+        self._marks: Marks | None = None
+        self._limit = 0
+        self._child: subprocess.Popen[bytes] | None = None
+        self._left = contextlib.ExitStack()
+
+    @property
+    def number(self) -> int:
+        """The file that has something to take at times, or -1."""
+        stream = self._child.stdout if self._child is not None else None
+        return -1 if stream is None else stream.fileno()
+
+    def build(self, options: argparse.Namespace) -> None:
+        """Begins the build where it may find something, once there is a processor for it."""
+        self.began = time.monotonic()
+        if not options.check and not options.no_check and may_have_longs(options):
+            self._options = options
+            if spare(options) > 0:
+                self._build()
+
+    def run(self, job: Job) -> None:
+        """Has the run be that of a job, in the place of any other."""
+        self._job, self.notes = job, []
+        if self._built:
+            self._run_anew()
+
+    def take(self) -> None:
+        """Takes what there is, and goes on behind the end of the build."""
+        with self._or_over():
+            assert self._child is not None
+            content = os.read(self.number, CHUNK)
+            if content and self._marks is None:
+                self._said += content
+            elif content:
+                self._note(content)
+            if content:
+                return
+            status = self._child.wait()
+            if self._marks is None:
+                self._end()
+                self._take_build(status)
+            elif status == EXHAUSTED and not self.notes and self._limit < MOST_TICKS:
+                self._run(min(TIMES * self._limit, MOST_TICKS))
+            else:
+                self._end()
+
+    def wait(self, seconds: float) -> None:
+        """Waits for its end behind a run that took so long: for as long again where it is being built, and half a second."""
+        now, begin, more = time.monotonic(), self.began, patience()
+        whole = now - begin
+        if self._options is not None and spare(self._options) <= 0:
+            begin = now
+            self._build()
+        while self._child is not None:
+            # Nothing is taken of it while more is told of the run.
+            until = max(begin + 2 * whole if self._marks is None else self.run_began + seconds, now) + more
+            if not select.select([self.number], [], [], max(until - time.monotonic(), 0.0))[0]:
+                break
+            self.take()
+        self.close()
+
+    def lines(self) -> list[str]:
+        """What was found."""
+        if self._job is None:
+            return []
+        return NoteTeller(self._job.code, self._job.options.memory, {}, None, "", lambda _: "").lines(self.notes)
+
+    def close(self) -> None:
+        """Ends it."""
+        self._options, self._built = None, b""
+        self._end()
+
+    def _build(self) -> None:
+        assert self._options is not None
+        words, environment = command(self._options, self.image, "--check=long")
+        with self._or_over():
+            self._begin(words, signal.SIGTERM, environment)
+            assert self._child is not None
+            self._left.enter_context(children.kept(self._child))
+
+    def _take_build(self, status: int) -> None:
+        for tables in self._said.decode(errors="replace").split("\t.file\t"):
+            self._places.update(long_places(tables))
+        if status == 0 and self._places:
+            self._built = content_of(self.image, MOST_PROGRAM)
+            if self._job is not None:
+                self._run_anew()
+
+    def _run_anew(self) -> None:
+        """Begins the run, which writes no files, and is the job's else."""
+        assert self._job is not None
+        options, job = self._job.options, self._job
+        flags = output_records.RECORDS | (output_records.WRITES_FILES if options.out is not None else 0)
+        flags |= output_records.FILLED if options.fill is not None else 0
+        content = output_records.settings_in(self._built, flags, options.fill or 0, job.mark)
+        with self._or_over():
+            self._end()
+            self.image.write_bytes(with_clock_rate(content, options.rate))
+            self.run_began = time.monotonic()
+            self._run(FIRST // options.nodes)
+
+    def _run(self, limit: int) -> None:
+        assert self._job is not None
+        job, workers = self._job, max(1, min(MOST_WORKERS, self._job.options.nodes, spare(self._job.options)))
+        settings = [str(self.image), *job.settings[1:], "--workers", str(workers), "--live"]
+        settings[settings.index("--limit") + 1] = str(limit)
+        self._end()
+        self._begin([*job.program, "run", *settings], signal.SIGKILL, None)
+        self._marks, self._limit = Marks(job.mark), limit
+
+    def _begin(self, words: list[str], by: signal.Signals, environment: dict[str, str] | None) -> None:
+        running = children.running(words, by, stdin=subprocess.DEVNULL, stdout=subprocess.PIPE, stderr=subprocess.DEVNULL, env=environment)
+        self._child = self._left.enter_context(running)
+
+    def _note(self, content: bytes) -> None:
+        for kind, piece in self._marks.take(content) if self._marks is not None else ():
+            record = output_records.record_of(kind, piece) if kind == output_records.NOTE else None
+            note = note_of(record) if record is not None else None
+            found = re.fullmatch(SHORT, note.text) if note is not None and note.what == LONG else None
+            if note is not None and found and (spelled := self._places.get((found[1], note.one, note.other))):
+                self.notes.append(note._replace(text=f"{note.text[:found.start(4)]}{spelled}{note.text[found.end(4):]}"))
+
+    def _end(self) -> None:
+        self._left.close()
+        self._child = self._marks = None
+
+    @contextlib.contextmanager
+    def _or_over(self) -> Iterator[None]:
+        try:
+            yield
+        except (Refused, OSError, MemoryError, subprocess.SubprocessError):
+            self.close()

@@ -1,0 +1,60 @@
+"""The table of a sweep: a row for each point."""
+
+from __future__ import annotations
+
+import csv
+import io
+import pathlib
+
+from ..files import content_of
+from ..limits import MOST_TABLE
+from ..refusals import counted
+from .result_store import Place, Record
+from .sweep_points import Point, Run
+
+FIRST = ["program", "nodes", "g", "l"]
+
+
+def table(points: list[Point], places: dict[Run, Place], defines: list[str]) -> str:
+    """All points in their order, as CSV: the program with its settings, its costs, its total at the prices, and its outcome."""
+    found = {run: place.found() for run, place in places.items()}
+    costs = next((list(it["costs"]) for it in found.values() if it), ["w", "h"])
+    text = io.StringIO()
+    rows = csv.writer(text, lineterminator="\n")
+    rows.writerow([*FIRST, "input", "args", *defines, "supersteps", *costs, "total", "outcome"])
+    for point in points:
+        rows.writerow(row(point, found.get(point.run), costs, defines))
+    return text.getvalue()
+
+
+def row(point: Point, found: Record | None, costs: list[str], defines: list[str]) -> list[object]:
+    """The row of a point. One whose run could not be made has no costs."""
+    run = point.run
+    constants = dict(run.program.defines)
+    first = [run.program.name, run.nodes, point.g, point.l, run.given, run.words, *(constants.get(it, "") for it in defines)]
+    if found is None:
+        return [*first, "", *("" for _ in costs), "", "not run"]
+    sums = found["costs"]
+    total = sums["w"] + point.g * sums["h"] + point.l * found["supersteps"]
+    return [*first, found["supersteps"], *sums.values(), total, found["outcome"]]
+
+
+def failures(places: dict[Run, Place]) -> list[str]:
+    """Lines for each run that could not be made."""
+    failed = {run: place.file("failed") for run, place in places.items() if place.found() is None}
+    return [f"{run}: {line}" for run, why in failed.items() for line in reasons(why)]
+
+
+def stopped(places: dict[Run, Place]) -> list[str]:
+    """A line where runs were made that did not end well, with the first of them."""
+    ends = {run: found["outcome"] for run, place in places.items() if (found := place.found()) is not None}
+    first, *more = [f"{run}: {outcome}" for run, outcome in ends.items() if outcome != "ended"] or [""]
+    count = f"{1 + len(more)} of {counted(len(ends), 'run')} did not end well"
+    return [f"{count}{', the first one ' if more else ': '}{first}"] if first else []
+
+
+def reasons(why: pathlib.Path) -> list[str]:
+    """The lines that say why a run could not be made."""
+    if not why.is_file():
+        return ["not made: whatever made it has ended before it"]
+    return content_of(why, MOST_TABLE).decode(errors="replace").strip().splitlines()

@@ -1,0 +1,85 @@
+"""One run of a sweep, on whichever host it is made."""
+
+from __future__ import annotations
+
+import hashlib
+import json
+import os
+import pathlib
+import signal
+import subprocess
+import time
+from typing import Any
+
+from .. import children, emulator
+from ..files import content_of, write
+from ..limits import MOST_PROGRAM, MOST_TABLE
+from ..outputs.report_formats import read
+from ..refusals import REFUSED, Refused
+from .result_store import Place, Record
+from .sweep_programs import digest
+
+# At these prices the total is the sum of all w, all h and the number of supersteps.
+PRICES = ["--g", "1", "--l", "1"]
+# The name by which each program is called, wherever its image lies: it has a place in the program's memory, and so a part in its costs.
+NAME = "program"
+
+
+def make(folder: str, copy: str) -> int:
+    """Makes the run that a folder describes, and writes what came of it there. It ends with the engine that asks for it."""
+    children.end_with_parent(signal.SIGTERM, os.getppid())
+    place = Place(pathlib.Path(folder))
+    job = described(place)
+    start = time.monotonic()
+    with children.folder("bspsweep") as temp:
+        report = temp / "report.json"
+        words = [emulator.program("bsprun"), *PRICES, f"--argv0={NAME}", "--report", str(report), *job["words"], job["image"], *job["args"]]
+        environment = {**os.environ, "BSPEMU": job["emulator"]}
+        done = children.call(words, stdout=subprocess.PIPE, stderr=subprocess.PIPE, cwd=job["folder"], env=environment)
+        content = report.read_bytes() if report.exists() else b""
+    write(place.file("seconds", copy), f"{time.monotonic() - start:.3f}\n")
+    other = changed(job)
+    if not content or other:
+        said = done.stderr.decode(errors="replace").strip() or f"bsprun has ended with status {done.returncode}, and no report"
+        write(place.file("failed", copy), other or said + "\n")
+        return REFUSED
+    place.file("failed", copy).unlink(missing_ok=True)
+    place.keep(record(content, done), copy)
+    return 0
+
+
+def described(place: Place) -> dict[str, Any]:
+    """The description of a run."""
+    try:
+        job: dict[str, Any] = json.loads(content_of(place.job, MOST_TABLE))
+        if job.keys() >= {"emulator", "folder", "words", "image", "args", "digests"}:
+            return job
+    except (ValueError, AttributeError, RecursionError):
+        pass
+    raise Refused(f"{place.job} describes no run: begin the sweep once more")
+
+
+def changed(job: dict[str, Any]) -> str:
+    """A line where a file that a run rests on is not what it was when the sweep began."""
+    for path, known in job["digests"]:
+        if digest(content_of(os.path.join(job["folder"], path), MOST_PROGRAM)) != known:
+            return f"{path} is not what it was when the sweep began: begin it once more\n"
+    return ""
+
+
+def record(report: bytes, done: subprocess.CompletedProcess[bytes]) -> Record:
+    """What came of a run: the same bytes on every host."""
+    found = read(report)
+    if found is None:
+        raise Refused("bsprun wrote no report")
+    sums = {name: sum(it.costs[name] for it in found.supersteps) for name in found.supersteps[0].costs}
+    if found.total != sums["w"] + sums["h"] + len(found.supersteps):
+        raise Refused("the total of the report is not the sum of its supersteps")
+    return {
+        "outcome": found.outcome,
+        "status": done.returncode,
+        "supersteps": len(found.supersteps),
+        "costs": sums,
+        "output": hashlib.sha256(done.stdout).hexdigest(),
+        "report": hashlib.sha256(report).hexdigest(),
+    }

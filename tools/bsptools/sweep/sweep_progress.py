@@ -1,0 +1,64 @@
+"""How far a sweep is: what is done, what is left, and which run took longest."""
+
+from __future__ import annotations
+
+import contextlib
+import os
+import signal
+import subprocess
+import time
+
+from .. import children
+from ..refusals import counted, show
+from .result_store import Place
+from .sweep_points import Run
+
+PAUSE = 0.1
+# Files that another host wrote may be seen here a little later.
+LATE = 20
+
+
+class Progress:
+    """Looks at the places of runs while an engine makes them."""
+
+    def __init__(self, wanted: dict[Run, Place], copy: str) -> None:
+        self.left = dict(wanted)
+        self.copy = copy
+        self.count = len(wanted)
+        self.slowest: tuple[float, str] = (0.0, "")
+        self.start = time.monotonic()
+
+    def look(self) -> None:
+        """Takes note of the runs that are over."""
+        for run, place in list(self.left.items()):
+            if place.is_over(self.copy):
+                del self.left[run]
+                with contextlib.suppress(OSError, ValueError):
+                    self.slowest = max(self.slowest, (float(place.file("seconds", self.copy).read_bytes()), str(run)))
+
+    def text(self) -> str:
+        """What is done, what is left, and the slowest."""
+        done = self.count - len(self.left)
+        slowest = f"; the slowest took {self.slowest[0]:.1f} s: {self.slowest[1]}" if self.slowest[1] else ""
+        return f"bspsweep: {done} of {counted(self.count, 'run')} done, {len(self.left)} left, {time.monotonic() - self.start:.0f} s{slowest}"
+
+    def follow(self, words: list[str]) -> str:
+        """Starts an engine and shows how far it is until it ends; what it said is answered."""
+        # The commands are sh's, and GNU parallel has those of hosts run by none where the user has no SHELL.
+        environment = {**os.environ, "SHELL": "/bin/sh"}
+        given = {"stdin": subprocess.DEVNULL, "stdout": subprocess.PIPE, "stderr": subprocess.STDOUT, "env": environment}
+        with children.running(words, signal.SIGTERM, **given) as child:
+            while True:
+                try:
+                    said = child.communicate(timeout=PAUSE)[0].decode(errors="replace")
+                    break
+                except subprocess.TimeoutExpired:
+                    self.look()
+                    show(self.text())
+        for _ in range(LATE):
+            self.look()
+            if not self.left:
+                break
+            time.sleep(PAUSE)
+        show(self.text(), "\n")
+        return said

@@ -1,3 +1,4 @@
+-- The command line has its subcommands as defined: each that is added has the shape of its definition, and the formats are those listed.
 use Rattle.std.proofs.Common.{refl, rules, []}
 use Rattle.std.proofs.lemmas.Result.{IfOk-weaker}
 use Rattle.bspemu.specs.CommandLine.{HasApp, ListsFormats, bspemu_shape}

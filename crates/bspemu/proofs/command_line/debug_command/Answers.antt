@@ -1,3 +1,4 @@
+-- The command has the shape of `debug`: that of any command over a machine, with two more flags.
 use Rattle.std.proofs.Common.{codes, rules}
 use Rattle.std.proofs.lemmas.Result.{IfOk-weaker}
 use Rattle.bspemu.specs.CommandLine.{HasApp, machine_app}

@@ -1,3 +1,4 @@
+-- A command over a machine has the arguments that `run` and `debug` share: each item of the list is made by its rule.
 use Rattle.std.proofs.Common.{codes, rules, [], ◌∷◌, subst}
 use Rattle.std.proofs.lemmas.Result.{IfOk-weaker}
 use Rattle.clap.specs.Words.{AddsArg, AddsInTurn, new_app}

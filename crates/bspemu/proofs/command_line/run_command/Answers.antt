@@ -1,3 +1,4 @@
+-- The command has the shape of `run`: that of any command over a machine, and a list of options, each made by its rule.
 use Rattle.std.proofs.Common.{codes, rules, [], ◌∷◌, subst}
 use Rattle.std.proofs.lemmas.Result.{IfOk-weaker}
 use Rattle.clap.specs.Words.{AddsArg, AddsInTurn}

@@ -1,3 +1,4 @@
+-- A clock is given if the flag is; its prices are those of the costs. A getter that fails contradicts clap's rules.
 use Rattle.std.proofs.Common.{Bool, codes, subst}
 use Rattle.clap.specs.Words.{found_of, one_of, rows_of}
 use Rattle.bspemu.specs.Options.{GivesFlag}

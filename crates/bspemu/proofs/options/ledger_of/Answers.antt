@@ -1,3 +1,4 @@
+-- The version of the ledger is that of the number that was read, and none is answered only if the number is no version.
 use Rattle.std.proofs.Common.{codes}
 use Rattle.clap.specs.Words.{found_of, rows_of}
 use Rattle.bspemu.specs.Options.{number_of_ledger}

@@ -1,3 +1,4 @@
+-- The options are those of any machine with the two flags of `debug`; a getter that fails contradicts clap's rules.
 use Rattle.std.proofs.Common.{codes}
 use Rattle.clap.specs.Words.{found_of}
 use Rattle.bspemu.proofs.Getters.{flag_of_getter, no_flag_of_getter}

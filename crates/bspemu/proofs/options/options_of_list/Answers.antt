@@ -1,3 +1,4 @@
+-- The options are the values that the matches of `list` have; a value that is missing contradicts the shape of the command.
 use Rattle.std.proofs.Common.{◌∙◌, ap, codes, List, Some, sym, ℕ}
 use Rattle.clap.specs.Words.{found_of}
 use Rattle.clap.proofs.WalkLemmas.{first_value-rows}

@@ -1,3 +1,4 @@
+-- Each of the options is the value that its getter reads; where one is missing, the matches cannot give the options.
 use Rattle.std.proofs.Common.{◌∙◌, ap, codes, List, Some, sym, ℕ}
 use Rattle.clap.specs.Words.{found_of}
 use Rattle.clap.proofs.WalkLemmas.{first_value-rows}

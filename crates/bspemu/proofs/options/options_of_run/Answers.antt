@@ -1,3 +1,4 @@
+-- The options are those of any machine with the values of `run`; where one is missing, the matches cannot give the options.
 use Rattle.std.proofs.Common.{codes}
 use Rattle.clap.specs.Words.{found_of}
 use Rattle.bspemu.proofs.Getters.{flag_of_getter, no_flag_of_getter, no_number_of_getter, number_of_getter}

@@ -1,3 +1,4 @@
+-- What answering the lines came to is the program's answer to `debug`.
 use Rattle.bspemu.proofs.Sessions.{answer_of_debug}
 use Rattle.bspemu.proofs.program.debug.Goals as goal
 

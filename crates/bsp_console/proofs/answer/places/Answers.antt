@@ -1,3 +1,4 @@
+-- The text has a line of each node, in rank order: the nodes that were read are those of the machine.
 use Rattle.std.proofs.Common.{◌≡◌, ◌∙◌, ℕ, List, ◌++◌, map, ap}
 use Rattle.std.specs.List.{flat_map}
 use Rattle.node_core.specs.Node.{NodeState, PreparedNode}

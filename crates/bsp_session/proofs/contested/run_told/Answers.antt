@@ -1,3 +1,4 @@
+-- A run that ends early ends as one with an error of its workers, and nothing is told then.
 use Rattle.std.proofs.Common.{◌++◌, ◌∙◌, ℕ, List, ap, rules}
 use Rattle.std.proofs.lemmas.Result.{err_from_is_err_and}
 use Rattle.bsp_session.proofs.Jobs.{IsErrorOfThreads-of_pool}

@@ -1,3 +1,4 @@
+-- An error before the first byte leaves the output as it was, and one while writing comes after the bytes that were written.
 use Rattle.std.proofs.Common.{◌∙◌, inr, refl}
 use Rattle.std.proofs.lemmas.Result.{err_from_is_err_and}
 use Rattle.bsp_session.proofs.listing.write_saved.Goals as goal

@@ -1,3 +1,4 @@
+-- The text and the topics that are left make all of the help; each pass adds that of the next topic.
 use Rattle.std.proofs.Common.{refl, ap, ◌∙◌}
 use Rattle.std.proofs.lemmas.List.{drop_all, drop_more}
 use Rattle.std.specs.List.{flat_map}

@@ -1,3 +1,4 @@
+-- Two ways of `go` walk equally many events to the first stop, so that their events and their stops are the same.
 use Rattle.std.proofs.Common.{◌≡◌, ◌+◌, Some, sym, ap, ◌∙◌}
 use Rattle.machine_core.specs.Walk.{walk}
 use Rattle.bsp_debug.specs.Stops.{stop_after}

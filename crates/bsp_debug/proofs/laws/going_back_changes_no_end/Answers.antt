@@ -1,3 +1,4 @@
+-- A machine that is reached from a sound one has its end, and so have the debugger's machine and each state that it keeps.
 use Rattle.std.specs.Prelude.{IfSome}
 use Rattle.std.proofs.lemmas.List.Elements.{All-weaker}
 use Rattle.bsp_debug.specs.Reached.{EndsAs}

@@ -1,3 +1,4 @@
+-- The registers read so far are those of the node, one more with each pass, and after 32 of them all are.
 use Rattle.std.proofs.Common.{◌≡◌, ◌≢◌, ◌<◌, length, arith, sym, ◌∙◌, refl, below_more, get_or-set_other, get_or-set_same}
 use Rattle.std.proofs.Math.ListN.{length-set}
 use Rattle.std.proofs.lemmas.Grind.{same_number_lists}

@@ -1,3 +1,4 @@
+-- The loop's steps are those of the definition: where it stops the node has returned, and a refusal comes before that.
 use Rattle.std.proofs.Common.{◌≡◌, ◌+◌, ◌<◌, ◌≤◌, inl, inr, true, false, sym, ap, ◌∙◌, arith}
 use Rattle.std.proofs.lemmas.Bool.{cases_order, false≢true}
 use Rattle.std.proofs.lemmas.Result.{err_from_is_err_and}

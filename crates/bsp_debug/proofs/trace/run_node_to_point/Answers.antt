@@ -1,3 +1,4 @@
+-- Without points the node runs as it does by itself; otherwise it is stepped, up to a point, its end or the limit.
 use Rattle.std.proofs.Common.{◌≡◌, ◌+◌, ◌<◌, inl, inr, true, false, sym, ap, ◌∙◌, arith}
 use Rattle.std.specs.Prelude.{is_some}
 use Rattle.std.proofs.lemmas.Bool.{cases_order, false≢true}

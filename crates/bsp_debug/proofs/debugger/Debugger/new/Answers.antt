@@ -1,3 +1,4 @@
+-- A new debugger keeps to its invariant: its machine is sound, no event leads to it, and no state is kept.
 use Rattle.std.proofs.Common.{◌∙◌, sym, ap, subst}
 use Rattle.machine_core.specs.Sound.{IsSoundMachine}
 use Rattle.bsp_debug.specs.Trace.{Traced}

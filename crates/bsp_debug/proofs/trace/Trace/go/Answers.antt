@@ -1,3 +1,4 @@
+-- Each pass goes on where the last one ended: through a phase, which may stop at a point, and through a turn, which may be the end.
 use Rattle.std.proofs.Common.{◌≡◌, inl, false, Some, None, Ok, refl, ap, subst, ◌∙◌}
 use Rattle.std.specs.Prelude.{is_some}
 use Rattle.std.proofs.lemmas.Result.{err_from_is_err_and}

@@ -1,3 +1,4 @@
+-- A node that stands at a point stops `go` there; otherwise it makes its steps, up to a point, its end or a refusal.
 use Rattle.std.proofs.Common.{◌≡◌, ◌≢◌, true, [], Some, None, option_map, sym, ap, ◌∙◌}
 use Rattle.std.specs.declared.alloc.AllocError.{AllocError}
 use Rattle.std.proofs.lemmas.Result.{err_from_is_err_and}

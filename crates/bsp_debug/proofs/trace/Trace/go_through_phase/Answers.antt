@@ -1,3 +1,4 @@
+-- Each rank in turn goes on with the phase, up to the first point; when all ranks have stopped, the phase is whole.
 use Rattle.std.proofs.Common.{◌≡◌, None, Ok, refl, ap, ◌∙◌, subst, arith}
 use Rattle.machine_core.specs.declared.settings.Settings.{Settings}
 use Rattle.machine_core.specs.Machine.{MachineState}

@@ -1,3 +1,4 @@
+-- The turn follows a phase in which all have stopped: it goes on the way of `go`, or ends it with the machine's outcome.
 use Rattle.std.proofs.Common.{◌≡◌, sym, ap, ◌∙◌}
 use Rattle.std.proofs.lemmas.Result.{err_from_is_err_and}
 use Rattle.machine_core.specs.Machine.{MachineState}

@@ -1,3 +1,4 @@
+-- Each rank's steps go on with the phase: all of them make the phases whole, and a refusal comes within them.
 use Rattle.std.proofs.Common.{◌≡◌, ℕ, ◌+◌, ◌≤◌, ◌^◌, ◌++◌, length, replicate, refl, sym, ap, ◌∙◌, subst, arith}
 use Rattle.std.proofs.lemmas.List.{length-append, length-replicate}
 use Rattle.std.proofs.lemmas.Result.{err_from_is_err_and}

@@ -1,3 +1,4 @@
+-- The steps up to the return are taken down as one entry; a node that does not run makes none and needs no entry.
 use Rattle.std.proofs.Common.{◌≡◌, ◌-◌, true, false, sym, ap, ap₂, ◌∙◌, arith}
 use Rattle.std.proofs.lemmas.Bool.{false≢true}
 use Rattle.std.proofs.lemmas.Result.{err_from_is_err_and}

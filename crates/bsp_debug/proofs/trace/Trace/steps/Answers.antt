@@ -1,3 +1,4 @@
+-- The steps that the node made are taken down as one entry, and those before a refusal too.
 use Rattle.std.proofs.Common.{◌-◌, sym, ap, ap₂, ◌∙◌, arith}
 use Rattle.std.proofs.lemmas.Result.{err_from_is_err_and}
 use Rattle.machine_core.specs.Machine.{MachineState}

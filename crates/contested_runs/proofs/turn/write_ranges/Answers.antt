@@ -1,3 +1,4 @@
+-- Each pass appends the line of one range more, and after the last one the lines are those of all ranges.
 use Rattle.std.proofs.Common.{string_bytes}
 use Rattle.std.proofs.lemmas.List.{get_or_default}
 use Rattle.contested_runs.proofs.Turns.{all-ranges, next-range, no-ranges-yet}

@@ -1,3 +1,4 @@
+-- All pcs were read, one by one, so each of them is a word.
 use Rattle.std.proofs.Common.{arith}
 use Rattle.step_counts.proofs.Words.{words-read}
 use Rattle.step_counts.proofs.runs.read_pcs.Goals as goal

@@ -1,3 +1,4 @@
+-- The pcs of the nodes before this one are words.
 use Rattle.std.proofs.Common.{◌<◌, ◌^◌, take}
 use Rattle.std.specs.Prelude.{All}
 use Rattle.node_core.specs.Node.{PreparedNode}

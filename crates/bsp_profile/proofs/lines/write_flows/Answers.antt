@@ -1,3 +1,4 @@
+-- Each pass appends the lines of the next rank, from which bytes go.
 use Rattle.std.proofs.Common.{string_bytes}
 use Rattle.bsp_profile.specs.Lines.{flow_lines_from}
 use Rattle.bsp_profile.proofs.Texts.{next_of_range}

@@ -1,3 +1,4 @@
+-- Each superstep appends its lines, so that the profile and the lines that are left are the whole, also where the run breaks off.
 use Rattle.std.proofs.Common.{◌≡◌, ◌++◌, ℕ, List, not, [], Err, refl, sym, ap, ◌∙◌, arith, rules, append-nil}
 use Rattle.std.specs.Prelude.{is_some}
 use Rattle.std.proofs.lemmas.Bool.{false≢true}

@@ -1,3 +1,4 @@
+-- Two nodes that look alike make two rows that look alike one longer, and at the end these are the whole rows.
 use Rattle.std.proofs.Common.{◌<◌, length, refl, arith}
 use Rattle.std.proofs.lemmas.Option.{slice_get_read}
 use Rattle.same_nodes.proofs.Rows.{rows-all, rows-more}

@@ -1,3 +1,4 @@
+-- Both nodes have 32 registers, so where all of them were compared the lists are the same.
 use Rattle.std.proofs.Common.{◌∙◌, sym, arith}
 use Rattle.std.proofs.lemmas.Grind.{same_number_lists}
 use Rattle.same_nodes.proofs.have_same_registers.Goals as goal

@@ -1,3 +1,4 @@
+-- `srai` shifts the word as a number with a sign.
 use Rattle.std.proofs.Common.{rules}
 use Rattle.rv_values.proofs.arithmetic.shift_value.Goals as goal
 

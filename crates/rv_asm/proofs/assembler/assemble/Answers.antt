@@ -1,3 +1,4 @@
+-- The first fault is that of the first pass, or else that of the second; without one, the program's bytes are the image of the text.
 use Rattle.std.proofs.Common.{None, sym, subst}
 use Rattle.std.proofs.lemmas.Result.{err_from_is_err_and}
 use Rattle.asm_syntax.specs.Lines.{lines_of}

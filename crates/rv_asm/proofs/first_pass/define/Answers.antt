@@ -1,3 +1,4 @@
+-- A line whose labels are new defines them at its address; its fault is a misplaced number, a label twice, or an end past the limit.
 use Rattle.std.proofs.Common.{Some, is_some, sym, ◌∙◌, ap, ⊎_elim}
 use Rattle.std.proofs.lemmas.Result.{err_from_is_err_and}
 use Rattle.asm_syntax.specs.Views.{line_value}

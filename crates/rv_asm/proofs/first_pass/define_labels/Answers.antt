@@ -1,3 +1,4 @@
+-- Each line adds its labels and goes on to the next, so that at the end the labels are those of the text, or the first fault is answered.
 use Rattle.std.proofs.Common.{◌≡◌, ◌∷◌, ◌+◌, ◌≤◌, length, is_some, ◌∙◌, ap, arith}
 use Rattle.rv_asm.specs.Faults.{fault_alone, first_faulty_line}
 use Rattle.rv_asm.specs.Labels.{symbols}

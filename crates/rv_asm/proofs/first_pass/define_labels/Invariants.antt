@@ -1,3 +1,4 @@
+-- The first fault and the labels of the text are those of the lines that are left, with the labels that were found so far.
 use Rattle.std.proofs.Common.{◌≡◌, ℕ, ◌+◌, ◌^◌, ◌≤◌, List, length, is_some}
 use Rattle.rv_asm.specs.Faults.{fault_alone, first_faulty_line}
 use Rattle.rv_asm.specs.Labels.{symbols}

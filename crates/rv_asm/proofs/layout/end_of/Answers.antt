@@ -1,3 +1,4 @@
+-- The statement ends where its size says, and has no end past the limit; a search finds both.
 use Rattle.std.proofs.Common.{rules}
 use Rattle.rv_asm.proofs.layout.end_of.Goals as goal
 

@@ -1,3 +1,4 @@
+-- Each line adds its bytes and goes on to the next, so that at the end the program is laid out as the text, or the first fault is answered.
 use Rattle.std.proofs.Common.{◌≡◌, ◌∷◌, ◌+◌, ◌≤◌, length, vec_len, None, false, rules, sym, ◌∙◌, ap, subst, arith}
 use Rattle.asm_syntax.specs.Lines.{lines_of}
 use Rattle.rv_asm.specs.Labels.{symbols}

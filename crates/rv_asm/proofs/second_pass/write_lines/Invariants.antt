@@ -1,3 +1,4 @@
+-- The bytes so far are those of the lines that are over, and the first fault of the text is that of the lines that are left.
 use Rattle.std.proofs.Common.{◌≡◌, ◌+◌, ◌^◌, ◌≤◌, length, vec_len}
 use Rattle.asm_syntax.specs.Lines.{lines_of}
 use Rattle.rv_asm.specs.Faults.{fault_of_uses, first_faulty_line}

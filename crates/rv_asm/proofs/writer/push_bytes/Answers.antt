@@ -1,3 +1,4 @@
+-- Each number adds its byte, which is the number modulo 2^8.
 use Rattle.std.proofs.Common.{◌^◌, get_or, pos, refl, w32, rules}
 use Rattle.std.proofs.lemmas.Int.{to_z-of_z}
 use Rattle.rv_asm.specs.Targets.{modulo}

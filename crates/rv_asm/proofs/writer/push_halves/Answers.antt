@@ -1,3 +1,4 @@
+-- Each number adds the two bytes of its half-word, which is the number modulo 2^16.
 use Rattle.std.proofs.Common.{◌^◌, get_or, pos, refl, w16, w32, rules}
 use Rattle.std.specs.Int.{to_le_bytes}
 use Rattle.std.proofs.lemmas.Int.{to_z-of_z}

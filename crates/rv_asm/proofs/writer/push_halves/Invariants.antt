@@ -1,3 +1,4 @@
+-- The half-words of the numbers before this one are written.
 use Rattle.std.proofs.Common.{◌≡◌, ◌++◌, ◌^◌, take, w16}
 use Rattle.std.specs.List.{flat_map}
 use Rattle.std.specs.Int.{to_le_bytes}

@@ -1,3 +1,4 @@
+-- A word that needs more than 12 bits is loaded by `lui` and `addi`, and any other by one `addi`.
 use Rattle.std.proofs.Common.{OnOk, sym, ◌∙◌, subst, w32, rules}
 use Rattle.std.proofs.lemmas.Int.{to_z-of_z}
 use Rattle.rv_asm.specs.Layout.{Spell}

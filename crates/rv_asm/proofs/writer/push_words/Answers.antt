@@ -1,3 +1,4 @@
+-- Each target adds the bytes of its word, where its label has an address; one that has none is the fault.
 use Rattle.std.proofs.Common.{sym, ◌∙◌}
 use Rattle.asm_syntax.specs.Operands.{IsTarget}
 use Rattle.asm_syntax.specs.Views.{target_value}

@@ -1,3 +1,4 @@
+-- The words of the targets before this one are written, and none of these targets lacks its label.
 use Rattle.std.proofs.Common.{◌≡◌, ◌++◌, false, take, map}
 use Rattle.std.specs.List.{flat_map}
 use Rattle.asm_syntax.specs.Statements.{words}

@@ -1,3 +1,4 @@
+-- Each pass adds one label, so that the labels with those that are left stay the same, and so does a duplicate among them.
 use Rattle.std.proofs.Common.{◌∙◌}
 use Rattle.rv_asm.specs.Labels.{symbols}
 use Rattle.rv_asm.proofs.LabelSteps.{known_from, judged_from}

@@ -1,3 +1,4 @@
+-- The labels so far with the names that are left are all labels of the line, and a duplicate among them is still to come.
 use Rattle.std.proofs.Common.{◌≡◌, ℕ, List, map, drop, is_some}
 use Rattle.rv_asm.specs.Faults.{has_duplicate}
 use Rattle.rv_asm.specs.Labels.{symbols}

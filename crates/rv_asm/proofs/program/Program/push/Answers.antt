@@ -1,3 +1,4 @@
+-- The bytes that `li` writes are those of its statement, whose word is the number modulo 2^32.
 use Rattle.std.proofs.Common.{rules, ◌≡◌, ◌^◌, OnOk, sym, subst, w64, vec_len}
 use Rattle.std.proofs.lemmas.Int.{to_z-of_z}
 use Rattle.asm_syntax.specs.Views.{statement_value}

@@ -1,3 +1,4 @@
+-- Each operand adds its number; no number is the fault at once, and one out of range is the fault if no such operand follows.
 use Rattle.std.proofs.Common.{◌≡◌, ◌≢◌, [], Ok, append-nil, sym, ap, ◌∙◌, arith, rules}
 use Rattle.std.specs.List.{list_all}
 use Rattle.std.proofs.lemmas.Int.{ints}

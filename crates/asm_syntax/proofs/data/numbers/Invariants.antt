@@ -1,3 +1,4 @@
+-- The operands that are left, put behind the numbers so far, come to what all operands come to.
 use Rattle.std.proofs.Common.{◌≡◌, ◌<◌, drop, length}
 use Rattle.asm_syntax.specs.Operands.{number_in}
 use Rattle.asm_syntax.specs.Ranges.{from_to, is_within}

@@ -1,3 +1,4 @@
+-- Each operand adds its target; no target is the fault at once, and one out of range is the fault if no such operand follows.
 use Rattle.std.proofs.Common.{◌≡◌, ◌≢◌, [], Ok, map, append-nil, sym, ap, ◌∙◌, arith, rules}
 use Rattle.std.specs.List.{list_all}
 use Rattle.asm_syntax.specs.declared.error.LineError.TheVariants.{OutOfRange}

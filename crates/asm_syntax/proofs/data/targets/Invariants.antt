@@ -1,3 +1,4 @@
+-- The operands that are left, put behind the targets so far, come to what all operands come to.
 use Rattle.std.proofs.Common.{◌≡◌, ◌<◌, drop, map, length}
 use Rattle.asm_syntax.specs.Operands.{target_in, fits_target}
 use Rattle.asm_syntax.specs.Views.{target_value}

@@ -1,3 +1,4 @@
+-- A number that 64 bits do not hold is above the limit, so the limit stands for it.
 use Rattle.std.proofs.Common.{◌≡◌, ◌^◌, ℕ, true, min, Option, Some, None, unwrap_or, arith, rules}
 use Rattle.std.specs.Prelude.{is_some}
 use Rattle.std.specs.Option.{option_and_then, option_map}

@@ -1,3 +1,4 @@
+-- The parts between the commas are the operands, whose tokens have the values of the definition.
 use Rattle.std.proofs.Common.{arith, rules, tests}
 use Rattle.std.proofs.lemmas.Bool.Decides.{nat_tests}
 use Rattle.std.proofs.lemmas.Iterator.Consumers.{map_from_collect}

@@ -1,3 +1,4 @@
+-- The fault is that of the first of the two operands that is wrong, and else that of an offset out of range.
 use Rattle.std.proofs.Common.{◌≡◌, Err, sym, ap, ◌∙◌, rules}
 use Rattle.asm_syntax.specs.Faults.{if_ok}
 use Rattle.asm_syntax.specs.Operands.{address_in}

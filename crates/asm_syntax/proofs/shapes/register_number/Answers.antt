@@ -1,3 +1,4 @@
+-- The fault is that of the first of the two operands that is wrong, and else that of a number out of range.
 use mir.Syntax.{w64}
 use mir.Val.{to_z, of_z}
 use Rattle.std.proofs.Common.{◌≡◌, Err, sym, ap, ◌∙◌, rules}

@@ -1,3 +1,4 @@
+-- The first two registers are read together, and then the third one; an operand that is no register is the fault.
 use Rattle.std.proofs.Common.{◌≡◌, true, Err, sym, ap, ◌∙◌, rules}
 use Rattle.asm_syntax.specs.Faults.{if_ok}
 use Rattle.asm_syntax.specs.Operands.{register_in}

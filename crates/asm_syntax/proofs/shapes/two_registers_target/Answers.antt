@@ -1,3 +1,4 @@
+-- The fault is that of the first of the three operands that is wrong, and else that of a target out of range.
 use Rattle.std.proofs.Common.{◌≡◌, Err, sym, ap, ◌∙◌, rules}
 use Rattle.asm_syntax.specs.Faults.{if_ok}
 use Rattle.asm_syntax.specs.Operands.{target_in, fits_target}

@@ -1,3 +1,4 @@
+-- A byte that is plain, or an escape of two bytes, is passed; the `"` ends the string, and any other byte makes it none.
 use Rattle.std.proofs.Common.{◌≡◌, None, false, get_or, arith, rules, sym, ◌∙◌}
 use Rattle.std.proofs.lemmas.Bool.Decides.{nat_tests}
 use Rattle.asm_syntax.specs.Bytes.{is_quote, is_backslash}

@@ -1,3 +1,4 @@
+-- Each step adds the token at the place, or passes a blank; a comment ends the line, and a bad byte is the fault.
 use Rattle.std.proofs.Common.{◌+◌, ◌++◌, map, arith, refl, sym, ap, ◌∙◌}
 use Rattle.std.specs.Option.{option_map}
 use Rattle.std.proofs.lemmas.List.{at_drop_all}

@@ -1,3 +1,4 @@
+-- The tokens so far and those behind the place are all tokens of the line.
 use Rattle.std.proofs.Common.{◌≡◌, ◌-◌, ◌++◌, length, drop, map}
 use Rattle.std.specs.Option.{option_map}
 use Rattle.asm_syntax.specs.Tokens.{tokens_behind}

@@ -1,3 +1,4 @@
+-- The token is that of the whole word, and there is none where the word is no name and no number.
 use Rattle.std.proofs.Common.{◌+◌, ap, ◌∙◌, drop}
 use Rattle.std.specs.List.{prefix_len}
 use Rattle.std.specs.Option.{option_map_or}

@@ -1,5 +1,6 @@
 -- Lists of bytes that are written one after another, up to one of them and past it.
-use Rattle.std.proofs.Common.{◌≡◌, ℕ, suc, ◌+◌, ◌<◌, ◌≤◌, inl, inr, List, ◌∷◌, ◌++◌, length, get_or, take, drop, Option, ◌∙◌, ap, sym, arith, length-append}
+use Rattle.std.proofs.Common.{◌≡◌, ℕ, suc, ◌+◌, ◌<◌, ◌≤◌, inl, inr, List, ◌∷◌, ◌++◌}
+use Rattle.std.proofs.Common.{length, get_or, take, drop, Option, ◌∙◌, ap, sym, arith, length-append}
 use Rattle.std.specs.List.{flat_map}
 use Rattle.std.specs.Io.KnownBytes.{Appends}
 use Rattle.std.proofs.KnownBytes.{Appends-trans}
@@ -35,7 +36,8 @@ pub AppendsPrefix-at : {X : Type 0} (f : X → List ℕ) (xs : List X) (i : ℕ)
     (a b c : Option (List ℕ)) → i < length xs → x ≡ get_or xs i x
     → Appends a b (flat_map f (take i xs)) → AppendsPrefix b c (f x) → AppendsPrefix a c (flat_map f xs)
 AppendsPrefix-at f xs i x a b c within is before p =
-    AppendsPrefix-behind (flat_map f (take i xs)) (f x) (flat_map f (drop (suc i) xs)) (flat_map f xs) a b c (flat_map-at f xs i x within is) before p
+    AppendsPrefix-behind (flat_map f (take i xs)) (f x) (flat_map f (drop (suc i) xs)) (flat_map f xs) a b c
+    (flat_map-at f xs i x within is) before p
 
 -- a count that has risen, above one that is no greater
 pub HasRisen-above : (a b c : ℕ) → a ≤ b → HasRisen b c → HasRisen a c

@@ -11,5 +11,6 @@ returns-clause-events c points m one other stop end goes goes' =
 
 pub returns-clause-stop : goal.returns-clause-stop
 returns-clause-stop c points m one other stop end goes goes' =
-    let same : Some stop ≡ Some end = sym goes.stops ∙ ap (λ k. stop_after points k m) (same-before points m one other stop end goes goes') ∙ goes'.stops in
+    let same : Some stop ≡ Some end =
+    sym goes.stops ∙ ap (λ k. stop_after points k m) (same-before points m one other stop end goes goes') ∙ goes'.stops in
     cc

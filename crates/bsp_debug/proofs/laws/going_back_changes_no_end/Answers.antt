@@ -16,4 +16,5 @@ returns-clause-debugger c d r = reached-ends d.first d.machine r.first r.machine
 
 pub returns-clause-kept : goal.returns-clause-kept
 returns-clause-kept c d r =
-    All-weaker (IsReachedIfKept d.first) (λ state. IfSome state (λ m. EndsAs d.first m)) (λ state is. kept-ends d.first r.first state is) d.kept r.kept
+    All-weaker (IsReachedIfKept d.first) (λ state. IfSome state (λ m. EndsAs d.first m)) (λ state is. kept-ends d.first r.first state is)
+    d.kept r.kept

@@ -51,7 +51,8 @@ r_format v d a b own d_in a_in b_in =
       fits = omega arith;
       only = ((omega arith, omega arith, omega arith, omega arith), λ w w_in h. ap Some (same w w_in h.0 h.1 h.2 h.3));
     } where
-      same : (w : ℕ) → w < 2 ^ 32 → bit_and w 0xFE00707F ≡ v → bits w 11 7 ≡ d → bits w 19 15 ≡ a → bits w 24 20 ≡ b → v + d * 2 ^ 7 + a * 2 ^ 15 + b * 2 ^ 20 ≡ w
+      same : (w : ℕ) → w < 2 ^ 32 → bit_and w 0xFE00707F ≡ v → bits w 11 7 ≡ d → bits w 19 15 ≡ a → bits w 24 20 ≡ b
+          → v + d * 2 ^ 7 + a * 2 ^ 15 + b * 2 ^ 20 ≡ w
       same w w_in met is_d is_a is_b = let of_w = under_FE00707F w in omega arith
 
 pub i_format : (v d a : ℕ) (imm : ℤ) → bit_and v 0x707F ≡ v → d < 32 → a < 32 → IsSigned 12 imm → OnlyWord (IsIWord v d a imm)
@@ -73,7 +74,8 @@ i_format v d a imm own d_in a_in signed =
             λ w w_in h. ap Some (same w w_in h.0 h.1 h.2 (same_12 (bits w 31 20) f (omega arith) f_in (h.3 ∙ sym extends))),
           );
         } where
-          same : (w : ℕ) → w < 2 ^ 32 → bit_and w 0x707F ≡ v → bits w 11 7 ≡ d → bits w 19 15 ≡ a → bits w 31 20 ≡ f → v + d * 2 ^ 7 + a * 2 ^ 15 + f * 2 ^ 20 ≡ w
+          same : (w : ℕ) → w < 2 ^ 32 → bit_and w 0x707F ≡ v → bits w 11 7 ≡ d → bits w 19 15 ≡ a → bits w 31 20 ≡ f
+              → v + d * 2 ^ 7 + a * 2 ^ 15 + f * 2 ^ 20 ≡ w
           same w w_in met is_d is_a is_f = let of_w = under_707F w in omega arith
 
 pub s_format : (v a b : ℕ) (imm : ℤ) → bit_and v 0x707F ≡ v → a < 32 → b < 32 → IsSigned 12 imm → OnlyWord (IsSWord v a b imm)
@@ -92,10 +94,12 @@ s_format v a b imm own a_in b_in signed =
           fits = omega arith;
           only = (
             (omega arith, omega arith, omega arith, ap (sign_extended 12) field ∙ extends),
-            λ w w_in h. ap Some (same w w_in h.0 h.1 h.2 (same_12 (bits w 31 25 * 2 ^ 5 + bits w 11 7) f (omega arith) f_in (h.3 ∙ sym extends))),
+            λ w w_in h.
+                ap Some (same w w_in h.0 h.1 h.2 (same_12 (bits w 31 25 * 2 ^ 5 + bits w 11 7) f (omega arith) f_in (h.3 ∙ sym extends))),
           );
         } where
-          same : (w : ℕ) → w < 2 ^ 32 → bit_and w 0x707F ≡ v → bits w 19 15 ≡ a → bits w 24 20 ≡ b → bits w 31 25 * 2 ^ 5 + bits w 11 7 ≡ f → v + f % 2 ^ 5 * 2 ^ 7 + a * 2 ^ 15 + b * 2 ^ 20 + f / 2 ^ 5 * 2 ^ 25 ≡ w
+          same : (w : ℕ) → w < 2 ^ 32 → bit_and w 0x707F ≡ v → bits w 19 15 ≡ a → bits w 24 20 ≡ b → bits w 31 25 * 2 ^ 5 + bits w 11 7 ≡ f
+              → v + f % 2 ^ 5 * 2 ^ 7 + a * 2 ^ 15 + b * 2 ^ 20 + f / 2 ^ 5 * 2 ^ 25 ≡ w
           same w w_in met is_a is_b is_f = let of_w = under_707F w in omega arith
 
 pub u_format : (v d imm : ℕ) → bit_and v 0x7F ≡ v → d < 32 → imm < 2 ^ 20 → OnlyWord (IsUWord v d imm)
@@ -146,5 +150,6 @@ j_format v d imm own d_in signed even =
             λ w w_in h. ap Some (same w w_in h.0 h.1 (same_21 (j_field w) f (omega arith) f_in (h.2 ∙ sym extends))),
           );
         } where
-          same : (w : ℕ) → w < 2 ^ 32 → bit_and w 0x7F ≡ v → bits w 11 7 ≡ d → j_field w ≡ f → v + d * 2 ^ 7 + f / 2 ^ 12 % 2 ^ 8 * 2 ^ 12 + f / 2 ^ 11 % 2 * 2 ^ 20 + f / 2 % 2 ^ 10 * 2 ^ 21 + f / 2 ^ 20 * 2 ^ 31 ≡ w
+          same : (w : ℕ) → w < 2 ^ 32 → bit_and w 0x7F ≡ v → bits w 11 7 ≡ d → j_field w ≡ f
+              → v + d * 2 ^ 7 + f / 2 ^ 12 % 2 ^ 8 * 2 ^ 12 + f / 2 ^ 11 % 2 * 2 ^ 20 + f / 2 % 2 ^ 10 * 2 ^ 21 + f / 2 ^ 20 * 2 ^ 31 ≡ w
           same w w_in met is_d is_f = let of_w = under_7F w in omega arith

@@ -7,4 +7,6 @@ use Rattle.asm_syntax.proofs.data.targets.Given as goal
 
 abbrev pub invariant-loop-operand : goal.invariant-loop-operand
 invariant-loop-operand g l =
-    (0 < length l.operands) × (behind (gathered fits_target target_in (drop l.operand-index l.operands)) l.fits (map target_value l.targets.items) ≡ gathered fits_target target_in l.operands)
+    (0 < length l.operands)
+    × (behind (gathered fits_target target_in (drop l.operand-index l.operands)) l.fits (map target_value l.targets.items)
+    ≡ gathered fits_target target_in l.operands)

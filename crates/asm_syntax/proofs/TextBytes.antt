@@ -65,28 +65,30 @@ stands_for-itself b v e = by_test (cases_Bool (is_plain b)) where
   by_test (inl plain) = sym (same_Some b v (rw plain at e))
   by_test (inr other) = absurd (no_byte (rw other at e))
 
-escaped : (b c : ℕ) (rest : List ℕ) (t u : Text) (v : ℕ) → is_backslash b ≡ true → escape_value c ≡ Some v → Spells rest u
-    → behind 2 v u ≡ t → Spells (b ∷ c ∷ rest) t
-escaped b c rest t u v k e h is =
-    subst (Spells (b ∷ c ∷ rest)) is (record {
+escaped : (byte letter : ℕ) (rest : List ℕ) (whole tail : Text) (value : ℕ) → is_backslash byte ≡ true → escape_value letter ≡ Some value
+    → Spells rest tail
+    → behind 2 value tail ≡ whole → Spells (byte ∷ letter ∷ rest) whole
+escaped byte letter rest whole tail value k e h is =
+    subst (Spells (byte ∷ letter ∷ rest)) is (record {
       some = omega arith;
       within = omega (arith, h.within);
       content =
-          rw (two_more u.len b c rest h.some)
-          (unescaped-escape b c (take (u.len - 1) rest) k
-          ∙ (ap (λ o. unwrap_or o c ∷ unescaped (take (u.len - 1) rest)) e ∙ ap (λ bs. v ∷ bs) h.content));
+          rw (two_more tail.len byte letter rest h.some)
+          (unescaped-escape byte letter (take (tail.len - 1) rest) k
+          ∙ (ap (λ o. unwrap_or o letter ∷ unescaped (take (tail.len - 1) rest)) e ∙ ap (λ bs. value ∷ bs) h.content));
     })
 
-itself : (b : ℕ) (rest : List ℕ) (t u : Text) (v : ℕ) → is_backslash b ≡ false → v ≡ b → Spells rest u → behind 1 v u ≡ t
-    → Spells (b ∷ rest) t
-itself b rest t u v k e h is =
-    subst (Spells (b ∷ rest)) is (record {
+itself : (byte : ℕ) (rest : List ℕ) (whole tail : Text) (value : ℕ) → is_backslash byte ≡ false → value ≡ byte → Spells rest tail
+    → behind 1 value tail ≡ whole
+    → Spells (byte ∷ rest) whole
+itself byte rest whole tail value k e h is =
+    subst (Spells (byte ∷ rest)) is (record {
       some = omega arith;
       within = omega (arith, h.within);
       content =
-          rw (one_more u.len b rest h.some)
-          (unescaped-itself b (take (u.len - 1) rest) k
-          ∙ (ap (λ w. w ∷ unescaped (take (u.len - 1) rest)) (sym e) ∙ ap (λ bs. v ∷ bs) h.content));
+          rw (one_more tail.len byte rest h.some)
+          (unescaped-itself byte (take (tail.len - 1) rest) k
+          ∙ (ap (λ w. w ∷ unescaped (take (tail.len - 1) rest)) (sym e) ∙ ap (λ bs. value ∷ bs) h.content));
     })
 
 -- where what is left of a line is as said, the line is
@@ -131,22 +133,24 @@ pub HasLen-init : (line : List ℕ) → HasLen (length line) line (option_map (�
 HasLen-init line = (omega arith, no_bytes_on (length line) (text_from line))
 
 -- the same by the length alone, which is what is left to be found
-by_len : (n a : ℕ) (o : Option Text) → option_map (λ t. n - a + t.len) o ≡ option_map (λ m. n - a + m) (option_map (λ t. t.len) o)
-by_len n a None = refl
-by_len n a (Some t) = refl
+by_len : (total left : ℕ) (o : Option Text)
+    → option_map (λ t. total - left + t.len) o ≡ option_map (λ m. total - left + m) (option_map (λ t. t.len) o)
+by_len total left None = refl
+by_len total left (Some t) = refl
 
-further_on : (n a b k : ℕ) (o : Option Text) → a ≤ n → b + k ≡ a
-    → option_map (λ t. n - b + t.len) o ≡ option_map (λ m. n - a + m) (option_map (λ t. t.len + k) o)
-further_on n a b k None within is = refl
-further_on n a b k (Some t) within is = ap Some (omega arith)
+further_on : (total left less passed : ℕ) (o : Option Text) → left ≤ total → less + passed ≡ left
+    → option_map (λ t. total - less + t.len) o ≡ option_map (λ m. total - left + m) (option_map (λ t. t.len + passed) o)
+further_on total left less passed None within is = refl
+further_on total left less passed (Some t) within is = ap Some (omega arith)
 
 -- some bytes on, which add so many to the length
-on : (n : ℕ) (rest left : List ℕ) (whole : Option ℕ) (k : ℕ) → length left + k ≡ length rest
-    → option_map (λ t. t.len) (text_from rest) ≡ option_map (λ t. t.len + k) (text_from left) → HasLen n rest whole → HasLen n left whole
-on n rest left whole k is step (within, has) = (
+on : (total : ℕ) (rest left : List ℕ) (whole : Option ℕ) (passed : ℕ) → length left + passed ≡ length rest
+    → option_map (λ t. t.len) (text_from rest) ≡ option_map (λ t. t.len + passed) (text_from left) → HasLen total rest whole
+    → HasLen total left whole
+on total rest left whole passed is step (within, has) = (
   omega (arith, is),
-  further_on n (length rest) (length left) k (text_from left) within is
-      ∙ ap (option_map (λ m. n - length rest + m)) (sym step) ∙ sym (by_len n (length rest) (text_from rest)) ∙ has,
+  further_on total (length rest) (length left) passed (text_from left) within is
+      ∙ ap (option_map (λ m. total - length rest + m)) (sym step) ∙ sym (by_len total (length rest) (text_from rest)) ∙ has,
 )
 
 one_on : (b : ℕ) (o : Option Text) → option_map (λ t. t.len) (with_value 1 (Some b) o) ≡ option_map (λ t. t.len + 1) o
@@ -159,31 +163,32 @@ step-itself b [] q k p = rw q refl
 step-itself b (c ∷ more) q k p = rw (q, k, p) (one_on b (text_from (c ∷ more)))
 
 -- a byte on
-pub HasLen-itself : (n d : ℕ) (rest : List ℕ) (whole : Option ℕ) → 1 ≤ length rest → is_quote (get_or rest 0 d) ≡ false
-    → is_backslash (get_or rest 0 d) ≡ false → is_plain (get_or rest 0 d) ≡ true → HasLen n rest whole
-    → HasLen n (take (length rest - 1) (drop 1 rest)) whole
-HasLen-itself n d [] whole some q k p has = absurd (omega arith)
-HasLen-itself n d (b ∷ more) whole some q k p has =
+pub HasLen-itself : (total other : ℕ) (rest : List ℕ) (whole : Option ℕ) → 1 ≤ length rest → is_quote (get_or rest 0 other) ≡ false
+    → is_backslash (get_or rest 0 other) ≡ false → is_plain (get_or rest 0 other) ≡ true → HasLen total rest whole
+    → HasLen total (take (length rest - 1) (drop 1 rest)) whole
+HasLen-itself total other [] whole some q k p has = absurd (omega arith)
+HasLen-itself total other (b ∷ more) whole some q k p has =
     let all : take (length (b ∷ more) - 1) more ≡ more = take_all (length (b ∷ more) - 1) more (omega arith) in
-    rw all (on n (b ∷ more) more whole 1 (omega arith) (step-itself b more q k p) has)
+    rw all (on total (b ∷ more) more whole 1 (omega arith) (step-itself b more q k p) has)
 
 -- an escape on, and none
-pub HasLen-escape : (n d : ℕ) (rest left : List ℕ) (whole : Option ℕ) → 1 ≤ length rest → get_or rest 0 d ≡ 92
+pub HasLen-escape : (total other : ℕ) (rest left : List ℕ) (whole : Option ℕ) → 1 ≤ length rest → get_or rest 0 other ≡ 92
     → option_map (λ t. t.len) (text_from (92 ∷ take (length rest - 1) (drop 1 rest))) ≡ option_map (λ t. t.len + 2) (text_from left)
-    → length left + 1 ≡ length (take (length rest - 1) (drop 1 rest)) → HasLen n rest whole → HasLen n left whole
-HasLen-escape n d [] left whole some byte step shorter has = absurd (omega arith)
-HasLen-escape n d (b ∷ more) left whole some byte step shorter has =
+    → length left + 1 ≡ length (take (length rest - 1) (drop 1 rest)) → HasLen total rest whole → HasLen total left whole
+HasLen-escape total other [] left whole some byte step shorter has = absurd (omega arith)
+HasLen-escape total other (b ∷ more) left whole some byte step shorter has =
     let all : take (length (b ∷ more) - 1) more ≡ more = take_all (length (b ∷ more) - 1) more (omega arith) in
-    on n (b ∷ more) left whole 2 (omega (arith, rw all at shorter))
+    on total (b ∷ more) left whole 2 (omega (arith, rw all at shorter))
     (ap (λ x. option_map (λ t. t.len) (text_from (x ∷ more))) byte ∙ rw all at step) has
 
-pub HasLen-no_escape : (n d : ℕ) (rest : List ℕ) (whole : Option ℕ) → 1 ≤ length rest → get_or rest 0 d ≡ 92
-    → option_map (λ t. t.len) (text_from (92 ∷ take (length rest - 1) (drop 1 rest))) ≡ None → HasLen n rest whole → None ≡ whole
-HasLen-no_escape n d [] whole some byte step has = absurd (omega arith)
-HasLen-no_escape n d (b ∷ more) whole some byte step has =
+pub HasLen-no_escape : (total other : ℕ) (rest : List ℕ) (whole : Option ℕ) → 1 ≤ length rest → get_or rest 0 other ≡ 92
+    → option_map (λ t. t.len) (text_from (92 ∷ take (length rest - 1) (drop 1 rest))) ≡ None → HasLen total rest whole → None ≡ whole
+HasLen-no_escape total other [] whole some byte step has = absurd (omega arith)
+HasLen-no_escape total other (b ∷ more) whole some byte step has =
     let all : take (length (b ∷ more) - 1) more ≡ more = take_all (length (b ∷ more) - 1) more (omega arith) in
-    ap (option_map (λ m. n - length (b ∷ more) + m)) (sym (ap (λ x. option_map (λ t. t.len) (text_from (x ∷ more))) byte ∙ rw all at step))
-    ∙ sym (by_len n (length (b ∷ more)) (text_from (b ∷ more))) ∙ has.1
+    ap (option_map (λ m. total - length (b ∷ more) + m))
+    (sym (ap (λ x. option_map (λ t. t.len) (text_from (x ∷ more))) byte ∙ rw all at step))
+    ∙ sym (by_len total (length (b ∷ more)) (text_from (b ∷ more))) ∙ has.1
 
 -- where it has none, there is no token
 pub no_text_token : (rest : List ℕ) → None ≡ option_map (λ t. t.len) (text_from rest)

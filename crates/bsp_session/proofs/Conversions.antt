@@ -76,47 +76,50 @@ pub listing-lines : (float : Bool) (m : Image) → flat_map (ended_line float) (
 listing-lines float m = texts-flat float lines_of_segment m.segments
 
 -- the lines of some segments, and some first ones of the next
-first_lines : (float : Bool) (segments : List Segment) (k : ℕ) (s : Segment) (a b d : Option (List ℕ)) → k < length segments
-    → s ≡ get_or segments k s
-    → Appends a b (flat_map (listing_of_segment float) (take k segments)) → AppendsFirstLines float b d (lines_of_segment s)
-    → AppendsFirstLines float a d (flat_map lines_of_segment segments)
-first_lines float segments k s a b d within is before p =
-    let done = flat_map lines_of_segment (take k segments) in
-    let behind = flat_map lines_of_segment (drop (suc k) segments) in
+first_lines : (float : Bool) (segments : List Segment) (place : ℕ) (segment : Segment) (start mid end : Option (List ℕ))
+    → place < length segments
+    → segment ≡ get_or segments place segment
+    → Appends start mid (flat_map (listing_of_segment float) (take place segments))
+    → AppendsFirstLines float mid end (lines_of_segment segment)
+    → AppendsFirstLines float start end (flat_map lines_of_segment segments)
+first_lines float segments place segment start mid end within is before p =
+    let done = flat_map lines_of_segment (take place segments) in
+    let behind = flat_map lines_of_segment (drop (suc place) segments) in
     record {
       first = done ++ p.first;
       rest = p.rest ++ behind;
-      split = flat_map-at lines_of_segment segments k s within is ∙ ap (λ ls. done ++ (ls ++ behind)) p.split
+      split = flat_map-at lines_of_segment segments place segment within is ∙ ap (λ ls. done ++ (ls ++ behind)) p.split
           ∙ ap (λ ls. done ++ ls) (append_assoc p.first p.rest behind) ∙ sym (append_assoc done p.first (p.rest ++ behind));
       some_left = omega (arith, p.some_left, length-append p.rest behind);
-      written = subst (Appends a d)
+      written = subst (Appends start end)
           (sym (flat_map-append (ended_line float) done p.first
-          ∙ ap (λ bs. bs ++ flat_map (ended_line float) p.first) (texts-flat float lines_of_segment (take k segments))))
-          (Appends-trans a b d _ _ before p.written);
+          ∙ ap (λ bs. bs ++ flat_map (ended_line float) p.first) (texts-flat float lines_of_segment (take place segments))))
+          (Appends-trans start mid end _ _ before p.written);
     }
 
 -- an error of a segment's lines, after those of the segments before it
-pub IsErrorOfLines-at : (float : Bool) (m : Image) (segments : List Segment) (k : ℕ) (s : Segment) (out next : Stream) (e : SessionError)
-    → segments ≡ m.segments
-    → k < length segments → s ≡ get_or segments k s → out.after ≡ next.after → out.failures_after ≡ next.failures_after
+pub IsErrorOfLines-at : (float : Bool) (image : Image) (segments : List Segment) (place : ℕ) (segment : Segment) (out next : Stream)
+    (e : SessionError)
+    → segments ≡ image.segments
+    → place < length segments → segment ≡ get_or segments place segment → out.after ≡ next.after → out.failures_after ≡ next.failures_after
     → out.failures_before ≤ next.failures_before
-    → Appends out.before next.before (flat_map (listing_of_segment float) (take k segments))
-    → IsErrorOfLines float next (lines_of_segment s) e
-    → IsErrorOfLines float out (lines_of_image m) e
-IsErrorOfLines-at float m segments k s out next WriteFault all within is same count rises before (some, failed) = (
+    → Appends out.before next.before (flat_map (listing_of_segment float) (take place segments))
+    → IsErrorOfLines float next (lines_of_segment segment) e
+    → IsErrorOfLines float out (lines_of_image image) e
+IsErrorOfLines-at float image segments place segment out next WriteFault all within is same count rises before (some, failed) = (
   rw (same, ap (λ i. flat_map (ended_line float) (flat_map lines_of_segment i)) (sym all), texts-flat float lines_of_segment segments)
-      (AppendsPrefix-at (listing_of_segment float) segments k s out.before next.before next.after within is before some),
+      (AppendsPrefix-at (listing_of_segment float) segments place segment out.before next.before next.after within is before some),
   rw count (HasRisen-above _ _ _ rises failed),
 )
-IsErrorOfLines-at float m segments k s out next NoMemory all within is same count rises before first =
-    rw (same, sym all) (first_lines float segments k s out.before next.before next.after within is before first)
-IsErrorOfLines-at float m segments k s out next (BadSettings cause) all within is same count rises before p = absurd p
-IsErrorOfLines-at float m segments k s out next TooLong all within is same count rises before p = absurd p
-IsErrorOfLines-at float m segments k s out next (Text cause) all within is same count rises before p = absurd p
-IsErrorOfLines-at float m segments k s out next (BadImage cause) all within is same count rises before p = absurd p
-IsErrorOfLines-at float m segments k s out next SegmentOutside all within is same count rises before p = absurd p
-IsErrorOfLines-at float m segments k s out next ReadFault all within is same count rises before p = absurd p
-IsErrorOfLines-at float m segments k s out next NoWorker all within is same count rises before p = absurd p
+IsErrorOfLines-at float image segments place segment out next NoMemory all within is same count rises before first =
+    rw (same, sym all) (first_lines float segments place segment out.before next.before next.after within is before first)
+IsErrorOfLines-at float image segments place segment out next (BadSettings cause) all within is same count rises before p = absurd p
+IsErrorOfLines-at float image segments place segment out next TooLong all within is same count rises before p = absurd p
+IsErrorOfLines-at float image segments place segment out next (Text cause) all within is same count rises before p = absurd p
+IsErrorOfLines-at float image segments place segment out next (BadImage cause) all within is same count rises before p = absurd p
+IsErrorOfLines-at float image segments place segment out next SegmentOutside all within is same count rises before p = absurd p
+IsErrorOfLines-at float image segments place segment out next ReadFault all within is same count rises before p = absurd p
+IsErrorOfLines-at float image segments place segment out next NoWorker all within is same count rises before p = absurd p
 
 -- an error of an image's lines is one of the listing
 pub IsErrorOfListing-lines : (float : Bool) (c : Conversion) (m : Image) (e : SessionError) → ReadsImage c m

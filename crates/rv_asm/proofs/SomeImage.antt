@@ -113,41 +113,46 @@ not_false : (b : Bool) → not b ≡ false → b ≡ true
 not_false true h = refl
 not_false false h = cc
 
-jump_of : (o : Option ℕ) (width a : ℕ) (code : ℕ → Instr)
-    → by_uses (option_map_or (λ v. not (is_reached width (offset_to a v))) o false) (is_none o || false) ≡ None
-    → ((v : ℕ) → is_reached width (offset_to a v) ≡ true → IsEncodable (code v))
+jump_of : (o : Option ℕ) (width address : ℕ) (code : ℕ → Instr)
+    → by_uses (option_map_or (λ v. not (is_reached width (offset_to address v))) o false) (is_none o || false) ≡ None
+    → ((v : ℕ) → is_reached width (offset_to address v) ≡ true → IsEncodable (code v))
     → (own : List ℕ) × IsSomeAnd o (λ v. Spell (code v ∷ []) own)
-jump_of None width a code h f = cc
-jump_of (Some v) width a code h f =
-    one (code v) (f v (not_false (is_reached width (offset_to a v)) (uses_pass (not (is_reached width (offset_to a v))) false h).0))
+jump_of None width address code h f = cc
+jump_of (Some v) width address code h f =
+    one (code v)
+    (f v (not_false (is_reached width (offset_to address v)) (uses_pass (not (is_reached width (offset_to address v))) false h).0))
 
 some_of : (o : Option ℕ) → (is_none o || false) ≡ false → IsSome o
 some_of None h = cc
 some_of (Some v) h = refl
 
-statement_bytes : (s : Symbols) (a : ℕ) (statement : Statement) → IsInRange statement → fault_of_use s a statement ≡ None
-    → (own : List ℕ) × HasBytes s a statement own
-statement_bytes s a (instruction i) r h = one i r
-statement_bytes s a (float_instruction i) r h = let w = the_word i r in (to_le_bytes w32 w.word, (w.word, w.fits, w.only.0, refl))
-statement_bytes s a (branch op rs1 rs2 target) r h =
-    jump_of (value_of s target) 13 a (λ v. Branch op rs1 rs2 (offset_to a v)) h (λ v e. (r.0, r.1, reached_branch (offset_to a v) e))
-statement_bytes s a (jump_and_link rd target) r h =
-    jump_of (value_of s target) 21 a (λ v. Jal rd (offset_to a v)) h (λ v e. (r.0, reached_jump (offset_to a v) e))
-statement_bytes s a (load_immediate rd n) r h = load_spelled rd (modulo (2 ^ 32) n) (is_short (modulo (2 ^ 32) n)) refl r.0
-statement_bytes s a (load_address rd target) r h =
-    code_of (value_of s target) (lui_addi rd) (uses_pass false _ h).1 (λ v e. lui_addi_spelled rd v r.0)
-statement_bytes s a (words targets) r h = (flat_map (word_bytes s) targets, ((uses_pass false _ h).1, refl))
-statement_bytes s a (halves ns) r h = (flat_map (λ n. to_le_bytes w16 (modulo (2 ^ 16) n)) ns, refl)
-statement_bytes s a (bytes ns) r h = (map (modulo (2 ^ 8)) ns, refl)
-statement_bytes s a (ascii text) r h = (text, refl)
-statement_bytes s a (space n) r h = (replicate n 0, refl)
-statement_bytes s a (align n) r h = (replicate (size_of (align n) a) 0, refl)
-statement_bytes s a (entry target) r h = ([], (some_of (value_of s target) (uses_pass false _ h).1, refl))
+statement_bytes : (symbols : Symbols) (address : ℕ) (statement : Statement) → IsInRange statement
+    → fault_of_use symbols address statement ≡ None
+    → (own : List ℕ) × HasBytes symbols address statement own
+statement_bytes symbols address (instruction i) r h = one i r
+statement_bytes symbols address (float_instruction i) r h =
+    let w = the_word i r in (to_le_bytes w32 w.word, (w.word, w.fits, w.only.0, refl))
+statement_bytes symbols address (branch op rs1 rs2 target) r h =
+    jump_of (value_of symbols target) 13 address (λ v. Branch op rs1 rs2 (offset_to address v)) h
+    (λ v e. (r.0, r.1, reached_branch (offset_to address v) e))
+statement_bytes symbols address (jump_and_link rd target) r h =
+    jump_of (value_of symbols target) 21 address (λ v. Jal rd (offset_to address v)) h (λ v e. (r.0, reached_jump (offset_to address v) e))
+statement_bytes symbols address (load_immediate rd number) r h =
+    load_spelled rd (modulo (2 ^ 32) number) (is_short (modulo (2 ^ 32) number)) refl r.0
+statement_bytes symbols address (load_address rd target) r h =
+    code_of (value_of symbols target) (lui_addi rd) (uses_pass false _ h).1 (λ v e. lui_addi_spelled rd v r.0)
+statement_bytes symbols address (words targets) r h = (flat_map (word_bytes symbols) targets, ((uses_pass false _ h).1, refl))
+statement_bytes symbols address (halves ns) r h = (flat_map (λ number. to_le_bytes w16 (modulo (2 ^ 16) number)) ns, refl)
+statement_bytes symbols address (bytes ns) r h = (map (modulo (2 ^ 8)) ns, refl)
+statement_bytes symbols address (ascii text) r h = (text, refl)
+statement_bytes symbols address (space number) r h = (replicate number 0, refl)
+statement_bytes symbols address (align number) r h = (replicate (size_of (align number) address) 0, refl)
+statement_bytes symbols address (entry target) r h = ([], (some_of (value_of symbols target) (uses_pass false _ h).1, refl))
 
-line_bytes : (s : Symbols) (a : ℕ) (statement : Option Statement) → IfSome statement IsInRange
-    → option_and_then (fault_of_use s a) statement ≡ None → (own : List ℕ) × LineHasBytes s a statement own
-line_bytes s a None r h = ([], refl)
-line_bytes s a (Some statement) r h = statement_bytes s a statement r h
+line_bytes : (symbols : Symbols) (address : ℕ) (statement : Option Statement) → IfSome statement IsInRange
+    → option_and_then (fault_of_use symbols address) statement ≡ None → (own : List ℕ) × LineHasBytes symbols address statement own
+line_bytes symbols address None r h = ([], refl)
+line_bytes symbols address (Some statement) r h = statement_bytes symbols address statement r h
 
 fault_parts : (number : ℕ) (fault : Option AsmKind) (others : Option (ℕ × AsmKind))
     → option_or (option_map (λ kind. (number, kind)) fault) others ≡ None → (fault ≡ None) × (others ≡ None)
@@ -155,45 +160,48 @@ fault_parts number None others h = (refl, h)
 fault_parts number (Some kind) others h = cc
 
 -- lines, and their bytes from an address on
-record Laid (float : Bool) (s : Symbols) (a : ℕ) (texts : List (List ℕ)) : Type 0 where
+record Laid (float : Bool) (symbols : Symbols) (address : ℕ) (texts : List (List ℕ)) : Type 0 where
   lines : List Line
   bytes : List ℕ
   are_lines : map (line_of float) texts ≡ map Ok lines
-  laid : AreLaid s a lines bytes
+  laid : AreLaid symbols address lines bytes
 
 module _ (float : Bool) (ranges : (text : List ℕ) (line : Line) → line_of float text ≡ Ok line → IfSome line.statement IsInRange) where
-  lay : (s : Symbols) (n a : ℕ) (texts : List (List ℕ)) → AreSound float s a texts → uses_from float s n a texts ≡ None
-      → Laid float s a texts
-  lay s n a [] sound uses = record { lines = []; bytes = []; are_lines = refl; laid = refl }
-  lay s n a (text ∷ rest) sound uses =
-      let p = ok_parts (line_of float text) (λ l. All (λ label. s label ≡ Some a) l.labels × (end_of_statement a l.statement ≤ 2 ^ 24))
+  lay : (symbols : Symbols) (number address : ℕ) (texts : List (List ℕ)) → AreSound float symbols address texts
+      → uses_from float symbols number address texts ≡ None
+      → Laid float symbols address texts
+  lay symbols number address [] sound uses = record { lines = []; bytes = []; are_lines = refl; laid = refl }
+  lay symbols number address (text ∷ rest) sound uses =
+      let p = ok_parts (line_of float text)
+      (λ l. All (λ label. symbols label ≡ Some address) l.labels × (end_of_statement address l.statement ≤ 2 ^ 24))
       sound.0 in
       let says : line_statement (line_of float text) ≡ p.0.statement = ap line_statement p.1 in
-      let faults = fault_parts n (option_and_then (fault_of_use s a) (line_statement (line_of float text)))
-      (uses_from float s (n + 1) (end_from a (line_of float text)) rest) uses in
-      let none : option_and_then (fault_of_use s a) p.0.statement ≡ None = sym (ap (option_and_then (fault_of_use s a)) says) ∙ faults.0 in
-      let own = line_bytes s a p.0.statement (ranges text p.0 p.1) none in
-      let ends : end_from a (line_of float text) ≡ a + length own.0 =
-      ap (end_of_statement a) says ∙ sym (length-line s a p.0.statement own.0 own.1) in
-      let more = lay s (n + 1) (end_from a (line_of float text)) rest sound.1 faults.1 in
+      let faults = fault_parts number (option_and_then (fault_of_use symbols address) (line_statement (line_of float text)))
+      (uses_from float symbols (number + 1) (end_from address (line_of float text)) rest) uses in
+      let none : option_and_then (fault_of_use symbols address) p.0.statement ≡ None =
+      sym (ap (option_and_then (fault_of_use symbols address)) says) ∙ faults.0 in
+      let own = line_bytes symbols address p.0.statement (ranges text p.0 p.1) none in
+      let ends : end_from address (line_of float text) ≡ address + length own.0 =
+      ap (end_of_statement address) says ∙ sym (length-line symbols address p.0.statement own.0 own.1) in
+      let more = lay symbols (number + 1) (end_from address (line_of float text)) rest sound.1 faults.1 in
       record {
         lines = p.0 ∷ more.lines;
         bytes = own.0 ++ more.bytes;
         are_lines = (λ i. p.1 i ∷ more.are_lines i);
-        laid = (own.0, more.bytes, refl, p.2.0, own.1, subst (λ e. AreLaid s e more.lines more.bytes) ends more.laid);
+        laid = (own.0, more.bytes, refl, p.2.0, own.1, subst (λ e. AreLaid symbols e more.lines more.bytes) ends more.laid);
       }
 
   pub some_image : (text : List ℕ) → text_fault float text ≡ None → (image : Image) × IsImageOfText float text image
   unfolding text_fault
   some_image text h =
-      let s = symbols_of (places_of float text) in
+      let symbols = symbols_of (places_of float text) in
       let parts = none_parts (first_faulty_line fault_alone (places_of float text))
-      (first_faulty_line (fault_of_uses s) (places_of float text)) h in
-      let l = lay s 1 0 (lines_of text) (sound_text float s text parts.0 (λ q. refl))
-      (sym (uses-placed float s 1 0 (λ _. false) (lines_of text)) ∙ parts.1) in
-      let image : Image = record { entry = last_entry s 0 l.lines; segments = segments_from_0 l.bytes } in (
+      (first_faulty_line (fault_of_uses symbols) (places_of float text)) h in
+      let l = lay symbols 1 0 (lines_of text) (sound_text float symbols text parts.0 (λ q. refl))
+      (sym (uses-placed float symbols 1 0 (λ _. false) (lines_of text)) ∙ parts.1) in
+      let image : Image = record { entry = last_entry symbols 0 l.lines; segments = segments_from_0 l.bytes } in (
         image,
-        image-laid float text s l.bytes image (λ q. refl)
+        image-laid float text symbols l.bytes image (λ q. refl)
             (record { lines = l.lines; are_lines = l.are_lines; laid = l.laid; entry_is = refl }) refl,
       )
     where

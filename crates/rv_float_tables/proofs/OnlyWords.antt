@@ -181,157 +181,177 @@ csr_from w make i h = by_csr (csr_of (csr w)) refl h where
 
 -- ---- the forms
 
-pub only_load : (f3 d a : ℕ) (imm : ℤ) (format : Format) (result : Option ℕ)
-    → float_row_named (load_mnemonic format) ≡ Some (load_row f3 0x07 format) → IsOnlyWord (IsIWord 0x07 f3 d a imm) result
-    → IsOnlyWord (λ w. float_instruction_of w ≡ Some (Load format d a imm)) result
-only_load f3 d a imm format result found_by =
-    IsOnlyWord-spells (Load format d a imm) (load_row f3 0x07 format) (IsIWord 0x07 f3 d a imm) result found_by
+pub only_load : (f3 dest first : ℕ) (imm : ℤ) (format : Format) (result : Option ℕ)
+    → float_row_named (load_mnemonic format) ≡ Some (load_row f3 0x07 format) → IsOnlyWord (IsIWord 0x07 f3 dest first imm) result
+    → IsOnlyWord (λ w. float_instruction_of w ≡ Some (Load format dest first imm)) result
+only_load f3 dest first imm format result found_by =
+    IsOnlyWord-spells (Load format dest first imm) (load_row f3 0x07 format) (IsIWord 0x07 f3 dest first imm) result found_by
     (λ w p. (meets_funct3 w f3 0x07 p.0 p.1, cc))
     (λ w met h. let has = has_funct3 w f3 0x07 (omega arith) met in (has.0, has.1, cc, cc, cc))
 
-pub only_store : (f3 a b : ℕ) (imm : ℤ) (format : Format) (result : Option ℕ)
-    → float_row_named (store_mnemonic format) ≡ Some (store_row f3 0x27 format) → IsOnlyWord (IsSWord 0x27 f3 a b imm) result
-    → IsOnlyWord (λ w. float_instruction_of w ≡ Some (Store format a b imm)) result
-only_store f3 a b imm format result found_by =
-    IsOnlyWord-spells (Store format a b imm) (store_row f3 0x27 format) (IsSWord 0x27 f3 a b imm) result found_by
+pub only_store : (f3 first second : ℕ) (imm : ℤ) (format : Format) (result : Option ℕ)
+    → float_row_named (store_mnemonic format) ≡ Some (store_row f3 0x27 format) → IsOnlyWord (IsSWord 0x27 f3 first second imm) result
+    → IsOnlyWord (λ w. float_instruction_of w ≡ Some (Store format first second imm)) result
+only_store f3 first second imm format result found_by =
+    IsOnlyWord-spells (Store format first second imm) (store_row f3 0x27 format) (IsSWord 0x27 f3 first second imm) result found_by
     (λ w p. (meets_funct3 w f3 0x27 p.0 p.1, cc))
     (λ w met h. let has = has_funct3 w f3 0x27 (omega arith) met in (has.0, has.1, cc, cc, cc))
 
-pub only_fused : (f op d a b c : ℕ) (r : RoundingField) (what : FusedOp) (format : Format) (result : Option ℕ) → op < 2 ^ 7
+pub only_fused : (f op dest first second third : ℕ) (mode : RoundingField) (what : FusedOp) (format : Format) (result : Option ℕ)
+    → op < 2 ^ 7
     → float_row_named (fused_mnemonic what format) ≡ Some (fused_row f op what format)
-    → IsOnlyWord (IsR4Word op d (rounding_code r) a b f c) result
-    → IsOnlyWord (λ w. float_instruction_of w ≡ Some (Fused what format d a b c r)) result
-only_fused f op d a b c r what format result within found_by =
-    IsOnlyWord-spells (Fused what format d a b c r) (fused_row f op what format) (IsR4Word op d (rounding_code r) a b f c) result found_by
-    (λ w p. (meets_fmt w f op p.0 p.5, rounded_at w r (Fused what format (rd w) (rs1 w) (rs2 w) (rs3 w)) p.2 ∙ cc))
+    → IsOnlyWord (IsR4Word op dest (rounding_code mode) first second f third) result
+    → IsOnlyWord (λ w. float_instruction_of w ≡ Some (Fused what format dest first second third mode)) result
+only_fused f op dest first second third mode what format result within found_by =
+    IsOnlyWord-spells (Fused what format dest first second third mode) (fused_row f op what format)
+    (IsR4Word op dest (rounding_code mode) first second f third) result found_by
+    (λ w p. (meets_fmt w f op p.0 p.5, rounded_at w mode (Fused what format (rd w) (rs1 w) (rs2 w) (rs3 w)) p.2 ∙ cc))
     (λ w met h. let has = has_fmt w f op within met in
-    let (s, code, made) = rounded_from w (Fused what format (rd w) (rs1 w) (rs2 w) (rs3 w)) (Fused what format d a b c r) h in
-    let same : s ≡ r = cc in (has.0, cc, code ∙ ap rounding_code same, cc, cc, has.1, cc))
+    let (found, code, made) =
+    rounded_from w (Fused what format (rd w) (rs1 w) (rs2 w) (rs3 w)) (Fused what format dest first second third mode) h in
+    let same : found ≡ mode = cc in (has.0, cc, code ∙ ap rounding_code same, cc, cc, has.1, cc))
 
-pub only_arithmetic : (f7 d a b : ℕ) (r : RoundingField) (what : ArithmeticOp) (format : Format) (result : Option ℕ)
+pub only_arithmetic : (f7 dest first second : ℕ) (mode : RoundingField) (what : ArithmeticOp) (format : Format) (result : Option ℕ)
     → float_row_named (arithmetic_mnemonic what format) ≡ Some (arithmetic_row f7 0x53 what format)
-    → IsOnlyWord (IsRWord 0x53 d (rounding_code r) a b f7) result
-    → IsOnlyWord (λ w. float_instruction_of w ≡ Some (Arithmetic what format d a b r)) result
-only_arithmetic f7 d a b r what format result found_by =
-    IsOnlyWord-spells (Arithmetic what format d a b r) (arithmetic_row f7 0x53 what format) (IsRWord 0x53 d (rounding_code r) a b f7) result
+    → IsOnlyWord (IsRWord 0x53 dest (rounding_code mode) first second f7) result
+    → IsOnlyWord (λ w. float_instruction_of w ≡ Some (Arithmetic what format dest first second mode)) result
+only_arithmetic f7 dest first second mode what format result found_by =
+    IsOnlyWord-spells (Arithmetic what format dest first second mode) (arithmetic_row f7 0x53 what format)
+    (IsRWord 0x53 dest (rounding_code mode) first second f7) result
     found_by
-    (λ w p. (meets_funct7 w f7 p.0 p.5, rounded_at w r (Arithmetic what format (rd w) (rs1 w) (rs2 w)) p.2 ∙ cc))
+    (λ w p. (meets_funct7 w f7 p.0 p.5, rounded_at w mode (Arithmetic what format (rd w) (rs1 w) (rs2 w)) p.2 ∙ cc))
     (λ w met h. let has = has_funct7 w f7 met in
-    let (s, code, made) = rounded_from w (Arithmetic what format (rd w) (rs1 w) (rs2 w)) (Arithmetic what format d a b r) h in
-    let same : s ≡ r = cc in (has.0, cc, code ∙ ap rounding_code same, cc, cc, has.1))
+    let (found, code, made) =
+    rounded_from w (Arithmetic what format (rd w) (rs1 w) (rs2 w)) (Arithmetic what format dest first second mode) h in
+    let same : found ≡ mode = cc in (has.0, cc, code ∙ ap rounding_code same, cc, cc, has.1))
 
-pub only_square_root : (f7 r2 d a : ℕ) (r : RoundingField) (format : Format) (result : Option ℕ) → r2 < 2 ^ 5
+pub only_square_root : (f7 r2 dest first : ℕ) (mode : RoundingField) (format : Format) (result : Option ℕ) → r2 < 2 ^ 5
     → float_row_named (of_format (codes "fsqrt") format) ≡ Some (square_root_row f7 r2 0x53 format)
-    → IsOnlyWord (IsRWord 0x53 d (rounding_code r) a r2 f7) result
-    → IsOnlyWord (λ w. float_instruction_of w ≡ Some (SquareRoot format d a r)) result
-only_square_root f7 r2 d a r format result within found_by =
-    IsOnlyWord-spells (SquareRoot format d a r) (square_root_row f7 r2 0x53 format) (IsRWord 0x53 d (rounding_code r) a r2 f7) result
+    → IsOnlyWord (IsRWord 0x53 dest (rounding_code mode) first r2 f7) result
+    → IsOnlyWord (λ w. float_instruction_of w ≡ Some (SquareRoot format dest first mode)) result
+only_square_root f7 r2 dest first mode format result within found_by =
+    IsOnlyWord-spells (SquareRoot format dest first mode) (square_root_row f7 r2 0x53 format)
+    (IsRWord 0x53 dest (rounding_code mode) first r2 f7) result
     found_by
-    (λ w p. (meets_funct7_rs2 w f7 r2 p.0 p.4 p.5, rounded_at w r (SquareRoot format (rd w) (rs1 w)) p.2 ∙ cc))
+    (λ w p. (meets_funct7_rs2 w f7 r2 p.0 p.4 p.5, rounded_at w mode (SquareRoot format (rd w) (rs1 w)) p.2 ∙ cc))
     (λ w met h. let has = has_funct7_rs2 w f7 r2 within met in
-    let (s, code, made) = rounded_from w (SquareRoot format (rd w) (rs1 w)) (SquareRoot format d a r) h in let same : s ≡ r = cc in
+    let (found, code, made) =
+    rounded_from w (SquareRoot format (rd w) (rs1 w)) (SquareRoot format dest first mode) h in let same : found ≡ mode = cc in
     (has.0, cc, code ∙ ap rounding_code same, cc, has.1, has.2))
 
-pub only_to_word : (f7 r2 d a : ℕ) (r : RoundingField) (kind : WordKind) (format : Format) (result : Option ℕ) → r2 < 2 ^ 5
+pub only_to_word : (f7 r2 dest first : ℕ) (mode : RoundingField) (kind : WordKind) (format : Format) (result : Option ℕ) → r2 < 2 ^ 5
     → float_row_named (to_word_mnemonic kind format) ≡ Some (to_word_row f7 r2 0x53 kind format)
-    → IsOnlyWord (IsRWord 0x53 d (rounding_code r) a r2 f7) result
-    → IsOnlyWord (λ w. float_instruction_of w ≡ Some (ToWord kind format d a r)) result
-only_to_word f7 r2 d a r kind format result within found_by =
-    IsOnlyWord-spells (ToWord kind format d a r) (to_word_row f7 r2 0x53 kind format) (IsRWord 0x53 d (rounding_code r) a r2 f7) result
+    → IsOnlyWord (IsRWord 0x53 dest (rounding_code mode) first r2 f7) result
+    → IsOnlyWord (λ w. float_instruction_of w ≡ Some (ToWord kind format dest first mode)) result
+only_to_word f7 r2 dest first mode kind format result within found_by =
+    IsOnlyWord-spells (ToWord kind format dest first mode) (to_word_row f7 r2 0x53 kind format)
+    (IsRWord 0x53 dest (rounding_code mode) first r2 f7) result
     found_by
-    (λ w p. (meets_funct7_rs2 w f7 r2 p.0 p.4 p.5, rounded_at w r (ToWord kind format (rd w) (rs1 w)) p.2 ∙ cc))
+    (λ w p. (meets_funct7_rs2 w f7 r2 p.0 p.4 p.5, rounded_at w mode (ToWord kind format (rd w) (rs1 w)) p.2 ∙ cc))
     (λ w met h. let has = has_funct7_rs2 w f7 r2 within met in
-    let (s, code, made) = rounded_from w (ToWord kind format (rd w) (rs1 w)) (ToWord kind format d a r) h in let same : s ≡ r = cc in
+    let (found, code, made) =
+    rounded_from w (ToWord kind format (rd w) (rs1 w)) (ToWord kind format dest first mode) h in let same : found ≡ mode = cc in
     (has.0, cc, code ∙ ap rounding_code same, cc, has.1, has.2))
 
-pub only_from_word : (f7 r2 d a : ℕ) (r : RoundingField) (kind : WordKind) (format : Format) (result : Option ℕ) → r2 < 2 ^ 5
+pub only_from_word : (f7 r2 dest first : ℕ) (mode : RoundingField) (kind : WordKind) (format : Format) (result : Option ℕ) → r2 < 2 ^ 5
     → float_row_named (from_word_mnemonic kind format) ≡ Some (from_word_row f7 r2 0x53 kind format)
-    → IsOnlyWord (IsRWord 0x53 d (rounding_code r) a r2 f7) result
-    → IsOnlyWord (λ w. float_instruction_of w ≡ Some (FromWord kind format d a r)) result
-only_from_word f7 r2 d a r kind format result within found_by =
-    IsOnlyWord-spells (FromWord kind format d a r) (from_word_row f7 r2 0x53 kind format) (IsRWord 0x53 d (rounding_code r) a r2 f7) result
+    → IsOnlyWord (IsRWord 0x53 dest (rounding_code mode) first r2 f7) result
+    → IsOnlyWord (λ w. float_instruction_of w ≡ Some (FromWord kind format dest first mode)) result
+only_from_word f7 r2 dest first mode kind format result within found_by =
+    IsOnlyWord-spells (FromWord kind format dest first mode) (from_word_row f7 r2 0x53 kind format)
+    (IsRWord 0x53 dest (rounding_code mode) first r2 f7) result
     found_by
-    (λ w p. (meets_funct7_rs2 w f7 r2 p.0 p.4 p.5, rounded_at w r (FromWord kind format (rd w) (rs1 w)) p.2 ∙ cc))
+    (λ w p. (meets_funct7_rs2 w f7 r2 p.0 p.4 p.5, rounded_at w mode (FromWord kind format (rd w) (rs1 w)) p.2 ∙ cc))
     (λ w met h. let has = has_funct7_rs2 w f7 r2 within met in
-    let (s, code, made) = rounded_from w (FromWord kind format (rd w) (rs1 w)) (FromWord kind format d a r) h in
-    let same : s ≡ r = cc in (has.0, cc, code ∙ ap rounding_code same, cc, has.1, has.2))
+    let (found, code, made) = rounded_from w (FromWord kind format (rd w) (rs1 w)) (FromWord kind format dest first mode) h in
+    let same : found ≡ mode = cc in (has.0, cc, code ∙ ap rounding_code same, cc, has.1, has.2))
 
-pub only_to_format : (f7 r2 d a : ℕ) (r : RoundingField) (format : Format) (result : Option ℕ) → r2 < 2 ^ 5
+pub only_to_format : (f7 r2 dest first : ℕ) (mode : RoundingField) (format : Format) (result : Option ℕ) → r2 < 2 ^ 5
     → float_row_named (to_format_mnemonic format) ≡ Some (to_format_row f7 r2 0x53 format)
-    → IsOnlyWord (IsRWord 0x53 d (rounding_code r) a r2 f7) result
-    → IsOnlyWord (λ w. float_instruction_of w ≡ Some (ToFormat format d a r)) result
-only_to_format f7 r2 d a r format result within found_by =
-    IsOnlyWord-spells (ToFormat format d a r) (to_format_row f7 r2 0x53 format) (IsRWord 0x53 d (rounding_code r) a r2 f7) result found_by
-    (λ w p. (meets_funct7_rs2 w f7 r2 p.0 p.4 p.5, rounded_at w r (ToFormat format (rd w) (rs1 w)) p.2 ∙ cc))
+    → IsOnlyWord (IsRWord 0x53 dest (rounding_code mode) first r2 f7) result
+    → IsOnlyWord (λ w. float_instruction_of w ≡ Some (ToFormat format dest first mode)) result
+only_to_format f7 r2 dest first mode format result within found_by =
+    IsOnlyWord-spells (ToFormat format dest first mode) (to_format_row f7 r2 0x53 format)
+    (IsRWord 0x53 dest (rounding_code mode) first r2 f7) result found_by
+    (λ w p. (meets_funct7_rs2 w f7 r2 p.0 p.4 p.5, rounded_at w mode (ToFormat format (rd w) (rs1 w)) p.2 ∙ cc))
     (λ w met h. let has = has_funct7_rs2 w f7 r2 within met in
-    let (s, code, made) = rounded_from w (ToFormat format (rd w) (rs1 w)) (ToFormat format d a r) h in let same : s ≡ r = cc in
+    let (found, code, made) =
+    rounded_from w (ToFormat format (rd w) (rs1 w)) (ToFormat format dest first mode) h in let same : found ≡ mode = cc in
     (has.0, cc, code ∙ ap rounding_code same, cc, has.1, has.2))
 
-pub only_sign : (f7 f3 d a b : ℕ) (what : SignOp) (format : Format) (result : Option ℕ) → f3 < 2 ^ 3
-    → float_row_named (sign_mnemonic what format) ≡ Some (sign_row f7 f3 0x53 what format) → IsOnlyWord (IsRWord 0x53 d f3 a b f7) result
-    → IsOnlyWord (λ w. float_instruction_of w ≡ Some (Sign what format d a b)) result
-only_sign f7 f3 d a b what format result within found_by =
-    IsOnlyWord-spells (Sign what format d a b) (sign_row f7 f3 0x53 what format) (IsRWord 0x53 d f3 a b f7) result found_by
+pub only_sign : (f7 f3 dest first second : ℕ) (what : SignOp) (format : Format) (result : Option ℕ) → f3 < 2 ^ 3
+    → float_row_named (sign_mnemonic what format) ≡ Some (sign_row f7 f3 0x53 what format)
+    → IsOnlyWord (IsRWord 0x53 dest f3 first second f7) result
+    → IsOnlyWord (λ w. float_instruction_of w ≡ Some (Sign what format dest first second)) result
+only_sign f7 f3 dest first second what format result within found_by =
+    IsOnlyWord-spells (Sign what format dest first second) (sign_row f7 f3 0x53 what format) (IsRWord 0x53 dest f3 first second f7) result
+    found_by
     (λ w p. (meets_funct7_funct3 w f7 f3 p.0 p.2 p.5, cc))
     (λ w met h. let has = has_funct7_funct3 w f7 f3 within met in (has.0, cc, has.1, cc, cc, has.2))
 
-pub only_min_max : (f7 f3 d a b : ℕ) (what : MinMaxOp) (format : Format) (result : Option ℕ) → f3 < 2 ^ 3
+pub only_min_max : (f7 f3 dest first second : ℕ) (what : MinMaxOp) (format : Format) (result : Option ℕ) → f3 < 2 ^ 3
     → float_row_named (min_max_mnemonic what format) ≡ Some (min_max_row f7 f3 0x53 what format)
-    → IsOnlyWord (IsRWord 0x53 d f3 a b f7) result → IsOnlyWord (λ w. float_instruction_of w ≡ Some (MinMax what format d a b)) result
-only_min_max f7 f3 d a b what format result within found_by =
-    IsOnlyWord-spells (MinMax what format d a b) (min_max_row f7 f3 0x53 what format) (IsRWord 0x53 d f3 a b f7) result found_by
+    → IsOnlyWord (IsRWord 0x53 dest f3 first second f7) result
+    → IsOnlyWord (λ w. float_instruction_of w ≡ Some (MinMax what format dest first second)) result
+only_min_max f7 f3 dest first second what format result within found_by =
+    IsOnlyWord-spells (MinMax what format dest first second) (min_max_row f7 f3 0x53 what format) (IsRWord 0x53 dest f3 first second f7)
+    result found_by
     (λ w p. (meets_funct7_funct3 w f7 f3 p.0 p.2 p.5, cc))
     (λ w met h. let has = has_funct7_funct3 w f7 f3 within met in (has.0, cc, has.1, cc, cc, has.2))
 
-pub only_compare : (f7 f3 d a b : ℕ) (what : CompareOp) (format : Format) (result : Option ℕ) → f3 < 2 ^ 3
+pub only_compare : (f7 f3 dest first second : ℕ) (what : CompareOp) (format : Format) (result : Option ℕ) → f3 < 2 ^ 3
     → float_row_named (compare_mnemonic what format) ≡ Some (compare_row f7 f3 0x53 what format)
-    → IsOnlyWord (IsRWord 0x53 d f3 a b f7) result → IsOnlyWord (λ w. float_instruction_of w ≡ Some (Compare what format d a b)) result
-only_compare f7 f3 d a b what format result within found_by =
-    IsOnlyWord-spells (Compare what format d a b) (compare_row f7 f3 0x53 what format) (IsRWord 0x53 d f3 a b f7) result found_by
+    → IsOnlyWord (IsRWord 0x53 dest f3 first second f7) result
+    → IsOnlyWord (λ w. float_instruction_of w ≡ Some (Compare what format dest first second)) result
+only_compare f7 f3 dest first second what format result within found_by =
+    IsOnlyWord-spells (Compare what format dest first second) (compare_row f7 f3 0x53 what format) (IsRWord 0x53 dest f3 first second f7)
+    result found_by
     (λ w p. (meets_funct7_funct3 w f7 f3 p.0 p.2 p.5, cc))
     (λ w met h. let has = has_funct7_funct3 w f7 f3 within met in (has.0, cc, has.1, cc, cc, has.2))
 
-pub only_class : (f7 r2 f3 d a : ℕ) (format : Format) (result : Option ℕ) → r2 < 2 ^ 5 → f3 < 2 ^ 3
+pub only_class : (f7 r2 f3 dest first : ℕ) (format : Format) (result : Option ℕ) → r2 < 2 ^ 5 → f3 < 2 ^ 3
     → float_row_named (of_format (codes "fclass") format) ≡ Some (class_row f7 r2 f3 0x53 format)
-    → IsOnlyWord (IsRWord 0x53 d f3 a r2 f7) result → IsOnlyWord (λ w. float_instruction_of w ≡ Some (Class format d a)) result
-only_class f7 r2 f3 d a format result r2_in f3_in found_by =
-    IsOnlyWord-spells (Class format d a) (class_row f7 r2 f3 0x53 format) (IsRWord 0x53 d f3 a r2 f7) result found_by
+    → IsOnlyWord (IsRWord 0x53 dest f3 first r2 f7) result
+    → IsOnlyWord (λ w. float_instruction_of w ≡ Some (Class format dest first)) result
+only_class f7 r2 f3 dest first format result r2_in f3_in found_by =
+    IsOnlyWord-spells (Class format dest first) (class_row f7 r2 f3 0x53 format) (IsRWord 0x53 dest f3 first r2 f7) result found_by
     (λ w p. (meets_all w f7 r2 f3 p.0 p.2 p.4 p.5, cc))
     (λ w met h. let has = has_all w f7 r2 f3 r2_in f3_in met in (has.0, cc, has.1, cc, has.2, has.3))
 
-pub only_move_to_integer : (f7 r2 f3 d a : ℕ) (result : Option ℕ) → r2 < 2 ^ 5 → f3 < 2 ^ 3
-    → float_row_named (codes "fmv.x.w") ≡ Some (move_to_integer_row f7 r2 f3 0x53) → IsOnlyWord (IsRWord 0x53 d f3 a r2 f7) result
-    → IsOnlyWord (λ w. float_instruction_of w ≡ Some (MoveToInteger d a)) result
-only_move_to_integer f7 r2 f3 d a result r2_in f3_in found_by =
-    IsOnlyWord-spells (MoveToInteger d a) (move_to_integer_row f7 r2 f3 0x53) (IsRWord 0x53 d f3 a r2 f7) result found_by
+pub only_move_to_integer : (f7 r2 f3 dest first : ℕ) (result : Option ℕ) → r2 < 2 ^ 5 → f3 < 2 ^ 3
+    → float_row_named (codes "fmv.x.w") ≡ Some (move_to_integer_row f7 r2 f3 0x53) → IsOnlyWord (IsRWord 0x53 dest f3 first r2 f7) result
+    → IsOnlyWord (λ w. float_instruction_of w ≡ Some (MoveToInteger dest first)) result
+only_move_to_integer f7 r2 f3 dest first result r2_in f3_in found_by =
+    IsOnlyWord-spells (MoveToInteger dest first) (move_to_integer_row f7 r2 f3 0x53) (IsRWord 0x53 dest f3 first r2 f7) result found_by
     (λ w p. (meets_all w f7 r2 f3 p.0 p.2 p.4 p.5, cc))
     (λ w met h. let has = has_all w f7 r2 f3 r2_in f3_in met in (has.0, cc, has.1, cc, has.2, has.3))
 
-pub only_move_from_integer : (f7 r2 f3 d a : ℕ) (result : Option ℕ) → r2 < 2 ^ 5 → f3 < 2 ^ 3
-    → float_row_named (codes "fmv.w.x") ≡ Some (move_from_integer_row f7 r2 f3 0x53) → IsOnlyWord (IsRWord 0x53 d f3 a r2 f7) result
-    → IsOnlyWord (λ w. float_instruction_of w ≡ Some (MoveFromInteger d a)) result
-only_move_from_integer f7 r2 f3 d a result r2_in f3_in found_by =
-    IsOnlyWord-spells (MoveFromInteger d a) (move_from_integer_row f7 r2 f3 0x53) (IsRWord 0x53 d f3 a r2 f7) result found_by
+pub only_move_from_integer : (f7 r2 f3 dest first : ℕ) (result : Option ℕ) → r2 < 2 ^ 5 → f3 < 2 ^ 3
+    → float_row_named (codes "fmv.w.x") ≡ Some (move_from_integer_row f7 r2 f3 0x53) → IsOnlyWord (IsRWord 0x53 dest f3 first r2 f7) result
+    → IsOnlyWord (λ w. float_instruction_of w ≡ Some (MoveFromInteger dest first)) result
+only_move_from_integer f7 r2 f3 dest first result r2_in f3_in found_by =
+    IsOnlyWord-spells (MoveFromInteger dest first) (move_from_integer_row f7 r2 f3 0x53) (IsRWord 0x53 dest f3 first r2 f7) result found_by
     (λ w p. (meets_all w f7 r2 f3 p.0 p.2 p.4 p.5, cc))
     (λ w met h. let has = has_all w f7 r2 f3 r2_in f3_in met in (has.0, cc, has.1, cc, has.2, has.3))
 
-pub only_csr : (f3 d a : ℕ) (c : FloatCsr) (what : CsrOp) (result : Option ℕ)
-    → float_row_named (csr_mnemonic what) ≡ Some (csr_row f3 0x73 what) → IsOnlyWord (IsRWord 0x73 d f3 a (csr_number c) 0) result
-    → IsOnlyWord (λ w. float_instruction_of w ≡ Some (Csr what c d a)) result
-only_csr f3 d a c what result found_by =
-    IsOnlyWord-spells (Csr what c d a) (csr_row f3 0x73 what) (IsRWord 0x73 d f3 a (csr_number c) 0) result found_by
+pub only_csr : (f3 dest first : ℕ) (c : FloatCsr) (what : CsrOp) (result : Option ℕ)
+    → float_row_named (csr_mnemonic what) ≡ Some (csr_row f3 0x73 what) → IsOnlyWord (IsRWord 0x73 dest f3 first (csr_number c) 0) result
+    → IsOnlyWord (λ w. float_instruction_of w ≡ Some (Csr what c dest first)) result
+only_csr f3 dest first c what result found_by =
+    IsOnlyWord-spells (Csr what c dest first) (csr_row f3 0x73 what) (IsRWord 0x73 dest f3 first (csr_number c) 0) result found_by
     (λ w p. (meets_funct3 w f3 0x73 p.0 p.2, csr_at w c (λ x. Csr what x (rd w) (rs1 w)) p.4 p.5 ∙ cc))
     (λ w met h. let has = has_funct3 w f3 0x73 (omega arith) met in
-    let (x, low, high, made) = csr_from w (λ x. Csr what x (rd w) (rs1 w)) (Csr what c d a) h in let same : x ≡ c = cc in
+    let (x, low, high, made) = csr_from w (λ x. Csr what x (rd w) (rs1 w)) (Csr what c dest first) h in let same : x ≡ c = cc in
     (has.0, cc, has.1, cc, low ∙ ap csr_number same, high))
 
-pub only_csr_immediate : (f3 d a : ℕ) (c : FloatCsr) (what : CsrOp) (result : Option ℕ)
+pub only_csr_immediate : (f3 dest first : ℕ) (c : FloatCsr) (what : CsrOp) (result : Option ℕ)
     → float_row_named (csr_mnemonic what ++ codes "i") ≡ Some (csr_immediate_row f3 0x73 what)
-    → IsOnlyWord (IsRWord 0x73 d f3 a (csr_number c) 0) result
-    → IsOnlyWord (λ w. float_instruction_of w ≡ Some (CsrImmediate what c d a)) result
-only_csr_immediate f3 d a c what result found_by =
-    IsOnlyWord-spells (CsrImmediate what c d a) (csr_immediate_row f3 0x73 what) (IsRWord 0x73 d f3 a (csr_number c) 0) result found_by
+    → IsOnlyWord (IsRWord 0x73 dest f3 first (csr_number c) 0) result
+    → IsOnlyWord (λ w. float_instruction_of w ≡ Some (CsrImmediate what c dest first)) result
+only_csr_immediate f3 dest first c what result found_by =
+    IsOnlyWord-spells (CsrImmediate what c dest first) (csr_immediate_row f3 0x73 what) (IsRWord 0x73 dest f3 first (csr_number c) 0) result
+    found_by
     (λ w p. (meets_funct3 w f3 0x73 p.0 p.2, csr_at w c (λ x. CsrImmediate what x (rd w) (rs1 w)) p.4 p.5 ∙ cc))
     (λ w met h. let has = has_funct3 w f3 0x73 (omega arith) met in
-    let (x, low, high, made) = csr_from w (λ x. CsrImmediate what x (rd w) (rs1 w)) (CsrImmediate what c d a) h in
+    let (x, low, high, made) = csr_from w (λ x. CsrImmediate what x (rd w) (rs1 w)) (CsrImmediate what c dest first) h in
     let same : x ≡ c = cc in (has.0, cc, has.1, cc, low ∙ ap csr_number same, high))

@@ -8,11 +8,13 @@ use Rattle.asm_syntax.specs.Operands.{is_comma, operands_in}
 use Rattle.asm_syntax.specs.Tokens.{Token}
 use Rattle.asm_syntax.specs.TokenViews.{token_value, operand_values}
 
-onto_first-map : {X Y : Type 0} (f : X → Y) (x : X) (parts : List (List X)) → onto_first (f x) (map (map f) parts) ≡ map (map f) (onto_first x parts)
+onto_first-map : {X Y : Type 0} (f : X → Y) (x : X) (parts : List (List X))
+    → onto_first (f x) (map (map f) parts) ≡ map (map f) (onto_first x parts)
 onto_first-map f x [] = refl
 onto_first-map f x (part ∷ parts) = refl
 
-slice_split-map : {X Y : Type 0} (p : Y → Bool) (f : X → Y) (xs : List X) → slice_split p (map f xs) ≡ map (map f) (slice_split (λ x. p (f x)) xs)
+slice_split-map : {X Y : Type 0} (p : Y → Bool) (f : X → Y) (xs : List X)
+    → slice_split p (map f xs) ≡ map (map f) (slice_split (λ x. p (f x)) xs)
 slice_split-map p f [] = refl
 slice_split-map p f (x ∷ xs) =
     elim (cases_Bool (p (f x))) [
@@ -28,7 +30,8 @@ operands_in-split : (ts : List Token) → 0 < length ts → operands_in ts ≡ s
 operands_in-split [] some = absurd (omega arith)
 operands_in-split (t ∷ ts) some = refl
 
-pub operand_values-split : (items : List (Bor (List TokenCode))) (ts : List TokenCode) → 0 < length ts → map (λ x. x.now) items ≡ slice_split (λ t. is_comma (token_value t)) ts → operand_values items ≡ operands_in (map token_value ts)
+pub operand_values-split : (items : List (Bor (List TokenCode))) (ts : List TokenCode) → 0 < length ts
+    → map (λ x. x.now) items ≡ slice_split (λ t. is_comma (token_value t)) ts → operand_values items ≡ operands_in (map token_value ts)
 operand_values-split items [] some is = absurd (omega arith)
 operand_values-split items (t ∷ ts) some is =
     operand_values-map items

@@ -1,5 +1,6 @@
 -- What holds of every line: its statement is in range, and memory is no fault of it.
-use Rattle.std.proofs.Common.{◌≡◌, ◌≢◌, ℕ, ◌<◌, Bool, true, List, [], ◌∷◌, length, ℤ, pos, Option, Some, None, Result, Ok, Err, subst, arith}
+use Rattle.std.proofs.Common.{◌≡◌, ◌≢◌, ℕ, ◌<◌, Bool, true, List, [], ◌∷◌, length}
+use Rattle.std.proofs.Common.{ℤ, pos, Option, Some, None, Result, Ok, Err, subst, arith}
 use Rattle.std.specs.Prelude.{IfSome}
 use Rattle.std.specs.Option.{option_map}
 use Rattle.std.proofs.lemmas.Int.{ints}
@@ -8,19 +9,27 @@ use Rattle.rv_tables.specs.Operands.{IsRegister, IsImmediate}
 use Rattle.asm_syntax.specs.declared.error.LineError.{LineError}
 use Rattle.asm_syntax.specs.declared.error.LineError.TheVariants.{NoMemory}
 use Rattle.asm_syntax.specs.declared.form.Form.{Form}
-use Rattle.asm_syntax.specs.declared.form.Form.TheVariants.{Arithmetic, WithImmediate, ShiftByAmount, LoadFrom, StoreTo, BranchTo, UpperImmediate, JumpAndLink, JumpAndLinkRegister, NoOperands, WordData, HalfData, ByteData, TextData, ZeroData, AlignData, EntryPoint, Nop, Move, LoadImmediate, LoadAddress, Jump, JumpRegister, Return, Call, BranchIfZero, BranchIfNotZero, Float}
+use Rattle.asm_syntax.specs.declared.form.Form.TheVariants.{Arithmetic, WithImmediate, ShiftByAmount, LoadFrom, StoreTo, BranchTo}
+use Rattle.asm_syntax.specs.declared.form.Form.TheVariants.{UpperImmediate, JumpAndLink, JumpAndLinkRegister, NoOperands, WordData}
+use Rattle.asm_syntax.specs.declared.form.Form.TheVariants.{HalfData, ByteData, TextData, ZeroData, AlignData, EntryPoint, Nop, Move}
+use Rattle.asm_syntax.specs.declared.form.Form.TheVariants.{LoadImmediate, LoadAddress, Jump, JumpRegister, Return, Call, BranchIfZero}
+use Rattle.asm_syntax.specs.declared.form.Form.TheVariants.{BranchIfNotZero, Float}
 use Rattle.asm_syntax.specs.Faults.{if_ok}
 use Rattle.asm_syntax.specs.FloatOperands.{float_operation}
 use Rattle.asm_syntax.specs.Forms.{form_named, reading}
-use Rattle.asm_syntax.specs.Operands.{Address, Target, IsTarget, register_in, number_in, address_in, target_in, text_in, operands_in, fits_target}
+use Rattle.asm_syntax.specs.Operands.{Address, Target, IsTarget, register_in, number_in}
+use Rattle.asm_syntax.specs.Operands.{address_in, target_in, text_in, operands_in, fits_target}
 use Rattle.asm_syntax.specs.Parse.{line_of, line_with, labels_in, behind_labels, statement_in, statement_of_form}
 use Rattle.asm_syntax.specs.Ranges.{Range, up_to, signed, unsigned, is_within, IsWithin}
-use Rattle.asm_syntax.specs.Shapes.{none, one, two, three, one_or_more, no_operands, a_register, two_registers, three_registers, a_number, register_and_number, registers_and_number, register_and_address, a_target, register_and_target, registers_and_target, targets, numbers, a_text}
+use Rattle.asm_syntax.specs.Shapes.{none, one, two, three, one_or_more, no_operands, a_register, two_registers, three_registers, a_number}
+use Rattle.asm_syntax.specs.Shapes.{register_and_number, registers_and_number, register_and_address, a_target, register_and_target}
+use Rattle.asm_syntax.specs.Shapes.{registers_and_target, targets, numbers, a_text}
 use Rattle.asm_syntax.specs.Statements.{Statement, Line, IsInRange, half_range, byte_range, word_range, most_space, most_align}
 use Rattle.asm_syntax.specs.Tokens.{Token, name, tokens_of}
 use Rattle.asm_syntax.proofs.FloatFacts.{float_operation-fault, float_operation-ok}
 use Rattle.asm_syntax.proofs.InRange.{is_within-true, fits_target-true, judged-ok, judged-each}
-use Rattle.asm_syntax.proofs.OperandFacts.{no_ok, if_ok-ok, one-some, two-some, three-some, register_in-some, address_in-some, immediate, magnitude, if_ok-fault, judged-fault}
+use Rattle.asm_syntax.proofs.OperandFacts.{no_ok, if_ok-ok, one-some, two-some, three-some, register_in-some, address_in-some, immediate}
+use Rattle.asm_syntax.proofs.OperandFacts.{magnitude, if_ok-fault, judged-fault}
 
 -- operands of each shape are in their ranges
 a_register-ok : (os : List (List Token)) (rs : ℕ) → a_register os ≡ Ok rs → IsRegister rs
@@ -42,18 +51,21 @@ three_registers-ok os o h =
 a_number-ok : (range : Range) (os : List (List Token)) (n : ℤ) → a_number range os ≡ Ok n → IsWithin range n
 a_number-ok range os n h = is_within-true range n (judged-ok (is_within range) (one number_in os) n h).1
 
-register_and_number-ok : (range : Range) (os : List (List Token)) (o : ℕ × ℤ) → register_and_number range os ≡ Ok o → IsRegister o.0 × IsWithin range o.1
+register_and_number-ok : (range : Range) (os : List (List Token)) (o : ℕ × ℤ) → register_and_number range os ≡ Ok o
+    → IsRegister o.0 × IsWithin range o.1
 register_and_number-ok range os o h =
     let found = judged-ok {X = ℕ × ℤ} (λ p. is_within range p.1) (two register_in number_in os) o h in
     let t = two-some register_in number_in os o found.0 in (register_in-some t.0 o.0 t.2, is_within-true range o.1 found.1)
 
-registers_and_number-ok : (range : Range) (os : List (List Token)) (o : ℕ × ℕ × ℤ) → registers_and_number range os ≡ Ok o → IsRegister o.0 × IsRegister o.1 × IsWithin range o.2
+registers_and_number-ok : (range : Range) (os : List (List Token)) (o : ℕ × ℕ × ℤ) → registers_and_number range os ≡ Ok o
+    → IsRegister o.0 × IsRegister o.1 × IsWithin range o.2
 registers_and_number-ok range os o h =
     let found = judged-ok {X = ℕ × ℕ × ℤ} (λ p. is_within range p.2) (three register_in register_in number_in os) o h in
     let t = three-some register_in register_in number_in os o found.0 in
     (register_in-some t.0 o.0 t.3, register_in-some t.1 o.1 t.4, is_within-true range o.2 found.1)
 
-register_and_address-ok : (os : List (List Token)) (o : ℕ × Address) → register_and_address os ≡ Ok o → IsRegister o.0 × IsRegister o.1.base × IsImmediate o.1.offset
+register_and_address-ok : (os : List (List Token)) (o : ℕ × Address) → register_and_address os ≡ Ok o
+    → IsRegister o.0 × IsRegister o.1.base × IsImmediate o.1.offset
 register_and_address-ok os o h =
     let found = judged-ok {X = ℕ × Address} (λ p. is_within (signed 12) p.1.offset) (two register_in address_in os) o h in
     let t = two-some register_in address_in os o found.0 in
@@ -67,7 +79,8 @@ register_and_target-ok os o h =
     let found = judged-ok {X = ℕ × Target} (λ p. fits_target p.1) (two register_in target_in os) o h in
     let t = two-some register_in target_in os o found.0 in (register_in-some t.0 o.0 t.2, fits_target-true o.1 found.1)
 
-registers_and_target-ok : (os : List (List Token)) (o : ℕ × ℕ × Target) → registers_and_target os ≡ Ok o → IsRegister o.0 × IsRegister o.1 × IsTarget o.2
+registers_and_target-ok : (os : List (List Token)) (o : ℕ × ℕ × Target) → registers_and_target os ≡ Ok o
+    → IsRegister o.0 × IsRegister o.1 × IsTarget o.2
 registers_and_target-ok os o h =
     let found = judged-ok {X = ℕ × ℕ × Target} (λ p. fits_target p.2) (three register_in register_in target_in os) o h in
     let t = three-some register_in register_in target_in os o found.0 in
@@ -82,7 +95,8 @@ numbers-ok range os ns h =
     let all = judged-each (is_within range) number_in os ns h in (all.0, λ k d within. is_within-true range _ (all.1 k d within))
 
 -- what operands say is in range where the operands are
-said : {X : Type 0} (P : X → Type 0) (operands : Result X LineError) (says : X → Statement) (s : Statement) → ((x : X) → operands ≡ Ok x → P x) → ((x : X) → P x → IsInRange (says x)) → if_ok says operands ≡ Ok s → IsInRange s
+said : {X : Type 0} (P : X → Type 0) (operands : Result X LineError) (says : X → Statement) (s : Statement)
+    → ((x : X) → operands ≡ Ok x → P x) → ((x : X) → P x → IsInRange (says x)) → if_ok says operands ≡ Ok s → IsInRange s
 said P operands says s are then h =
     let parts = if_ok-ok says operands s h in subst IsInRange parts.2 (then parts.0 (are parts.0 parts.1))
 
@@ -92,12 +106,14 @@ reading-in_range (Arithmetic op) os s h = said _ (three_registers os) _ s (three
 reading-in_range (WithImmediate op) os s h =
     said _ (registers_and_number (signed 12) os) _ s (registers_and_number-ok (signed 12) os) (λ x p. (p.0, p.1, immediate x.2 p.2)) h
 reading-in_range (ShiftByAmount op) os s h =
-    said _ (registers_and_number (unsigned 5) os) _ s (registers_and_number-ok (unsigned 5) os) (λ x p. (p.0, p.1, omega (arith, magnitude 31 x.2 p.2))) h
+    said _ (registers_and_number (unsigned 5) os) _ s (registers_and_number-ok (unsigned 5) os)
+    (λ x p. (p.0, p.1, omega (arith, magnitude 31 x.2 p.2))) h
 reading-in_range (LoadFrom op) os s h = said _ (register_and_address os) _ s (register_and_address-ok os) (λ x p. p) h
 reading-in_range (StoreTo op) os s h = said _ (register_and_address os) _ s (register_and_address-ok os) (λ x p. (p.1, p.0, p.2)) h
 reading-in_range (BranchTo op) os s h = said _ (registers_and_target os) _ s (registers_and_target-ok os) (λ x p. p) h
 reading-in_range (UpperImmediate op) os s h =
-    said _ (register_and_number (unsigned 20) os) _ s (register_and_number-ok (unsigned 20) os) (λ x p. (p.0, omega (arith, magnitude 0xFFFFF x.1 p.1))) h
+    said _ (register_and_number (unsigned 20) os) _ s (register_and_number-ok (unsigned 20) os)
+    (λ x p. (p.0, omega (arith, magnitude 0xFFFFF x.1 p.1))) h
 reading-in_range JumpAndLink os s h = said _ (register_and_target os) _ s (register_and_target-ok os) (λ x p. p) h
 reading-in_range JumpAndLinkRegister os s h = said _ (register_and_address os) _ s (register_and_address-ok os) (λ x p. p) h
 reading-in_range (NoOperands op) os s h = said (λ _. Unit {0}) (no_operands os) _ s (λ x e. tt) (λ x p. tt) h
@@ -109,7 +125,8 @@ reading-in_range ZeroData os s h = said _ (a_number (up_to most_space) os) _ s (
 reading-in_range AlignData os s h = said _ (a_number (up_to most_align) os) _ s (a_number-ok (up_to most_align) os) (magnitude most_align) h
 reading-in_range EntryPoint os s h = said _ (a_target os) _ s (a_target-ok os) (λ x p. p) h
 reading-in_range Nop os s h =
-    said (λ _. Unit {0}) (no_operands os) _ s (λ x e. tt) (λ x p. (omega arith, omega arith, immediate (pos 0) (omega (arith, ints), omega (arith, ints)))) h
+    said (λ _. Unit {0}) (no_operands os) _ s (λ x e. tt)
+    (λ x p. (omega arith, omega arith, immediate (pos 0) (omega (arith, ints), omega (arith, ints)))) h
 reading-in_range Move os s h =
     said _ (two_registers os) _ s (two_registers-ok os) (λ x p. (p.0, p.1, immediate (pos 0) (omega (arith, ints), omega (arith, ints)))) h
 reading-in_range LoadImmediate os s h = said _ (register_and_number word_range os) _ s (register_and_number-ok word_range os) (λ x p. p) h
@@ -118,7 +135,8 @@ reading-in_range Jump os s h = said _ (a_target os) _ s (a_target-ok os) (λ x p
 reading-in_range JumpRegister os s h =
     said _ (a_register os) _ s (a_register-ok os) (λ x p. (omega arith, p, immediate (pos 0) (omega (arith, ints), omega (arith, ints)))) h
 reading-in_range Return os s h =
-    said (λ _. Unit {0}) (no_operands os) _ s (λ x e. tt) (λ x p. (omega arith, omega arith, immediate (pos 0) (omega (arith, ints), omega (arith, ints)))) h
+    said (λ _. Unit {0}) (no_operands os) _ s (λ x e. tt)
+    (λ x p. (omega arith, omega arith, immediate (pos 0) (omega (arith, ints), omega (arith, ints)))) h
 reading-in_range Call os s h = said _ (a_target os) _ s (a_target-ok os) (λ x p. (omega arith, p)) h
 reading-in_range BranchIfZero os s h = said _ (register_and_target os) _ s (register_and_target-ok os) (λ x p. (p.0, omega arith, p.1)) h
 reading-in_range BranchIfNotZero os s h = said _ (register_and_target os) _ s (register_and_target-ok os) (λ x p. (p.0, omega arith, p.1)) h
@@ -137,7 +155,8 @@ statement_in-in_range float (name m ∷ ts) s h = by_form (form_named float m) h
 statement_in-in_range float _ s h = absurd (no_ok h)
 
 -- the same of a value of the code that stands for a statement
-pub IfSome-mapped : {S : Type 0} (value : S → Statement) (o : Option S) → IfSome (option_map value o) IsInRange → IfSome o (λ s. IsInRange (value s))
+pub IfSome-mapped : {S : Type 0} (value : S → Statement) (o : Option S) → IfSome (option_map value o) IsInRange
+    → IfSome o (λ s. IsInRange (value s))
 IfSome-mapped value None h = tt
 IfSome-mapped value (Some s) h = h
 
@@ -231,12 +250,16 @@ form-fault (Some form) os h = reading-fault form os h
 
 statement_in-fault : (float : Bool) (ts : List Token) → statement_in float ts ≢ Err NoMemory
 statement_in-fault float [] h = cc
-statement_in-fault float (name m ∷ ts) h = if_ok-fault {Y = Option Statement} Some (statement_of_form (form_named float m) (operands_in ts)) (form-fault (form_named float m) (operands_in ts)) h
+statement_in-fault float (name m ∷ ts) h =
+    if_ok-fault {Y = Option Statement} Some (statement_of_form (form_named float m) (operands_in ts))
+    (form-fault (form_named float m) (operands_in ts)) h
 statement_in-fault float _ h = cc
 
 line_with-fault : (float : Bool) (o : Option (List Token)) → line_with float o ≢ Err NoMemory
 line_with-fault float None h = cc
-line_with-fault float (Some ts) h = if_ok-fault (λ s. record { labels = labels_in ts; statement = s }) (statement_in float (behind_labels ts)) (statement_in-fault float (behind_labels ts)) h
+line_with-fault float (Some ts) h =
+    if_ok-fault (λ s. record { labels = labels_in ts; statement = s }) (statement_in float (behind_labels ts))
+    (statement_in-fault float (behind_labels ts)) h
 
 pub never_memory : (float : Bool) (line : List ℕ) → line_of float line ≢ Err NoMemory
 unfolding line_of

@@ -1,5 +1,6 @@
 -- What is judged to be in range is.
-use Rattle.std.proofs.Common.{◌≡◌, ◌<◌, Bool, true, false, List, [], ◌∷◌, length, ℤ, Option, Some, None, Result, Ok, Err, sym, ap, ◌∙◌, arith, inl, inr, ◌⊎◌}
+use Rattle.std.proofs.Common.{◌≡◌, ◌<◌, Bool, true, false, List, [], ◌∷◌, length, ℤ, Option, Some, None, Result, Ok, Err, sym, ap, ◌∙◌}
+use Rattle.std.proofs.Common.{arith, inl, inr, ◌⊎◌}
 use Rattle.std.specs.List.{list_all, All}
 use Rattle.std.specs.Prelude.{int_le}
 use Rattle.std.proofs.lemmas.Bool.{cases_Bool, and_parts}
@@ -37,7 +38,8 @@ judged-ok {X} fits (Some y) x h = by_test (cases_Bool (fits y)) where
   by_test (inr fails) = absurd (none (rw fails at h))
 
 -- there is one operand or more
-one_or_more-some : {X : Type 0} (read : List Token → Option X) (ops : List (List Token)) (xs : List X) → one_or_more read ops ≡ Some xs → 0 < length xs
+one_or_more-some : {X : Type 0} (read : List Token → Option X) (ops : List (List Token)) (xs : List X) → one_or_more read ops ≡ Some xs
+    → 0 < length xs
 one_or_more-some {X} read [] xs h = absurd (none h) where
   none : ◌≡◌ {A = Option (List X)} None (Some xs) → ⊥
   none h = cc
@@ -53,7 +55,8 @@ one_or_more-some {X} read (operand ∷ rest) xs h = by_read (read operand) (all_
       rw (← is) (omega arith)
 
 -- one or more operands that are judged to be in range
-pub judged-each : {X : Type 0} (fits : X → Bool) (read : List Token → Option X) (ops : List (List Token)) (xs : List X) → judged (list_all fits) (one_or_more read ops) ≡ Ok xs → (0 < length xs) × All (λ x. fits x ≡ true) xs
+pub judged-each : {X : Type 0} (fits : X → Bool) (read : List Token → Option X) (ops : List (List Token)) (xs : List X)
+    → judged (list_all fits) (one_or_more read ops) ≡ Ok xs → (0 < length xs) × All (λ x. fits x ≡ true) xs
 judged-each fits read ops xs h =
     let found = judged-ok (list_all fits) (one_or_more read ops) xs h in
     (one_or_more-some read ops xs found.0, AllPass-from_list_all fits xs found.1)

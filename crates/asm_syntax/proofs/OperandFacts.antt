@@ -1,5 +1,6 @@
 -- What is read of operands: where it is some, it is in its range, and none of its faults is want of memory.
-use Rattle.std.proofs.Common.{◌≡◌, ◌≢◌, ℕ, ◌≤◌, Bool, true, false, List, [], ◌∷◌, ℤ, pos, negsuc, nat_abs, Option, Some, None, Result, Ok, Err, refl, sym, ap, arith, inl, inr, ◌⊎◌}
+use Rattle.std.proofs.Common.{◌≡◌, ◌≢◌, ℕ, ◌≤◌, Bool, true, false, List, [], ◌∷◌, ℤ, pos, negsuc, nat_abs, Option, Some, None, Result, Ok}
+use Rattle.std.proofs.Common.{Err, refl, sym, ap, arith, inl, inr, ◌⊎◌}
 use Rattle.std.specs.Option.{option_map, option_and_then}
 use Rattle.std.proofs.lemmas.Bool.{cases_Bool}
 use Rattle.std.proofs.lemmas.Int.{ints}
@@ -27,18 +28,21 @@ if_ok-ok {X} {Y} f (Ok x) y h = (x, refl, same h) where
 pub no_some : {X : Type 0} {x : X} → ◌≡◌ {A = Option X} None (Some x) → ⊥
 no_some h = cc
 
-pub one-some : {X : Type 0} (read : List Token → Option X) (os : List (List Token)) (x : X) → one read os ≡ Some x → (a : List Token) × (read a ≡ Some x)
+pub one-some : {X : Type 0} (read : List Token → Option X) (os : List (List Token)) (x : X) → one read os ≡ Some x
+    → (a : List Token) × (read a ≡ Some x)
 one-some read (a ∷ []) x h = (a, h)
 one-some read _ x h = absurd (no_some h)
 
-pub pair_some : {X Y : Type 0} (o : Option X) (q : Option Y) (p : X × Y) → with_both o q (λ x y. (x, y)) ≡ Some p → (o ≡ Some p.0) × (q ≡ Some p.1)
+pub pair_some : {X Y : Type 0} (o : Option X) (q : Option Y) (p : X × Y) → with_both o q (λ x y. (x, y)) ≡ Some p
+    → (o ≡ Some p.0) × (q ≡ Some p.1)
 pair_some None q p h = absurd (no_some h)
 pair_some (Some x) None p h = absurd (no_some h)
 pair_some {X} {Y} (Some x) (Some y) p h =
     let is = same_Some _ _ h in
     (ap (λ (r : X × Y). Some r.0) is, ap (λ (r : X × Y). Some r.1) is)
 
-pub triple_some : {X Y Z : Type 0} (o : Option X) (q : Option Y) (r : Option Z) (p : X × Y × Z) → option_and_then (λ x. with_both q r (λ y z. (x, y, z))) o ≡ Some p → (o ≡ Some p.0) × (q ≡ Some p.1) × (r ≡ Some p.2)
+pub triple_some : {X Y Z : Type 0} (o : Option X) (q : Option Y) (r : Option Z) (p : X × Y × Z)
+    → option_and_then (λ x. with_both q r (λ y z. (x, y, z))) o ≡ Some p → (o ≡ Some p.0) × (q ≡ Some p.1) × (r ≡ Some p.2)
 triple_some None q r p h = absurd (no_some h)
 triple_some (Some x) None r p h = absurd (no_some h)
 triple_some (Some x) (Some y) None p h = absurd (no_some h)
@@ -46,12 +50,16 @@ triple_some {X} {Y} {Z} (Some x) (Some y) (Some z) p h =
     let is = same_Some _ _ h in
     (ap (λ (r : X × Y × Z). Some r.0) is, ap (λ (r : X × Y × Z). Some r.1) is, ap (λ (r : X × Y × Z). Some r.2) is)
 
-pub two-some : {X Y : Type 0} (first : List Token → Option X) (second : List Token → Option Y) (os : List (List Token)) (p : X × Y) → two first second os ≡ Some p → (a b : List Token) × (first a ≡ Some p.0) × (second b ≡ Some p.1)
+pub two-some : {X Y : Type 0} (first : List Token → Option X) (second : List Token → Option Y) (os : List (List Token)) (p : X × Y)
+    → two first second os ≡ Some p → (a b : List Token) × (first a ≡ Some p.0) × (second b ≡ Some p.1)
 two-some first second (a ∷ b ∷ []) p h = let parts = pair_some (first a) (second b) p h in (a, b, parts.0, parts.1)
 two-some first second _ p h = absurd (no_some h)
 
-pub three-some : {X Y Z : Type 0} (first : List Token → Option X) (second : List Token → Option Y) (third : List Token → Option Z) (os : List (List Token)) (p : X × Y × Z) → three first second third os ≡ Some p → (a b c : List Token) × (first a ≡ Some p.0) × (second b ≡ Some p.1) × (third c ≡ Some p.2)
-three-some first second third (a ∷ b ∷ c ∷ []) p h = let parts = triple_some (first a) (second b) (third c) p h in (a, b, c, parts.0, parts.1, parts.2)
+pub three-some : {X Y Z : Type 0} (first : List Token → Option X) (second : List Token → Option Y) (third : List Token → Option Z)
+    (os : List (List Token)) (p : X × Y × Z) → three first second third os ≡ Some p
+    → (a b c : List Token) × (first a ≡ Some p.0) × (second b ≡ Some p.1) × (third c ≡ Some p.2)
+three-some first second third (a ∷ b ∷ c ∷ []) p h =
+    let parts = triple_some (first a) (second b) (third c) p h in (a, b, c, parts.0, parts.1, parts.2)
 three-some first second third _ p h = absurd (no_some h)
 
 pub register_number-some : (r : List ℕ) (n : ℕ) → register_number r ≡ Some n → IsRegister n
@@ -63,11 +71,14 @@ register_in-some _ n h = absurd (no_some h)
 
 pub address_in-some : (ts : List Token) (a : Address) → address_in ts ≡ Some a → IsRegister a.base
 address_in-some ts a h = by_based (based_in ts) h where
-  by_number : (offset : ℤ) (o : Option ℕ) (r : List ℕ) → register_number r ≡ o → option_map (λ base. record { offset = offset; base = base }) o ≡ Some a → IsRegister a.base
+  by_number : (offset : ℤ) (o : Option ℕ) (r : List ℕ) → register_number r ≡ o
+      → option_map (λ base. record { offset = offset; base = base }) o ≡ Some a → IsRegister a.base
   by_number offset None r e h = absurd (no_some h)
   by_number offset (Some n) r e h = rw (← (ap (λ (x : Address). x.base) (same_Some _ _ h))) (register_number-some r n e)
 
-  by_based : (o : Option Based) → option_and_then (λ b. option_map (λ base. record { offset = b.number; base = base }) (register_number b.base)) o ≡ Some a → IsRegister a.base
+  by_based : (o : Option Based)
+      → option_and_then (λ b. option_map (λ base. record { offset = b.number; base = base }) (register_number b.base)) o ≡ Some a
+      → IsRegister a.base
   by_based None h = absurd (no_some h)
   by_based (Some b) h = by_number b.number (register_number b.base) b.base refl h
 

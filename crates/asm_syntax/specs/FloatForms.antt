@@ -19,12 +19,15 @@ use Rattle.rv_float_tables.specs.declared.instr.FloatCsr.{FloatCsr}
 use Rattle.rv_float_tables.specs.declared.instr.FloatCsr.TheVariants.{Fflags, Frm, Fcsr}
 use Rattle.rv_float_tables.specs.Mnemonics.{float_mnemonic_of, of_format}
 use Rattle.asm_syntax.specs.declared.float_form.FloatForm.{FloatForm}
-use Rattle.asm_syntax.specs.declared.float_form.FloatForm.TheVariants.{Row, Move, Negate, Absolute, Greater, GreaterOrEqual, ReadFloatCsr, WriteFloatCsr, WriteFloatCsrImmediate, ReadCsr, ChangeCsr, ChangeCsrImmediate}
+use Rattle.asm_syntax.specs.declared.float_form.FloatForm.TheVariants.{Row, Move, Negate, Absolute, Greater, GreaterOrEqual, ReadFloatCsr}
+use Rattle.asm_syntax.specs.declared.float_form.FloatForm.TheVariants.{WriteFloatCsr, WriteFloatCsrImmediate, ReadCsr, ChangeCsr}
+use Rattle.asm_syntax.specs.declared.float_form.FloatForm.TheVariants.{ChangeCsrImmediate}
 use Rattle.asm_syntax.specs.declared.float_form.RowForm.{RowForm}
 use Rattle.asm_syntax.specs.declared.float_form.RowForm.TheVariants as row
 use Rattle.asm_syntax.specs.declared.float_operands.FloatOperands.{FloatOperands}
 use Rattle.asm_syntax.specs.declared.float_operands.Kind.{Kind}
-use Rattle.asm_syntax.specs.declared.float_operands.Kind.TheVariants.{IntegerRd, IntegerRs1, Rd, Rs1, Rs2, Rs3, BothSources, Csr, Immediate, Address, Rounding}
+use Rattle.asm_syntax.specs.declared.float_operands.Kind.TheVariants.{IntegerRd, IntegerRs1, Rd, Rs1, Rs2, Rs3}
+use Rattle.asm_syntax.specs.declared.float_operands.Kind.TheVariants.{BothSources, Csr, Immediate, Address, Rounding}
 
 -- the instruction of a row with some operands. The immediate of a CSR instruction stands where rs1 does in others
 abbrev pub row_instruction : RowForm → FloatOperands → FloatInstr

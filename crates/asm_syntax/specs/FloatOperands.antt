@@ -11,7 +11,8 @@ use Rattle.asm_syntax.specs.declared.error.LineError.TheVariants.{BadOperand}
 use Rattle.asm_syntax.specs.declared.float_form.FloatForm.{FloatForm}
 use Rattle.asm_syntax.specs.declared.float_operands.FloatOperands.{FloatOperands}
 use Rattle.asm_syntax.specs.declared.float_operands.Kind.{Kind}
-use Rattle.asm_syntax.specs.declared.float_operands.Kind.TheVariants.{IntegerRd, IntegerRs1, Rd, Rs1, Rs2, Rs3, BothSources, Csr, Immediate, Address, Rounding}
+use Rattle.asm_syntax.specs.declared.float_operands.Kind.TheVariants.{IntegerRd, IntegerRs1, Rd, Rs1, Rs2, Rs3}
+use Rattle.asm_syntax.specs.declared.float_operands.Kind.TheVariants.{BothSources, Csr, Immediate, Address, Rounding}
 use Rattle.asm_syntax.specs.Faults.{judged, if_ok}
 use Rattle.asm_syntax.specs.FloatForms.{kinds_of, left_out, row_instruction, row_of}
 use Rattle.asm_syntax.specs.Operands.{register_in, number_in, address_in}

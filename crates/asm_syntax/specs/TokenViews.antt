@@ -3,7 +3,8 @@ use Rattle.std.specs.Prelude.{ℕ, ◌≤◌, ◌<◌, if◌then◌else◌, List
 use Rattle.std.specs.Borrow.{Bor}
 use Rattle.asm_syntax.specs.Bytes.{is_backslash, escape_value}
 use Rattle.numerals.specs.Numbers.{number_value}
-use Rattle.asm_syntax.specs.Tokens.{Token, name, number, text, comma, colon, opening, closing, plus, minus, Head, blank, comment, token, nothing}
+use Rattle.asm_syntax.specs.Tokens.{Token, name, number, text, comma, colon, opening, closing}
+use Rattle.asm_syntax.specs.Tokens.{plus, minus, Head, blank, comment, token, nothing}
 use Rattle.asm_syntax.specs.Operands.{Based, Address}
 use Rattle.asm_syntax.specs.declared.operand.Address.{Address as AddressCode}
 use Rattle.asm_syntax.specs.declared.operand.NumberAndBase.{NumberAndBase}

@@ -76,7 +76,8 @@ abbrev pub head_of : ℕ → List ℕ → Head
 head_of b rest =
     if is_blank b then blank else
     (if is_hash b then comment else
-    (if is_word_byte b then option_map_or (λ t. token t (prefix_len is_word_byte rest + 1)) (word_token b (take_while is_word_byte rest)) nothing else
+    (if is_word_byte b then option_map_or (λ t. token t (prefix_len is_word_byte rest + 1)) (word_token b (take_while is_word_byte rest))
+    nothing else
     (if is_quote b then option_map_or (λ t. token (text t.content) (t.len + 1)) (text_from rest) nothing else
     option_map_or (λ t. token t 1) (sign_token b) nothing)))
 

@@ -2,10 +2,12 @@
 use Rattle.std.specs.Prelude.{ℕ, map}
 use Rattle.std.specs.Option.{option_map}
 use Rattle.asm_syntax.specs.Operands.{Target}
-use Rattle.asm_syntax.specs.Statements.{Statement, Line, instruction, float_instruction, branch, jump_and_link, load_immediate, load_address, words, halves, bytes, ascii, space, align, entry}
+use Rattle.asm_syntax.specs.Statements.{Statement, Line, instruction, float_instruction, branch, jump_and_link, load_immediate}
+use Rattle.asm_syntax.specs.Statements.{load_address, words, halves, bytes, ascii, space, align, entry}
 use Rattle.asm_syntax.specs.declared.statement.Target.{Target as TargetCode}
 use Rattle.asm_syntax.specs.declared.statement.Statement.{Statement as StatementCode}
-use Rattle.asm_syntax.specs.declared.statement.Statement.TheVariants.{Instruction, FloatInstruction, Branch, Jal, LoadImmediate, LoadAddress, Words, Halves, Bytes, Ascii, Space, Align, Entry}
+use Rattle.asm_syntax.specs.declared.statement.Statement.TheVariants.{Instruction, FloatInstruction, Branch, Jal, LoadImmediate}
+use Rattle.asm_syntax.specs.declared.statement.Statement.TheVariants.{LoadAddress, Words, Halves, Bytes, Ascii, Space, Align, Entry}
 use Rattle.asm_syntax.specs.declared.statement.Line.{Line as LineCode}
 
 -- targets, statements and lines of the code as those of the definitions

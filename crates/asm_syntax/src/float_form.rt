@@ -1,7 +1,8 @@
 //! The statements of floating point by their mnemonics, and what each makes of its operands.
 
 ghost use Rattle.std.specs.Prelude.{◌≡◌, option_map};
-ghost use Rattle.asm_syntax.specs.FloatForms.{float_forms, float_form_named, float_mnemonic, row_instruction, row_of, kinds_of, row_kinds, exactly, but_for_last, but_for_first, left_out};
+ghost use Rattle.asm_syntax.specs.FloatForms.{float_forms, float_form_named, float_mnemonic, row_instruction, row_of};
+ghost use Rattle.asm_syntax.specs.FloatForms.{kinds_of, row_kinds, exactly, but_for_last, but_for_first, left_out};
 
 use crate::float_operands::{FloatOperands, Kind};
 use rv_float_tables::{

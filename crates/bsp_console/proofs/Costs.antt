@@ -51,23 +51,27 @@ stop-no_costs points k m =
     then-no_costs (λ e. stop_at points e (event_of (walked k m) e)) (next_event (walked k m))
     (λ e. or-no_costs _ _ (finished-no_costs (event_of (walked k m) e).outcome)
     (or-no_costs _ _ (superstep-no_costs points e (event_of (walked k m) e))
-    (then-no_costs (λ (n : NodeState). stop_if_set points (Address n.hart.rank n.hart.pc)) (lowest is_running (event_of (walked k m) e).nodes)
+    (then-no_costs (λ (n : NodeState). stop_if_set points (Address n.hart.rank n.hart.pc))
+    (lowest is_running (event_of (walked k m) e).nodes)
     (λ n. set-no_costs points (Address n.hart.rank n.hart.pc)))))
 
 turn-no_costs : (outcome : Option Outcome) (rows : List CostRow) → turn_answer outcome ≡ costs rows → ⊥
 turn-no_costs None rows e = cc
 turn-no_costs (Some outcome) rows e = cc
 
-turned-no_costs : (made : Bool) (outcome : Option Outcome) (rows : List CostRow) → cond made (turn_answer outcome) (turned false) ≡ costs rows → ⊥
+turned-no_costs : (made : Bool) (outcome : Option Outcome) (rows : List CostRow)
+    → cond made (turn_answer outcome) (turned false) ≡ costs rows → ⊥
 turned-no_costs true outcome rows e = turn-no_costs outcome rows e
 turned-no_costs false outcome rows e = cc
 
-mapped-no_costs : {X : Type 0} (f : X → Answer) (x : Option X) → ((v : X) (rows : List CostRow) → f v ≡ costs rows → ⊥) → (rows : List CostRow) → Some (costs rows) ≡ option_map f x → ⊥
+mapped-no_costs : {X : Type 0} (f : X → Answer) (x : Option X) → ((v : X) (rows : List CostRow) → f v ≡ costs rows → ⊥)
+    → (rows : List CostRow) → Some (costs rows) ≡ option_map f x → ⊥
 mapped-no_costs f None each rows e = cc
 mapped-no_costs f (Some v) each rows e = each v rows cc
 
 -- what is answered with costs
-pub costs_are : (points : List Point) (m : MachineState) (c : Command) (events : List Event) (rows : List CostRow) → Makes points m c events (costs rows) → (events ≡ []) × (rows ≡ m.ledger)
+pub costs_are : (points : List Point) (m : MachineState) (c : Command) (events : List Event) (rows : List CostRow)
+    → Makes points m c events (costs rows) → (events ≡ []) × (rows ≡ m.ledger)
 costs_are points m (Step rank n) events rows makes = absurd cc
 costs_are points m (Run rank n) events rows makes = absurd cc
 costs_are points m (Return rank addr sp) events rows makes = absurd cc
@@ -76,6 +80,7 @@ costs_are points m Turn events rows makes = absurd (turned-no_costs (is_enabled 
 costs_are points m Go events rows makes = absurd (stop-no_costs points makes.before m rows makes.stops)
 costs_are points m (Regs rank) events rows makes = absurd (mapped-no_costs _ (slice_get m.nodes rank) (λ v rows e. cc) rows makes.1)
 costs_are points m (Fregs rank) events rows makes = absurd (mapped-no_costs _ (unit_at m rank) (λ v rows e. cc) rows makes.1)
-costs_are points m (Bytes rank addr len) events rows makes = absurd (mapped-no_costs _ (slice_get m.nodes rank) (λ v rows e. cc) rows makes.1)
+costs_are points m (Bytes rank addr len) events rows makes =
+    absurd (mapped-no_costs _ (slice_get m.nodes rank) (λ v rows e. cc) rows makes.1)
 costs_are points m (Queue rank) events rows makes = absurd (mapped-no_costs _ (slice_get m.nodes rank) (λ v rows e. cc) rows makes.1)
 costs_are points m Costs events rows makes = (makes.0, cc)

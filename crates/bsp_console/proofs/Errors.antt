@@ -2,7 +2,8 @@
 use Rattle.std.proofs.Common.{◌≢◌, ℕ, List, inr, refl}
 use Rattle.bsp_debug.specs.Debugger.{DebuggerState}
 use Rattle.bsp_session.specs.declared.errors.SessionError.{SessionError}
-use Rattle.bsp_session.specs.declared.errors.SessionError.TheVariants.{BadSettings, TooLong, Text, BadImage, SegmentOutside, ReadFault, WriteFault, NoWorker, NoMemory}
+use Rattle.bsp_session.specs.declared.errors.SessionError.TheVariants.{BadSettings, TooLong, Text, BadImage, SegmentOutside, ReadFault}
+use Rattle.bsp_session.specs.declared.errors.SessionError.TheVariants.{WriteFault, NoWorker, NoMemory}
 use Rattle.bsp_session.specs.declared.job.Job.{Job}
 use Rattle.bsp_session.specs.Streams.{Stream}
 use Rattle.bsp_console.specs.Talk.{Says, answered_lines, plain}
@@ -10,7 +11,8 @@ use Rattle.bsp_console.specs.Console.{Begins, Console, RefusesImage}
 use Rattle.bsp_console.specs.Dialogue.{IsErrorOfTalk, IsErrorOfTalking}
 use Rattle.bsp_console.specs.Script.{IsErrorOfReplies, IsErrorOfScript, ReadsScript}
 
-pub error_of_talk : (says : Job → Says) (c : Console) (start : DebuggerState) → Begins c start → (e : SessionError) → IsErrorOfTalk (says c.job) c.script c.out start e → IsErrorOfTalking says c e
+pub error_of_talk : (says : Job → Says) (c : Console) (start : DebuggerState) → Begins c start → (e : SessionError)
+    → IsErrorOfTalk (says c.job) c.script c.out start e → IsErrorOfTalking says c e
 error_of_talk says c start b (BadSettings cause) p = absurd p
 error_of_talk says c start b TooLong p = inr (record { start = start; begins = b; came = p })
 error_of_talk says c start b (Text cause) p = absurd p
@@ -22,7 +24,8 @@ error_of_talk says c start b NoWorker p = absurd p
 error_of_talk says c start b NoMemory p = inr (inr (record { start = start; begins = b; came = p }))
 
 -- they are none of the image's file
-pub talk-no_file : (says : Says) (script out : Stream) (start : DebuggerState) (e : SessionError) → IsErrorOfTalk says script out start e → RefusesImage e → ⊥
+pub talk-no_file : (says : Says) (script out : Stream) (start : DebuggerState) (e : SessionError) → IsErrorOfTalk says script out start e
+    → RefusesImage e → ⊥
 talk-no_file says script out start (BadSettings cause) p file = p
 talk-no_file says script out start TooLong p file = file
 talk-no_file says script out start (Text cause) p file = p
@@ -43,10 +46,15 @@ error_of_lines c start s b r SegmentOutside p = absurd p
 error_of_lines c start s b r ReadFault p = absurd p
 error_of_lines c start s b r WriteFault p = record { start = start; begins = b; came = record { script = s; read = r; done = p } }
 error_of_lines c start s b r NoWorker p = absurd p
-error_of_lines c start s b r NoMemory p = inr (inr (inr (record { start = start; begins = b; came = record { script = s; read = r; done = p } })))
+error_of_lines c start s b r NoMemory p = inr (inr (inr (record {
+  start = start;
+  begins = b;
+  came = record { script = s; read = r; done = p };
+})))
 
 -- they are of the writer or of memory
-pub lines-written : (says : Says) (lines : List (List ℕ)) (start : DebuggerState) (out : Stream) (e : SessionError) → IsErrorOfReplies says lines start out e
+pub lines-written : (says : Says) (lines : List (List ℕ)) (start : DebuggerState) (out : Stream) (e : SessionError)
+    → IsErrorOfReplies says lines start out e
     → e ≢ WriteFault → e ≢ NoMemory → ⊥
 lines-written says lines start out (BadSettings cause) p write memory = p
 lines-written says lines start out TooLong p write memory = p

@@ -6,8 +6,11 @@ use Rattle.bsp_debug.specs.declared.command.Command.TheVariants.{Step, Run}
 use Rattle.debug_lines.specs.declared.form.Form.{Form}
 use Rattle.debug_lines.specs.declared.topic.Topic.{Topic}
 use Rattle.debug_lines.specs.declared.line.Line.{Line}
-use Rattle.debug_lines.specs.declared.line.Line.TheVariants.{Command, Keep, Back, Forget, Kept, Points, Shown, Areas, Requests, StepNext, Over, Nodes, Place, Places, OutputFrom, CostsFrom, Help, HelpOn, Quit, Misused, NoLine}
-use Rattle.debug_lines.specs.Lines.{asks_help, line_of, line_of_words, dialogue_line_of, dialogue_of_words, form_named, framed_line_of, framed_of_words, help_line_of, mistake_of, or_mistake, or_unknown, rank_line_of, state_line_of}
+use Rattle.debug_lines.specs.declared.line.Line.TheVariants.{Command, Keep, Back, Forget, Kept, Points, Shown, Areas, Requests, StepNext}
+use Rattle.debug_lines.specs.declared.line.Line.TheVariants.{Over, Nodes, Place, Places, OutputFrom, CostsFrom, Help, HelpOn, Quit, Misused}
+use Rattle.debug_lines.specs.declared.line.Line.TheVariants.{NoLine}
+use Rattle.debug_lines.specs.Lines.{asks_help, line_of, line_of_words, dialogue_line_of, dialogue_of_words, form_named, framed_line_of}
+use Rattle.debug_lines.specs.Lines.{framed_of_words, help_line_of, mistake_of, or_mistake, or_unknown, rank_line_of, state_line_of}
 use Rattle.numerals.specs.Numbers.{number_in}
 use Rattle.debug_lines.specs.Topics.{topic_named}
 use Rattle.debug_lines.specs.Words.{words}
@@ -20,13 +23,15 @@ mapped-no_quit f each (Some n) e = each n e
 mapped-no_quit f each None e = cc
 
 -- of two that are not, none is the first of them that there is
-either-no_quit : (one other : Option Line) → (or_unknown one ≡ Quit → ⊥) → (or_unknown other ≡ Quit → ⊥) → or_unknown (option_or one other) ≡ Quit → ⊥
+either-no_quit : (one other : Option Line) → (or_unknown one ≡ Quit → ⊥) → (or_unknown other ≡ Quit → ⊥)
+    → or_unknown (option_or one other) ≡ Quit → ⊥
 either-no_quit (Some l) other never none e = never e
 either-no_quit None other never none e = none e
 
 -- no line that scripts do not have is `quit`
 dialogue_one-no_quit : (keep kept where_all points help step : Bool)
-    → or_unknown (cond keep (Some Keep) (cond kept (Some Kept) (cond where_all (Some Places) (cond points (Some Points) (cond help (Some Help)
+    → or_unknown
+    (cond keep (Some Keep) (cond kept (Some Kept) (cond where_all (Some Places) (cond points (Some Points) (cond help (Some Help)
     (cond step (Some StepNext) None)))))) ≡ Quit → ⊥
 dialogue_one-no_quit true k w p h s e = cc
 dialogue_one-no_quit false true w p h s e = cc
@@ -36,7 +41,8 @@ dialogue_one-no_quit false false false false true s e = cc
 dialogue_one-no_quit false false false false false true e = cc
 dialogue_one-no_quit false false false false false false e = cc
 
-state_line-no_quit : (back forget : Bool) (wide : Option ℕ) → or_unknown (cond back (option_map Back wide) (cond forget (option_map Forget wide) None)) ≡ Quit → ⊥
+state_line-no_quit : (back forget : Bool) (wide : Option ℕ)
+    → or_unknown (cond back (option_map Back wide) (cond forget (option_map Forget wide) None)) ≡ Quit → ⊥
 state_line-no_quit true forget wide e = mapped-no_quit Back (λ n is. cc) wide e
 state_line-no_quit false true wide e = mapped-no_quit Forget (λ n is. cc) wide e
 state_line-no_quit false false wide e = cc
@@ -57,7 +63,9 @@ help_line-no_quit true None e = cc
 help_line-no_quit false topic e = cc
 
 shown-no_quit : (form : Option Form) (rank addr count : Option ℕ)
-    → or_unknown (option_and_then (λ f. option_and_then (λ r. option_and_then (λ at. option_map (λ n. Shown f r at n) count) addr) rank) form) ≡ Quit → ⊥
+    → or_unknown
+    (option_and_then (λ f. option_and_then (λ r. option_and_then (λ at. option_map (λ n. Shown f r at n) count) addr) rank) form) ≡ Quit
+    → ⊥
 shown-no_quit None rank addr count e = cc
 shown-no_quit (Some f) None addr count e = cc
 shown-no_quit (Some f) (Some r) None count e = cc
@@ -67,13 +75,15 @@ shown-no_quit (Some f) (Some r) (Some at) (Some n) e = cc
 dialogue-no_quit : (ws : List (List ℕ)) → or_unknown (dialogue_of_words ws) ≡ Quit → ⊥
 dialogue-no_quit [] e = cc
 dialogue-no_quit (word ∷ []) e =
-    dialogue_one-no_quit (bytes_eq word (codes "keep")) (bytes_eq word (codes "kept")) (bytes_eq word (codes "where")) (bytes_eq word (codes "points")) (bytes_eq word (codes "help"))
+    dialogue_one-no_quit (bytes_eq word (codes "keep")) (bytes_eq word (codes "kept")) (bytes_eq word (codes "where"))
+    (bytes_eq word (codes "points")) (bytes_eq word (codes "help"))
     (bytes_eq word (codes "step")) e
 dialogue-no_quit (word ∷ a ∷ []) e =
     either-no_quit (state_line_of word a) (option_or (rank_line_of word a) (help_line_of word a))
     (state_line-no_quit (bytes_eq word (codes "back")) (bytes_eq word (codes "forget")) (number_in 64 a))
     (either-no_quit (rank_line_of word a) (help_line_of word a)
-    (rank_line-no_quit (bytes_eq word (codes "where")) (bytes_eq word (codes "areas")) (bytes_eq word (codes "requests")) (bytes_eq word (codes "over"))
+    (rank_line-no_quit (bytes_eq word (codes "where")) (bytes_eq word (codes "areas")) (bytes_eq word (codes "requests"))
+    (bytes_eq word (codes "over"))
     (bytes_eq word (codes "step")) (number_in 32 a))
     (help_line-no_quit (bytes_eq word (codes "help")) (topic_named a)))
     e
@@ -143,7 +153,8 @@ quit_in-plain Dialogue line quits =
     (told-plain (option_or (line_of_words (words line)) (dialogue_of_words (words line))) (words line) quits)
 quit_in-plain Framed line quits =
     or-plain (line_of_words (words line)) (dialogue_of_words (words line)) (dialogue-no_quit (words line))
-    (or-plain (option_or (line_of_words (words line)) (dialogue_of_words (words line))) (framed_of_words (words line)) (framed-no_quit (words line)) quits)
+    (or-plain (option_or (line_of_words (words line)) (dialogue_of_words (words line))) (framed_of_words (words line))
+    (framed-no_quit (words line)) quits)
 
 pub quit_in-any : (manner : Manner) (line : List ℕ) → line_of line ≡ Quit → line_in manner line ≡ Quit
 unfolding line_of dialogue_line_of framed_line_of

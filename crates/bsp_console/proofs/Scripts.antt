@@ -1,5 +1,7 @@
 -- The lines of a script, as they are cut off its front, and their replies.
-use Rattle.std.proofs.Common.{not, ◌≡◌, ◌∙◌, ℕ, suc, ◌+◌, ◌-◌, ◌<◌, ◌≤◌, ◌⊎◌, inl, inr, Bool, true, false, cond, eqb, List, [], ◌∷◌, ◌++◌, length, take, drop, get_or, refl, sym, ap, subst, arith, append-nil, append_assoc, length-append, take-append-drop}
+use Rattle.std.proofs.Common.{not, ◌≡◌, ◌∙◌, ℕ, suc, ◌+◌, ◌-◌, ◌<◌, ◌≤◌, ◌⊎◌, inl, inr, Bool, true, false, cond, eqb, List, [], ◌∷◌, ◌++◌}
+use Rattle.std.proofs.Common.{length, take, drop, get_or, refl, sym, ap, subst, arith, append-nil, append_assoc, length-append}
+use Rattle.std.proofs.Common.{take-append-drop}
 use Rattle.std.proofs.lemmas.List.{drop_more}
 use Rattle.std.proofs.Math.Seq.{take-append-add}
 use lib.Seq.{drop-append-add}
@@ -9,7 +11,9 @@ use Rattle.counted_io.specs.Counted.{HasRisen}
 use Rattle.counted_io.specs.Lines.{LacksFeed}
 use Rattle.bsp_debug.specs.Debugger.{DebuggerState}
 use Rattle.debug_lines.specs.declared.line.Line.{Line}
-use Rattle.debug_lines.specs.declared.line.Line.TheVariants.{Break, Clear, Command, Output, Keep, Back, Forget, Kept, Points, Shown, Areas, Requests, StepNext, Over, Nodes, Place, Places, OutputFrom, CostsFrom, Help, HelpOn, Quit, Empty, Unknown, Misused, NoLine}
+use Rattle.debug_lines.specs.declared.line.Line.TheVariants.{Break, Clear, Command, Output, Keep, Back, Forget, Kept, Points, Shown, Areas}
+use Rattle.debug_lines.specs.declared.line.Line.TheVariants.{Requests, StepNext, Over, Nodes, Place, Places, OutputFrom, CostsFrom, Help}
+use Rattle.debug_lines.specs.declared.line.Line.TheVariants.{HelpOn, Quit, Empty, Unknown, Misused, NoLine}
 use Rattle.debug_lines.specs.Lines.{line_of}
 use Rattle.debug_lines.specs.Words.{has_bytes}
 use Rattle.bsp_console.specs.Talk.{LacksQuit, Says, Talks, given_lines, is_quit, lines_of, goes_on, until_quit}
@@ -49,7 +53,8 @@ AllGoOn-push [] line all goes = (goes, tt)
 AllGoOn-push (first ∷ lines) line all goes = (all.0, AllGoOn-push lines line all.1 goes)
 
 -- what is answered of lines that go on, and others behind them
-pub take_while-through : (lines more : List (List ℕ)) → AllGoOn lines → take_while goes_on (lines ++ more) ≡ lines ++ take_while goes_on more
+pub take_while-through : (lines more : List (List ℕ)) → AllGoOn lines
+    → take_while goes_on (lines ++ more) ≡ lines ++ take_while goes_on more
 take_while-through [] more all = refl
 take_while-through (line ∷ lines) more all =
     let one : 1 + prefix_len goes_on (lines ++ more) ≡ suc (prefix_len goes_on (lines ++ more)) = omega arith in
@@ -149,7 +154,8 @@ pub LacksQuit-all : (lines : List (List ℕ)) → AllGoOn lines → LacksQuit li
 LacksQuit-all lines all = ap until_quit (sym (append-nil lines)) ∙ take_while-through lines [] all ∙ append-nil lines
 
 -- all but the last of lines of which the last are known
-pub init-append : (lines more : List (List ℕ)) → 0 < length more → take (length (lines ++ more) - 1) (lines ++ more) ≡ lines ++ take (length more - 1) more
+pub init-append : (lines more : List (List ℕ)) → 0 < length more
+    → take (length (lines ++ more) - 1) (lines ++ more) ≡ lines ++ take (length more - 1) more
 init-append lines more some =
     let size : length (lines ++ more) - 1 ≡ length lines + (length more - 1) = omega (arith, length-append lines more) in
     ap (λ n. take n (lines ++ more)) size ∙ take-append-add lines more (length more - 1)
@@ -178,7 +184,8 @@ given-last (b ∷ bs) some =
     rw is refl
 
 -- a line of some bytes, and others behind it
-pub given-first : (line : List ℕ) (more : List (List ℕ)) → 0 < length line → (others : List (List ℕ)) × (given_of (line ∷ more) ≡ line ∷ others)
+pub given-first : (line : List ℕ) (more : List (List ℕ)) → 0 < length line
+    → (others : List (List ℕ)) × (given_of (line ∷ more) ≡ line ∷ others)
 given-first line [] some = ([], given-last line some)
 given-first line (next ∷ more) some = (given_of (next ∷ more), given-append (line ∷ []) (next ∷ more) (omega arith))
 
@@ -187,8 +194,10 @@ pub given-cut : (script : List ℕ) (asked : List (List ℕ)) → lines_of scrip
 given-cut script asked is = ap given_of is ∙ given-append asked ([] ∷ []) (omega arith) ∙ append-nil asked
 
 -- and the last of them has bytes
-pub given-all : (script : List ℕ) (asked : List (List ℕ)) (line : List ℕ) → 0 < length line → lines_of script ≡ asked ++ line ∷ [] → given_lines script ≡ asked ++ line ∷ []
-given-all script asked line some is = ap given_of is ∙ given-append asked (line ∷ []) (omega arith) ∙ ap (λ ls. asked ++ ls) (given-last line some)
+pub given-all : (script : List ℕ) (asked : List (List ℕ)) (line : List ℕ) → 0 < length line → lines_of script ≡ asked ++ line ∷ []
+    → given_lines script ≡ asked ++ line ∷ []
+given-all script asked line some is =
+    ap given_of is ∙ given-append asked (line ∷ []) (omega arith) ∙ ap (λ ls. asked ++ ls) (given-last line some)
 
 -- a line of some bytes is given, and others behind it
 pub given-on : (script : List ℕ) (asked more : List (List ℕ)) (line : List ℕ) → 0 < length line → lines_of script ≡ asked ++ line ∷ more
@@ -207,11 +216,25 @@ quit-some (b ∷ bs) quits = omega arith
 -- one more line is answered
 pub Talks-push : (says : Says) (lines : List (List ℕ)) (line : List ℕ) (start d next : DebuggerState) (text first : List ℕ)
     → Talks says lines start text d → says line d first next → Talks says (lines ++ line ∷ []) start (text ++ first) next
-Talks-push says [] line start d next text first talks answered =
-    (first, [], next, subst (λ s. says line s first next) talks.1 answered, (refl, refl), ap (λ t. t ++ first) talks.0 ∙ sym (append-nil first))
+Talks-push says [] line start d next text first talks answered = (
+  first,
+  [],
+  next,
+  subst (λ s. says line s first next) talks.1 answered,
+  (refl, refl),
+  ap (λ t. t ++ first) talks.0
+      ∙ sym (append-nil first),
+)
 Talks-push says (line' ∷ lines) line start d next text first talks answered =
-    let (one, rest, then, was, more, is) = talks in
-    (one, rest ++ first, then, was, Talks-push says lines line then d next rest first more answered, ap (λ t. t ++ first) is ∙ append_assoc one rest first)
+    let (one, rest, then, was, more, is) = talks in (
+      one,
+      rest ++ first,
+      then,
+      was,
+      Talks-push says lines line then d next rest first more answered,
+      ap (λ t. t ++ first) is
+          ∙ append_assoc one rest first,
+    )
 
 -- a count that has risen, above one that is no greater
 pub HasRisen-above : (a b c : ℕ) → a ≤ b → HasRisen b c → HasRisen a c

@@ -1,17 +1,19 @@
--- The sessions whose lines are read when they are wanted: the dialogue and the framed session. The order of work is an own rule: settings, image read, input read,
--- image understood, machine made, and then line by line.
+-- The sessions whose lines are read when they are wanted: the dialogue and the framed session. The order of work is an own rule:
+-- settings, image read, input read, image understood, machine made, and then line by line.
 use Rattle.std.specs.Prelude.{◌≡◌, ℕ, ◌≤◌, ◌⊎◌, List, [], ◌∷◌, length, Option}
 use Rattle.std.specs.Io.KnownBytes.{Consumes, IsAtEnd}
 use Rattle.bsp_debug.specs.Debugger.{DebuggerState}
 use Rattle.bsp_session.specs.declared.errors.SessionError.{SessionError}
-use Rattle.bsp_session.specs.declared.errors.SessionError.TheVariants.{BadSettings, TooLong, Text, BadImage, SegmentOutside, ReadFault, WriteFault, NoWorker, NoMemory}
+use Rattle.bsp_session.specs.declared.errors.SessionError.TheVariants.{BadSettings, TooLong, Text, BadImage, SegmentOutside, ReadFault}
+use Rattle.bsp_session.specs.declared.errors.SessionError.TheVariants.{WriteFault, NoWorker, NoMemory}
 use Rattle.bsp_session.specs.Streams.{Stream, IsUntouched, ReadsPast, HasFailed}
 use Rattle.debug_lines.specs.declared.line.Line.{Line}
 use Rattle.debug_lines.specs.Lines.{line_of, dialogue_line_of, framed_line_of}
 use Rattle.bsp_session.specs.declared.job.Job.{Job}
 use Rattle.bsp_console.specs.declared.manner.Manner.{Manner}
 use Rattle.bsp_console.specs.declared.manner.Manner.TheVariants.{Script, Dialogue, Framed}
-use Rattle.bsp_console.specs.Talk.{Answered, AnsweredFramed, HasQuit, LacksQuit, Says, Telling, answered_one_by_one, ended_lines, framed, given_lines, in_person, plainly, spoken, until_quit}
+use Rattle.bsp_console.specs.Talk.{Answered, AnsweredFramed, HasQuit, LacksQuit, Says, Telling, answered_one_by_one, ended_lines, framed}
+use Rattle.bsp_console.specs.Talk.{given_lines, in_person, plainly, spoken, until_quit}
 use Rattle.bsp_console.specs.Console.{Console, BeginsTo, CutsReply, StopsAtFiles, HasNoDebugger, StopsBefore, WritesReplies, most_script}
 
 -- ---- an answer

@@ -5,11 +5,13 @@ use Rattle.bsp_debug.specs.Debugger.{DebuggerState}
 use Rattle.counted_io.specs.declared.ReadError.{ReadError}
 use Rattle.counted_io.specs.declared.ReadError.TheVariants as read
 use Rattle.bsp_session.specs.declared.errors.SessionError.{SessionError}
-use Rattle.bsp_session.specs.declared.errors.SessionError.TheVariants.{BadSettings, TooLong, Text, BadImage, SegmentOutside, ReadFault, WriteFault, NoWorker, NoMemory}
+use Rattle.bsp_session.specs.declared.errors.SessionError.TheVariants.{BadSettings, TooLong, Text, BadImage, SegmentOutside, ReadFault}
+use Rattle.bsp_session.specs.declared.errors.SessionError.TheVariants.{WriteFault, NoWorker, NoMemory}
 use Rattle.bsp_session.specs.Session.{ReadsFiles}
 use Rattle.bsp_session.specs.Streams.{Stream, IsReadErrorOf, IsUntouched, ReadsWhole}
 use Rattle.bsp_console.specs.Talk.{Says, answered_lines, plain}
-use Rattle.bsp_console.specs.Console.{Console, BeginsTo, CutsReply, StopsAtFiles, HasNoDebugger, StopsBefore, WritesReplies, console_fault, most_script}
+use Rattle.bsp_console.specs.Console.{Console, BeginsTo, CutsReply, StopsAtFiles, HasNoDebugger}
+use Rattle.bsp_console.specs.Console.{StopsBefore, WritesReplies, console_fault, most_script}
 
 -- the script was read
 abbrev pub ReadsScript : Console → List ℕ → Type 0
@@ -61,4 +63,5 @@ IsErrorOfScript c SegmentOutside = IsRefusedAfterReading c SegmentOutside
 IsErrorOfScript c ReadFault = StopsAtFiles c ReadFault ⊎ EndsAtScript c read.ReadFault
 IsErrorOfScript c WriteFault = EndsAnswering c WriteFault
 IsErrorOfScript c NoWorker = ⊥
-IsErrorOfScript c NoMemory = StopsAtFiles c NoMemory ⊎ EndsAtScript c read.NoMemory ⊎ IsRefusedAfterReading c NoMemory ⊎ EndsAnswering c NoMemory
+IsErrorOfScript c NoMemory =
+    StopsAtFiles c NoMemory ⊎ EndsAtScript c read.NoMemory ⊎ IsRefusedAfterReading c NoMemory ⊎ EndsAnswering c NoMemory

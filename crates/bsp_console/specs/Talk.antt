@@ -1,5 +1,6 @@
 -- What the lines of a session are answered, and what they make of a debugger (own rules).
-use Rattle.std.specs.Prelude.{◌≡◌, ℕ, ◌+◌, ◌-◌, ◌==◌, Bool, true, false, not, List, [], ◌∷◌, ◌++◌, length, take, drop, slice_get, nat_lt, codes, if◌then◌else◌, Option, Some, None, is_some}
+use Rattle.std.specs.Prelude.{◌≡◌, ℕ, ◌+◌, ◌-◌, ◌==◌, Bool, true, false, not, List, [], ◌∷◌, ◌++◌, length, take, drop, slice_get, nat_lt}
+use Rattle.std.specs.Prelude.{codes, if◌then◌else◌, Option, Some, None, is_some}
 use Rattle.std.specs.Fmt.{decimal}
 use Rattle.std.specs.List.{slice_split, take_while, filter, flat_map, enumerate_from, Any}
 use Rattle.std.specs.Option.{option_map_or}
@@ -21,8 +22,11 @@ use Rattle.bsp_debug.specs.Points.{is_set, HasAlso, HasNoMore}
 use Rattle.bsp_debug.specs.Reply.{Answer, finished, floats, registers}
 use Rattle.bsp_debug.specs.Returns.{next_rank, over}
 use Rattle.debug_lines.specs.declared.line.Line.{Line}
-use Rattle.debug_lines.specs.declared.line.Line.TheVariants.{Break, Clear, Command, Output, Keep, Back, Forget, Kept, Points, Shown, Areas, Requests, StepNext, Over, Nodes, Place, Places, OutputFrom, CostsFrom, Help, HelpOn, Quit, Empty, Unknown, Misused, NoLine}
-use Rattle.debug_lines.specs.declared.verdict.Verdict.TheVariants.{Done, Kept as KeptAs, Refused, BadCommand, Misused as MisusedAs, NoLine as NoLineAs}
+use Rattle.debug_lines.specs.declared.line.Line.TheVariants.{Break, Clear, Command, Output, Keep, Back, Forget, Kept, Points, Shown, Areas}
+use Rattle.debug_lines.specs.declared.line.Line.TheVariants.{Requests, StepNext, Over, Nodes, Place, Places, OutputFrom, CostsFrom, Help}
+use Rattle.debug_lines.specs.declared.line.Line.TheVariants.{HelpOn, Quit, Empty, Unknown, Misused, NoLine}
+use Rattle.debug_lines.specs.declared.verdict.Verdict.TheVariants.{Done, Kept as KeptAs, Refused}
+use Rattle.debug_lines.specs.declared.verdict.Verdict.TheVariants.{BadCommand, Misused as MisusedAs, NoLine as NoLineAs}
 use Rattle.debug_lines.specs.declared.form.Form.{Form}
 use Rattle.debug_lines.specs.Floats.{named_float_registers}
 use Rattle.debug_lines.specs.Framed.{cost_lines_from, place_text, setup_text}
@@ -136,7 +140,8 @@ kept_lines kept = flat_map kept_line (enumerate_from 0 kept)
 -- memory's end; if the address lies in it. Instructions of floating point have their names where the node has a unit for them
 abbrev pub memory_or_refusal : (form : Form) → (float : Bool) → (addr count : ℕ) → (memory : List ℕ) → List ℕ
 memory_or_refusal form float addr count memory =
-    if nat_lt addr (length memory) then shown_text form float addr count (bytes_at memory addr (shown_len form count (length memory - addr)))
+    if nat_lt addr (length memory)
+    then shown_text form float addr count (bytes_at memory addr (shown_len form count (length memory - addr)))
     else verdict_text (Refused BadRange)
 
 -- what is told of the node of a rank, if there is one
@@ -253,7 +258,8 @@ Talks says (line ∷ lines) old text new =
 abbrev pub is_line_feed : ℕ → Bool
 is_line_feed b = b == 10
 
--- the lines of a script: what stands between its line feeds. The last one, which no line feed ended, may be empty, and asks for nothing then
+-- the lines of a script: what stands between its line feeds. The last one, which no line feed ended, may be empty,
+-- and asks for nothing then
 abbrev pub lines_of : List ℕ → List (List ℕ)
 lines_of script = slice_split is_line_feed script
 

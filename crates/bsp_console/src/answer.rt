@@ -1,13 +1,15 @@
 //! What one line is answered.
 
-ghost use Rattle.std.specs.Prelude.{◌≡◌, ◌≢◌, ◌≤◌, ◌⊎◌, ◌++◌, ℕ, List, [], codes, true, false, not, is_some, length, nat_lt, IfErr, IfOk, MatchResult, OnOk, string_bytes};
+ghost use Rattle.std.specs.Prelude.{◌≡◌, ◌≢◌, ◌≤◌, ◌⊎◌, ◌++◌, ℕ, List, [], codes, true, false, not, is_some};
+ghost use Rattle.std.specs.Prelude.{length, nat_lt, IfErr, IfOk, MatchResult, OnOk, string_bytes};
 ghost use Rattle.std.specs.Io.KnownBytes.{Appends};
 ghost use Rattle.std.specs.List.{flat_map};
 ghost use Rattle.bsp_debug.specs.Debugger.{add_fault, has_rank, remove_fault, command_fault};
 ghost use Rattle.bsp_debug.specs.declared.command.Command.TheVariants.{Step as step_command};
 ghost use Rattle.bsp_debug.specs.Returns.{next_rank, over};
 ghost use Rattle.bsp_debug.specs.Kept.{kept_fault, keeping, back_at, without};
-ghost use Rattle.debug_lines.specs.declared.verdict.Verdict.TheVariants.{Done as done_verdict, Kept as kept_verdict, Refused as refused_verdict};
+ghost use Rattle.debug_lines.specs.declared.verdict.Verdict.TheVariants.{Done as done_verdict, Kept as kept_verdict};
+ghost use Rattle.debug_lines.specs.declared.verdict.Verdict.TheVariants.{Refused as refused_verdict};
 ghost use Rattle.debug_lines.specs.Framed.{setup_text};
 ghost use Rattle.debug_lines.specs.Shown.{point_lines as point_lines_of};
 ghost use Rattle.debug_lines.specs.Topics.{help_line, help_lines as help_lines_of};
@@ -15,7 +17,9 @@ ghost use Rattle.debug_lines.specs.Verdicts.{verdict_text};
 ghost use Rattle.counted_io.specs.Counted.{HasRisen};
 ghost use Rattle.counted_io.specs.Transfers.{AppendsPrefix};
 ghost use Rattle.bsp_console.specs.Dialogue.{AnsweredIn, tells_in};
-ghost use Rattle.bsp_console.specs.Talk.{Answered, DoesOrRefuses, DoesThere, HasPoint, LacksPoint, Replies, is_quit as is_quit_line, costs_or_refusal, is_refused, kept_line, kept_lines, output_or_refusal, place_line, place_or_refusal};
+ghost use Rattle.bsp_console.specs.Talk.{Answered, DoesOrRefuses, DoesThere, HasPoint, LacksPoint, Replies};
+ghost use Rattle.bsp_console.specs.Talk.{is_quit as is_quit_line, costs_or_refusal, is_refused, kept_line};
+ghost use Rattle.bsp_console.specs.Talk.{kept_lines, output_or_refusal, place_line, place_or_refusal};
 ghost use Rattle.bsp_console.specs.Talk.{areas_or_refusal, has_address, requests_or_refusal, shown_or_refusal};
 
 use crate::manner::Manner;

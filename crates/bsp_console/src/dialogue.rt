@@ -6,7 +6,8 @@ ghost use Rattle.counted_io.specs.Counted.{HasRisen};
 ghost use Rattle.bsp_session.specs.declared.errors.BadSetting.{BadSetting as BadSettingCause};
 ghost use Rattle.bsp_session.specs.Streams.{stream};
 ghost use Rattle.bsp_console.specs.Console.{RefusesImage, console_fault, console_of};
-ghost use Rattle.bsp_console.specs.Dialogue.{AnsweredIn, AnswersDialogue, AnswersFramed, AnswersTalk, HasTalked, IsErrorOfDialogue, IsErrorOfFramed, IsErrorOfTalk, IsErrorOfTalking, says_in};
+ghost use Rattle.bsp_console.specs.Dialogue.{AnsweredIn, AnswersDialogue, AnswersFramed, AnswersTalk, HasTalked};
+ghost use Rattle.bsp_console.specs.Dialogue.{IsErrorOfDialogue, IsErrorOfFramed, IsErrorOfTalk, IsErrorOfTalking, says_in};
 
 use crate::answer::{answer_to, is_quit};
 use crate::manner::{Manner, parse_in};

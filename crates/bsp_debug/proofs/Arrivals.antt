@@ -37,14 +37,18 @@ module _ (points : List Point) (m : MachineState) (rank addr sp : ℕ) where
 -- what is taken down of such a run
 module _ (t now : Traced) (same : t ≡ now) (rank : ℕ) (new : MachineState) (made : List Made) (count : ℕ)
     (counted : count ≡ ticks_at new rank - ticks_at t.machine rank) (noted : made ≡ with_steps t.made rank count) where
-  pub returned-is : (points : List Point) (addr sp : ℕ) → (k : ℕ) × (new ≡ after_steps t.machine rank k) × HasReturned points t.machine rank addr sp k
-      → HasReturned points now.machine rank addr sp count × (record { start = t.start; machine = new; made = made } ≡ stepped rank count now)
+  pub returned-is : (points : List Point) (addr sp : ℕ)
+      → (k : ℕ) × (new ≡ after_steps t.machine rank k) × HasReturned points t.machine rank addr sp k
+      → HasReturned points now.machine rank addr sp count
+      × (record { start = t.start; machine = new; made = made } ≡ stepped rank count now)
   returned-is points addr sp (k, is, returned) =
       let all = counts-all t now same rank new made count counted noted k is returned.on.runs in
       let whole = whole-is t now same rank new made count counted noted k is returned.on.runs in
       (rw all (rw (← same) returned), rw all whole)
 
-  pub returning-is : (points : List Point) (addr sp : ℕ) → (k : ℕ) × (new ≡ after_steps t.machine rank k) × IsReturning points t.machine rank addr sp k
-      → (k : ℕ) × IsReturning points now.machine rank addr sp k × (record { start = t.start; machine = new; made = made } ≡ stepped rank k now)
+  pub returning-is : (points : List Point) (addr sp : ℕ)
+      → (k : ℕ) × (new ≡ after_steps t.machine rank k) × IsReturning points t.machine rank addr sp k
+      → (k : ℕ) × IsReturning points now.machine rank addr sp k
+      × (record { start = t.start; machine = new; made = made } ≡ stepped rank k now)
   returning-is points addr sp (k, is, returning) =
       (k, rw (← same) returning, whole-is t now same rank new made count counted noted k is returning.on.runs)

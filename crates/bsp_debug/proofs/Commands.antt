@@ -38,7 +38,8 @@ module _ (d now : DebuggerState) (t : Traced) (command : Command) (view : d ≡ 
   pub faultless-command : None ≡ command_fault t.machine command → IsSome (command_fault now.machine command) → ⊥
   faultless-command none some = let is = fault-of None none in cc
 
-  pub made-part : (made : List Made) → MakesPart d.points t.machine command (events_of made) → MakesPart now.points now.machine command (events_of made)
+  pub made-part : (made : List Made) → MakesPart d.points t.machine command (events_of made)
+      → MakesPart now.points now.machine command (events_of made)
   made-part made part =
       subst (λ (x : DebuggerState). MakesPart x.points now.machine command (events_of made)) view
       (subst (λ (m : MachineState). MakesPart d.points m command (events_of made)) forgot-machine part)

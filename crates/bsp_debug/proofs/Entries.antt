@@ -14,10 +14,12 @@ use Rattle.bsp_debug.specs.Trace.{Traced, IsTrace, with_steps, after_steps, step
 
 pub after-append : (m : MachineState) (xs ys : List Event) → after m (xs ++ ys) ≡ after (after m xs) ys
 after-append m [] ys = ap (λ (x : MachineState). after x ys) (sym (after-nil m))
-after-append m (e ∷ xs) ys = after-cons m e (xs ++ ys) ∙ after-append (event_of m e) xs ys ∙ ap (λ (x : MachineState). after x ys) (sym (after-cons m e xs))
+after-append m (e ∷ xs) ys =
+    after-cons m e (xs ++ ys) ∙ after-append (event_of m e) xs ys ∙ ap (λ (x : MachineState). after x ys) (sym (after-cons m e xs))
 
 pub events_of-more : (entries : List Made) (entry : Made) → events_of (entries ++ entry ∷ []) ≡ events_of entries ++ events_of_entry entry
-events_of-more entries entry = flat_map-append events_of_entry entries (entry ∷ []) ∙ ap (λ xs. events_of entries ++ xs) (append-nil (events_of_entry entry))
+events_of-more entries entry =
+    flat_map-append events_of_entry entries (entry ∷ []) ∙ ap (λ xs. events_of entries ++ xs) (append-nil (events_of_entry entry))
 
 pub with_some : (entries : List Made) (rank count : ℕ) → with_steps entries rank (suc count) ≡ entries ++ Steps rank (suc count) ∷ []
 with_some entries rank count = rw (ne_eqb (suc count) 0 (λ same. omega (arith, same))) refl
@@ -25,7 +27,8 @@ with_some entries rank count = rw (ne_eqb (suc count) 0 (λ same. omega (arith, 
 with_none : (entries : List Made) (rank : ℕ) → with_steps entries rank 0 ≡ entries
 with_none entries rank = refl
 
-pub events_of-steps : (entries : List Made) (rank count : ℕ) → events_of (with_steps entries rank count) ≡ events_of entries ++ replicate count (event.Step rank)
+pub events_of-steps : (entries : List Made) (rank count : ℕ)
+    → events_of (with_steps entries rank count) ≡ events_of entries ++ replicate count (event.Step rank)
 events_of-steps entries rank zero = ap events_of (with_none entries rank) ∙ sym (append-nil (events_of entries))
 events_of-steps entries rank (suc count) = ap events_of (with_some entries rank count) ∙ events_of-more entries (Steps rank (suc count))
 
@@ -35,16 +38,21 @@ IsApart-more (Steps rank count) (Steps next k) others more apart = apart
 IsApart-more (Steps rank count) Turn others more apart = tt
 IsApart-more Turn second others more apart = tt
 
-AreFew-more : (entries : List Made) (rank count : ℕ) → AreFew entries → EndsBelow rank entries → 0 < count → AreFew (entries ++ Steps rank count ∷ [])
+AreFew-more : (entries : List Made) (rank count : ℕ) → AreFew entries → EndsBelow rank entries → 0 < count
+    → AreFew (entries ++ Steps rank count ∷ [])
 AreFew-more [] rank count few ends some = (some, tt, tt)
 AreFew-more (Steps other k ∷ []) rank count few ends some = (few.0, (λ same. omega (arith, same, ends)), (some, tt, tt))
 AreFew-more (Turn ∷ []) rank count few ends some = (tt, tt, (some, tt, tt))
-AreFew-more (first ∷ second ∷ others) rank count few ends some =
-    (few.0, IsApart-more first second others (others ++ Steps rank count ∷ []) few.1, AreFew-more (second ∷ others) rank count few.2 ends some)
+AreFew-more (first ∷ second ∷ others) rank count few ends some = (
+  few.0,
+  IsApart-more first second others (others ++ Steps rank count ∷ []) few.1,
+  AreFew-more (second ∷ others) rank count few.2 ends some,
+)
 
 pub AreFew-steps : (entries : List Made) (rank count : ℕ) → AreFew entries → EndsBelow rank entries → AreFew (with_steps entries rank count)
 AreFew-steps entries rank zero few ends = rw (with_none entries rank) few
-AreFew-steps entries rank (suc count) few ends = rw (with_some entries rank count) (AreFew-more entries rank (suc count) few ends (omega arith))
+AreFew-steps entries rank (suc count) few ends =
+    rw (with_some entries rank count) (AreFew-more entries rank (suc count) few ends (omega arith))
 
 pub AreFew-turn : (entries : List Made) → AreFew entries → AreFew (entries ++ Turn ∷ [])
 AreFew-turn [] few = (tt, tt, tt)
@@ -69,7 +77,8 @@ EndsBelow-last rank (first ∷ second ∷ others) last below = EndsBelow-last ra
 
 pub EndsBelow-steps : (rank count : ℕ) (entries : List Made) → EndsBelow rank entries → EndsBelow (rank + 1) (with_steps entries rank count)
 EndsBelow-steps rank zero entries ends = rw (with_none entries rank) (EndsBelow-next rank entries ends)
-EndsBelow-steps rank (suc count) entries ends = rw (with_some entries rank count) (EndsBelow-last (rank + 1) entries (Steps rank (suc count)) (omega arith))
+EndsBelow-steps rank (suc count) entries ends =
+    rw (with_some entries rank count) (EndsBelow-last (rank + 1) entries (Steps rank (suc count)) (omega arith))
 
 pub EndsBelow-turn : (rank : ℕ) (entries : List Made) → EndsBelow rank (entries ++ Turn ∷ [])
 EndsBelow-turn rank entries = EndsBelow-last rank entries Turn tt

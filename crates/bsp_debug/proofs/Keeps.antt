@@ -88,7 +88,11 @@ reached-keep d r = record {
 
 -- it has forgotten a state
 pub reached-without : (d : DebuggerState) (number : ℕ) → HasReachedStates d → HasReachedStates (without number d)
-reached-without d number r = record { first = r.first; machine = r.machine; kept = All-set (IsReachedIfKept d.first) d.kept number None tt r.kept }
+reached-without d number r = record {
+  first = r.first;
+  machine = r.machine;
+  kept = All-set (IsReachedIfKept d.first) d.kept number None tt r.kept;
+}
 
 flatten-some : (o : Option (Option MachineState)) (m : MachineState) → option_flatten o ≡ Some m → o ≡ Some (Some m)
 flatten-some (Some (Some x)) m is = ap Some is
@@ -101,7 +105,11 @@ pub reached-back : (d : DebuggerState) (number : ℕ) (m : MachineState) → sta
 reached-back d number m is r =
     let place : slice_get d.kept number ≡ Some (Some m) = flatten-some (slice_get d.kept number) m is in
     let here = All-get_or (IsReachedIfKept d.first) d.kept number (Some m) (slice_get_within d.kept number (Some m) place) r.kept in
-    record { first = r.first; machine = subst (IsReachedIfKept d.first) (get_or_from_slice_get d.kept number (Some m) (Some m) place) here; kept = r.kept }
+    record {
+      first = r.first;
+      machine = subst (IsReachedIfKept d.first) (get_or_from_slice_get d.kept number (Some m) (Some m) place) here;
+      kept = r.kept;
+    }
 
 -- a state was found under a number
 some-found : (found : Option (Bor MachineState)) (kept : List (Option MachineState)) (number : ℕ) → is_some found ≡ true

@@ -1,5 +1,6 @@
 -- The local parts of a superstep, taken down.
-use Rattle.std.proofs.Common.{◌≡◌, ℕ, zero, suc, ◌+◌, ◌≤◌, Bool, true, false, List, [], ◌∷◌, ◌++◌, replicate, refl, sym, ap, ap₂, ◌∙◌, arith}
+use Rattle.std.proofs.Common.{◌≡◌, ℕ, zero, suc, ◌+◌, ◌≤◌, Bool, true, false, List}
+use Rattle.std.proofs.Common.{[], ◌∷◌, ◌++◌, replicate, refl, sym, ap, ap₂, ◌∙◌, arith}
 use Rattle.machine_core.specs.declared.event.Event.{Event}
 use Rattle.machine_core.specs.declared.event.Event.TheVariants.{Step}
 use Rattle.machine_core.specs.Machine.{MachineState}
@@ -15,10 +16,12 @@ use Rattle.bsp_debug.proofs.Counts.{steps_at-zero, steps_at-disabled, steps_at-s
 use Rattle.bsp_debug.proofs.Stops.{walk-add}
 
 -- the steps that the lowest rank that runs makes are the next events of the walk
-pub walk-steps : (k n : ℕ) (m : MachineState) (rank : ℕ) → IsSoundMachine m → HaveStoppedBelow rank m → k ≤ steps_at m rank n → walk k m ≡ replicate k (Step rank)
+pub walk-steps : (k n : ℕ) (m : MachineState) (rank : ℕ) → IsSoundMachine m → HaveStoppedBelow rank m → k ≤ steps_at m rank n
+    → walk k m ≡ replicate k (Step rank)
 walk-steps zero n m rank sound below most = walk-zero m
 walk-steps (suc k) zero m rank sound below most = absurd (omega (arith, most, steps_at-zero m rank))
-walk-steps (suc k) (suc n) m rank sound below most = by (λ x sound' below' most'. walk-steps k n x rank sound' below' most') (is_enabled m (Step rank)) refl
+walk-steps (suc k) (suc n) m rank sound below most =
+    by (λ x sound' below' most'. walk-steps k n x rank sound' below' most') (is_enabled m (Step rank)) refl
   where
     by : ((x : MachineState) → IsSoundMachine x → HaveStoppedBelow rank x → k ≤ steps_at x rank n → walk k x ≡ replicate k (Step rank))
         → (enabled : Bool) → is_enabled m (Step rank) ≡ enabled → walk (suc k) m ≡ replicate (suc k) (Step rank)
@@ -41,12 +44,15 @@ MakeNoTurn-steps (suc k) m rank = (refl, MakeNoTurn-steps k (event m (Step rank)
 pub within-none : (m : MachineState) → IsWithinPhases m []
 within-none m = record { count = 0; made = sym (walk-zero m); no_turn = tt }
 
-pub within-steps : (old m : MachineState) (events : List Event) (k n rank : ℕ) → m ≡ after old events → IsSoundMachine m → HaveStoppedBelow rank m → k ≤ steps_at m rank n
+pub within-steps : (old m : MachineState) (events : List Event) (k n rank : ℕ) → m ≡ after old events → IsSoundMachine m
+    → HaveStoppedBelow rank m → k ≤ steps_at m rank n
     → IsWithinPhases old events → IsWithinPhases old (events ++ replicate k (Step rank))
 within-steps old m events k n rank here sound below most so_far =
     let there : m ≡ walked so_far.count old = here ∙ ap (after old) so_far.made in
     record {
       count = so_far.count + k;
-      made = ap₂ (λ xs ys. xs ++ ys) so_far.made (sym (walk-steps k n m rank sound below most) ∙ ap (walk k) there) ∙ sym (walk-add so_far.count k old);
+      made =
+          ap₂ (λ xs ys. xs ++ ys) so_far.made (sym (walk-steps k n m rank sound below most) ∙ ap (walk k) there)
+          ∙ sym (walk-add so_far.count k old);
       no_turn = MakeNoTurn-append events (replicate k (Step rank)) old so_far.no_turn (MakeNoTurn-steps k (after old events) rank);
     }

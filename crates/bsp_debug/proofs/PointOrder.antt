@@ -19,26 +19,28 @@ order = cmp-value.it
 is_eq-nat_cmp : (x y : ℕ) → is_eq (nat_cmp x y) ≡ (x == y)
 is_eq-nat_cmp x y = grind (arith, nat_tests)
 
-is_eq-pair : (r s a b : ℕ) → is_eq (ordering_then (nat_cmp r s) (nat_cmp a b)) ≡ (r == s && a == b)
-is_eq-pair r s a b = grind (arith, nat_tests)
+is_eq-pair : (rank rank' addr addr' : ℕ) → is_eq (ordering_then (nat_cmp rank rank') (nat_cmp addr addr'))
+    ≡ (rank == rank' && addr == addr')
+is_eq-pair rank rank' addr addr' = grind (arith, nat_tests)
 
 is_eq-order : (p q : Point) → is_eq (order p q) ≡ is_same p q
-is_eq-order (Address r a) (Address s b) = is_eq-pair r s a b
-is_eq-order (Address r a) (Superstep k) = refl
-is_eq-order (Superstep k) (Address r a) = refl
+is_eq-order (Address rank addr) (Address rank' addr') = is_eq-pair rank rank' addr addr'
+is_eq-order (Address rank addr) (Superstep k) = refl
+is_eq-order (Superstep k) (Address rank addr) = refl
 is_eq-order (Superstep j) (Superstep k) = is_eq-nat_cmp j k
 
-less-pair : (r s a b : ℕ) → ordering_then (nat_cmp r s) (nat_cmp a b) ≡ Less → IsTrue (nat_lt r s || (r == s && nat_lt a b))
-less-pair r s a b less = grind (arith, nat_tests)
+less-pair : (rank rank' addr addr' : ℕ) → ordering_then (nat_cmp rank rank') (nat_cmp addr addr') ≡ Less
+    → IsTrue (nat_lt rank rank' || (rank == rank' && nat_lt addr addr'))
+less-pair rank rank' addr addr' less = grind (arith, nat_tests)
 
 less-nat_cmp : (x y : ℕ) → nat_cmp x y ≡ Less → IsTrue (nat_lt x y)
 less-nat_cmp x y less = grind (arith, nat_tests)
 
 -- so a point that is less comes before
 less-before : (p q : Point) → order p q ≡ Less → IsTrue (comes_before p q)
-less-before (Address r a) (Address s b) less = less-pair r s a b less
-less-before (Address r a) (Superstep k) less = refl
-less-before (Superstep k) (Address r a) less = cc
+less-before (Address rank addr) (Address rank' addr') less = less-pair rank rank' addr addr' less
+less-before (Address rank addr) (Superstep k) less = refl
+less-before (Superstep k) (Address rank addr) less = cc
 less-before (Superstep j) (Superstep k) less = less-nat_cmp j k less
 
 pub sorted-order : (points : List Point) → IsStrictlySortedBy order points → AreInOrder points

@@ -1,5 +1,6 @@
 -- Runs of one node, taken down.
-use Rattle.std.proofs.Common.{◌≡◌, ◌≢◌, ℕ, zero, suc, ◌+◌, ◌-◌, ◌<◌, ◌≤◌, inl, inr, Bool, true, false, List, [], ◌∷◌, length, Option, Some, None, Ok, Err, OnErr, refl, sym, ap, ◌∙◌, arith, suc-add}
+use Rattle.std.proofs.Common.{◌≡◌, ◌≢◌, ℕ, zero, suc, ◌+◌, ◌-◌, ◌<◌, ◌≤◌, inl, inr, Bool, true, false, List, [], ◌∷◌, length, Option, Some}
+use Rattle.std.proofs.Common.{None, Ok, Err, OnErr, refl, sym, ap, ◌∙◌, arith, suc-add}
 use Rattle.std.specs.Prelude.{slice_get, ◌==◌, ◌&&◌, if◌then◌else◌}
 use Rattle.std.specs.Option.{option_and_then}
 use Rattle.std.specs.declared.result.Result.{Result}
@@ -15,14 +16,18 @@ use Rattle.bsp_debug.specs.declared.point.Point.TheVariants.{Address}
 use Rattle.bsp_debug.specs.Debugger.{steps_at}
 use Rattle.bsp_debug.specs.Points.{is_set}
 use Rattle.bsp_debug.specs.Trace.{Traced, IsTrace, with_steps, after_steps, stepped, EndsBelow, point_at, RunsOn, RunsToPoint, RunsOnTo}
-use Rattle.bsp_debug.proofs.Counts.{ticks_at, after_steps-zero, after_steps-suc, steps_at-suc, after_steps-made, enabled-before, steps_at-le, steps_at-most, steps_at-all, steps_at-short, ticks_at-steps}
+use Rattle.bsp_debug.proofs.Counts.{ticks_at, after_steps-zero, after_steps-suc, steps_at-suc, after_steps-made, enabled-before}
+use Rattle.bsp_debug.proofs.Counts.{steps_at-le, steps_at-most, steps_at-all, steps_at-short, ticks_at-steps}
 use Rattle.bsp_debug.proofs.Entries.{IsTrace-steps}
 
 -- the last of k + 1 steps
 pub after_steps-last : (k : ℕ) (m : MachineState) (rank : ℕ) → after_steps m rank (k + 1) ≡ event (after_steps m rank k) (Step rank)
-after_steps-last zero m rank = after_steps-suc m rank 0 ∙ after_steps-zero (event m (Step rank)) rank ∙ ap (λ (x : MachineState). event x (Step rank)) (sym (after_steps-zero m rank))
+after_steps-last zero m rank =
+    after_steps-suc m rank 0 ∙ after_steps-zero (event m (Step rank)) rank
+    ∙ ap (λ (x : MachineState). event x (Step rank)) (sym (after_steps-zero m rank))
 after_steps-last (suc k) m rank =
-    ap (λ n. after_steps m rank n) (suc-add k 1) ∙ after_steps-suc m rank (k + 1) ∙ after_steps-last k (event m (Step rank)) rank ∙ ap (λ (x : MachineState). event x (Step rank)) (sym (after_steps-suc m rank k))
+    ap (λ n. after_steps m rank n) (suc-add k 1) ∙ after_steps-suc m rank (k + 1) ∙ after_steps-last k (event m (Step rank)) rank
+    ∙ ap (λ (x : MachineState). event x (Step rank)) (sym (after_steps-suc m rank k))
 
 module _ (points : List Point) (m : MachineState) (rank : ℕ) where
   pub RunsOn-none : RunsOn points m rank 0
@@ -63,7 +68,9 @@ point_at-none m rank = by (slice_get m.nodes rank)
     test true p = refl
     test false p = refl
 
-    by : (o : Option NodeState) → option_and_then (λ (n : NodeState). if runs n && is_set [] (Address rank n.hart.pc) then Some (Address rank n.hart.pc) else None) o ≡ None
+    by : (o : Option NodeState)
+        → option_and_then (λ (n : NodeState). if runs n && is_set [] (Address rank n.hart.pc) then Some (Address rank n.hart.pc) else None)
+        o ≡ None
     by None = refl
     by (Some n) = test (runs n) (Address rank n.hart.pc)
 
@@ -109,17 +116,21 @@ module _ (points : List Point) (m new : MachineState) (rank most : ℕ) (none : 
 module _ (t now : Traced) (same : t ≡ now) (rank : ℕ) (new : MachineState) (made : List Made) (count : ℕ)
     (counted : count ≡ ticks_at new rank - ticks_at t.machine rank) (noted : made ≡ with_steps t.made rank count) where
   pub count-is : (k : ℕ) → new ≡ after_steps t.machine rank k → count ≡ steps_at now.machine rank k
-  count-is k is = rw (← same) (counted ∙ ap (λ (x : MachineState). ticks_at x rank - ticks_at t.machine rank) is ∙ ticks_at-steps k t.machine rank)
+  count-is k is =
+      rw (← same) (counted ∙ ap (λ (x : MachineState). ticks_at x rank - ticks_at t.machine rank) is ∙ ticks_at-steps k t.machine rank)
 
-  pub stepped-is : (k : ℕ) → new ≡ after_steps t.machine rank k → record { start = t.start; machine = new; made = made } ≡ stepped rank (steps_at now.machine rank k) now
+  pub stepped-is : (k : ℕ) → new ≡ after_steps t.machine rank k
+      → record { start = t.start; machine = new; made = made } ≡ stepped rank (steps_at now.machine rank k) now
   stepped-is k is =
-      let counts : count ≡ steps_at t.machine rank k = counted ∙ ap (λ (x : MachineState). ticks_at x rank - ticks_at t.machine rank) is ∙ ticks_at-steps k t.machine rank in
+      let counts : count ≡ steps_at t.machine rank k =
+      counted ∙ ap (λ (x : MachineState). ticks_at x rank - ticks_at t.machine rank) is ∙ ticks_at-steps k t.machine rank in
       let all : new ≡ after_steps t.machine rank (steps_at t.machine rank k) = is ∙ after_steps-made k t.machine rank in
       let notes : made ≡ with_steps t.made rank (steps_at t.machine rank k) = noted ∙ ap (with_steps t.made rank) counts in
       rw (← same) (ap (λ (x : MachineState). record { start = t.start; machine = x; made = made }) all
       ∙ ap (λ (xs : List Made). record t { machine = after_steps t.machine rank (steps_at t.machine rank k); made = xs }) notes)
 
-  pub trace-is : (k : ℕ) → new ≡ after_steps t.machine rank k → IsTrace t → EndsBelow rank now.made → IsTrace (record { start = t.start; machine = new; made = made })
+  pub trace-is : (k : ℕ) → new ≡ after_steps t.machine rank k → IsTrace t → EndsBelow rank now.made
+      → IsTrace (record { start = t.start; machine = new; made = made })
   trace-is k is trace ends =
       rw (stepped-is k is) (IsTrace-steps now rank (steps_at now.machine rank k) (rw (← same) trace) ends)
 
@@ -129,16 +140,20 @@ module _ (t now : Traced) (same : t ≡ now) (rank : ℕ) (new : MachineState) (
       (steps_at now.machine rank part.0, steps_at-le part.0 most now.machine rank (omega (arith, part.1)), stepped-is part.0 part.2)
 
   -- where all its steps were made
-  pub whole-is : (k : ℕ) → new ≡ after_steps t.machine rank k → ((j : ℕ) → j < k → is_enabled (after_steps t.machine rank j) (Step rank) ≡ true) → record { start = t.start; machine = new; made = made } ≡ stepped rank k now
+  pub whole-is : (k : ℕ) → new ≡ after_steps t.machine rank k
+      → ((j : ℕ) → j < k → is_enabled (after_steps t.machine rank j) (Step rank) ≡ true)
+      → record { start = t.start; machine = new; made = made } ≡ stepped rank k now
   whole-is k is enabled =
       let all : steps_at now.machine rank k ≡ k = rw (← same) (steps_at-all k t.machine rank enabled) in
       stepped-is k is ∙ ap (λ n. stepped rank n now) all
 
   -- how many these are
-  pub counts-all : (k : ℕ) → new ≡ after_steps t.machine rank k → ((j : ℕ) → j < k → is_enabled (after_steps t.machine rank j) (Step rank) ≡ true) → count ≡ k
+  pub counts-all : (k : ℕ) → new ≡ after_steps t.machine rank k
+      → ((j : ℕ) → j < k → is_enabled (after_steps t.machine rank j) (Step rank) ≡ true) → count ≡ k
   counts-all k is enabled = count-is k is ∙ rw (← same) (steps_at-all k t.machine rank enabled)
 
-  pub to_point-is : (points : List Point) (most : ℕ) → (k : ℕ) × (new ≡ after_steps t.machine rank k) × RunsToPoint points t.machine rank most k
+  pub to_point-is : (points : List Point) (most : ℕ) → (k : ℕ) × (new ≡ after_steps t.machine rank k)
+      × RunsToPoint points t.machine rank most k
       → RunsToPoint points now.machine rank most count × (record { start = t.start; machine = new; made = made } ≡ stepped rank count now)
   to_point-is points most (k, is, r) =
       let all = counts-all k is r.on.runs in

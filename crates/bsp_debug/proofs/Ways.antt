@@ -1,5 +1,6 @@
 -- How `Go` comes along: steps of the lowest rank that runs, and turns.
-use Rattle.std.proofs.Common.{◌≡◌, ℕ, zero, suc, ◌+◌, ◌<◌, ◌≤◌, true, List, [], ◌∷◌, ◌++◌, replicate, Option, Some, None, option_map, sym, ap, ◌∙◌, arith, append-nil}
+use Rattle.std.proofs.Common.{◌≡◌, ℕ, zero, suc, ◌+◌, ◌<◌, ◌≤◌, true, List, [], ◌∷◌, ◌++◌, replicate, Option, Some, None, option_map, sym}
+use Rattle.std.proofs.Common.{ap, ◌∙◌, arith, append-nil}
 use Rattle.std.proofs.lemmas.List.{append_assoc}
 use Rattle.machine_core.specs.declared.event.Event.{Event}
 use Rattle.machine_core.specs.declared.event.Event.TheVariants.{Step}
@@ -37,7 +38,8 @@ pub record IsLast (points : List Point) (start m : MachineState) (events : List 
   pub made : events ≡ walk (before + 1) start
 
 module _ (points : List Point) (start : MachineState) where
-  pub IsWay-last : (m : MachineState) (events : List Event) (e : Event) → IsWay points start m events → next_event m ≡ Some e → IsLast points start (event m e) (events ++ e ∷ []) (stop_at points e (event m e))
+  pub IsWay-last : (m : MachineState) (events : List Event) (e : Event) → IsWay points start m events → next_event m ≡ Some e
+      → IsLast points start (event m e) (events ++ e ∷ []) (stop_at points e (event m e))
   IsWay-last m events e way next =
       let here : next_event (walked way.count start) ≡ Some e = ap next_event (sym way.machine) ∙ next in
       record {
@@ -67,7 +69,9 @@ module _ (points : List Point) (start : MachineState) where
     below-step m below j within = enabled-other m rank j (λ same. omega (arith, same, within)) ∙ below j within
 
     -- a step of the lowest rank that runs
-    pub IsWay-step : (m : MachineState) (events : List Event) → IsSoundMachine m → m.outcome ≡ None → HaveStoppedBelow rank m → is_enabled m (Step rank) ≡ true → IsWay points start m events → IsLast points start (event m (Step rank)) (events ++ Step rank ∷ []) (stop_at points (Step rank) (event m (Step rank)))
+    pub IsWay-step : (m : MachineState) (events : List Event) → IsSoundMachine m → m.outcome ≡ None → HaveStoppedBelow rank m
+        → is_enabled m (Step rank) ≡ true → IsWay points start m events
+        → IsLast points start (event m (Step rank)) (events ++ Step rank ∷ []) (stop_at points (Step rank) (event m (Step rank)))
     IsWay-step m events sound open_yet below enabled way = IsWay-last m events (Step rank) way (next_event-step m rank sound enabled below)
 
     -- some steps of it, none of which leads to a point, and before each of which and after the last it runs
@@ -87,11 +91,14 @@ module _ (points : List Point) (start : MachineState) where
         let sound' = IsSoundMachine-event m (Step rank) sound in
         let open' = outcome-step m ∙ open_yet in
         let below' = below-step m below in
-        let no_stop : stop_at points (Step rank) next ≡ None = stop_at-step points rank next open' ∙ address_stop-at points next rank sound' below' runs_on ∙ ap (option_map stopped) free in
+        let no_stop : stop_at points (Step rank) next ≡ None =
+        stop_at-step points rank next open' ∙ address_stop-at points next rank sound' below' runs_on ∙ ap (option_map stopped) free in
         let last = IsWay-step m events sound open_yet below first way in
         let way' = IsLast-way next (events ++ Step rank ∷ []) (rw no_stop at last) in
         let rest = IsWay-steps count next (events ++ Step rank ∷ []) sound' open' below'
-        (λ j within. ap (λ (x : MachineState). is_enabled x (Step rank)) (sym (after_steps-suc m rank j)) ∙ enabled (suc j) (omega (arith, within)))
-        (λ j some within. ap (λ (x : MachineState). point_at points x rank) (sym (after_steps-suc m rank j)) ∙ passes (suc j) (omega arith) (omega (arith, within)))
+        (λ j within. ap (λ (x : MachineState). is_enabled x (Step rank)) (sym (after_steps-suc m rank j))
+        ∙ enabled (suc j) (omega (arith, within)))
+        (λ j some within. ap (λ (x : MachineState). point_at points x rank) (sym (after_steps-suc m rank j))
+        ∙ passes (suc j) (omega arith) (omega (arith, within)))
         way' in
         rw (after_steps-suc m rank count, ← append_assoc events (Step rank ∷ []) (replicate count (Step rank))) rest

@@ -1,6 +1,7 @@
 -- A debugger: a machine, the states that were kept of it, the points that are set, and what the last command made. What each command
 -- makes of the machine's events, and what it answers (own rules).
-use Rattle.std.specs.Prelude.{◌≡◌, ℕ, ◌-◌, ◌≤◌, Bool, true, false, List, [], ◌∷◌, length, map, replicate, slice_get, slice_index, nat_lt, if◌then◌else◌, Option, Some, None, is_some, is_none, option_map}
+use Rattle.std.specs.Prelude.{◌≡◌, ℕ, ◌-◌, ◌≤◌, Bool, true, false, List, [], ◌∷◌, length, map, replicate, slice_get, slice_index, nat_lt}
+use Rattle.std.specs.Prelude.{if◌then◌else◌, Option, Some, None, is_some, is_none, option_map}
 use Rattle.std.specs.List.{range_with_len}
 use Rattle.std.specs.Option.{option_or, option_and_then, option_map_or}
 use Rattle.rv_float_tables.specs.declared.instr.FloatCsr.TheVariants.{Fcsr}
@@ -68,8 +69,8 @@ abbrev range_fault : MachineState → (rank addr len : ℕ) → Option DebugErro
 range_fault m rank addr len =
     refused_unless (option_map_or (λ (n : NodeState). fits (length n.hart.memory) addr len) (slice_get m.nodes rank) true) BadRange
 
--- why a command is refused: it names no node, or bytes that are not in its memory, or a unit of floating point that it does not have; or it is
--- to make events, and the machine has its outcome
+-- why a command is refused: it names no node, or bytes that are not in its memory, or a unit of floating point that it does not have;
+-- or it is to make events, and the machine has its outcome
 abbrev pub command_fault : MachineState → Command → Option DebugError
 command_fault m (Step rank n) = option_or (refused_unless (has_rank m rank) BadRank) (refused_unless (is_none m.outcome) Over)
 command_fault m (Run rank n) = option_or (refused_unless (has_rank m rank) BadRank) (refused_unless (is_none m.outcome) Over)

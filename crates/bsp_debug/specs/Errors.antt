@@ -1,7 +1,8 @@
 -- What a debugger's refusals are called in texts for users (own names).
 use Rattle.std.specs.Prelude.{ℕ, List, codes}
 use Rattle.bsp_debug.specs.declared.error.DebugError.{DebugError}
-use Rattle.bsp_debug.specs.declared.error.DebugError.TheVariants.{BadRank, BadRange, NoFloatUnit, TooMany, NoSuchBreak, NoSuchKept, Over, NoMemory}
+use Rattle.bsp_debug.specs.declared.error.DebugError.TheVariants.{BadRank, BadRange, NoFloatUnit, TooMany}
+use Rattle.bsp_debug.specs.declared.error.DebugError.TheVariants.{NoSuchBreak, NoSuchKept, Over, NoMemory}
 
 abbrev pub name_of : DebugError → List ℕ
 name_of BadRank = codes "BadRank"

@@ -42,7 +42,8 @@ pub record GoesOn (points : List Point) (m : MachineState) (rank addr sp count :
 pub record HasReturned (points : List Point) (m : MachineState) (rank addr sp count : ℕ) : Type 0 where
   pub on : GoesOn points m rank addr sp count
   pub some : is_enabled m (event.Step rank) ≡ true → 0 < count
-  pub arrived : is_enabled (after_steps m rank count) (event.Step rank) ≡ true → has_arrived points rank addr sp (after_steps m rank count) ≡ true
+  pub arrived : is_enabled (after_steps m rank count) (event.Step rank) ≡ true
+      → has_arrived points rank addr sp (after_steps m rank count) ≡ true
 
 -- it runs after so many, and has not arrived
 pub record IsReturning (points : List Point) (m : MachineState) (rank addr sp count : ℕ) : Type 0 where

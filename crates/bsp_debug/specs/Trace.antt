@@ -1,5 +1,6 @@
 -- A machine whose events are taken down, and runs of one node up to a point.
-use Rattle.std.specs.Prelude.{◌≡◌, ◌≢◌, ℕ, ◌<◌, ◌≤◌, ◌==◌, ◌&&◌, true, List, [], ◌∷◌, ◌++◌, replicate, slice_get, if◌then◌else◌, Option, Some, None}
+use Rattle.std.specs.Prelude.{◌≡◌, ◌≢◌, ℕ, ◌<◌, ◌≤◌, ◌==◌, ◌&&◌, true, List}
+use Rattle.std.specs.Prelude.{[], ◌∷◌, ◌++◌, replicate, slice_get, if◌then◌else◌, Option, Some, None}
 use Rattle.std.specs.Option.{option_and_then}
 use Rattle.node_core.specs.Node.{NodeState}
 use Rattle.machine_core.specs.declared.event.Event.TheVariants.{Step, Turn}
@@ -68,7 +69,8 @@ pub record RunsToPoint (points : List Point) (m : MachineState) (rank most count
   pub on : RunsOn points m rank count
   pub few : count ≤ most
   pub some : is_enabled m (Step rank) ≡ true → 0 < most → 0 < count
-  pub arrived : is_enabled (after_steps m rank count) (Step rank) ≡ true → count < most → point_at points (after_steps m rank count) rank ≢ None
+  pub arrived : is_enabled (after_steps m rank count) (Step rank) ≡ true → count < most
+      → point_at points (after_steps m rank count) rank ≢ None
 
 -- it runs after so many of them, and stands at no point, but perhaps where it began
 pub record RunsOnTo (points : List Point) (m : MachineState) (rank most count : ℕ) : Type 0 where

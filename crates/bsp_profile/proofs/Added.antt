@@ -1,5 +1,6 @@
 -- What requests add to the cells of a table, and how little that is.
-use Rattle.std.proofs.Common.{◌≡◌, ℕ, ◌+◌, ◌*◌, ◌^◌, ◌<◌, ◌≤◌, Bool, true, false, List, [], ◌∷◌, length, get_or, take, Some, sym, ap, ◌∙◌, refl, subst, arith}
+use Rattle.std.proofs.Common.{◌≡◌, ℕ, ◌+◌, ◌*◌, ◌^◌, ◌<◌, ◌≤◌, Bool, true, false, List, [], ◌∷◌, length, get_or, take, Some, sym, ap, ◌∙◌}
+use Rattle.std.proofs.Common.{refl, subst, arith}
 use Rattle.std.specs.Prelude.{All, slice_get, sum_by, if◌then◌else◌}
 use Rattle.std.proofs.lemmas.List.Elements.{All-head, All-tail}
 use Rattle.std.proofs.lemmas.List.Sums.{sum_by-cons, sum_by-take-le, sum_by_more}
@@ -50,14 +51,17 @@ sum_added-le count cell caller (q ∷ rs) =
     )
 
 -- some first requests add no more than all may
-pub taken_added-le : (count cell caller i : ℕ) (rs : List Asked) → sum_by size_of rs ≤ 2 ^ 24 → length rs ≤ 65536 → sum_by (added count cell caller) (take i rs) ≤ 2 ^ 24 + 65536
+pub taken_added-le : (count cell caller i : ℕ) (rs : List Asked) → sum_by size_of rs ≤ 2 ^ 24 → length rs ≤ 65536
+    → sum_by (added count cell caller) (take i rs) ≤ 2 ^ 24 + 65536
 taken_added-le count cell caller i rs bytes few =
     omega (arith, sum_by-take-le (added count cell caller) rs i, sum_added-le count cell caller rs)
 
 -- one request more
-pub next_added : (f : Asked → ℕ) (rs : List Asked) (i : ℕ) (r : Asked) (first now new : ℕ) → slice_get rs i ≡ Some r → now ≡ first + sum_by f (take i rs) → new ≡ now + f r → new ≡ first + sum_by f (take (i + 1) rs)
+pub next_added : (f : Asked → ℕ) (rs : List Asked) (i : ℕ) (r : Asked) (first now new : ℕ) → slice_get rs i ≡ Some r
+    → now ≡ first + sum_by f (take i rs) → new ≡ now + f r → new ≡ first + sum_by f (take (i + 1) rs)
 next_added f rs i r first now new found before more =
-    let next : sum_by f (take (i + 1) rs) ≡ sum_by f (take i rs) + f (get_or rs i r) = sum_by_more f rs i r (slice_get_within rs i r found) in
+    let next : sum_by f (take (i + 1) rs) ≡ sum_by f (take i rs) + f (get_or rs i r) =
+    sum_by_more f rs i r (slice_get_within rs i r found) in
     let here : f (get_or rs i r) ≡ f r = ap f (get_or_from_slice_get rs i r r found) in
     omega (arith, next, here, before, more)
 
@@ -75,8 +79,10 @@ nodes-le count cell (n ∷ ns) among =
     omega (arith, here, rest, sum_by-cons (added_by count cell) n ns)
 
 -- the node at a place is one of them
-pub among_at : (count : ℕ) (ps : List PreparedNode) (i : ℕ) (p : PreparedNode) → All (IsNodeAmong count) (states ps) → i < length ps → p ≡ get_or ps i p → IsNodeAmong count p.node
+pub among_at : (count : ℕ) (ps : List PreparedNode) (i : ℕ) (p : PreparedNode) → All (IsNodeAmong count) (states ps) → i < length ps
+    → p ≡ get_or ps i p → IsNodeAmong count p.node
 among_at count ps i p all within is =
     let size : length (states ps) ≡ length ps = length-map ps (λ (q : PreparedNode). q.node) in
-    let here : get_or (states ps) i p.node ≡ p.node = get_or-map (λ (q : PreparedNode). q.node) ps i p p.node within ∙ ap (λ (q : PreparedNode). q.node) (sym is) in
+    let here : get_or (states ps) i p.node ≡ p.node =
+    get_or-map (λ (q : PreparedNode). q.node) ps i p p.node within ∙ ap (λ (q : PreparedNode). q.node) (sym is) in
     subst (IsNodeAmong count) here (all i p.node (omega (arith, size)))

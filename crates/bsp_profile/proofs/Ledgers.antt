@@ -1,5 +1,6 @@
 -- What the rows of a superstep have to do with its costs.
-use Rattle.std.proofs.Common.{◌≡◌, ℕ, zero, suc, ◌+◌, ◌<◌, ◌≤◌, ◌==◌, ◌&&◌, max, Bool, true, false, cond, List, [], ◌∷◌, length, map, sym, ap, ap₂, subst, ◌∙◌, refl, arith, add-one, inl, inr}
+use Rattle.std.proofs.Common.{◌≡◌, ℕ, zero, suc, ◌+◌, ◌<◌, ◌≤◌, ◌==◌, ◌&&◌, max, Bool, true, false, cond, List, [], ◌∷◌, length, map, sym}
+use Rattle.std.proofs.Common.{ap, ap₂, subst, ◌∙◌, refl, arith, add-one, inl, inr}
 use Rattle.std.specs.Prelude.{All, filter, sum_by, zip, if◌then◌else◌}
 use Rattle.std.specs.List.{fold}
 use Rattle.std.proofs.lemmas.Bool.{cases_eq, cases_lt, eq-eqb, ne_eqb}
@@ -110,7 +111,8 @@ and_false false = refl
 
 second_if : (b : Bool) (x t n : ℕ) → t < n → sum_to (λ k. if t == k && b then x else 0) n ≡ (if b then x else 0)
 second_if true x t n within =
-    sum_to-same (λ k. if t == k && true then x else 0) (at_rank x t) n (λ k. ap (λ c. if c then x else 0) (and_true (t == k))) ∙ at_one x t n within
+    sum_to-same (λ k. if t == k && true then x else 0) (at_rank x t) n (λ k. ap (λ c. if c then x else 0) (and_true (t == k)))
+    ∙ at_one x t n within
 second_if false x t n within =
     sum_to-same (λ k. if t == k && false then x else 0) (λ k. 0) n (λ k. ap (λ c. if c then x else 0) (and_false (t == k))) ∙ sum_to-none n
 
@@ -128,16 +130,19 @@ out_all : (count rank : ℕ) (ts : List Transfer) → All (IsAmong count) ts →
 out_all count rank [] among = sum_to-none count
 out_all count rank (t ∷ ts) among =
     let here = All-head (IsAmong count) t ts among in
-    let parts = sum_to-same (moved (t ∷ ts) rank) (λ k. (if goes rank k t then t.bytes else 0) + moved ts rank k) count (λ k. moved-cons rank k t ts) in
+    let parts = sum_to-same (moved (t ∷ ts) rank) (λ k. (if goes rank k t then t.bytes else 0) + moved ts rank k) count
+    (λ k. moved-cons rank k t ts) in
     let sums = sum_to-add (λ k. if goes rank k t then t.bytes else 0) (moved ts rank) count in
     let own = first_if (t.from == rank) t.bytes t.to count here.to in
     omega (arith, parts, sums, own, out_all count rank ts (All-tail (IsAmong count) t ts among), filtered-cons (is_from rank) t ts)
 
-in_all : (count rank : ℕ) (ts : List Transfer) → All (IsAmong count) ts → sum_to (λ k. moved ts k rank) count ≡ bytes (filter (is_to rank) ts)
+in_all : (count rank : ℕ) (ts : List Transfer) → All (IsAmong count) ts
+    → sum_to (λ k. moved ts k rank) count ≡ bytes (filter (is_to rank) ts)
 in_all count rank [] among = sum_to-none count
 in_all count rank (t ∷ ts) among =
     let here = All-head (IsAmong count) t ts among in
-    let parts = sum_to-same (λ k. moved (t ∷ ts) k rank) (λ k. (if goes k rank t then t.bytes else 0) + moved ts k rank) count (λ k. moved-cons k rank t ts) in
+    let parts = sum_to-same (λ k. moved (t ∷ ts) k rank) (λ k. (if goes k rank t then t.bytes else 0) + moved ts k rank) count
+    (λ k. moved-cons k rank t ts) in
     let sums = sum_to-add (λ k. if goes k rank t then t.bytes else 0) (λ k. moved ts k rank) count in
     let own = second_if (t.to == rank) t.bytes t.from count here.from in
     omega (arith, parts, sums, own, in_all count rank ts (All-tail (IsAmong count) t ts among), filtered-cons (is_to rank) t ts)
@@ -147,7 +152,8 @@ none_kept : (count rank : ℕ) (ts : List Transfer) → count ≤ rank → All (
 none_kept count rank [] past among = refl
 none_kept count rank (t ∷ ts) past among =
     let here = All-head (IsAmong count) t ts among in
-    let away : (if goes rank rank t then t.bytes else 0) ≡ 0 = ap (λ b. if b && t.to == rank then t.bytes else 0) (ne_eqb t.from rank (λ is. absurd (omega (arith, here.from)))) in
+    let away : (if goes rank rank t then t.bytes else 0) ≡ 0 =
+    ap (λ b. if b && t.to == rank then t.bytes else 0) (ne_eqb t.from rank (λ is. absurd (omega (arith, here.from)))) in
     omega (arith, moved-cons rank rank t ts, away, none_kept count rank ts past (All-tail (IsAmong count) t ts among))
 
 module _ (count rank : ℕ) (ts : List Transfer) (among : All (IsAmong count) ts) where
@@ -160,7 +166,8 @@ module _ (count rank : ℕ) (ts : List Transfer) (among : All (IsAmong count) ts
   received_whole : moved_in count ts rank + moved ts rank rank ≡ bytes (filter (is_to rank) ts)
   received_whole = elim (cases_lt rank count) [
     | inl within ↦ others_all (λ k. moved ts k rank) count rank within ∙ in_all count rank ts among
-    | inr past ↦ omega (arith, others_none (λ k. moved ts k rank) count rank past, none_kept count rank ts past among, in_all count rank ts among)
+    | inr past ↦
+        omega (arith, others_none (λ k. moved ts k rank) count rank past, none_kept count rank ts past among, in_all count rank ts among)
   ]
 
 module _ (m : MachineState) (sound : IsSoundMachine m) (makes : makes_exchange m.nodes ≡ true) (at : NodeState × ℕ) where
@@ -186,18 +193,32 @@ abbrev between : ℕ → Transfer → ℕ
 between rank t = if goes rank rank t then t.bytes else 0
 
 -- a transfer from a rank leaves it, or stays there
-one_from : (rank : ℕ) (t : Transfer) → cond (t.from == rank) t.bytes 0 ≡ cond (t.from == t.to) 0 (cond (t.from == rank) t.bytes 0) + between rank t
+one_from : (rank : ℕ) (t : Transfer)
+    → cond (t.from == rank) t.bytes 0 ≡ cond (t.from == t.to) 0 (cond (t.from == rank) t.bytes 0) + between rank t
 one_from rank t = elim (cases_eq t.from t.to) [
-  | inl same ↦ rw (← same) (rw (eq-eqb t.from t.from refl) (elim (t.from == rank) as (λ b. cond b t.bytes 0 ≡ 0 + (if b && b then t.bytes else 0)) [ true ↦ omega arith | false ↦ omega arith ]))
+  | inl same ↦
+      rw (← same)
+      (rw (eq-eqb t.from t.from refl)
+      (elim (t.from == rank) as (λ b. cond b t.bytes 0 ≡ 0 + (if b && b then t.bytes else 0)) [
+        | true ↦ omega arith
+        | false ↦ omega arith
+      ]))
   | inr other ↦ rw (ne_eqb t.from t.to other) (elim (cases_eq t.from rank) [
     | inl here ↦ rw (eq-eqb t.from rank here, ne_eqb t.to rank (λ there. other (here ∙ sym there))) (omega arith)
     | inr elsewhere ↦ rw (ne_eqb t.from rank elsewhere) (omega arith)
   ])
 ]
 
-one_to : (rank : ℕ) (t : Transfer) → cond (t.to == rank) t.bytes 0 ≡ cond (t.from == t.to) 0 (cond (t.to == rank) t.bytes 0) + between rank t
+one_to : (rank : ℕ) (t : Transfer)
+    → cond (t.to == rank) t.bytes 0 ≡ cond (t.from == t.to) 0 (cond (t.to == rank) t.bytes 0) + between rank t
 one_to rank t = elim (cases_eq t.from t.to) [
-  | inl same ↦ rw (← same) (rw (eq-eqb t.from t.from refl) (elim (t.from == rank) as (λ b. cond b t.bytes 0 ≡ 0 + (if b && b then t.bytes else 0)) [ true ↦ omega arith | false ↦ omega arith ]))
+  | inl same ↦
+      rw (← same)
+      (rw (eq-eqb t.from t.from refl)
+      (elim (t.from == rank) as (λ b. cond b t.bytes 0 ≡ 0 + (if b && b then t.bytes else 0)) [
+        | true ↦ omega arith
+        | false ↦ omega arith
+      ]))
   | inr other ↦ rw (ne_eqb t.from t.to other) (elim (cases_eq t.to rank) [
     | inl here ↦ rw (eq-eqb t.to rank here, ne_eqb t.from rank (λ there. other (there ∙ sym here))) (omega arith)
     | inr elsewhere ↦ rw (ne_eqb t.to rank elsewhere, and_false (t.from == rank)) (omega arith)
@@ -207,24 +228,40 @@ one_to rank t = elim (cases_eq t.from t.to) [
 from_between : (rank : ℕ) (ts : List Transfer) → bytes (filter (is_from rank) ts) ≡ bytes_sent (between_ranks ts) rank + moved ts rank rank
 from_between rank [] = refl
 from_between rank (t ∷ ts) =
-    omega (arith, from_between rank ts, one_from rank t, filtered-cons (is_from rank) t ts, picked_between (λ (u : Transfer). u.bytes) (is_from rank) t ts, moved-cons rank rank t ts)
+    omega (
+      arith,
+      from_between rank ts,
+      one_from rank t,
+      filtered-cons (is_from rank) t ts,
+      picked_between (λ (u : Transfer). u.bytes) (is_from rank) t ts,
+      moved-cons rank rank t ts,
+    )
 
 to_between : (rank : ℕ) (ts : List Transfer) → bytes (filter (is_to rank) ts) ≡ bytes_received (between_ranks ts) rank + moved ts rank rank
 to_between rank [] = refl
 to_between rank (t ∷ ts) =
-    omega (arith, to_between rank ts, one_to rank t, filtered-cons (is_to rank) t ts, picked_between (λ (u : Transfer). u.bytes) (is_to rank) t ts, moved-cons rank rank t ts)
+    omega (
+      arith,
+      to_between rank ts,
+      one_to rank t,
+      filtered-cons (is_to rank) t ts,
+      picked_between (λ (u : Transfer). u.bytes) (is_to rank) t ts,
+      moved-cons rank rank t ts,
+    )
 
 module _ (m : MachineState) (sound : IsSoundMachine m) (makes : makes_exchange m.nodes ≡ true) (at : NodeState × ℕ) where
   sent-others : (row_of m at).sent ≡ bytes_sent (between_ranks (transfers m.nodes)) at.0.hart.rank
   sent-others =
       let rank = at.0.hart.rank in
-      let kept : (row_of m at).kept ≡ moved (transfers m.nodes) rank rank = ap (λ b. moved (if b then transfers m.nodes else []) rank rank) makes in
+      let kept : (row_of m at).kept ≡ moved (transfers m.nodes) rank rank =
+      ap (λ b. moved (if b then transfers m.nodes else []) rank rank) makes in
       omega (arith, row-sent m sound makes at, from_between rank (transfers m.nodes), kept)
 
   received-others : (row_of m at).received ≡ bytes_received (between_ranks (transfers m.nodes)) at.0.hart.rank
   received-others =
       let rank = at.0.hart.rank in
-      let kept : (row_of m at).kept ≡ moved (transfers m.nodes) rank rank = ap (λ b. moved (if b then transfers m.nodes else []) rank rank) makes in
+      let kept : (row_of m at).kept ≡ moved (transfers m.nodes) rank rank =
+      ap (λ b. moved (if b then transfers m.nodes else []) rank rank) makes in
       omega (arith, row-received m sound makes at, to_between rank (transfers m.nodes), kept)
 
 -- ---- the greatest of rows
@@ -243,7 +280,8 @@ rows_greatest : (m : MachineState) → IsSoundMachine m → (p : Row → ℕ) (q
     → (makes_exchange m.nodes ≡ false → (at : NodeState × ℕ) → p (row_of m at) ≡ 0)
     → most q m.nodes ≡ whole (traffic_of m.nodes) → whole no_traffic ≡ 0
     → fold max 0 (map p (rows m)) ≡ whole (traffic m)
-rows_greatest m sound p q whole made unmade all none = ap (fold max 0) (map_twice p (row_of m) (zip m.nodes m.started)) ∙ by (makes_exchange m.nodes) refl
+rows_greatest m sound p q whole made unmade all none =
+    ap (fold max 0) (map_twice p (row_of m) (zip m.nodes m.started)) ∙ by (makes_exchange m.nodes) refl
   where
     by : (b : Bool) → makes_exchange m.nodes ≡ b → fold max 0 (map (λ at. p (row_of m at)) (zip m.nodes m.started)) ≡ whole (traffic m)
     by true makes =
@@ -267,7 +305,8 @@ module _ (m : MachineState) (at : NodeState × ℕ) (makes : makes_exchange m.no
   no_sent = ap (λ b. moved_out (length m.nodes) (if b then transfers m.nodes else []) rank) makes ∙ none_sum (others (length m.nodes) rank)
 
   no_received : (row_of m at).received ≡ 0
-  no_received = ap (λ b. moved_in (length m.nodes) (if b then transfers m.nodes else []) rank) makes ∙ none_sum (others (length m.nodes) rank)
+  no_received =
+      ap (λ b. moved_in (length m.nodes) (if b then transfers m.nodes else []) rank) makes ∙ none_sum (others (length m.nodes) rank)
 
   no_kept : (row_of m at).kept ≡ 0
   no_kept = ap (λ b. moved (if b then transfers m.nodes else []) rank rank) makes
@@ -298,5 +337,6 @@ traffic-h_all m sound =
 pub traffic-messages : (m : MachineState) → IsSoundMachine m → fold max 0 (map (λ (r : Row). r.messages) (rows m)) ≡ (cost_row m).messages
 traffic-messages m sound =
     rows_greatest m sound (λ r. r.messages) (messages_received (between_ranks (transfers m.nodes))) (λ t. t.messages)
-    (λ makes at. ap (λ b. length (from_others at.0.hart.rank (if b then queue_after m.nodes at.0.hart.rank else []))) makes ∙ sym (messages_are_queued m.nodes at.0.hart.rank))
+    (λ makes at. ap (λ b. length (from_others at.0.hart.rank (if b then queue_after m.nodes at.0.hart.rank else []))) makes
+    ∙ sym (messages_are_queued m.nodes at.0.hart.rank))
     (λ makes at. no_messages m at makes) refl refl

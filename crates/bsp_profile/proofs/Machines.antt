@@ -26,7 +26,8 @@ length-row ps nodes is = sym (length-map ps (λ (p : PreparedNode). p.node)) ∙
 -- each of them is a node among as many
 pub among : (m : MachineState) (count : ℕ) → IsSoundMachine m → count ≡ length m.nodes → All (IsNodeAmong count) m.nodes
 among m count sound is =
-    All-weaker (IsNodeOf m.settings) (IsNodeAmong count) (λ n of. record { hart = of.sound.hart; nprocs = of.nodes ∙ sym (is ∙ length-nodes m sound) }) m.nodes sound.nodes
+    All-weaker (IsNodeOf m.settings) (IsNodeAmong count)
+    (λ n of. record { hart = of.sound.hart; nprocs = of.nodes ∙ sym (is ∙ length-nodes m sound) }) m.nodes sound.nodes
 
 -- a cell of bytes is one of the table
 pub place_within : (count row column : ℕ) → row < count + 1 → column < count → place count row column < (count + 1) * count
@@ -37,10 +38,13 @@ place_within count row column r c =
 
 -- and so is one of messages
 pub message_within : (count rank : ℕ) → rank < count → rank < (count + 1) * count
-message_within count rank r = let within : place count 0 rank < (count + 1) * count = place_within count 0 rank (omega arith) r in omega arith
+message_within count rank r =
+    let within : place count 0 rank < (count + 1) * count = place_within count 0 rank (omega arith) r in omega arith
 
-module _ (m : MachineState) (count : ℕ) (cells : List ℕ) (sound : IsSoundMachine m) (counts : count ≡ length m.nodes) (size : length cells ≡ (count + 1) * count) where
-  pub tells_made : makes_exchange m.nodes ≡ true → ((k : ℕ) → k < length cells → slice_index cells k ≡ sum_by (added_by count k) m.nodes) → IsWithin (2 ^ 35) cells → Tells m.nodes count cells
+module _ (m : MachineState) (count : ℕ) (cells : List ℕ) (sound : IsSoundMachine m) (counts : count ≡ length m.nodes)
+    (size : length cells ≡ (count + 1) * count) where
+  pub tells_made : makes_exchange m.nodes ≡ true → ((k : ℕ) → k < length cells → slice_index cells k ≡ sum_by (added_by count k) m.nodes)
+      → IsWithin (2 ^ 35) cells → Tells m.nodes count cells
   tells_made makes each bounded = record {
     long = sym counts;
     few = omega (arith, counts, few_nodes m sound);

@@ -1,5 +1,6 @@
 -- Sums over all ranks but one.
-use Rattle.std.proofs.Common.{◌≡◌, ℕ, zero, suc, ◌+◌, ◌<◌, not, cond, eqb, [], ◌∷◌, ◌++◌, sym, ap, ◌∙◌, refl, arith, subst, add-one, inl, inr, append-nil}
+use Rattle.std.proofs.Common.{◌≡◌, ℕ, zero, suc, ◌+◌, ◌<◌, not, cond, eqb, [], ◌∷◌}
+use Rattle.std.proofs.Common.{◌++◌, sym, ap, ◌∙◌, refl, arith, subst, add-one, inl, inr, append-nil}
 use Rattle.std.specs.Prelude.{filter, sum_by}
 use Rattle.std.specs.List.{range_with_len}
 use Rattle.std.proofs.lemmas.Bool.{cases_eq, eq-eqb, ne_eqb}
@@ -21,7 +22,8 @@ others_yes f n rank other =
 
 pub others_no : (f : ℕ → ℕ) (n rank : ℕ) → n ≡ rank → sum_by f (others (n + 1) rank) ≡ sum_by f (others n rank)
 others_no f n rank same =
-    ap (sum_by f) (others-more n rank ∙ ap (λ b. others n rank ++ cond (not b) (n ∷ []) []) (eq-eqb n rank same) ∙ append-nil (others n rank))
+    ap (sum_by f)
+    (others-more n rank ∙ ap (λ b. others n rank ++ cond (not b) (n ∷ []) []) (eq-eqb n rank same) ∙ append-nil (others n rank))
 
 -- functions with the same values below n have the same sum
 pub others_same : (f g : ℕ → ℕ) (n rank : ℕ) → ((k : ℕ) → k < n → f k ≡ g k) → sum_by f (others n rank) ≡ sum_by g (others n rank)

@@ -1,5 +1,6 @@
 -- Texts that grow by one line after another.
-use Rattle.std.proofs.Common.{◌≡◌, ℕ, ◌+◌, ◌<◌, ◌≤◌, List, [], ◌∷◌, ◌++◌, length, take, min, Some, sym, ap, ap₂, ◌∙◌, arith, append_assoc, append-nil}
+use Rattle.std.proofs.Common.{◌≡◌, ℕ, ◌+◌, ◌<◌, ◌≤◌, List, [], ◌∷◌, ◌++◌, length}
+use Rattle.std.proofs.Common.{take, min, Some, sym, ap, ap₂, ◌∙◌, arith, append_assoc, append-nil}
 use Rattle.std.specs.Prelude.{slice_get, slice_index, flat_map, zip, if◌then◌else◌}
 use Rattle.std.specs.List.{range_with_len}
 use Rattle.std.proofs.lemmas.Bool.{lt-ltb, le-ltb}
@@ -17,12 +18,14 @@ use Rattle.bsp_profile.specs.Tally.{place, Tells}
 flat_map-push : {X : Type 0} (f : X → List ℕ) (xs : List X) (x : X) → flat_map f (xs ++ x ∷ []) ≡ flat_map f xs ++ f x
 flat_map-push f xs x = flat_map-append f xs (x ∷ []) ∙ ap (λ ys. flat_map f xs ++ ys) (append-nil (f x))
 
-grown : {X : Type 0} (f : X → List ℕ) (xs : List X) (x : X) (first now new : List ℕ) → now ≡ first ++ flat_map f xs → new ≡ now ++ f x → new ≡ first ++ flat_map f (xs ++ x ∷ [])
+grown : {X : Type 0} (f : X → List ℕ) (xs : List X) (x : X) (first now new : List ℕ) → now ≡ first ++ flat_map f xs → new ≡ now ++ f x
+    → new ≡ first ++ flat_map f (xs ++ x ∷ [])
 grown f xs x first now new before more =
     more ∙ ap (λ bs. bs ++ f x) before ∙ append_assoc first (flat_map f xs) (f x) ∙ ap (λ bs. first ++ bs) (sym (flat_map-push f xs x))
 
 -- the next of a list
-pub next_line : {X : Type 0} (f : X → List ℕ) (xs : List X) (i : ℕ) (x : X) (first now new : List ℕ) → slice_get xs i ≡ Some x → now ≡ first ++ flat_map f (take i xs) → new ≡ now ++ f x → new ≡ first ++ flat_map f (take (i + 1) xs)
+pub next_line : {X : Type 0} (f : X → List ℕ) (xs : List X) (i : ℕ) (x : X) (first now new : List ℕ) → slice_get xs i ≡ Some x
+    → now ≡ first ++ flat_map f (take i xs) → new ≡ now ++ f x → new ≡ first ++ flat_map f (take (i + 1) xs)
 next_line f xs i x first now new found before more =
     grown f (take i xs) x first now new before more
     ∙ ap (λ ys. first ++ flat_map f ys)
@@ -30,10 +33,12 @@ next_line f xs i x first now new found before more =
 
 range-more : (n : ℕ) → range_with_len 0 (n + 1) ≡ range_with_len 0 n ++ n ∷ []
 range-more n =
-    sym (map-id (range_with_len 0 (n + 1))) ∙ map-range_with_len_more (λ k. k) 0 n n (omega arith) ∙ ap (λ ks. ks ++ n ∷ []) (map-id (range_with_len 0 n))
+    sym (map-id (range_with_len 0 (n + 1))) ∙ map-range_with_len_more (λ k. k) 0 n n (omega arith)
+    ∙ ap (λ ks. ks ++ n ∷ []) (map-id (range_with_len 0 n))
 
 -- the next of some numbers from 0 on
-pub next_of_range : (f : ℕ → List ℕ) (n : ℕ) (first now new : List ℕ) → now ≡ first ++ flat_map f (range_with_len 0 n) → new ≡ now ++ f n → new ≡ first ++ flat_map f (range_with_len 0 (n + 1))
+pub next_of_range : (f : ℕ → List ℕ) (n : ℕ) (first now new : List ℕ) → now ≡ first ++ flat_map f (range_with_len 0 n) → new ≡ now ++ f n
+    → new ≡ first ++ flat_map f (range_with_len 0 (n + 1))
 next_of_range f n first now new before more =
     grown f (range_with_len 0 n) n first now new before more ∙ ap (λ ks. first ++ flat_map f ks) (sym (range-more n))
 
@@ -44,18 +49,22 @@ length-rows-le m =
     omega (arith, all, both)
 
 -- the line of two ranks between which bytes go, and of two between which none go
-module _ (m : MachineState) (count : ℕ) (cells : List ℕ) (tells : Tells m.nodes count cells) (from to : ℕ) (from_in : from < count) (to_in : to < count) (bytes superstep : ℕ) (is : bytes ≡ slice_index cells (place count (from + 1) to)) where
+module _ (m : MachineState) (count : ℕ) (cells : List ℕ) (tells : Tells m.nodes count cells) (from to : ℕ) (from_in : from < count)
+    (to_in : to < count) (bytes superstep : ℕ) (is : bytes ≡ slice_index cells (place count (from + 1) to)) where
   told : bytes ≡ moved (moves m.nodes) from to
   told = is ∙ tells.bytes from to from_in to_in
 
-  pub flow_yes : superstep ≡ m.exchanges → 0 < bytes → flow_line (record { superstep = superstep; from = from; to = to; bytes = bytes }) ≡ flow_lines_between m from to
+  pub flow_yes : superstep ≡ m.exchanges → 0 < bytes → flow_line (record { superstep = superstep; from = from; to = to; bytes = bytes })
+      ≡ flow_lines_between m from to
   flow_yes now some =
       ap₂ (λ s b. flow_line (record { superstep = s; from = from; to = to; bytes = b })) now told
-      ∙ sym (ap (λ b. if b then flow_line (record { superstep = m.exchanges; from = from; to = to; bytes = moved (moves m.nodes) from to }) else []) (lt-ltb 0 (moved (moves m.nodes) from to) (omega (arith, told, some))))
+      ∙ sym (ap (λ b. if b then flow_line (record { superstep = m.exchanges; from = from; to = to; bytes = moved (moves m.nodes) from to })
+      else []) (lt-ltb 0 (moved (moves m.nodes) from to) (omega (arith, told, some))))
 
   pub flow_no : bytes ≤ 0 → [] ≡ flow_lines_between m from to
   flow_no none =
-      sym (ap (λ b. if b then flow_line (record { superstep = m.exchanges; from = from; to = to; bytes = moved (moves m.nodes) from to }) else []) (le-ltb 0 (moved (moves m.nodes) from to) (omega (arith, told, none))))
+      sym (ap (λ b. if b then flow_line (record { superstep = m.exchanges; from = from; to = to; bytes = moved (moves m.nodes) from to })
+      else []) (le-ltb 0 (moved (moves m.nodes) from to) (omega (arith, told, none))))
 
 pub same_text : (now new more : List ℕ) → new ≡ now → [] ≡ more → new ≡ now ++ more
 same_text now new more same none = same ∙ sym (append-nil now) ∙ ap (λ bs. now ++ bs) none

@@ -1,5 +1,6 @@
 -- What the stages of a listing and of an assembly give, and their errors.
-use Rattle.std.proofs.Common.{◌≡◌, ◌≢◌, ◌∙◌, ℕ, Bool, suc, ◌<◌, ◌≤◌, inl, inr, List, [], ◌∷◌, ◌++◌, length, get_or, take, drop, Option, Some, ap, sym, refl, subst, arith, append_assoc, length-append}
+use Rattle.std.proofs.Common.{◌≡◌, ◌≢◌, ◌∙◌, ℕ, Bool, suc, ◌<◌, ◌≤◌, inl, inr, List, [], ◌∷◌, ◌++◌, length, get_or, take, drop, Option}
+use Rattle.std.proofs.Common.{Some, ap, sym, refl, subst, arith, append_assoc, length-append}
 use Rattle.std.specs.List.{flat_map}
 use Rattle.std.specs.Io.KnownBytes.{Appends}
 use Rattle.std.proofs.KnownBytes.{Appends-trans}
@@ -11,9 +12,11 @@ use Rattle.node_memory.specs.Image.{Image, Segment}
 use Rattle.rv_listing.specs.declared.lines.Line.{Line}
 use Rattle.rv_listing.specs.Listing.{ended_line, listing_of, listing_of_segment}
 use Rattle.bsp_session.specs.declared.errors.SessionError.{SessionError}
-use Rattle.bsp_session.specs.declared.errors.SessionError.TheVariants.{BadSettings, TooLong, Text, BadImage, SegmentOutside, ReadFault, WriteFault, NoWorker, NoMemory}
+use Rattle.bsp_session.specs.declared.errors.SessionError.TheVariants.{BadSettings, TooLong, Text, BadImage, SegmentOutside, ReadFault}
+use Rattle.bsp_session.specs.declared.errors.SessionError.TheVariants.{WriteFault, NoWorker, NoMemory}
 use Rattle.bsp_session.specs.declared.job.Format.TheVariants.{Asm}
-use Rattle.bsp_session.specs.Conversion.{AppendsFirstLines, Conversion, EndsUnread, IsErrorOfAssembly, IsErrorOfLines, IsErrorOfListing, ReadsImage, lines_of_image, lines_of_segment}
+use Rattle.bsp_session.specs.Conversion.{AppendsFirstLines, Conversion, EndsUnread, IsErrorOfAssembly, IsErrorOfLines, IsErrorOfListing}
+use Rattle.bsp_session.specs.Conversion.{ReadsImage, lines_of_image, lines_of_segment}
 use Rattle.bsp_session.specs.Images.{image_fault, most_bytes}
 use Rattle.bsp_session.specs.Outcome.{error_of_read}
 use Rattle.bsp_session.specs.Streams.{IsUntouched, ReadsWhole, Stream}
@@ -22,7 +25,8 @@ use Rattle.bsp_session.proofs.Refusals.{of_image, text_alone}
 
 -- ---- the file was not read whole
 
-pub IsErrorOfListing-reading : (float : Bool) (c : Conversion) (why : ReadError) → EndsUnread c why → IsErrorOfListing float c (error_of_read why)
+pub IsErrorOfListing-reading : (float : Bool) (c : Conversion) (why : ReadError) → EndsUnread c why
+    → IsErrorOfListing float c (error_of_read why)
 IsErrorOfListing-reading float c read.TooLong ended = ended
 IsErrorOfListing-reading float c read.ReadFault ended = ended
 IsErrorOfListing-reading float c read.NoMemory ended = inl (inl ended)
@@ -41,7 +45,8 @@ IsErrorOfListing-image float c i e whole made untouched =
     (λ cause is. record { i = i; read = whole; refused = is; unwritten = untouched })
     (λ cause is. record { i = i; read = whole; refused = is; unwritten = untouched }) e made
 
-pub IsErrorOfAssembly-image : (float : Bool) (c : Conversion) (i : List ℕ) (e : SessionError) → c.format ≡ Asm float → ReadsWhole c.file i (most_bytes c.format)
+pub IsErrorOfAssembly-image : (float : Bool) (c : Conversion) (i : List ℕ) (e : SessionError) → c.format ≡ Asm float
+    → ReadsWhole c.file i (most_bytes c.format)
     → (e ≢ NoMemory → image_fault c.format i ≡ Some e) → IsUntouched c.out → IsErrorOfAssembly c e
 IsErrorOfAssembly-image float c i e text whole made untouched =
     of_image c.format i (IsErrorOfAssembly c) (inr (record { i = i; read = whole; unwritten = untouched }))
@@ -51,13 +56,17 @@ IsErrorOfAssembly-image float c i e text whole made untouched =
 -- ---- lines that were not all written
 
 -- the texts of lines of lines, one after another
-texts-flat : (float : Bool) {X : Type 0} (lines : X → List Line) (xs : List X) → flat_map (ended_line float) (flat_map lines xs) ≡ flat_map (λ x. flat_map (ended_line float) (lines x)) xs
+texts-flat : (float : Bool) {X : Type 0} (lines : X → List Line) (xs : List X)
+    → flat_map (ended_line float) (flat_map lines xs) ≡ flat_map (λ x. flat_map (ended_line float) (lines x)) xs
 texts-flat float lines [] = refl
-texts-flat float lines (x ∷ xs) = flat_map-append (ended_line float) (lines x) (flat_map lines xs) ∙ ap (λ rest. flat_map (ended_line float) (lines x) ++ rest) (texts-flat float lines xs)
+texts-flat float lines (x ∷ xs) =
+    flat_map-append (ended_line float) (lines x) (flat_map lines xs)
+    ∙ ap (λ rest. flat_map (ended_line float) (lines x) ++ rest) (texts-flat float lines xs)
 
 -- the text of lines in three parts
 pub texts-parted : (float : Bool) (all first mid last : List Line) → all ≡ first ++ (mid ++ last)
-    → flat_map (ended_line float) all ≡ flat_map (ended_line float) first ++ (flat_map (ended_line float) mid ++ flat_map (ended_line float) last)
+    → flat_map (ended_line float) all ≡ flat_map (ended_line float) first
+    ++ (flat_map (ended_line float) mid ++ flat_map (ended_line float) last)
 texts-parted float all first mid last is =
     ap (flat_map (ended_line float)) is ∙ flat_map-append (ended_line float) first (mid ++ last)
     ∙ ap (λ bs. flat_map (ended_line float) first ++ bs) (flat_map-append (ended_line float) mid last)
@@ -67,45 +76,54 @@ pub listing-lines : (float : Bool) (m : Image) → flat_map (ended_line float) (
 listing-lines float m = texts-flat float lines_of_segment m.segments
 
 -- the lines of some segments, and some first ones of the next
-first_lines : (float : Bool) (segments : List Segment) (k : ℕ) (s : Segment) (a b d : Option (List ℕ)) → k < length segments → s ≡ get_or segments k s
-    → Appends a b (flat_map (listing_of_segment float) (take k segments)) → AppendsFirstLines float b d (lines_of_segment s)
-    → AppendsFirstLines float a d (flat_map lines_of_segment segments)
-first_lines float segments k s a b d within is before p =
-    let done = flat_map lines_of_segment (take k segments) in
-    let behind = flat_map lines_of_segment (drop (suc k) segments) in
+first_lines : (float : Bool) (segments : List Segment) (place : ℕ) (segment : Segment) (start mid end : Option (List ℕ))
+    → place < length segments
+    → segment ≡ get_or segments place segment
+    → Appends start mid (flat_map (listing_of_segment float) (take place segments))
+    → AppendsFirstLines float mid end (lines_of_segment segment)
+    → AppendsFirstLines float start end (flat_map lines_of_segment segments)
+first_lines float segments place segment start mid end within is before p =
+    let done = flat_map lines_of_segment (take place segments) in
+    let behind = flat_map lines_of_segment (drop (suc place) segments) in
     record {
       first = done ++ p.first;
       rest = p.rest ++ behind;
-      split = flat_map-at lines_of_segment segments k s within is ∙ ap (λ ls. done ++ (ls ++ behind)) p.split
+      split = flat_map-at lines_of_segment segments place segment within is ∙ ap (λ ls. done ++ (ls ++ behind)) p.split
           ∙ ap (λ ls. done ++ ls) (append_assoc p.first p.rest behind) ∙ sym (append_assoc done p.first (p.rest ++ behind));
       some_left = omega (arith, p.some_left, length-append p.rest behind);
-      written = subst (Appends a d)
-          (sym (flat_map-append (ended_line float) done p.first ∙ ap (λ bs. bs ++ flat_map (ended_line float) p.first) (texts-flat float lines_of_segment (take k segments))))
-          (Appends-trans a b d _ _ before p.written);
+      written = subst (Appends start end)
+          (sym (flat_map-append (ended_line float) done p.first
+          ∙ ap (λ bs. bs ++ flat_map (ended_line float) p.first) (texts-flat float lines_of_segment (take place segments))))
+          (Appends-trans start mid end _ _ before p.written);
     }
 
 -- an error of a segment's lines, after those of the segments before it
-pub IsErrorOfLines-at : (float : Bool) (m : Image) (segments : List Segment) (k : ℕ) (s : Segment) (out next : Stream) (e : SessionError) → segments ≡ m.segments
-    → k < length segments → s ≡ get_or segments k s → out.after ≡ next.after → out.failures_after ≡ next.failures_after → out.failures_before ≤ next.failures_before
-    → Appends out.before next.before (flat_map (listing_of_segment float) (take k segments)) → IsErrorOfLines float next (lines_of_segment s) e
-    → IsErrorOfLines float out (lines_of_image m) e
-IsErrorOfLines-at float m segments k s out next WriteFault all within is same count rises before (some, failed) = (
+pub IsErrorOfLines-at : (float : Bool) (image : Image) (segments : List Segment) (place : ℕ) (segment : Segment) (out next : Stream)
+    (e : SessionError)
+    → segments ≡ image.segments
+    → place < length segments → segment ≡ get_or segments place segment → out.after ≡ next.after → out.failures_after ≡ next.failures_after
+    → out.failures_before ≤ next.failures_before
+    → Appends out.before next.before (flat_map (listing_of_segment float) (take place segments))
+    → IsErrorOfLines float next (lines_of_segment segment) e
+    → IsErrorOfLines float out (lines_of_image image) e
+IsErrorOfLines-at float image segments place segment out next WriteFault all within is same count rises before (some, failed) = (
   rw (same, ap (λ i. flat_map (ended_line float) (flat_map lines_of_segment i)) (sym all), texts-flat float lines_of_segment segments)
-      (AppendsPrefix-at (listing_of_segment float) segments k s out.before next.before next.after within is before some),
+      (AppendsPrefix-at (listing_of_segment float) segments place segment out.before next.before next.after within is before some),
   rw count (HasRisen-above _ _ _ rises failed),
 )
-IsErrorOfLines-at float m segments k s out next NoMemory all within is same count rises before first =
-    rw (same, sym all) (first_lines float segments k s out.before next.before next.after within is before first)
-IsErrorOfLines-at float m segments k s out next (BadSettings cause) all within is same count rises before p = absurd p
-IsErrorOfLines-at float m segments k s out next TooLong all within is same count rises before p = absurd p
-IsErrorOfLines-at float m segments k s out next (Text cause) all within is same count rises before p = absurd p
-IsErrorOfLines-at float m segments k s out next (BadImage cause) all within is same count rises before p = absurd p
-IsErrorOfLines-at float m segments k s out next SegmentOutside all within is same count rises before p = absurd p
-IsErrorOfLines-at float m segments k s out next ReadFault all within is same count rises before p = absurd p
-IsErrorOfLines-at float m segments k s out next NoWorker all within is same count rises before p = absurd p
+IsErrorOfLines-at float image segments place segment out next NoMemory all within is same count rises before first =
+    rw (same, sym all) (first_lines float segments place segment out.before next.before next.after within is before first)
+IsErrorOfLines-at float image segments place segment out next (BadSettings cause) all within is same count rises before p = absurd p
+IsErrorOfLines-at float image segments place segment out next TooLong all within is same count rises before p = absurd p
+IsErrorOfLines-at float image segments place segment out next (Text cause) all within is same count rises before p = absurd p
+IsErrorOfLines-at float image segments place segment out next (BadImage cause) all within is same count rises before p = absurd p
+IsErrorOfLines-at float image segments place segment out next SegmentOutside all within is same count rises before p = absurd p
+IsErrorOfLines-at float image segments place segment out next ReadFault all within is same count rises before p = absurd p
+IsErrorOfLines-at float image segments place segment out next NoWorker all within is same count rises before p = absurd p
 
 -- an error of an image's lines is one of the listing
-pub IsErrorOfListing-lines : (float : Bool) (c : Conversion) (m : Image) (e : SessionError) → ReadsImage c m → IsErrorOfLines float c.out (lines_of_image m) e → IsErrorOfListing float c e
+pub IsErrorOfListing-lines : (float : Bool) (c : Conversion) (m : Image) (e : SessionError) → ReadsImage c m
+    → IsErrorOfLines float c.out (lines_of_image m) e → IsErrorOfListing float c e
 IsErrorOfListing-lines float c m WriteFault given (some, failed) =
     record { m = m; given = given; written = subst (AppendsPrefix c.out.before c.out.after) (listing-lines float m) some; failed = failed }
 IsErrorOfListing-lines float c m NoMemory given p = inr (record { m = m; given = given; written = p })

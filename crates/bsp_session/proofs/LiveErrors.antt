@@ -1,5 +1,6 @@
 -- The errors of a session that writes while the run goes on, by the stage that ended it.
-use Rattle.std.proofs.Common.{◌≡◌, ◌⊎◌, ℕ, inl, inr, ◌+◌, ◌<◌, ◌≤◌, List, [], ◌++◌, length, take, Option, Some, None, Result, Ok, Err, refl, sym, ap, ◌∙◌, arith, true, append_assoc, append-nil, length-append}
+use Rattle.std.proofs.Common.{◌≡◌, ◌⊎◌, ℕ, inl, inr, ◌+◌, ◌<◌, ◌≤◌, List, [], ◌++◌, length, take, Option, Some, None, Result, Ok, Err, refl}
+use Rattle.std.proofs.Common.{sym, ap, ◌∙◌, arith, true, append_assoc, append-nil, length-append}
 use Rattle.std.specs.Prelude.{IfErr, IsErrOf, ◌↔◌}
 use Rattle.std.specs.Fn.{iterate}
 use Rattle.std.specs.Io.KnownBytes.{Appends}
@@ -13,7 +14,8 @@ use Rattle.phase_pool.specs.declared.error.PoolError.TheVariants as pool
 use Rattle.phase_pool.specs.Numbers.{numbers_fault}
 use Rattle.bsp_session.specs.declared.errors.BadSetting.{BadSetting}
 use Rattle.bsp_session.specs.declared.errors.SessionError.{SessionError}
-use Rattle.bsp_session.specs.declared.errors.SessionError.TheVariants.{BadSettings, TooLong, Text, BadImage, SegmentOutside, ReadFault, WriteFault, NoWorker, NoMemory}
+use Rattle.bsp_session.specs.declared.errors.SessionError.TheVariants.{BadSettings, TooLong, Text, BadImage, SegmentOutside, ReadFault}
+use Rattle.bsp_session.specs.declared.errors.SessionError.TheVariants.{WriteFault, NoWorker, NoMemory}
 use Rattle.bsp_session.specs.declared.job.Job.{Job}
 use Rattle.bsp_session.specs.Live.{AppendsSome, FailsAt, IsErrorOfLive, IsErrorOfLiveRun, IsErrorOfSuperstep, MayComeLate, WantsThreads}
 use Rattle.bsp_session.specs.Outcome.{error_of_pool}
@@ -29,7 +31,8 @@ pub AppendsSome-behind : (done next rest whole : List ℕ) (a b c : Option (List
 AppendsSome-behind done next rest whole a b c is before p =
     let few : p.0 ≤ length next = p.1 in
     let some : 0 < length next = p.2 in
-    let long : length whole ≡ length done + (length next + length rest) = ap (λ (xs : List ℕ). length xs) is ∙ length-append done (next ++ rest) ∙ ap (λ n. length done + n) (length-append next rest) in
+    let long : length whole ≡ length done + (length next + length rest) =
+    ap (λ (xs : List ℕ). length xs) is ∙ length-append done (next ++ rest) ∙ ap (λ n. length done + n) (length-append next rest) in
     let cut : take (length done + p.0) whole ≡ done ++ take p.0 next =
     rw (is, take-append-add done (next ++ rest) p.0)
     (ap (λ ys. done ++ ys) (take-append-le p.0 next rest few)) in
@@ -40,15 +43,19 @@ pub AppendsSome-more : (bytes rest : List ℕ) (a b : Option (List ℕ)) → App
 AppendsSome-more bytes rest a b p = AppendsSome-behind [] bytes rest (bytes ++ rest) a a b refl (Appends-nil a) p
 
 -- an error of a superstep, after the supersteps before it
-pub IsErrorOfLiveRun-at : (job : Job) (start m : MachineState) (k : ℕ) (out next : Stream) (e : SessionError) → m ≡ iterate superstep k start
-    → end_of (superstep m) ≡ end_of start → m.settings ≡ start.settings → m.outcome ≡ None → out.after ≡ next.after → out.failures_after ≡ next.failures_after
-    → out.failures_before ≤ next.failures_before → Appends out.before next.before m.output → IsErrorOfSuperstep job m next e → IsErrorOfLiveRun job start out e
+pub IsErrorOfLiveRun-at : (job : Job) (start m : MachineState) (k : ℕ) (out next : Stream) (e : SessionError)
+    → m ≡ iterate superstep k start
+    → end_of (superstep m) ≡ end_of start → m.settings ≡ start.settings → m.outcome ≡ None → out.after ≡ next.after
+    → out.failures_after ≡ next.failures_after
+    → out.failures_before ≤ next.failures_before → Appends out.before next.before m.output → IsErrorOfSuperstep job m next e
+    → IsErrorOfLiveRun job start out e
 IsErrorOfLiveRun-at job start m k out next WriteFault is ends settings none same count rises before (some, failed) =
     let rest = extends-end (superstep m) in
     let whole : (end_of start).output ≡ m.output ++ (written (with_phases m).nodes ++ rest.0) =
     ap (λ (x : MachineState). x.output) (sym ends) ∙ rest.1 ∙ ap (λ bs. bs ++ rest.0) (output-open m (rw none refl))
     ∙ append_assoc m.output (written (with_phases m).nodes) rest.0 in (
-      rw same (AppendsSome-behind m.output (written (with_phases m).nodes) rest.0 (end_of start).output out.before next.before next.after whole before some),
+      rw same (AppendsSome-behind m.output (written (with_phases m).nodes) rest.0 (end_of start).output out.before next.before next.after
+          whole before some),
       rw count (HasRisen-above _ _ _ rises failed),
     )
 IsErrorOfLiveRun-at job start m k out next NoWorker is ends settings none same count rises before (untouched, wanted) = (
@@ -77,7 +84,8 @@ late job start out SegmentOutside p = absurd p
 late job start out ReadFault p = absurd p
 
 -- and is one of the session
-pub IsErrorOfLive-run : (s : Session) (start : MachineState) (e : SessionError) → StartsAt s start → IsErrorOfLiveRun s.job start s.out e → IsErrorOfLive s e
+pub IsErrorOfLive-run : (s : Session) (start : MachineState) (e : SessionError) → StartsAt s start → IsErrorOfLiveRun s.job start s.out e
+    → IsErrorOfLive s e
 IsErrorOfLive-run s start WriteFault starts (some, failed) =
     (start, starts, (AppendsSome-more (end_of start).output (report_lines s.job (end_of start)) s.out.before s.out.after some, failed))
 IsErrorOfLive-run s start NoWorker starts (short, wanted) = (start, starts, (short, wanted))
@@ -91,13 +99,19 @@ IsErrorOfLive-run s start ReadFault starts p = absurd p
 
 -- so is an error of a session that writes at the end
 pub IsErrorOfLive-of : (s : Session) (e : SessionError) → IsErrorOf s e → IsErrorOfLive s e
-IsErrorOfLive-of s WriteFault why =
-    (why.start, why.starts, ((why.part.written.0, omega (arith, why.part.written.1), omega (arith, why.part.written.1), why.part.written.2), why.part.failed))
+IsErrorOfLive-of s WriteFault why = (
+  why.start,
+  why.starts,
+  ((why.part.written.0, omega (arith, why.part.written.1), omega (arith, why.part.written.1), why.part.written.2), why.part.failed),
+)
 IsErrorOfLive-of s NoWorker why =
     let start : MachineState = fresh why.cause.m why.n s.job.settings in (
       start,
       record { i = why.i; n = why.n; m = why.cause.m; read = why.read; image = why.cause.image; is = refl },
-      ((start, record { count = 0; is = refl; written = rw why.unwritten.bytes (Appends-nil s.out.before) }, refl), (why.cause.workers, why.cause.nodes)),
+      (
+        (start, record { count = 0; is = refl; written = rw why.unwritten.bytes (Appends-nil s.out.before) }, refl),
+        (why.cause.workers, why.cause.nodes),
+      ),
     )
 IsErrorOfLive-of s NoMemory why = inl why
 IsErrorOfLive-of s (BadSettings cause) why = why
@@ -108,10 +122,12 @@ IsErrorOfLive-of s SegmentOutside why = why
 IsErrorOfLive-of s ReadFault why = why
 
 -- and why the lines behind the whole output were not all written
-pub IsErrorOfLive-lines : (s : Session) (start end : MachineState) (here : Stream) (e : SessionError) → StartsAt s start → end ≡ end_of start
+pub IsErrorOfLive-lines : (s : Session) (start end : MachineState) (here : Stream) (e : SessionError) → StartsAt s start
+    → end ≡ end_of start
     → s.out.after ≡ here.after → s.out.failures_after ≡ here.failures_after → s.out.failures_before ≤ here.failures_before
     → Appends s.out.before here.before end.output
-    → ((e ≡ NoMemory) × (s.job.report ≡ true) × IsUntouched here) ⊎ ((e ≡ WriteFault) × FailsAt here (report_lines s.job end)) → IsErrorOfLive s e
+    → ((e ≡ NoMemory) × (s.job.report ≡ true) × IsUntouched here) ⊎ ((e ≡ WriteFault) × FailsAt here (report_lines s.job end))
+    → IsErrorOfLive s e
 IsErrorOfLive-lines s start end here e starts ends same count rises before (inl (is, asked, untouched)) =
     rw is (inr (start, starts, inr (asked, rw (same, untouched.bytes, ← ends) before)))
 IsErrorOfLive-lines s start end here e starts ends same count rises before (inr (is, (some, failed))) =
@@ -121,7 +137,8 @@ IsErrorOfLive-lines s start end here e starts ends same count rises before (inr 
       start,
       starts,
       (
-        rw same (AppendsSome-behind end.output (report_lines s.job end) [] (report_of s.job (end_of start)) s.out.before here.before here.after whole before some),
+        rw same (AppendsSome-behind end.output (report_lines s.job end) [] (report_of s.job (end_of start)) s.out.before here.before
+            here.after whole before some),
         rw count (HasRisen-above _ _ _ rises failed),
       ),
     )
@@ -133,7 +150,8 @@ late_lines job end here e (inl why) = rw why.0 tt
 late_lines job end here e (inr why) = rw why.0 tt
 
 -- why a superstep was not made: the pool was refused something, for its numbers are good
-pub IsErrorOfSuperstep-of_pool : (job : Job) (m : MachineState) (out : Stream) (cause : PoolError) → numbers_fault job.workers job.slice ≡ None
+pub IsErrorOfSuperstep-of_pool : (job : Job) (m : MachineState) (out : Stream) (cause : PoolError)
+    → numbers_fault job.workers job.slice ≡ None
     → (cause ≡ pool.BadWorkers → numbers_fault job.workers job.slice ≡ Some pool.BadWorkers)
     → (cause ≡ pool.BadSlice → numbers_fault job.workers job.slice ≡ Some pool.BadSlice)
     → (cause ≡ pool.NoWorker → WantsThreads job m) → IsUntouched out → IsErrorOfSuperstep job m out (error_of_pool cause)

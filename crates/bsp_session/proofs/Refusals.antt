@@ -12,7 +12,8 @@ use Rattle.machine_core.specs.declared.error.MachineError.TheVariants as machine
 use Rattle.machine_core.specs.Faults.{NamesFault}
 use Rattle.machine_core.specs.Machine.{machine_fault, settings_fault}
 use Rattle.bsp_session.specs.declared.errors.SessionError.{SessionError}
-use Rattle.bsp_session.specs.declared.errors.SessionError.TheVariants.{BadSettings, TooLong, Text, BadImage, SegmentOutside, ReadFault, WriteFault, NoWorker, NoMemory}
+use Rattle.bsp_session.specs.declared.errors.SessionError.TheVariants.{BadSettings, TooLong, Text, BadImage, SegmentOutside, ReadFault}
+use Rattle.bsp_session.specs.declared.errors.SessionError.TheVariants.{WriteFault, NoWorker, NoMemory}
 use Rattle.bsp_session.specs.declared.job.Format.{Format}
 use Rattle.bsp_session.specs.declared.job.Format.TheVariants.{Elf, Raw, Asm}
 use Rattle.bsp_session.specs.declared.job.Job.{Job}
@@ -27,7 +28,8 @@ IsOfFile (Text cause) = Unit {0}
 IsOfFile (BadImage cause) = Unit {0}
 IsOfFile _ = ⊥
 
-of_file : {X : Type 0} (f : X → SessionError) (fault : Option X) (e : SessionError) → ((x : X) → IsOfFile (f x)) → option_map f fault ≡ Some e → IsOfFile e
+of_file : {X : Type 0} (f : X → SessionError) (fault : Option X) (e : SessionError) → ((x : X) → IsOfFile (f x))
+    → option_map f fault ≡ Some e → IsOfFile e
 of_file f None e each is = cc
 of_file f (Some x) e each is =
     let same : f x ≡ e = cc in
@@ -36,7 +38,8 @@ of_file f (Some x) e each is =
 is_of_file : (format : Format) (file : List ℕ) (e : SessionError) → image_fault format file ≡ Some e → IsOfFile e
 is_of_file Elf file e is = of_file BadImage (file_fault file) e (λ cause. tt) is
 is_of_file Raw file e is = cc
-is_of_file (Asm float) file e is = of_file (λ fault. Text (record { line = fault.0; kind = fault.1 })) (text_fault float file) e (λ fault. tt) is
+is_of_file (Asm float) file e is =
+    of_file (λ fault. Text (record { line = fault.0; kind = fault.1 })) (text_fault float file) e (λ fault. tt) is
 
 -- what holds of want of memory, and of a text's or an ELF file's refusal, holds of each error of an image
 pub of_image : (format : Format) (file : List ℕ) (P : SessionError → Type 0) → P NoMemory
@@ -57,16 +60,19 @@ of_image format file P memory text image NoWorker made = absurd (is_of_file form
 pub text_alone : (float : Bool) (file : List ℕ) (cause : ElfError) → image_fault (Asm float) file ≡ Some (BadImage cause) → ⊥
 text_alone float file cause is = not_image (text_fault float file) is
   where
-    not_image : (fault : Option (ℕ × AsmKind)) → option_map (λ f. Text (record { line = f.0; kind = f.1 })) fault ≡ Some (BadImage cause) → ⊥
+    not_image : (fault : Option (ℕ × AsmKind)) → option_map (λ f. Text (record { line = f.0; kind = f.1 })) fault ≡ Some (BadImage cause)
+        → ⊥
     not_image None made = cc
     not_image (Some f) made = cc
 
-pub IsErrorOfRun-of_image : (job : Job) (file : List ℕ) (e : SessionError) → (e ≢ NoMemory → image_fault job.format file ≡ Some e) → IsErrorOfRun job file e
+pub IsErrorOfRun-of_image : (job : Job) (file : List ℕ) (e : SessionError) → (e ≢ NoMemory → image_fault job.format file ≡ Some e)
+    → IsErrorOfRun job file e
 IsErrorOfRun-of_image job file e made = of_image job.format file (IsErrorOfRun job file) tt (λ cause is. is) (λ cause is. is) e made
 
 -- where the settings are good, a machine is refused for a part past the memory alone
 only_outside : (fault : Option MachineError) (outside : Bool) (cause : MachineError) → fault ≡ None
-    → option_or fault (if outside then Some machine.SegmentOutside else None) ≡ Some cause → (cause ≡ machine.SegmentOutside) × (outside ≡ true)
+    → option_or fault (if outside then Some machine.SegmentOutside else None) ≡ Some cause
+    → (cause ≡ machine.SegmentOutside) × (outside ≡ true)
 only_outside None true cause none made = (cc, refl)
 only_outside None false cause none made = cc
 only_outside (Some fault) outside cause none made = cc
@@ -76,12 +82,18 @@ pub IsErrorOfRun-of_machine : {X : Type 0} (job : Job) (file : List ℕ) (m : Im
     → IsErrorOfRun job file (error_of_machine cause)
 IsErrorOfRun-of_machine job file m r cause none gives is names = of_cause cause is
   where
-    outside_of : (cause : MachineError) → machine_fault m job.settings ≡ Some cause → (cause ≡ machine.SegmentOutside) × (is_segment_outside m job.settings.memory ≡ true)
-    outside_of cause = only_outside (settings_fault job.settings) (is_segment_outside m job.settings.memory) cause (settings_are_in_range job none)
+    outside_of : (cause : MachineError) → machine_fault m job.settings ≡ Some cause
+        → (cause ≡ machine.SegmentOutside) × (is_segment_outside m job.settings.memory ≡ true)
+    outside_of cause =
+        only_outside (settings_fault job.settings) (is_segment_outside m job.settings.memory) cause (settings_are_in_range job none)
 
     of_cause : (cause : MachineError) → r ≡ Err cause → IsErrorOfRun job file (error_of_machine cause)
     of_cause machine.BadNodes is = let other = (outside_of machine.BadNodes ((names machine.BadNodes (λ same. cc)).0 is)).0 in cc
     of_cause machine.BadMemory is = let other = (outside_of machine.BadMemory ((names machine.BadMemory (λ same. cc)).0 is)).0 in cc
     of_cause machine.BadLimit is = let other = (outside_of machine.BadLimit ((names machine.BadLimit (λ same. cc)).0 is)).0 in cc
-    of_cause machine.SegmentOutside is = record { m = m; gives = gives; outside = (outside_of machine.SegmentOutside ((names machine.SegmentOutside (λ same. cc)).0 is)).1 }
+    of_cause machine.SegmentOutside is = record {
+      m = m;
+      gives = gives;
+      outside = (outside_of machine.SegmentOutside ((names machine.SegmentOutside (λ same. cc)).0 is)).1;
+    }
     of_cause machine.NoMemory is = tt

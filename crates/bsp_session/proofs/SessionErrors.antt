@@ -8,16 +8,19 @@ use Rattle.machine_core.specs.Machine.{MachineState}
 use Rattle.machine_core.specs.Turn.{end_of}
 use Rattle.bsp_session.specs.declared.errors.BadSetting.{BadSetting}
 use Rattle.bsp_session.specs.declared.errors.SessionError.{SessionError}
-use Rattle.bsp_session.specs.declared.errors.SessionError.TheVariants.{BadSettings, TooLong, Text, BadImage, SegmentOutside, ReadFault, WriteFault, NoWorker, NoMemory}
+use Rattle.bsp_session.specs.declared.errors.SessionError.TheVariants.{BadSettings, TooLong, Text, BadImage, SegmentOutside, ReadFault}
+use Rattle.bsp_session.specs.declared.errors.SessionError.TheVariants.{WriteFault, NoWorker, NoMemory}
 use Rattle.bsp_session.specs.Outcome.{error_of_read}
 use Rattle.bsp_session.specs.Report.{report_of}
 use Rattle.bsp_session.specs.declared.job.Job.{Job}
-use Rattle.bsp_session.specs.Session.{EndsAtFile, IsErrorOf, IsErrorOfFiles, IsErrorOfReport, IsErrorOfRun, IsErrorOfThreads, IsReportPart, ReadsBoth, ReportsFrom, Session, StartsAt, job_fault}
+use Rattle.bsp_session.specs.Session.{EndsAtFile, IsErrorOf, IsErrorOfFiles, IsErrorOfReport, IsErrorOfRun, IsErrorOfThreads, IsReportPart}
+use Rattle.bsp_session.specs.Session.{ReadsBoth, ReportsFrom, Session, StartsAt, job_fault}
 use Rattle.bsp_session.specs.Streams.{IsUntouched, Stream}
 use Rattle.bsp_session.proofs.Jobs.{length-fresh}
 
 -- what a job is refused for is a setting
-pub IsErrorOfFiles-settings : (job : Job) (image input : Stream) (e : SessionError) → job_fault job ≡ Some e → IsUntouched image → IsUntouched input
+pub IsErrorOfFiles-settings : (job : Job) (image input : Stream) (e : SessionError) → job_fault job ≡ Some e → IsUntouched image
+    → IsUntouched input
     → IsErrorOfFiles job_fault job image input e
 IsErrorOfFiles-settings job image input (BadSettings cause) fault first second = (fault, first, second)
 IsErrorOfFiles-settings job image input TooLong fault first second = absurd (grind arith)
@@ -37,7 +40,8 @@ IsErrorOfFiles-reading fault job image input read.ReadFault ended = ended
 IsErrorOfFiles-reading fault job image input read.NoMemory ended = ended
 
 -- with a writer that was not touched it is the session's
-pub IsErrorOf-files : (s : Session) (e : SessionError) → IsErrorOfFiles job_fault s.job s.image s.input e → IsUntouched s.out → IsErrorOf s e
+pub IsErrorOf-files : (s : Session) (e : SessionError) → IsErrorOfFiles job_fault s.job s.image s.input e → IsUntouched s.out
+    → IsErrorOf s e
 IsErrorOf-files s (BadSettings cause) why untouched = record { cause = why; unwritten = untouched }
 IsErrorOf-files s TooLong why untouched = record { cause = why; unwritten = untouched }
 IsErrorOf-files s (Text cause) why untouched = absurd why
@@ -48,7 +52,8 @@ IsErrorOf-files s WriteFault why untouched = absurd why
 IsErrorOf-files s NoWorker why untouched = absurd why
 IsErrorOf-files s NoMemory why untouched = inl (record { cause = why; unwritten = untouched })
 
-pub IsErrorOf-run : (s : Session) (i n : List ℕ) (e : SessionError) → ReadsBoth s i n → IsErrorOfRun s.job i e → IsUntouched s.out → IsErrorOf s e
+pub IsErrorOf-run : (s : Session) (i n : List ℕ) (e : SessionError) → ReadsBoth s i n → IsErrorOfRun s.job i e → IsUntouched s.out
+    → IsErrorOf s e
 IsErrorOf-run s i n (BadSettings cause) both why untouched = absurd why
 IsErrorOf-run s i n TooLong both why untouched = absurd why
 IsErrorOf-run s i n (Text cause) both why untouched = record { i = i; n = n; read = both; cause = why; unwritten = untouched }
@@ -60,9 +65,11 @@ IsErrorOf-run s i n NoWorker both why untouched = record { i = i; n = n; read = 
 IsErrorOf-run s i n NoMemory both why untouched = inr (record { i = i; n = n; read = both; cause = why; unwritten = untouched })
 
 -- and so is why a machine came to no outcome
-pub IsErrorOf-threads : (s : Session) (start : MachineState) (e : SessionError) → StartsAt s start → IsUntouched s.out → IsErrorOfThreads s.job start e → IsErrorOf s e
+pub IsErrorOf-threads : (s : Session) (start : MachineState) (e : SessionError) → StartsAt s start → IsUntouched s.out
+    → IsErrorOfThreads s.job start e → IsErrorOf s e
 IsErrorOf-threads s start NoWorker starts untouched (workers, nodes) =
-    let all : length start.nodes ≡ s.job.settings.nodes = ap (λ (m : MachineState). length m.nodes) starts.is ∙ length-fresh starts.m starts.n s.job.settings in
+    let all : length start.nodes ≡ s.job.settings.nodes =
+    ap (λ (m : MachineState). length m.nodes) starts.is ∙ length-fresh starts.m starts.n s.job.settings in
     record {
       i = starts.i;
       n = starts.n;
@@ -70,7 +77,13 @@ IsErrorOf-threads s start NoWorker starts untouched (workers, nodes) =
       cause = record { m = starts.m; image = starts.image; workers = workers; nodes = rw all at nodes };
       unwritten = untouched;
     }
-IsErrorOf-threads s start NoMemory starts untouched why = inr (record { i = starts.i; n = starts.n; read = starts.read; cause = tt; unwritten = untouched })
+IsErrorOf-threads s start NoMemory starts untouched why = inr (record {
+  i = starts.i;
+  n = starts.n;
+  read = starts.read;
+  cause = tt;
+  unwritten = untouched;
+})
 IsErrorOf-threads s start (BadSettings cause) starts untouched why = absurd why
 IsErrorOf-threads s start TooLong starts untouched why = absurd why
 IsErrorOf-threads s start (Text cause) starts untouched why = absurd why
@@ -80,10 +93,17 @@ IsErrorOf-threads s start ReadFault starts untouched why = absurd why
 IsErrorOf-threads s start WriteFault starts untouched why = absurd why
 
 -- or why its report was not all written
-pub IsErrorOf-report : (s : Session) (start end : MachineState) (e : SessionError) → StartsAt s start → end ≡ end_of start → IsErrorOfReport s.job end s.out e → IsErrorOf s e
+pub IsErrorOf-report : (s : Session) (start end : MachineState) (e : SessionError) → StartsAt s start → end ≡ end_of start
+    → IsErrorOfReport s.job end s.out e → IsErrorOf s e
 IsErrorOf-report s start end WriteFault starts is part =
     record { start = start; starts = starts; part = subst (λ (m : MachineState). IsReportPart s.job m s.out) is part }
-IsErrorOf-report s start end NoMemory starts is untouched = inr (record { i = starts.i; n = starts.n; read = starts.read; cause = tt; unwritten = untouched })
+IsErrorOf-report s start end NoMemory starts is untouched = inr (record {
+  i = starts.i;
+  n = starts.n;
+  read = starts.read;
+  cause = tt;
+  unwritten = untouched;
+})
 IsErrorOf-report s start end NoWorker starts is why = absurd why
 IsErrorOf-report s start end (BadSettings cause) starts is why = absurd why
 IsErrorOf-report s start end TooLong starts is why = absurd why

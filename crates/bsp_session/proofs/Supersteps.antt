@@ -1,5 +1,6 @@
 -- What a run writes superstep by superstep.
-use Rattle.std.proofs.Common.{◌≡◌, ℕ, zero, suc, ◌+◌, Bool, true, false, Option, Some, None, List, [], ◌∷◌, ◌++◌, length, drop, refl, sym, ap, ◌∙◌, arith, add-one, ◌-◌, take, ◌≤◌, length-append, append_assoc, append-nil}
+use Rattle.std.proofs.Common.{◌≡◌, ℕ, zero, suc, ◌+◌, Bool, true, false, Option, Some, None, List, [], ◌∷◌, ◌++◌, length, drop, refl, sym}
+use Rattle.std.proofs.Common.{ap, ◌∙◌, arith, add-one, ◌-◌, take, ◌≤◌, length-append, append_assoc, append-nil}
 use Rattle.std.specs.Prelude.{flat_map, if◌then◌else◌, is_some}
 use Rattle.std.specs.Fn.{iterate}
 use Rattle.std.specs.List.{range_with_len}
@@ -79,7 +80,8 @@ end_of-supersteps zero m sound = refl
 end_of-supersteps (suc k) m sound = end_of-supersteps k (superstep m) (IsSoundMachine-superstep m sound) ∙ end_of-superstep m sound
 
 -- so what stands written is how its output begins
-pub begins : (start m : MachineState) (out : Stream) → IsSoundMachine start → WritesUpTo start out m → Extends m.output (end_of start).output
+pub begins : (start m : MachineState) (out : Stream) → IsSoundMachine start → WritesUpTo start out m
+    → Extends m.output (end_of start).output
 begins start m out sound up_to =
     let same : end_of m ≡ end_of start = ap end_of up_to.is ∙ end_of-supersteps up_to.count start sound in
     let rest = extends-end m in
@@ -103,7 +105,8 @@ range-next k =
     range-push 0 k ∙ ap (λ (n : ℕ). range_with_len 0 k ++ n ∷ []) same
 
 -- the supersteps write the output, one after another
-pub output-first : (start : MachineState) (k : ℕ) → (iterate superstep k start).output ≡ start.output ++ flat_map (written_in start) (range_with_len 0 k)
+pub output-first : (start : MachineState) (k : ℕ)
+    → (iterate superstep k start).output ≡ start.output ++ flat_map (written_in start) (range_with_len 0 k)
 output-first start zero = sym (append-nil start.output)
 output-first start (suc k) =
     let all = flat_map (written_in start) (range_with_len 0 k) in
@@ -115,6 +118,7 @@ output-first start (suc k) =
     (ap (λ bs. all ++ bs) (sym (append-nil (written_in start k))) ∙ sym (flat_map-append (written_in start) (range_with_len 0 k) (k ∷ []))
     ∙ ap (flat_map (written_in start)) (sym (range-next k)))
 
-pub output-all : (start : MachineState) → (end_of start).output ≡ start.output ++ flat_map (written_in start) (range_with_len 0 (start.settings.limit + 1))
+pub output-all : (start : MachineState)
+    → (end_of start).output ≡ start.output ++ flat_map (written_in start) (range_with_len 0 (start.settings.limit + 1))
 unfolding end_of
 output-all start = output-first start (start.settings.limit + 1)

@@ -4,7 +4,8 @@ use Rattle.machine_core.specs.declared.outcome.Outcome.{Outcome}
 use Rattle.machine_core.specs.Machine.{MachineState}
 use Rattle.machine_core.specs.Turn.{end_of}
 use Rattle.bsp_session.specs.declared.errors.SessionError.{SessionError}
-use Rattle.bsp_session.specs.declared.errors.SessionError.TheVariants.{BadSettings, TooLong, Text, BadImage, SegmentOutside, ReadFault, WriteFault, NoWorker, NoMemory}
+use Rattle.bsp_session.specs.declared.errors.SessionError.TheVariants.{BadSettings, TooLong, Text, BadImage, SegmentOutside, ReadFault}
+use Rattle.bsp_session.specs.declared.errors.SessionError.TheVariants.{WriteFault, NoWorker, NoMemory}
 use Rattle.bsp_session.specs.declared.job.Job.{Job}
 use Rattle.bsp_session.specs.Session.{IsErrorOf, IsErrorOfReport, Session, StartsAt}
 use Rattle.bsp_session.specs.Streams.{IsUntouched, Stream}
@@ -25,7 +26,8 @@ untold Tells s told NoWorker why untouched = (why, untouched)
 untold Tells s told NoMemory why untouched = (why, untouched)
 
 -- why a report was not all written, before a text that was not begun
-pub unbegun : (job : Job) (end : MachineState) (text : List ℕ) (out told : Stream) (e : SessionError) → IsErrorOfReport job end out e → IsUntouched told
+pub unbegun : (job : Job) (end : MachineState) (text : List ℕ) (out told : Stream) (e : SessionError) → IsErrorOfReport job end out e
+    → IsUntouched told
     → IsErrorOfBoth job end text out told e
 unbegun job end text out told WriteFault why untouched = inl (why, untouched)
 unbegun job end text out told NoMemory why untouched = (why, untouched)

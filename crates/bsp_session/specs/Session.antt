@@ -12,7 +12,8 @@ use Rattle.machine_core.specs.Machine.{MachineState, fresh, settings_fault}
 use Rattle.machine_core.specs.Turn.{end_of}
 use Rattle.phase_pool.specs.Numbers.{numbers_fault}
 use Rattle.bsp_session.specs.declared.errors.SessionError.{SessionError}
-use Rattle.bsp_session.specs.declared.errors.SessionError.TheVariants.{BadSettings, TooLong, Text, BadImage, SegmentOutside, ReadFault, WriteFault, NoWorker, NoMemory}
+use Rattle.bsp_session.specs.declared.errors.SessionError.TheVariants.{BadSettings, TooLong, Text, BadImage, SegmentOutside, ReadFault}
+use Rattle.bsp_session.specs.declared.errors.SessionError.TheVariants.{WriteFault, NoWorker, NoMemory}
 use Rattle.bsp_session.specs.declared.job.Job.{Job}
 use Rattle.bsp_session.specs.Images.{most_bytes, Gives, image_fault}
 use Rattle.bsp_session.specs.Outcome.{error_of_machine, error_of_pool}

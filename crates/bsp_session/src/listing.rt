@@ -6,7 +6,8 @@ ghost use Rattle.std.specs.Io.KnownBytes.{Appends};
 ghost use Rattle.elf_image.specs.Spelling.{spelling_of};
 ghost use Rattle.rv_listing.specs.declared.lines.Line.{Line};
 ghost use Rattle.rv_listing.specs.Listing.{ended_line, listing_of, listing_of_segment};
-ghost use Rattle.bsp_session.specs.Conversion.{AnswersAssembly, AnswersListing, IsErrorOfAssembly, IsErrorOfLines, IsErrorOfListing, ListsFirstLines, ReadsImage, conversion_of, lines_of_image, lines_of_segment};
+ghost use Rattle.bsp_session.specs.Conversion.{AnswersAssembly, AnswersListing, IsErrorOfAssembly, IsErrorOfLines, IsErrorOfListing};
+ghost use Rattle.bsp_session.specs.Conversion.{ListsFirstLines, ReadsImage, conversion_of, lines_of_image, lines_of_segment};
 ghost use Rattle.bsp_session.specs.Streams.{Stream, stream};
 
 use crate::errors::SessionError;

@@ -1,6 +1,7 @@
 //! The session that writes while the run goes on.
 
-ghost use Rattle.std.specs.Prelude.{◌≡◌, ◌≢◌, ◌↔◌, ◌⊎◌, ◌≤◌, ℕ, [], length, take, Some, None, Ok, IfOk, IfErr, IsErrOf, IsSome, OnErr, OnOk, true};
+ghost use Rattle.std.specs.Prelude.{◌≡◌, ◌≢◌, ◌↔◌, ◌⊎◌, ◌≤◌, ℕ, [], length, take, Some, None};
+ghost use Rattle.std.specs.Prelude.{Ok, IfOk, IfErr, IsErrOf, IsSome, OnErr, OnOk, true};
 ghost use Rattle.std.specs.Io.KnownBytes.{Appends};
 ghost use Rattle.counted_io.specs.Counted.{HasRisen};
 ghost use Rattle.machine_core.specs.Sound.{IsSoundMachine};

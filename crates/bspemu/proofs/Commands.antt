@@ -8,7 +8,8 @@ use Rattle.clap.specs.declared.builder.command.Command.{Command}
 use Rattle.bspemu.specs.CommandLine.{HasApp, HasRule}
 
 -- an argument joins the app by its rule
-pub with_arg : (old new : Command) (arg : Arg) (app : App) (rule : Rule) → AddsArg old arg new → HasApp old app → HasRule arg rule → HasApp new (with_rule app rule)
+pub with_arg : (old new : Command) (arg : Arg) (app : App) (rule : Rule) → AddsArg old arg new → HasApp old app → HasRule arg rule
+    → HasApp new (with_rule app rule)
 with_arg old new arg app rule adds before has = record {
   is = adds.shape has.local ∙ ap₂ with_rule before.is has.is;
   local = adds.globals ∙ ap₂ (λ (a b : Bool). a || b) before.local has.local;
@@ -34,14 +35,16 @@ with_args old new app [] (rule ∷ rules) adds before have = absurd have
 with_args old new app (arg ∷ args) [] adds before have = absurd have
 
 -- a subcommand joins it by its shape
-pub with_sub : (old sub new : Command) (app below : App) → AddsSubcommand old sub new → HasApp old app → HasApp sub below → HasApp new (with_subcommand app below.top)
+pub with_sub : (old sub new : Command) (app below : App) → AddsSubcommand old sub new → HasApp old app → HasApp sub below
+    → HasApp new (with_subcommand app below.top)
 with_sub old sub new app below adds before has = record {
   is = adds.shape has.local ∙ ap₂ with_subcommand before.is (ap (λ (a : App). a.top) has.is);
   local = adds.globals ∙ ap₂ (λ (a b : Bool). a || b) before.local has.local;
 }
 
 -- the same where it was made
-pub with_made : (old new : Command) (sub : Result Command AllocError) (app below : App) → IsOkAnd sub (λ s. AddsSubcommand old s new) → HasApp old app
+pub with_made : (old new : Command) (sub : Result Command AllocError) (app below : App) → IsOkAnd sub (λ s. AddsSubcommand old s new)
+    → HasApp old app
     → IfOk sub (λ s. HasApp s below) → HasApp new (with_subcommand app below.top)
 with_made old new (Ok sub) app below adds before has = with_sub old sub new app below adds before has
 with_made old new (Err refused) app below adds before has = absurd adds

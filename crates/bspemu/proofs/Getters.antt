@@ -3,7 +3,8 @@ use Rattle.std.proofs.Common.{◌≡◌, ◌<◌, ◌^◌, ℕ, Bool, true, fals
 use Rattle.std.specs.Prelude.{IfNone, IfSome}
 use Rattle.std.specs.declared.num.ParseIntError.{ParseIntError}
 use Rattle.std.specs.declared.str.ParseBoolError.{ParseBoolError}
-use Rattle.std.specs.Str.Parse.{ExplainsUnsignedError, HasUnsignedDigitsIfOk, ParsesBool, ParsesUnsigned, digits_value, without_leading_plus}
+use Rattle.std.specs.Str.Parse.{ExplainsUnsignedError, HasUnsignedDigitsIfOk, ParsesBool}
+use Rattle.std.specs.Str.Parse.{ParsesUnsigned, digits_value, without_leading_plus}
 use Rattle.clap.specs.Words.{ReadsOne, Row, one_of, one_text, Text, rows_of}
 use Rattle.clap.specs.declared.parser.matches.Found.{Found}
 use Rattle.clap.proofs.WalkLemmas.{one_text-rows}
@@ -61,7 +62,8 @@ ledger_of_number rows n (Some v) gives is = subst (λ k. GivesNumber 32 (one_of 
 
 pub no_ledger_of_number : (rows : List Row) (n : ℕ) (r : Option LedgerText) → GivesNumber 32 (one_of (codes "ledger") rows) n
     → IfNone r (IsNeverMet (λ v. n ≡ number_of_ledger v)) → IfNone r (IsNeverMet (GivesLedger rows))
-no_ledger_of_number rows n None gives never = λ v given. never v (one_number 32 n (number_of_ledger v) (one_of (codes "ledger") rows) gives given)
+no_ledger_of_number rows n None gives never =
+    λ v given. never v (one_number 32 n (number_of_ledger v) (one_of (codes "ledger") rows) gives given)
 no_ledger_of_number rows n (Some v) gives never = tt
 
 flag_of_text : (b : Bool) (value : Option Text) → (value ≡ None → Some b ≡ None)
@@ -74,7 +76,8 @@ flag_of_text false (Some t) none some = ap (λ (text : Text). Some text) (some t
 
 -- so does that of a flag
 pub flag_of_getter : (b : Bool) (found : Found) (id : Text) → (one_text found id ≡ None → Some b ≡ None)
-    → ((t : Text) → one_text found id ≡ Some t → ReadsOne {E = ParseBoolError} ParsesBool t (Some b)) → GivesFlag (one_of id (rows_of found)) b
+    → ((t : Text) → one_text found id ≡ Some t → ReadsOne {E = ParseBoolError} ParsesBool t (Some b))
+    → GivesFlag (one_of id (rows_of found)) b
 flag_of_getter b found id none some =
     subst (λ value. GivesFlag value b) (one_text-rows found id) (flag_of_text b (one_text found id) none some)
 
@@ -84,7 +87,8 @@ no_flag_of_text true value some flag = (some (codes "true") flag).1.0 refl
 no_flag_of_text false value some flag = (some (codes "false") flag).1.1 refl
 
 pub no_flag_of_getter : (b : Bool) (found : Found) (id : Text)
-    → ((t : Text) → one_text found id ≡ Some t → ReadsOne {E = ParseBoolError} ParsesBool t None) → GivesFlag (one_of id (rows_of found)) b → ⊥
+    → ((t : Text) → one_text found id ≡ Some t → ReadsOne {E = ParseBoolError} ParsesBool t None) → GivesFlag (one_of id (rows_of found)) b
+    → ⊥
 no_flag_of_getter b found id some flag =
     no_flag_of_text b (one_text found id) some (subst (λ value. GivesFlag value b) (sym (one_text-rows found id)) flag)
 
@@ -104,7 +108,8 @@ pub no_clock_for_flag : (rows : List Row) → ((b : Bool) → GivesFlag (one_of 
 no_clock_for_flag rows none None gives = none false gives
 no_clock_for_flag rows none (Some p) gives = none true gives.0
 
-pub no_clock_for_prices : (rows : List Row) → GivesFlag (one_of (codes "clock") rows) true → IsNeverMet (GivesPrices rows) → IsNeverMet (GivesClock rows)
+pub no_clock_for_prices : (rows : List Row) → GivesFlag (one_of (codes "clock") rows) true → IsNeverMet (GivesPrices rows)
+    → IsNeverMet (GivesClock rows)
 no_clock_for_prices rows flag never None gives =
     let bad : true ≡ false = one_flag true false (one_of (codes "clock") rows) flag gives in
     cc

@@ -1,6 +1,7 @@
 -- What clap's rules give for the command line, whatever the words.
 use Rattle.std.proofs.Common.{◌≡◌, ap, refl, subst, true, inl, inr, List, [], ◌∙◌}
-use Rattle.clap.specs.Words.{App, HasKind, HasMatchesOf, IsAmong, Text, app_of, fault_of, is_simple, is_simple_and_free, kind_of, subcommand_of, subcommand_rows_of}
+use Rattle.clap.specs.Words.{App, HasKind, HasMatchesOf, IsAmong, Text, app_of}
+use Rattle.clap.specs.Words.{fault_of, is_simple, is_simple_and_free, kind_of, subcommand_of, subcommand_rows_of}
 use Rattle.clap.specs.declared.builder.command.Command.{Command}
 use Rattle.clap.specs.declared.error.Error.{Error}
 use Rattle.clap.specs.declared.error.kind.ErrorKind.{ErrorKind}
@@ -33,7 +34,8 @@ asks_of_parse command words m a app faultless matches gives = record {
 }
 
 -- where they give none, what they lack is the fault
-pub lack_of_parse : (command : Command) (words : List Text) (m : ArgMatches) (kind : ErrorKind) (e : Error) → HasAppOfFormats command bspemu_app
+pub lack_of_parse : (command : Command) (words : List Text) (m : ArgMatches) (kind : ErrorKind) (e : Error)
+    → HasAppOfFormats command bspemu_app
     → fault_of (app_of command) words ≡ [] → HasMatchesOf (app_of command) words m → IsNeverMet (Gives (subcommand_rows_of m))
     → IsLack (subcommand_rows_of m) kind → kind_of e ≡ kind → IsFaultOf words e
 lack_of_parse command words m kind e app faultless matches never lack is = inr (record {

@@ -18,7 +18,8 @@ use Rattle.bspemu.specs.declared.options.DebugOptions.{DebugOptions}
 use Rattle.bspemu.specs.declared.options.ListOptions.{ListOptions}
 use Rattle.bspemu.specs.declared.options.MachineOptions.{MachineOptions}
 use Rattle.bspemu.specs.declared.options.Telling.TheVariants.{AtEnd, Live, WithContested, WithCounts, WithProfile}
-use Rattle.bspemu.specs.Program.{AnswersLines, IsAnswerOfAsm, IsAnswerOfDebug, IsAnswerOfList, IsAnswerOfRun, IsDebugError, answer_of_end, answer_of_session}
+use Rattle.bspemu.specs.Program.{AnswersLines, IsAnswerOfAsm, IsAnswerOfDebug, IsAnswerOfList}
+use Rattle.bspemu.specs.Program.{IsAnswerOfRun, IsDebugError, answer_of_end, answer_of_session}
 
 pub answer_at_end : (o : MachineOptions) (s : BatchSession) (r : Result Outcome SessionError) → s.job ≡ o.job
     → IfOk r (Reports s) → IfErr r (IsErrorOf s) → IsAnswerOfRun o AtEnd (answer_of_session r)
@@ -30,17 +31,20 @@ pub answer_of_live : (o : MachineOptions) (s : BatchSession) (r : Result Outcome
 answer_of_live o s (Ok outcome) same ok err = (s, same, ok)
 answer_of_live o s (Err e) same ok err = (s, same, err)
 
-pub answer_of_profiled : (o : MachineOptions) (file : Bor Text) (s : BatchSession) (profile : Stream) (r : Result Outcome SessionError) → s.job ≡ o.job
+pub answer_of_profiled : (o : MachineOptions) (file : Bor Text) (s : BatchSession) (profile : Stream) (r : Result Outcome SessionError)
+    → s.job ≡ o.job
     → IfOk r (Profiles s profile) → IfErr r (IsErrorOfProfiled s profile) → IsAnswerOfRun o (WithProfile file) (answer_of_session r)
 answer_of_profiled o file s profile (Ok outcome) same ok err = (s, same, (profile, ok))
 answer_of_profiled o file s profile (Err e) same ok err = (s, same, (profile, err))
 
-pub answer_of_counted : (o : MachineOptions) (file : Bor Text) (s : BatchSession) (counts : Stream) (r : Result Outcome SessionError) → s.job ≡ o.job
+pub answer_of_counted : (o : MachineOptions) (file : Bor Text) (s : BatchSession) (counts : Stream) (r : Result Outcome SessionError)
+    → s.job ≡ o.job
     → IfOk r (Counts s counts) → IfErr r (IsErrorOfCounted s counts) → IsAnswerOfRun o (WithCounts file) (answer_of_session r)
 answer_of_counted o file s counts (Ok outcome) same ok err = (s, same, (counts, ok))
 answer_of_counted o file s counts (Err e) same ok err = (s, same, (counts, err))
 
-pub answer_of_contested : (o : MachineOptions) (file : Bor Text) (s : BatchSession) (contested : Stream) (r : Result Outcome SessionError) → s.job ≡ o.job
+pub answer_of_contested : (o : MachineOptions) (file : Bor Text) (s : BatchSession) (contested : Stream) (r : Result Outcome SessionError)
+    → s.job ≡ o.job
     → IfOk r (Contests s contested) → IfErr r (IsErrorOfContested s contested) → IsAnswerOfRun o (WithContested file) (answer_of_session r)
 answer_of_contested o file s contested (Ok outcome) same ok err = (s, same, (contested, ok))
 answer_of_contested o file s contested (Err e) same ok err = (s, same, (contested, err))

@@ -13,7 +13,8 @@ pub record Reads (rows : List Row) (live : Bool) (profile counts contested : Opt
   pub counts_is : counts ≡ first_of (codes "counts") rows
   pub contested_is : contested ≡ first_of (codes "contested") rows
 
-pub telling_of_reads : (rows : List Row) (live : Bool) (profile counts contested : Option Text) (r : Option Telling) → Reads rows live profile counts contested
+pub telling_of_reads : (rows : List Row) (live : Bool) (profile counts contested : Option Text) (r : Option Telling)
+    → Reads rows live profile counts contested
     → IfSome r (Tells live profile counts contested) → IfSome r (GivesTelling rows)
 telling_of_reads rows live profile counts contested None reads tells = tt
 telling_of_reads rows live profile counts contested (Some t) reads tells = record {
@@ -22,13 +23,16 @@ telling_of_reads rows live profile counts contested (Some t) reads tells = recor
   tells = rw (← reads.profile_is) (rw (← reads.counts_is) (rw (← reads.contested_is) tells));
 }
 
-pub no_telling_of_reads : (rows : List Row) (live : Bool) (profile counts contested : Option Text) (r : Option Telling) → Reads rows live profile counts contested
+pub no_telling_of_reads : (rows : List Row) (live : Bool) (profile counts contested : Option Text) (r : Option Telling)
+    → Reads rows live profile counts contested
     → IfNone r (IsNeverMet (Tells live profile counts contested)) → IfNone r (IsNeverMet (GivesTelling rows))
 no_telling_of_reads rows live profile counts contested None reads never = λ t gives.
-    never t (rw (one_flag live gives.live (one_of (codes "live") rows) reads.flag gives.flag) (rw reads.profile_is (rw reads.counts_is (rw reads.contested_is gives.tells))))
+    never t (rw (one_flag live gives.live (one_of (codes "live") rows) reads.flag gives.flag)
+    (rw reads.profile_is (rw reads.counts_is (rw reads.contested_is gives.tells))))
 no_telling_of_reads rows live profile counts contested (Some t) reads never = tt
 
-pub several_of_reads : {M : Type 0} (rows : List Row) (live : Bool) (profile counts contested : Option Text) (r : Option M) → Reads rows live profile counts contested
+pub several_of_reads : {M : Type 0} (rows : List Row) (live : Bool) (profile counts contested : Option Text) (r : Option M)
+    → Reads rows live profile counts contested
     → IfSome r (λ m. are_several live (is_some profile) (is_some counts) (is_some contested) ≡ true) → IfSome r (λ m. AsksForSeveral rows)
 several_of_reads rows live profile counts contested None reads several = tt
 several_of_reads rows live profile counts contested (Some m) reads several = record {
@@ -41,11 +45,13 @@ no_several : (rows : List Row) (live : Bool) (profile counts contested : Option 
     → are_several live (is_some profile) (is_some counts) (is_some contested) ≡ false → AsksForSeveral rows → ⊥
 no_several rows live profile counts contested reads single asks =
     let flag = one_flag asks.live live (one_of (codes "live") rows) asks.flag reads.flag in
-    let there : are_several live (is_some profile) (is_some counts) (is_some contested) ≡ true = rw (← flag) (rw reads.profile_is (rw reads.counts_is (rw reads.contested_is asks.several))) in
+    let there : are_several live (is_some profile) (is_some counts) (is_some contested) ≡ true =
+    rw (← flag) (rw reads.profile_is (rw reads.counts_is (rw reads.contested_is asks.several))) in
     let bad : true ≡ false = sym there ∙ single in
     cc
 
-pub single_of_reads : {M : Type 0} (rows : List Row) (live : Bool) (profile counts contested : Option Text) (r : Option M) → Reads rows live profile counts contested
+pub single_of_reads : {M : Type 0} (rows : List Row) (live : Bool) (profile counts contested : Option Text) (r : Option M)
+    → Reads rows live profile counts contested
     → IfNone r (are_several live (is_some profile) (is_some counts) (is_some contested) ≡ false) → IfNone r (AsksForSeveral rows → ⊥)
 single_of_reads rows live profile counts contested None reads single = no_several rows live profile counts contested reads single
 single_of_reads rows live profile counts contested (Some m) reads single = tt

@@ -86,7 +86,8 @@ run_app formats =
 
 -- `debug IMAGE` with its options
 abbrev pub debug_app : NameList → App
-debug_app formats = with_rule (with_rule (machine_app (codes "debug") formats) (flag_rule (codes "interactive"))) (flag_rule (codes "framed"))
+debug_app formats =
+    with_rule (with_rule (machine_app (codes "debug") formats) (flag_rule (codes "interactive"))) (flag_rule (codes "framed"))
 
 -- `list IMAGE` with its options
 abbrev pub list_app : NameList → App
@@ -96,7 +97,8 @@ list_app formats =
 -- `asm TEXT IMAGE` with its option
 abbrev pub asm_app : App
 asm_app =
-    with_rule (with_rule (with_rule (new_app (codes "asm")) (file_rule (codes "text"))) (file_rule (codes "image"))) (flag_rule (codes "float"))
+    with_rule (with_rule (with_rule (new_app (codes "asm")) (file_rule (codes "text"))) (file_rule (codes "image")))
+    (flag_rule (codes "float"))
 
 -- with no words the program answers with its help, and `--version` asks for its version
 abbrev pub bspemu_shape : Shape

@@ -2,7 +2,8 @@
 
 ghost use Rattle.std.specs.Prelude.{IfOk, IsOkAnd};
 ghost use Rattle.clap.specs.Words.{AddsSubcommand};
-ghost use Rattle.bspemu.specs.CommandLine.{HasApp, HasAppOfFormats, HasRule, asm_app, bspemu_app, checked_rule, debug_app, file_rule, flag_rule, format_rule};
+ghost use Rattle.bspemu.specs.CommandLine.{HasApp, HasAppOfFormats, HasRule, asm_app, bspemu_app};
+ghost use Rattle.bspemu.specs.CommandLine.{checked_rule, debug_app, file_rule, flag_rule, format_rule};
 ghost use Rattle.bspemu.specs.CommandLine.{in_32_bits, in_64_bits, ledger_rule, list_app, machine_app, option_rule, run_app};
 
 use clap::builder::ValueParser;

@@ -2,8 +2,10 @@
 
 ghost use Rattle.std.specs.Prelude.{◌≡◌, IfOk, IfErr, IfNone, IfSome, false, is_some, map, true};
 ghost use Rattle.clap.specs.Words.{found_of, kind_of, rows_of, subcommand_rows_of};
-ghost use Rattle.bspemu.specs.Options.{AsksFor, AsksForSeveral, Gives, GivesAction, GivesAsmOptions, GivesClock, GivesDebugOptions, GivesLedger, GivesListOptions};
-ghost use Rattle.bspemu.specs.Options.{GivesMachineOptions, GivesPrices, GivesRunOptions, GivesSettings, GivesTelling, HasConflict, IsFaultOf, IsLack, IsNeverMet, Tells};
+ghost use Rattle.bspemu.specs.Options.{AsksFor, AsksForSeveral, Gives, GivesAction, GivesAsmOptions};
+ghost use Rattle.bspemu.specs.Options.{GivesClock, GivesDebugOptions, GivesLedger, GivesListOptions};
+ghost use Rattle.bspemu.specs.Options.{GivesMachineOptions, GivesPrices, GivesRunOptions, GivesSettings};
+ghost use Rattle.bspemu.specs.Options.{GivesTelling, HasConflict, IsFaultOf, IsLack, IsNeverMet, Tells};
 ghost use Rattle.bspemu.specs.Options.{IsFormatFor, are_several, name_of_format, number_of_ledger, text_of};
 
 use crate::command_line::command;

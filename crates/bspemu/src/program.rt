@@ -2,7 +2,8 @@
 
 ghost use Rattle.std.specs.Prelude.{◌≡◌, ◌⊎◌, IfErr, OnOk, map};
 ghost use Rattle.clap.specs.Words.{kind_of};
-ghost use Rattle.bspemu.specs.Program.{AnswersLines, Ends, EndsOnItsWords, IsAnswer, IsAnswerOfAsm, IsAnswerOfDebug, IsAnswerOfList, IsDebugError};
+ghost use Rattle.bspemu.specs.Program.{AnswersLines, Ends, EndsOnItsWords, IsAnswer, IsAnswerOfAsm};
+ghost use Rattle.bspemu.specs.Program.{IsAnswerOfDebug, IsAnswerOfList, IsDebugError};
 ghost use Rattle.bspemu.specs.Program.{IsAnswerOfRun, IsStatusOfKind, NamesFile, answer_of_end, answer_of_session, status_of_answer};
 
 use crate::files::{

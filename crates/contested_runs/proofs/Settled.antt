@@ -1,5 +1,6 @@
 -- A run of which nothing is told.
-use Rattle.std.proofs.Common.{◌≡◌, ℕ, zero, suc, ◌+◌, ◌<◌, true, List, [], ◌∷◌, ◌++◌, length, refl, sym, ap, subst, ◌∙◌, arith, length-append}
+use Rattle.std.proofs.Common.{◌≡◌, ℕ, zero, suc, ◌+◌, ◌<◌, true, List, [], ◌∷◌}
+use Rattle.std.proofs.Common.{◌++◌, length, refl, sym, ap, subst, ◌∙◌, arith, length-append}
 use Rattle.std.specs.Prelude.{codes, if◌then◌else◌}
 use Rattle.std.specs.Fn.{iterate}
 use Rattle.std.proofs.lemmas.Bool.{false≢true}
@@ -22,7 +23,8 @@ line-some : (number : ℕ) (c : ContestedRange) (rest : List ℕ) → range_line
 line-some number c rest none =
     let front = place_text number c ++ codes "," ++ contender_text c.first ++ codes "," ++ contender_text c.second in
     let some : 0 < length (codes "\n") = cons-some 10 [] in
-    let whole : length (range_line number c ++ rest) ≡ length (range_line number c) + length rest = length-append (range_line number c) rest in
+    let whole : length (range_line number c ++ rest) ≡ length (range_line number c) + length rest =
+    length-append (range_line number c) rest in
     let line : length (range_line number c) ≡ length front + length (codes "\n") = length-append front (codes "\n") in
     let empty : length (range_line number c ++ rest) ≡ 0 = ap length none in
     omega (arith, some, whole, line, empty)
@@ -49,7 +51,8 @@ parts-empty (b ∷ lines) rest none = absurd cc
 
 superstep-settled : (j : ℕ) (m : MachineState) (text : List ℕ) → AreLines m text → text ≡ [] → IsSettledSuperstep (iterate superstep j m)
 superstep-settled j m text (over _ _ ended is) none =
-    subst IsSettledSuperstep (sym (iterate-fixed superstep j m (superstep-over m ended))) (λ open_yet. absurd (false≢true (sym open_yet ∙ ended)))
+    subst IsSettledSuperstep (sym (iterate-fixed superstep j m (superstep-over m ended)))
+    (λ open_yet. absurd (false≢true (sym open_yet ∙ ended)))
 superstep-settled zero m text (more _ lines rest _ open_yet turn left is) none = λ going makes.
     turn-settled (with_phases m) (subst (AreTurnLines (with_phases m)) (parts-empty lines rest (sym none ∙ is)).0 turn) makes
 superstep-settled (suc j) m text (more _ lines rest _ open_yet turn left is) none =

@@ -9,7 +9,8 @@ use Rattle.contested_bytes.specs.declared.range.Kind.TheVariants.{Get, Put}
 
 -- the names of the columns
 abbrev pub header : List ℕ
-header = codes "superstep,rank,address,bytes,first_kind,first_rank,first_request,first_byte,second_kind,second_rank,second_request,second_byte\n"
+header =
+    codes "superstep,rank,address,bytes,first_kind,first_rank,first_request,first_byte,second_kind,second_rank,second_request,second_byte\n"
 
 abbrev pub kind_word : Kind → List ℕ
 kind_word Get = codes "get"

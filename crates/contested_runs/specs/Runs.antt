@@ -37,6 +37,7 @@ pub data AreLines : MachineState → List ℕ → Type 0 where
 abbrev pub TellsContested : MachineState → List ℕ → Type 0
 TellsContested start text = (lines : List ℕ) × AreLines start lines × (text ≡ header ++ lines)
 
--- lines are those of a run from one machine up to another: the lines of what is left there, put behind them, make those of what is left here
+-- lines are those of a run from one machine up to another: the lines of what is left there, put behind them, make those of what is left
+-- here
 abbrev pub AreLinesUpTo : MachineState → MachineState → List ℕ → Type 0
 AreLinesUpTo start now made = (rest : List ℕ) → AreLines now rest → AreLines start (made ++ rest)

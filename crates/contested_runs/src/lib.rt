@@ -1,9 +1,9 @@
 //! What is contested in a run, superstep by superstep.
 //!
 //! [`run`] is one more scheduler over public calls: before each turn that makes an exchange it asks
-//! [`contested_ranges`](contested_bytes::contested_ranges) which bytes of the memories rest on an order that BSPlib leaves open. A [`Told`] is
-//! the lines of a table of comma-separated values, one for each range of such bytes. Contracts see it as their bytes. No other run knows
-//! of them.
+//! [`contested_ranges`](contested_bytes::contested_ranges) which bytes of the memories rest on an order that BSPlib leaves open. A [`Told`]
+//! is the lines of a table of comma-separated values, one for each range of such bytes. Contracts see it as their bytes. No other run
+//! knows of them.
 //!
 //! What callers may rely on:
 //!

@@ -1,5 +1,6 @@
 -- The first word of a line.
-use Rattle.std.proofs.Common.{◌≡◌, ℕ, suc, ◌+◌, ◌<◌, ◌≤◌, Bool, true, false, not, List, [], ◌∷◌, length, take, drop, refl, sym, ap, ◌∙◌, arith, inl, inr}
+use Rattle.std.proofs.Common.{◌≡◌, ℕ, suc, ◌+◌, ◌<◌, ◌≤◌, Bool, true, false, not, List, [], ◌∷◌, length, take, drop, refl, sym, ap, ◌∙◌}
+use Rattle.std.proofs.Common.{arith, inl, inr}
 use Rattle.std.proofs.lemmas.Bool.{cases_Bool}
 use Rattle.std.proofs.lemmas.List.Sums.{prefix_len-le-length}
 use Rattle.std.specs.List.{filter, position_or_len, slice_split, prefix_len}
@@ -68,7 +69,8 @@ begins_behind_spaces (b ∷ xs) some =
 has_first : (b : ℕ) (xs : List ℕ) → has_bytes (b ∷ xs) ≡ true
 has_first b xs = grind arith
 
-word_first : (xs : List ℕ) → begins_word xs ≡ true → words xs ≡ take (position_or_len is_space xs) xs ∷ words (drop (position_or_len is_space xs) xs)
+word_first : (xs : List ℕ) → begins_word xs ≡ true
+    → words xs ≡ take (position_or_len is_space xs) xs ∷ words (drop (position_or_len is_space xs) xs)
 unfolding begins_word
 word_first [] begins = absurd (no_true begins) where
   no_true : false ≡ true → ⊥
@@ -76,7 +78,8 @@ word_first [] begins = absurd (no_true begins) where
 word_first (b ∷ xs) begins =
     let other : is_space b ≡ false = grind arith in
     let part = onto b xs other (first_part xs) in
-    let longer : has_bytes (take (position_or_len is_space (b ∷ xs)) (b ∷ xs)) ≡ true = rw other (rw (one_more (position_or_len is_space xs)) (has_first b (take (position_or_len is_space xs) xs))) in
+    let longer : has_bytes (take (position_or_len is_space (b ∷ xs)) (b ∷ xs)) ≡ true =
+    rw other (rw (one_more (position_or_len is_space xs)) (has_first b (take (position_or_len is_space xs) xs))) in
     ap (filter has_bytes) part.parts ∙ rw longer (rw part.others refl)
 
 -- a line of spaces alone has no words

@@ -1,5 +1,6 @@
 -- Groups of nodes, as one node more comes behind an open group.
-use Rattle.std.proofs.Common.{◌≡◌, ℕ, ◌+◌, ◌<◌, ◌≤◌, true, false, List, [], ◌∷◌, ◌++◌, get_or, drop, length, map, refl, sym, ap, ◌∙◌, inl, inr, append-nil, append_assoc, arith}
+use Rattle.std.proofs.Common.{◌≡◌, ℕ, ◌+◌, ◌<◌, ◌≤◌, true, false, List, [], ◌∷◌, ◌++◌, get_or, drop, length, map, refl, sym, ap, ◌∙◌, inl}
+use Rattle.std.proofs.Common.{inr, append-nil, append_assoc, arith}
 use Rattle.std.specs.Prelude.{bytes_eq}
 use Rattle.std.specs.List.{flat_map}
 use Rattle.std.proofs.lemmas.Bool.{cases_Bool}
@@ -17,10 +18,12 @@ abbrev pub told : Group → List Group → List ℕ
 told g others = flat_map group_text (joined g others)
 
 -- an open group takes in one that is at its place
-joined-same : (g a : Group) (others : List Group) → bytes_eq g.site a.site ≡ true → joined g (joined a others) ≡ joined (record g { last = a.last }) others
+joined-same : (g a : Group) (others : List Group) → bytes_eq g.site a.site ≡ true
+    → joined g (joined a others) ≡ joined (record g { last = a.last }) others
 joined-same g a [] same = rw same refl
 joined-same g a (next ∷ others) same =
-    let as_there : bytes_eq g.site next.site ≡ bytes_eq a.site next.site = ap (λ s. bytes_eq s next.site) ((bytes_eq-Decides g.site a.site).0 same) in
+    let as_there : bytes_eq g.site next.site ≡ bytes_eq a.site next.site =
+    ap (λ s. bytes_eq s next.site) ((bytes_eq-Decides g.site a.site).0 same) in
     elim (cases_Bool (bytes_eq a.site next.site)) [
       | inl alike ↦ let here_too : bytes_eq g.site next.site ≡ true = as_there ∙ alike in rw (alike, here_too, same) refl
       | inr apart ↦ let here_too : bytes_eq g.site next.site ≡ false = as_there ∙ apart in rw (apart, here_too, same) refl
@@ -64,7 +67,8 @@ none-told [] text none = sym (append-nil text)
 none-told (n ∷ nodes) text none = absurd (omega arith)
 
 pub more : (nodes : List PreparedNode) (k : ℕ) (n : PreparedNode) (g next : Group) (before after whole : List ℕ)
-    → k < length nodes → n ≡ get_or nodes k n → ((others : List Group) → after ++ told next others ≡ before ++ told g (joined (alone n.node) others))
+    → k < length nodes → n ≡ get_or nodes k n
+    → ((others : List Group) → after ++ told next others ≡ before ++ told g (joined (alone n.node) others))
     → before ++ told g (left nodes k) ≡ whole → after ++ told next (left nodes (k + 1)) ≡ whole
 more nodes k n g next before after whole within is step so_far =
     step (left nodes (k + 1)) ∙ ap (λ gs. before ++ told g gs) (sym (left-next nodes k n within is)) ∙ so_far

@@ -1,5 +1,6 @@
 -- One more line of those that are told, one after another.
-use Rattle.std.proofs.Common.{◌≡◌, ◌∙◌, ℕ, suc, ◌+◌, ◌-◌, ◌<◌, ◌≤◌, List, [], ◌∷◌, ◌++◌, drop, length, get_or, Option, Some, None, refl, sym, ap, append_assoc, append-nil, arith}
+use Rattle.std.proofs.Common.{◌≡◌, ◌∙◌, ℕ, suc, ◌+◌, ◌-◌, ◌<◌, ◌≤◌, List, [], ◌∷◌, ◌++◌, drop, length, get_or, Option, Some, None, refl}
+use Rattle.std.proofs.Common.{sym, ap, append_assoc, append-nil, arith}
 use Rattle.std.specs.Prelude.{slice_get}
 use Rattle.std.specs.List.{enumerate_from, flat_map, range_with_len}
 use Rattle.std.specs.Option.{option_map_or}
@@ -10,10 +11,12 @@ use Rattle.std.proofs.lemmas.Option.{get_or_from_slice_get, slice_get-get_or, sl
 pub one-more : {X : Type 0} (f : X → List ℕ) (x : X) (xs ys : List X) (before after whole : List ℕ) → ys ≡ x ∷ xs
     → after ≡ before ++ f x → before ++ flat_map f ys ≡ whole → after ++ flat_map f xs ≡ whole
 one-more f x xs ys before after whole cut written so_far =
-    ap (λ bs. bs ++ flat_map f xs) written ∙ append_assoc before (f x) (flat_map f xs) ∙ ap (λ zs. before ++ flat_map f zs) (sym cut) ∙ so_far
+    ap (λ bs. bs ++ flat_map f xs) written ∙ append_assoc before (f x) (flat_map f xs) ∙ ap (λ zs. before ++ flat_map f zs) (sym cut)
+    ∙ so_far
 
 -- where none is left, all is told
-pub none-left : {X : Type 0} (f : X → List ℕ) (ys : List X) (before whole : List ℕ) → ys ≡ [] → before ++ flat_map f ys ≡ whole → before ≡ whole
+pub none-left : {X : Type 0} (f : X → List ℕ) (ys : List X) (before whole : List ℕ) → ys ≡ [] → before ++ flat_map f ys ≡ whole
+    → before ≡ whole
 none-left f ys before whole none so_far = sym (ap (λ zs. before ++ flat_map f zs) none ∙ append-nil before) ∙ so_far
 
 pub range-more : (k n : ℕ) → k < n → range_with_len k (n - k) ≡ k ∷ range_with_len (k + 1) (n - (k + 1))
@@ -32,7 +35,8 @@ is_there (x ∷ xs) k below none = let there : None ≡ Some (get_or (x ∷ xs) 
 
 -- one more of those that have numbers
 pub item-more : {X : Type 0} (line : ℕ × X → List ℕ) (xs : List X) (k : ℕ) (before after whole : List ℕ) → k < length xs
-    → after ≡ before ++ option_map_or (λ x. line (k, x)) (slice_get xs k) [] → before ++ flat_map line (enumerate_from k (drop k xs)) ≡ whole
+    → after ≡ before ++ option_map_or (λ x. line (k, x)) (slice_get xs k) []
+    → before ++ flat_map line (enumerate_from k (drop k xs)) ≡ whole
     → after ++ flat_map line (enumerate_from (k + 1) (drop (k + 1) xs)) ≡ whole
 item-more {X} line xs k before after whole below written so_far = by (slice_get xs k) refl where
   by : (o : Option X) → slice_get xs k ≡ o → after ++ flat_map line (enumerate_from (k + 1) (drop (k + 1) xs)) ≡ whole

@@ -1,5 +1,5 @@
--- Registers of floating point with the names that programs have for them (own format; the names are those of the calling convention, "RISC-V
--- Assembly Programmer's Handbook" of the RISC-V Unprivileged ISA 20191213).
+-- Registers of floating point with the names that programs have for them (own format; the names are those of the calling convention,
+-- "RISC-V Assembly Programmer's Handbook" of the RISC-V Unprivileged ISA 20191213).
 use Rattle.std.specs.Prelude.{ℕ, ◌-◌, ◌==◌, ◌||◌, if◌then◌else◌, nat_lt, List, [], ◌++◌, length, codes}
 use Rattle.std.specs.Fmt.{decimal}
 use Rattle.std.specs.List.{enumerate_from, flat_map}

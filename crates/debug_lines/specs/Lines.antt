@@ -8,7 +8,9 @@ use Rattle.bsp_debug.specs.declared.point.Point.TheVariants.{Address, Superstep}
 use Rattle.debug_lines.specs.declared.form.Form.{Form}
 use Rattle.debug_lines.specs.declared.form.Form.TheVariants.{Words, Text, Codes}
 use Rattle.debug_lines.specs.declared.line.Line.{Line}
-use Rattle.debug_lines.specs.declared.line.Line.TheVariants.{Break, Clear, Command, Output, Keep, Back, Forget, Kept, Points, Shown, Areas, Requests, StepNext, Over, Nodes, Place, Places, OutputFrom, CostsFrom, Help, HelpOn, Quit, Empty, Unknown, Misused, NoLine}
+use Rattle.debug_lines.specs.declared.line.Line.TheVariants.{Break, Clear, Command, Output, Keep, Back, Forget, Kept, Points, Shown, Areas}
+use Rattle.debug_lines.specs.declared.line.Line.TheVariants.{Requests, StepNext, Over, Nodes, Place, Places, OutputFrom, CostsFrom, Help}
+use Rattle.debug_lines.specs.declared.line.Line.TheVariants.{HelpOn, Quit, Empty, Unknown, Misused, NoLine}
 use Rattle.numerals.specs.Numbers.{number_in}
 use Rattle.debug_lines.specs.Topics.{topic_named}
 use Rattle.debug_lines.specs.Words.{words}

@@ -56,7 +56,8 @@ flag_names fcsr =
 -- the line of the fcsr of a node, and of what it has: the rounding mode frm, above the flags, and these
 abbrev pub fcsr_line : (rank fcsr : ℕ) → List ℕ
 fcsr_line rank fcsr =
-    codes "rank " ++ decimal rank ++ codes " fcsr " ++ eight_digits fcsr ++ codes " frm " ++ decimal (fcsr / 2 ^ 5 % 2 ^ 3) ++ codes " flags"
+    codes "rank " ++ decimal rank ++ codes " fcsr " ++ eight_digits fcsr ++ codes " frm " ++ decimal (fcsr / 2 ^ 5 % 2 ^ 3)
+    ++ codes " flags"
     ++ flag_names fcsr ++ codes "\n"
 
 -- a register of floating point, by its number

@@ -1,5 +1,6 @@
 -- How points, memory, areas and requests are shown (own formats). Each line ends with a line feed.
-use Rattle.std.specs.Prelude.{ℕ, ◌+◌, ◌*◌, ◌/◌, ◌%◌, ◌==◌, ◌&&◌, Bool, not, nat_le, if◌then◌else◌, min, List, [], ◌∷◌, ◌++◌, length, take, codes}
+use Rattle.std.specs.Prelude.{ℕ, ◌+◌, ◌*◌, ◌/◌, ◌%◌, ◌==◌, ◌&&◌, Bool, not, nat_le}
+use Rattle.std.specs.Prelude.{if◌then◌else◌, min, List, [], ◌∷◌, ◌++◌, length, take, codes}
 use Rattle.std.specs.Fmt.{decimal}
 use Rattle.std.specs.List.{enumerate_from, flat_map, prefix_len, range_with_len}
 use Rattle.node_memory.specs.Bytes.{word_at}
@@ -90,12 +91,14 @@ area_lines areas = flat_map area_line (enumerate_from 0 areas)
 -- a put: to whom, into which area of that rank, from which of its bytes on, and how many bytes
 abbrev pub put_text : (target slot offset bytes : ℕ) → List ℕ
 put_text target slot offset bytes =
-    codes "put to rank " ++ decimal target ++ codes " area " ++ decimal slot ++ codes " offset " ++ decimal offset ++ codes " bytes " ++ decimal bytes
+    codes "put to rank " ++ decimal target ++ codes " area " ++ decimal slot ++ codes " offset " ++ decimal offset ++ codes " bytes "
+    ++ decimal bytes
 
 -- a get: the same of whom it is, and the address into which the bytes go
 abbrev pub get_text : (target slot offset bytes dst : ℕ) → List ℕ
 get_text target slot offset bytes dst =
-    codes "get from rank " ++ decimal target ++ codes " area " ++ decimal slot ++ codes " offset " ++ decimal offset ++ codes " bytes " ++ decimal bytes
+    codes "get from rank " ++ decimal target ++ codes " area " ++ decimal slot ++ codes " offset " ++ decimal offset ++ codes " bytes "
+    ++ decimal bytes
     ++ codes " into " ++ eight_digits dst
 
 -- a message: to whom, and how long its payload and its tag are

@@ -3,12 +3,15 @@ use Rattle.std.specs.Prelude.{ℕ, List, [], ◌∷◌, ◌++◌, Option, find, 
 use Rattle.std.specs.List.{flat_map}
 use Rattle.std.specs.Str.{bytes_eq}
 use Rattle.debug_lines.specs.declared.topic.Topic.{Topic}
-use Rattle.debug_lines.specs.declared.topic.Topic.TheVariants.{Break, Clear, Points, Go, Step, Over, Phase, Turn, Where, Regs, Fregs, Codes, Bytes, Words, Text, Areas, Requests, Queue, Keep, Kept, Back, Forget, Costs, Output, Nodes, Help, Quit}
+use Rattle.debug_lines.specs.declared.topic.Topic.TheVariants.{Break, Clear, Points, Go, Step, Over, Phase, Turn, Where, Regs, Fregs, Codes}
+use Rattle.debug_lines.specs.declared.topic.Topic.TheVariants.{Bytes, Words, Text, Areas, Requests, Queue, Keep, Kept, Back, Forget, Costs}
+use Rattle.debug_lines.specs.declared.topic.Topic.TheVariants.{Output, Nodes, Help, Quit}
 
 -- all of them, in the order in which they are told
 unfoldable pub topics : List Topic
 topics =
-    Break ∷ Clear ∷ Points ∷ Go ∷ Step ∷ Over ∷ Phase ∷ Turn ∷ Where ∷ Regs ∷ Fregs ∷ Codes ∷ Bytes ∷ Words ∷ Text ∷ Areas ∷ Requests ∷ Queue
+    Break ∷ Clear ∷ Points ∷ Go ∷ Step ∷ Over ∷ Phase ∷ Turn ∷ Where ∷ Regs ∷ Fregs ∷ Codes ∷ Bytes ∷ Words ∷ Text ∷ Areas ∷ Requests
+    ∷ Queue
     ∷ Keep ∷ Kept ∷ Back ∷ Forget ∷ Costs ∷ Output ∷ Nodes ∷ Help ∷ Quit ∷ []
 
 -- the first word of its lines

@@ -2,7 +2,8 @@
 use Rattle.std.specs.Prelude.{ℕ, List, [], ◌++◌, codes}
 use Rattle.std.specs.Fmt.{decimal}
 use Rattle.bsp_debug.specs.declared.error.DebugError.{DebugError}
-use Rattle.bsp_debug.specs.declared.error.DebugError.TheVariants.{BadRank, BadRange, NoFloatUnit, TooMany, NoSuchBreak, NoSuchKept, Over, NoMemory}
+use Rattle.bsp_debug.specs.declared.error.DebugError.TheVariants.{BadRank, BadRange, NoFloatUnit, TooMany}
+use Rattle.bsp_debug.specs.declared.error.DebugError.TheVariants.{NoSuchBreak, NoSuchKept, Over, NoMemory}
 use Rattle.bsp_debug.specs.Errors.{name_of}
 use Rattle.debug_lines.specs.Topics.{usage}
 use Rattle.debug_lines.specs.declared.verdict.Verdict.{Verdict}

@@ -3,7 +3,8 @@
 ghost use Rattle.std.specs.Prelude.{◌≡◌, ◌++◌, List, map, IfOk, string_bytes};
 ghost use Rattle.std.specs.List.{flat_map};
 ghost use Rattle.node_core.specs.Node.{PreparedNode};
-ghost use Rattle.debug_lines.specs.Kept.{Group as GroupValue, alone as alone_of_node, group_text, groups_of, joined, kept_text, ranks_text, site as site_of_node};
+ghost use Rattle.debug_lines.specs.Kept.{Group as GroupValue, alone as alone_of_node, group_text};
+ghost use Rattle.debug_lines.specs.Kept.{groups_of, joined, kept_text, ranks_text, site as site_of_node};
 ghost use Rattle.debug_lines.specs.KeptViews.{group_value};
 
 use node_core::Node;

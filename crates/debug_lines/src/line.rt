@@ -1,8 +1,10 @@
 //! What a line asks for.
 
 ghost use Rattle.std.specs.Prelude.{◌≡◌};
-ghost use Rattle.debug_lines.specs.Lines.{line_of, line_of_words, line_of_one, command_of_one, line_of_two, line_of_three, line_of_four, point_of, step_of, bytes_of};
-ghost use Rattle.debug_lines.specs.Lines.{asks_help, dialogue_line_of, dialogue_of_words, dialogue_of_one, dialogue_of_two, dialogue_of_four, is_one, mistake_of};
+ghost use Rattle.debug_lines.specs.Lines.{line_of, line_of_words, line_of_one, command_of_one, line_of_two};
+ghost use Rattle.debug_lines.specs.Lines.{line_of_three, line_of_four, point_of, step_of, bytes_of};
+ghost use Rattle.debug_lines.specs.Lines.{asks_help, dialogue_line_of, dialogue_of_words, dialogue_of_one};
+ghost use Rattle.debug_lines.specs.Lines.{dialogue_of_two, dialogue_of_four, is_one, mistake_of};
 ghost use Rattle.debug_lines.specs.Lines.{form_named, help_line_of, rank_line_of, shown_of, state_line_of};
 ghost use Rattle.debug_lines.specs.Lines.{framed_line_of, framed_of_words, framed_of_one, framed_of_two, framed_of_three, go_of};
 ghost use Rattle.debug_lines.specs.Words.{words};

@@ -5,7 +5,8 @@ ghost use Rattle.std.specs.Fmt.{decimal};
 ghost use Rattle.bsp_requests.specs.Inbox.{payload_bytes};
 ghost use Rattle.cost_ledger.specs.declared.CostRow.{CostRow as CostRowValue};
 ghost use Rattle.bsp_debug.specs.Reply.{answer, costs};
-ghost use Rattle.debug_lines.specs.Replies.{entry_end, message_line, node_line, register_lines, byte_lines as byte_lines_of, queue_lines as queue_lines_of, reply_text as reply_text_of};
+ghost use Rattle.debug_lines.specs.Replies.{entry_end, message_line, node_line, register_lines, byte_lines as byte_lines_of};
+ghost use Rattle.debug_lines.specs.Replies.{queue_lines as queue_lines_of, reply_text as reply_text_of};
 
 use crate::floats::float_registers;
 use crate::octets::Octets;

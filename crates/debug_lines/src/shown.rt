@@ -5,7 +5,8 @@ ghost use Rattle.std.specs.List.{flat_map, prefix_len};
 ghost use Rattle.std.specs.Option.{option_map_or};
 ghost use Rattle.rv_listing.specs.Listing.{ended_line};
 ghost use Rattle.bsp_requests.specs.Request.{asked as asked_of};
-ghost use Rattle.debug_lines.specs.Shown.{area_line, area_lines, asked_text, character, code_lines, is_of_text, point_line, point_lines, put_text, get_text, send_text, request_line, request_lines};
+ghost use Rattle.debug_lines.specs.Shown.{area_line, area_lines, asked_text, character, code_lines, is_of_text, point_line};
+ghost use Rattle.debug_lines.specs.Shown.{point_lines, put_text, get_text, send_text, request_line, request_lines};
 ghost use Rattle.debug_lines.specs.Shown.{shown_len, shown_text, text_line, unit_of, word_entry, word_head, word_lines};
 
 use crate::character::Character;

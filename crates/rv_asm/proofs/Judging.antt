@@ -1,5 +1,6 @@
 -- The first judging of a line, case by case.
-use Rattle.std.proofs.Common.{◌≡◌, ◌≢◌, ℕ, ◌^◌, ◌≤◌, Bool, true, false, nat_lt, List, Option, Some, None, Ok, IfErr, if◌then◌else◌, refl, arith}
+use Rattle.std.proofs.Common.{◌≡◌, ◌≢◌, ℕ, ◌^◌, ◌≤◌, Bool, true, false, nat_lt}
+use Rattle.std.proofs.Common.{List, Option, Some, None, Ok, IfErr, if◌then◌else◌, refl, arith}
 use Rattle.std.specs.Option.{option_map_or, SomeIff, ok_or}
 use Rattle.asm_syntax.specs.Statements.{Line}
 use Rattle.rv_asm.specs.declared.errors.AsmKind.{AsmKind}
@@ -10,10 +11,12 @@ use Rattle.rv_asm.specs.Symbols.{no_symbols}
 use Rattle.rv_asm.specs.Targets.{is_out_of_reach}
 
 abbrev pub by_tests : Bool → Bool → Bool → Option AsmKind
-by_tests reach duplicate large = if reach then Some OutOfRange else (if duplicate then Some DuplicateLabel else (if large then Some TooLarge else None))
+by_tests reach duplicate large =
+    if reach then Some OutOfRange else (if duplicate then Some DuplicateLabel else (if large then Some TooLarge else None))
 
 pub fault_by_tests : (address : ℕ) (known : List ℕ → Bool) (line : Line) (reach duplicate large : Bool)
-    → option_map_or (is_out_of_reach no_symbols address) line.statement false ≡ reach → has_duplicate known line.labels ≡ duplicate → nat_lt (2 ^ 24) (end_of_statement address line.statement) ≡ large
+    → option_map_or (is_out_of_reach no_symbols address) line.statement false ≡ reach → has_duplicate known line.labels ≡ duplicate
+    → nat_lt (2 ^ 24) (end_of_statement address line.statement) ≡ large
     → fault_of_line address known (Ok line) ≡ by_tests reach duplicate large
 fault_by_tests address known line reach duplicate large p q r = λ i. by_tests (p i) (q i) (r i)
 

@@ -1,5 +1,6 @@
 -- The second pass over a text: what is judged, and what is laid.
-use Rattle.std.proofs.Common.{◌≡◌, ℕ, ◌+◌, ◌^◌, ◌≤◌, Bool, ◌||◌, List, [], ◌∷◌, ◌++◌, length, map, All, Option, Some, None, IsOkAnd, Result, Ok, Err, option_map, unwrap_or, refl, sym, ◌∙◌, ap, subst, append_assoc, append-nil, length-append, arith}
+use Rattle.std.proofs.Common.{◌≡◌, ℕ, ◌+◌, ◌^◌, ◌≤◌, Bool, ◌||◌, List, [], ◌∷◌, ◌++◌, length, map, All, Option, Some, None, IsOkAnd, Result}
+use Rattle.std.proofs.Common.{Ok, Err, option_map, unwrap_or, refl, sym, ◌∙◌, ap, subst, append_assoc, append-nil, length-append, arith}
 use Rattle.std.specs.List.{list_any}
 use Rattle.std.specs.Option.{option_or, option_and_then}
 use Rattle.std.specs.Str.{bytes_eq}
@@ -22,16 +23,22 @@ uses_from float symbols number address (text ∷ rest) =
     option_or (option_map (λ kind. (number, kind)) (option_and_then (fault_of_use symbols address) (line_statement (line_of float text))))
     (uses_from float symbols (number + 1) (end_from address (line_of float text)) rest)
 
-pub uses-placed : (float : Bool) (symbols : Symbols) (number address : ℕ) (known : List ℕ → Bool) (texts : List (List ℕ)) → first_faulty_line (fault_of_uses symbols) (placed float number address known texts) ≡ uses_from float symbols number address texts
+pub uses-placed : (float : Bool) (symbols : Symbols) (number address : ℕ) (known : List ℕ → Bool) (texts : List (List ℕ))
+    → first_faulty_line (fault_of_uses symbols) (placed float number address known texts) ≡ uses_from float symbols number address texts
 uses-placed float symbols number address known [] = refl
 uses-placed float symbols number address known (text ∷ rest) =
-    ap (option_or (option_map (λ kind. (number, kind)) (option_and_then (fault_of_use symbols address) (line_statement (line_of float text)))))
-    (uses-placed float symbols (number + 1) (end_from address (line_of float text)) (λ q. list_any (λ label. bytes_eq label q) (line_labels (line_of float text)) || known q) rest)
+    ap (option_or
+    (option_map (λ kind. (number, kind)) (option_and_then (fault_of_use symbols address) (line_statement (line_of float text)))))
+    (uses-placed float symbols (number + 1) (end_from address (line_of float text))
+    (λ q. list_any (λ label. bytes_eq label q) (line_labels (line_of float text)) || known q) rest)
 
-pub uses_more : (float : Bool) (symbols : Symbols) (number address : ℕ) (text : List ℕ) (rest : List (List ℕ)) → option_and_then (fault_of_use symbols address) (line_statement (line_of float text)) ≡ None
-    → uses_from float symbols number address (text ∷ rest) ≡ uses_from float symbols (number + 1) (end_from address (line_of float text)) rest
+pub uses_more : (float : Bool) (symbols : Symbols) (number address : ℕ) (text : List ℕ) (rest : List (List ℕ))
+    → option_and_then (fault_of_use symbols address) (line_statement (line_of float text)) ≡ None
+    → uses_from float symbols number address (text ∷ rest)
+    ≡ uses_from float symbols (number + 1) (end_from address (line_of float text)) rest
 uses_more float symbols number address text rest e =
-    ap (λ f. option_or (option_map (λ kind. (number, kind)) f) (uses_from float symbols (number + 1) (end_from address (line_of float text)) rest)) e
+    ap (λ f. option_or (option_map (λ kind. (number, kind)) f)
+    (uses_from float symbols (number + 1) (end_from address (line_of float text)) rest)) e
 
 -- lines are laid out, whatever the rest of them is, where the rest has the further bytes
 abbrev pub IsLaidUpTo : (float : Bool) → Symbols → List (List ℕ) → List (List ℕ) → List ℕ → ℕ → Type 0
@@ -42,15 +49,18 @@ IsLaidUpTo float symbols texts rest bytes entry =
 pub laid_start : (float : Bool) (symbols : Symbols) (texts : List (List ℕ)) → IsLaidUpTo float symbols texts texts [] 0
 laid_start float symbols texts = λ lines more are laid. record { lines = lines; are_lines = are; laid = laid; entry_is = refl }
 
-pub laid_more : (float : Bool) (symbols : Symbols) (texts : List (List ℕ)) (text : List ℕ) (rest : List (List ℕ)) (bytes own : List ℕ) (entry : ℕ) (line : Line) → line_of float text ≡ Ok line
+pub laid_more : (float : Bool) (symbols : Symbols) (texts : List (List ℕ)) (text : List ℕ) (rest : List (List ℕ)) (bytes own : List ℕ)
+    (entry : ℕ) (line : Line) → line_of float text ≡ Ok line
     → All (λ label. symbols label ≡ Some (length bytes)) line.labels → LineHasBytes symbols (length bytes) line.statement own
-    → IsLaidUpTo float symbols texts (text ∷ rest) bytes entry → IsLaidUpTo float symbols texts rest (bytes ++ own) (unwrap_or (entry_of symbols line.statement) entry)
+    → IsLaidUpTo float symbols texts (text ∷ rest) bytes entry
+    → IsLaidUpTo float symbols texts rest (bytes ++ own) (unwrap_or (entry_of symbols line.statement) entry)
 laid_more float symbols texts text rest bytes own entry line says labels has before = λ lines more are laid.
     rw append_assoc
     (before (line ∷ lines) (own ++ more) (λ i. says i ∷ are i)
     (own, more, refl, labels, has, subst (λ n. AreLaid symbols n lines more) (length-append bytes own) laid))
 
-pub laid_whole : (float : Bool) (symbols : Symbols) (texts : List (List ℕ)) (bytes : List ℕ) (entry : ℕ) → IsLaidUpTo float symbols texts [] bytes entry → IsLaidOut float symbols texts bytes entry
+pub laid_whole : (float : Bool) (symbols : Symbols) (texts : List (List ℕ)) (bytes : List ℕ) (entry : ℕ)
+    → IsLaidUpTo float symbols texts [] bytes entry → IsLaidOut float symbols texts bytes entry
 laid_whole float symbols texts bytes entry h = rw append-nil at (h [] [] refl refl)
 
 pub ok_parts : (line : Result Line LineError) (P : Line → Type 0) → IsOkAnd line P → (l : Line) × (line ≡ Ok l) × P l
@@ -58,13 +68,15 @@ ok_parts (Ok l) P h = (l, refl, h)
 ok_parts (Err fault) P h = absurd h
 
 -- what holds behind one line more
-pub record Next (float : Bool) (symbols : Symbols) (texts : List (List ℕ)) (number address address' : ℕ) (text : List ℕ) (rest : List (List ℕ)) (bytes' : List ℕ) (entry' : ℕ) : Type 0 where
+pub record Next (float : Bool) (symbols : Symbols) (texts : List (List ℕ)) (number address address' : ℕ) (text : List ℕ)
+    (rest : List (List ℕ)) (bytes' : List ℕ) (entry' : ℕ) : Type 0 where
   pub sound : AreSound float symbols address' rest
   pub judged : uses_from float symbols number address (text ∷ rest) ≡ uses_from float symbols (number + 1) address' rest
   pub laid : IsLaidUpTo float symbols texts rest bytes' entry'
   pub within : address' ≤ 2 ^ 24
 
-pub next : (float : Bool) (symbols : Symbols) (texts : List (List ℕ)) (number address address' : ℕ) (text : List ℕ) (rest : List (List ℕ)) (bytes bytes' : List ℕ) (entry entry' : ℕ)
+pub next : (float : Bool) (symbols : Symbols) (texts : List (List ℕ)) (number address address' : ℕ) (text : List ℕ) (rest : List (List ℕ))
+    (bytes bytes' : List ℕ) (entry entry' : ℕ)
     → address ≡ length bytes → address' ≡ length bytes'
     → AreSound float symbols address (text ∷ rest) → IsLaidUpTo float symbols texts (text ∷ rest) bytes entry
     → Adds (LineHasBytes symbols address (line_statement (line_of float text))) bytes bytes'
@@ -72,19 +84,24 @@ pub next : (float : Bool) (symbols : Symbols) (texts : List (List ℕ)) (number 
     → option_and_then (fault_of_use symbols address) (line_statement (line_of float text)) ≡ None
     → Next float symbols texts number address address' text rest bytes' entry'
 next float symbols texts number address address' text rest bytes bytes' entry entry' here there sound laid (own, added, has) enters none =
-    let p = ok_parts (line_of float text) (λ l. All (λ label. symbols label ≡ Some address) l.labels × (end_of_statement address l.statement ≤ 2 ^ 24)) sound.0 in
+    let p = ok_parts (line_of float text)
+    (λ l. All (λ label. symbols label ≡ Some address) l.labels × (end_of_statement address l.statement ≤ 2 ^ 24)) sound.0 in
     let says : line_statement (line_of float text) ≡ p.0.statement = ap line_statement p.1 in
-    let size : address + length own ≡ end_from address (line_of float text) = length-line symbols address (line_statement (line_of float text)) own has in
+    let size : address + length own ≡ end_from address (line_of float text) =
+    length-line symbols address (line_statement (line_of float text)) own has in
     let longer : length bytes' ≡ length bytes + length own = ap length added ∙ length-append bytes own in
     let ends : address' ≡ end_from address (line_of float text) = omega (arith, here, there, size, longer) in
     let limit : end_from address (line_of float text) ≤ 2 ^ 24 = subst (λ s. end_of_statement address s ≤ 2 ^ 24) (sym says) p.2.1 in
-    let line_has : LineHasBytes symbols (length bytes) p.0.statement own = subst (λ n. LineHasBytes symbols n p.0.statement own) here (subst (λ s. LineHasBytes symbols address s own) says has) in
-    let labels : All (λ label. symbols label ≡ Some (length bytes)) p.0.labels = subst (λ n. All (λ label. symbols label ≡ Some n) p.0.labels) here p.2.0 in
+    let line_has : LineHasBytes symbols (length bytes) p.0.statement own =
+    subst (λ n. LineHasBytes symbols n p.0.statement own) here (subst (λ s. LineHasBytes symbols address s own) says has) in
+    let labels : All (λ label. symbols label ≡ Some (length bytes)) p.0.labels =
+    subst (λ n. All (λ label. symbols label ≡ Some n) p.0.labels) here p.2.0 in
     let whole = laid_more float symbols texts text rest bytes own entry p.0 p.1 labels line_has laid in
     record {
       sound = subst (λ n. AreSound float symbols n rest) (sym ends) sound.1;
       judged = uses_more float symbols number address text rest none ∙ ap (λ n. uses_from float symbols (number + 1) n rest) (sym ends);
       laid = subst (λ b. IsLaidUpTo float symbols texts rest b entry') (sym added)
-          (subst (λ e. IsLaidUpTo float symbols texts rest (bytes ++ own) e) (ap (λ s. unwrap_or (entry_of symbols s) entry) (sym says) ∙ sym enters) whole);
+          (subst (λ e. IsLaidUpTo float symbols texts rest (bytes ++ own) e)
+          (ap (λ s. unwrap_or (entry_of symbols s) entry) (sym says) ∙ sym enters) whole);
       within = omega (arith, ends, limit);
     }

@@ -1,5 +1,6 @@
 -- Want of memory is no fault of a text.
-use Rattle.std.proofs.Common.{◌≡◌, ◌≢◌, ℕ, ◌+◌, Bool, true, false, ◌||◌, List, [], ◌∷◌, Option, Some, None, Result, Ok, Err, option_map, option_and_then, refl, sym, ◌∙◌, ap, ◌⊎◌, inl, inr, ⊎_elim}
+use Rattle.std.proofs.Common.{◌≡◌, ◌≢◌, ℕ, ◌+◌, Bool, true, false, ◌||◌, List, [], ◌∷◌, Option, Some, None, Result, Ok, Err, option_map}
+use Rattle.std.proofs.Common.{option_and_then, refl, sym, ◌∙◌, ap, ◌⊎◌, inl, inr, ⊎_elim}
 use Rattle.std.specs.List.{list_any}
 use Rattle.std.specs.Option.{option_or, option_map_or}
 use Rattle.std.specs.Str.{bytes_eq}
@@ -30,39 +31,50 @@ uses_never true undefined h = cc
 uses_never false true h = cc
 uses_never false false h = cc
 
-line_never : (a : ℕ) (known : List ℕ → Bool) (line : Result Line LineError) → line ≢ Err own.NoMemory → fault_of_line a known line ≢ Some NoMemory
-line_never a known (Err own.BadToken) n h = cc
-line_never a known (Err own.UnknownMnemonic) n h = cc
-line_never a known (Err own.BadOperand) n h = cc
-line_never a known (Err own.OutOfRange) n h = cc
-line_never a known (Err own.NoMemory) n h = n refl
-line_never a known (Ok line) n h = tests_never (option_map_or (is_out_of_reach no_symbols a) line.statement false) (has_duplicate known line.labels) (nat_lt (2 ^ 24) (end_of_statement a line.statement)) h
+line_never : (address : ℕ) (known : List ℕ → Bool) (line : Result Line LineError) → line ≢ Err own.NoMemory
+    → fault_of_line address known line ≢ Some NoMemory
+line_never address known (Err own.BadToken) not_memory h = cc
+line_never address known (Err own.UnknownMnemonic) not_memory h = cc
+line_never address known (Err own.BadOperand) not_memory h = cc
+line_never address known (Err own.OutOfRange) not_memory h = cc
+line_never address known (Err own.NoMemory) not_memory h = not_memory refl
+line_never address known (Ok line) not_memory h =
+    tests_never (option_map_or (is_out_of_reach no_symbols address) line.statement false) (has_duplicate known line.labels)
+    (nat_lt (2 ^ 24) (end_of_statement address line.statement)) h
 
-use_never : (s : Symbols) (a : ℕ) (statement : Option Statement) → option_and_then (fault_of_use s a) statement ≢ Some NoMemory
-use_never s a None h = cc
-use_never s a (Some statement) h = uses_never (is_out_of_reach s a statement) (uses_undefined s statement) h
+use_never : (symbols : Symbols) (address : ℕ) (statement : Option Statement)
+    → option_and_then (fault_of_use symbols address) statement ≢ Some NoMemory
+use_never symbols address None h = cc
+use_never symbols address (Some statement) h = uses_never (is_out_of_reach symbols address statement) (uses_undefined symbols statement) h
 
 same_kind : (p q : ℕ × AsmKind) → Some p ≡ Some q → p.1 ≡ q.1
 same_kind p q h = let e : p ≡ q = cc in ap (λ (r : ℕ × AsmKind). r.1) e
 
-first_or_later : (n line : ℕ) (fault : Option AsmKind) (others : Option (ℕ × AsmKind)) → option_or (option_map (λ kind. (n, kind)) fault) others ≡ Some (line, NoMemory)
+first_or_later : (number line : ℕ) (fault : Option AsmKind) (others : Option (ℕ × AsmKind))
+    → option_or (option_map (λ kind. (number, kind)) fault) others ≡ Some (line, NoMemory)
     → (fault ≡ Some NoMemory) ⊎ (others ≡ Some (line, NoMemory))
-first_or_later n line None others h = inr h
-first_or_later n line (Some kind) others h = inl (ap Some (same_kind (n, kind) (line, NoMemory) h))
+first_or_later number line None others h = inr h
+first_or_later number line (Some kind) others h = inl (ap Some (same_kind (number, kind) (line, NoMemory) h))
 
 module _ (float : Bool) (never : (text : List ℕ) → line_of float text ≢ Err own.NoMemory) where
-  alone_never : (n a : ℕ) (known : List ℕ → Bool) (texts : List (List ℕ)) (line : ℕ) → first_faulty_line fault_alone (placed float n a known texts) ≢ Some (line, NoMemory)
-  alone_never n a known [] line h = cc
-  alone_never n a known (text ∷ rest) line h =
-      let known' : List ℕ → Bool = (λ q. list_any (λ label. bytes_eq label q) (line_labels (line_of float text)) || known q) in
-      ⊎_elim (line_never a known (line_of float text) (never text)) (alone_never (n + 1) (end_from a (line_of float text)) known' rest line)
-      (first_or_later n line (fault_of_line a known (line_of float text)) (first_faulty_line fault_alone (placed float (n + 1) (end_from a (line_of float text)) known' rest)) h)
+  alone_never : (number address : ℕ) (known : List ℕ → Bool) (texts : List (List ℕ)) (line : ℕ)
+      → first_faulty_line fault_alone (placed float number address known texts) ≢ Some (line, NoMemory)
+  alone_never number address known [] line h = cc
+  alone_never number address known (text ∷ rest) line h =
+      let known' : List ℕ → Bool = (λ name. list_any (λ label. bytes_eq label name) (line_labels (line_of float text)) || known name) in
+      ⊎_elim (line_never address known (line_of float text) (never text))
+      (alone_never (number + 1) (end_from address (line_of float text)) known' rest line)
+      (first_or_later number line (fault_of_line address known (line_of float text))
+      (first_faulty_line fault_alone (placed float (number + 1) (end_from address (line_of float text)) known' rest)) h)
 
-  from_never : (s : Symbols) (n a : ℕ) (texts : List (List ℕ)) (line : ℕ) → uses_from float s n a texts ≢ Some (line, NoMemory)
-  from_never s n a [] line h = cc
-  from_never s n a (text ∷ rest) line h =
-      ⊎_elim (use_never s a (line_statement (line_of float text))) (from_never s (n + 1) (end_from a (line_of float text)) rest line)
-      (first_or_later n line (option_and_then (fault_of_use s a) (line_statement (line_of float text))) (uses_from float s (n + 1) (end_from a (line_of float text)) rest) h)
+  from_never : (symbols : Symbols) (number address : ℕ) (texts : List (List ℕ)) (line : ℕ)
+      → uses_from float symbols number address texts ≢ Some (line, NoMemory)
+  from_never symbols number address [] line h = cc
+  from_never symbols number address (text ∷ rest) line h =
+      ⊎_elim (use_never symbols address (line_statement (line_of float text)))
+      (from_never symbols (number + 1) (end_from address (line_of float text)) rest line)
+      (first_or_later number line (option_and_then (fault_of_use symbols address) (line_statement (line_of float text)))
+      (uses_from float symbols (number + 1) (end_from address (line_of float text)) rest) h)
 
   pub never_memory : (text : List ℕ) (line : ℕ) → text_fault float text ≢ Some (line, NoMemory)
   unfolding text_fault
@@ -71,6 +83,9 @@ module _ (float : Bool) (never : (text : List ℕ) → line_of float text ≢ Er
       second : Option (ℕ × AsmKind)
       second = first_faulty_line (fault_of_uses (symbols_of (places_of float text))) (places_of float text)
 
-      by : (first : Option (ℕ × AsmKind)) → first_faulty_line fault_alone (places_of float text) ≡ first → option_or first second ≢ Some (line, NoMemory)
-      by None e k = from_never (symbols_of (places_of float text)) 1 0 (lines_of text) line (sym (uses-placed float (symbols_of (places_of float text)) 1 0 (λ _. false) (lines_of text)) ∙ k)
+      by : (first : Option (ℕ × AsmKind)) → first_faulty_line fault_alone (places_of float text) ≡ first
+          → option_or first second ≢ Some (line, NoMemory)
+      by None e k =
+          from_never (symbols_of (places_of float text)) 1 0 (lines_of text) line
+          (sym (uses-placed float (symbols_of (places_of float text)) 1 0 (λ _. false) (lines_of text)) ∙ k)
       by (Some fault) e k = alone_never 1 0 (λ _. false) (lines_of text) line (e ∙ k)

@@ -1,5 +1,6 @@
 -- What is left of a text, and one line more of it in the first judging.
-use Rattle.std.proofs.Common.{◌≡◌, ℕ, ◌+◌, ◌<◌, ◌≤◌, IfSome, arith, Bool, true, false, ◌||◌, List, [], ◌∷◌, length, fold, Option, Some, None, is_some, Bor, option_map, refl, sym, ◌∙◌, ap}
+use Rattle.std.proofs.Common.{◌≡◌, ℕ, ◌+◌, ◌<◌, ◌≤◌, IfSome, arith, Bool, true, false, ◌||◌, List, [], ◌∷◌, length, fold, Option, Some}
+use Rattle.std.proofs.Common.{None, is_some, Bor, option_map, refl, sym, ◌∙◌, ap}
 use Rattle.std.specs.List.{list_any}
 use Rattle.std.specs.Option.{option_map_or, option_or}
 use Rattle.std.specs.Str.{bytes_eq}
@@ -27,25 +28,34 @@ or_mid true false c = refl
 or_mid false true c = refl
 or_mid false false c = refl
 
-pub is_some-with_labels : (s : Symbols) (labels : List (List ℕ)) (a : ℕ) (q : List ℕ) → is_some (with_labels s labels a q) ≡ (list_any (λ label. bytes_eq label q) labels || is_some (s q))
-is_some-with_labels s [] a q = refl
-is_some-with_labels s (label ∷ rest) a q =
-    is_some-with_labels (with_symbol s label a) rest a q
-    ∙ ap (λ b. list_any (λ l. bytes_eq l q) rest || b) (is_some-with_symbol s label a q)
-    ∙ or_mid (bytes_eq label q) (list_any (λ l. bytes_eq l q) rest) (is_some (s q))
+pub is_some-with_labels : (symbols : Symbols) (labels : List (List ℕ)) (address : ℕ) (name : List ℕ)
+    → is_some (with_labels symbols labels address name) ≡ (list_any (λ label. bytes_eq label name) labels || is_some (symbols name))
+is_some-with_labels symbols [] address name = refl
+is_some-with_labels symbols (label ∷ rest) address name =
+    is_some-with_labels (with_symbol symbols label address) rest address name
+    ∙ ap (λ b. list_any (λ l. bytes_eq l name) rest || b) (is_some-with_symbol symbols label address name)
+    ∙ or_mid (bytes_eq label name) (list_any (λ l. bytes_eq l name) rest) (is_some (symbols name))
 
-module _ (float : Bool) (s t : Symbols) (number address end : ℕ) (line : List ℕ) (texts : List (List ℕ)) (ends : end ≡ end_from address (line_of float line)) (labels : (q : List ℕ) → t q ≡ with_labels s (line_labels (line_of float line)) address q) where
-  known_next : (q : List ℕ) → (list_any (λ label. bytes_eq label q) (line_labels (line_of float line)) || is_some (s q)) ≡ is_some (t q)
-  known_next q = sym (ap is_some (labels q) ∙ is_some-with_labels s (line_labels (line_of float line)) address q)
+module _ (float : Bool) (symbols grown : Symbols) (number address end : ℕ) (line : List ℕ) (texts : List (List ℕ))
+    (ends : end ≡ end_from address (line_of float line))
+    (labels : (name : List ℕ) → grown name ≡ with_labels symbols (line_labels (line_of float line)) address name) where
+  known_next : (name : List ℕ) → (list_any (λ label. bytes_eq label name) (line_labels (line_of float line)) || is_some (symbols name))
+      ≡ is_some (grown name)
+  known_next name = sym (ap is_some (labels name) ∙ is_some-with_labels symbols (line_labels (line_of float line)) address name)
 
-  pub judged_more : fault_of_line address (λ q. is_some (s q)) (line_of float line) ≡ None
-      → first_faulty_line fault_alone (placed float number address (λ q. is_some (s q)) (line ∷ texts)) ≡ first_faulty_line fault_alone (placed float (number + 1) end (λ q. is_some (t q)) texts)
+  pub judged_more : fault_of_line address (λ name. is_some (symbols name)) (line_of float line) ≡ None
+      → first_faulty_line fault_alone (placed float number address (λ name. is_some (symbols name)) (line ∷ texts))
+      ≡ first_faulty_line fault_alone (placed float (number + 1) end (λ name. is_some (grown name)) texts)
   judged_more none =
-      ap (λ f. option_or (option_map (λ kind. (number, kind)) f) (first_faulty_line fault_alone (placed float (number + 1) (end_from address (line_of float line)) (λ q. list_any (λ label. bytes_eq label q) (line_labels (line_of float line)) || is_some (s q)) texts))) none
-      ∙ (λ i. first_faulty_line fault_alone (placed float (number + 1) (sym ends i) (λ q. known_next q i) texts))
+      ap (λ f. option_or (option_map (λ kind. (number, kind)) f)
+      (first_faulty_line fault_alone
+      (placed float (number + 1) (end_from address (line_of float line))
+      (λ name. list_any (λ label. bytes_eq label name) (line_labels (line_of float line)) || is_some (symbols name)) texts))) none
+      ∙ (λ i. first_faulty_line fault_alone (placed float (number + 1) (sym ends i) (λ name. known_next name i) texts))
 
-  pub known_more : (q : List ℕ) → symbols_from s (placed float number address (λ p. is_some (s p)) (line ∷ texts)) q ≡ symbols_from t (placed float (number + 1) end (λ p. is_some (t p)) texts) q
-  known_more q = λ i. symbols_from (λ p. sym (labels p) i) (placed float (number + 1) (sym ends i) (λ p. known_next p i) texts) q
+  pub known_more : (name : List ℕ) → symbols_from symbols (placed float number address (λ p. is_some (symbols p)) (line ∷ texts)) name
+      ≡ symbols_from grown (placed float (number + 1) end (λ p. is_some (grown p)) texts) name
+  known_more name = λ i. symbols_from (λ p. sym (labels p) i) (placed float (number + 1) (sym ends i) (λ p. known_next p i) texts) name
 
 pub left-below : (rest : Option (Bor (List ℕ))) (n : ℕ) → IfSome rest (λ r. length r.now < n) → left_in rest ≤ n
 left-below None n h = omega arith

@@ -1,5 +1,8 @@
 -- A text without a fault has an image.
-use Rattle.std.proofs.Common.{◌≡◌, ℕ, suc, ◌+◌, ◌^◌, ◌<◌, ◌≤◌, ◌-◌, ◌==◌, Bool, true, false, not, ◌&&◌, ◌||◌, List, [], ◌∷◌, ◌++◌, length, map, flat_map, replicate, All, Option, Some, None, is_none, IsSome, IsSomeAnd, IfSome, Ok, option_map, option_and_then, ℤ, pos, negsuc, T, eqb-true, neg_ℤ, ◌≤ℤ◌, ◌<ℤ◌, int_le, int_rem, unsigned_abs, refl, sym, ◌∙◌, ap, subst, if◌then◌else◌, arith, w16, w32}
+use Rattle.std.proofs.Common.{◌≡◌, ℕ, suc, ◌+◌, ◌^◌, ◌<◌, ◌≤◌, ◌-◌, ◌==◌, Bool, true, false, not, ◌&&◌, ◌||◌, List, [], ◌∷◌, ◌++◌, length}
+use Rattle.std.proofs.Common.{map, flat_map, replicate, All, Option, Some, None, is_none, IsSome, IsSomeAnd, IfSome, Ok, option_map}
+use Rattle.std.proofs.Common.{option_and_then, ℤ, pos, negsuc, T, eqb-true, neg_ℤ, ◌≤ℤ◌, ◌<ℤ◌, int_le, int_rem, unsigned_abs, refl, sym}
+use Rattle.std.proofs.Common.{◌∙◌, ap, subst, if◌then◌else◌, arith, w16, w32}
 use Rattle.std.specs.Int.{cast_signed, to_le_bytes}
 use Rattle.std.specs.Option.{option_map_or, option_or}
 use Rattle.std.proofs.lemmas.Int.{ints}
@@ -14,7 +17,8 @@ use Rattle.rv_tables.specs.Fields.{bits, sign_extended}
 use Rattle.rv_tables.specs.Operands.{IsSigned, IsEven, IsEncodable, IsImmediate, IsBranchOffset, IsJumpOffset}
 use Rattle.asm_syntax.specs.Lines.{lines_of}
 use Rattle.asm_syntax.specs.Parse.{line_of}
-use Rattle.asm_syntax.specs.Statements.{Line, Statement, IsInRange, instruction, float_instruction, branch, jump_and_link, load_immediate, load_address, words, halves, bytes, ascii, space, align, entry}
+use Rattle.asm_syntax.specs.Statements.{Line, Statement, IsInRange, instruction, float_instruction, branch, jump_and_link, load_immediate}
+use Rattle.asm_syntax.specs.Statements.{load_address, words, halves, bytes, ascii, space, align, entry}
 use Rattle.rv_asm.specs.declared.errors.AsmKind.{AsmKind}
 use Rattle.rv_asm.specs.declared.errors.AsmKind.TheVariants.{OutOfRange, UndefinedLabel}
 use Rattle.rv_asm.specs.Faults.{text_fault, fault_alone, fault_of_use, fault_of_uses, first_faulty_line}
@@ -74,12 +78,16 @@ lui_addi_spelled rd word rd_in =
     let high : bits (word + 0x800) 31 12 < 2 ^ 20 = omega arith in
     let upper : Instr = Upper Lui rd (bits (word + 0x800) 31 12) in
     let low : Instr = I Addi rd rd (sign_extended 12 (bits word 11 0)) in
-    spelled (upper ∷ low ∷ []) (All-cons IsEncodable upper (low ∷ []) (rd_in, high) (All-cons IsEncodable low [] (rd_in, rd_in, low_immediate word) (All-nil IsEncodable)))
+    spelled (upper ∷ low ∷ [])
+    (All-cons IsEncodable upper (low ∷ []) (rd_in, high)
+    (All-cons IsEncodable low [] (rd_in, rd_in, low_immediate word) (All-nil IsEncodable)))
 
 load_spelled : (rd word : ℕ) (short : Bool) → is_short word ≡ short → rd < 32 → (own : List ℕ) × Spell (load_of rd word) own
 load_spelled rd word true e rd_in =
-    subst (λ is. (own : List ℕ) × Spell is own) (sym (load_of-short rd word e)) (one (I Addi rd 0 (cast_signed w32 word)) (rd_in, omega arith, short_immediate word e))
-load_spelled rd word false e rd_in = subst (λ is. (own : List ℕ) × Spell is own) (sym (load_of-long rd word e)) (lui_addi_spelled rd word rd_in)
+    subst (λ is. (own : List ℕ) × Spell is own) (sym (load_of-short rd word e))
+    (one (I Addi rd 0 (cast_signed w32 word)) (rd_in, omega arith, short_immediate word e))
+load_spelled rd word false e rd_in =
+    subst (λ is. (own : List ℕ) × Spell is own) (sym (load_of-long rd word e)) (lui_addi_spelled rd word rd_in)
 
 reached_branch : (offset : ℤ) → is_reached 13 offset ≡ true → IsBranchOffset offset
 reached_branch offset e = let p = and_true _ _ e in (within 13 offset (omega arith) p.0, even offset p.1)
@@ -96,7 +104,8 @@ uses_pass true undefined h = cc
 uses_pass false true h = cc
 uses_pass false false h = (refl, refl)
 
-code_of : (o : Option ℕ) (code : ℕ → List Instr) → (is_none o || false) ≡ false → ((v : ℕ) → o ≡ Some v → (own : List ℕ) × Spell (code v) own) → (own : List ℕ) × IsSomeAnd o (λ v. Spell (code v) own)
+code_of : (o : Option ℕ) (code : ℕ → List Instr) → (is_none o || false) ≡ false
+    → ((v : ℕ) → o ≡ Some v → (own : List ℕ) × Spell (code v) own) → (own : List ℕ) × IsSomeAnd o (λ v. Spell (code v) own)
 code_of None code h f = cc
 code_of (Some v) code h f = f v refl
 
@@ -104,74 +113,97 @@ not_false : (b : Bool) → not b ≡ false → b ≡ true
 not_false true h = refl
 not_false false h = cc
 
-jump_of : (o : Option ℕ) (width a : ℕ) (code : ℕ → Instr) → by_uses (option_map_or (λ v. not (is_reached width (offset_to a v))) o false) (is_none o || false) ≡ None
-    → ((v : ℕ) → is_reached width (offset_to a v) ≡ true → IsEncodable (code v)) → (own : List ℕ) × IsSomeAnd o (λ v. Spell (code v ∷ []) own)
-jump_of None width a code h f = cc
-jump_of (Some v) width a code h f = one (code v) (f v (not_false (is_reached width (offset_to a v)) (uses_pass (not (is_reached width (offset_to a v))) false h).0))
+jump_of : (o : Option ℕ) (width address : ℕ) (code : ℕ → Instr)
+    → by_uses (option_map_or (λ v. not (is_reached width (offset_to address v))) o false) (is_none o || false) ≡ None
+    → ((v : ℕ) → is_reached width (offset_to address v) ≡ true → IsEncodable (code v))
+    → (own : List ℕ) × IsSomeAnd o (λ v. Spell (code v ∷ []) own)
+jump_of None width address code h f = cc
+jump_of (Some v) width address code h f =
+    one (code v)
+    (f v (not_false (is_reached width (offset_to address v)) (uses_pass (not (is_reached width (offset_to address v))) false h).0))
 
 some_of : (o : Option ℕ) → (is_none o || false) ≡ false → IsSome o
 some_of None h = cc
 some_of (Some v) h = refl
 
-statement_bytes : (s : Symbols) (a : ℕ) (statement : Statement) → IsInRange statement → fault_of_use s a statement ≡ None → (own : List ℕ) × HasBytes s a statement own
-statement_bytes s a (instruction i) r h = one i r
-statement_bytes s a (float_instruction i) r h = let w = the_word i r in (to_le_bytes w32 w.word, (w.word, w.fits, w.only.0, refl))
-statement_bytes s a (branch op rs1 rs2 target) r h =
-    jump_of (value_of s target) 13 a (λ v. Branch op rs1 rs2 (offset_to a v)) h (λ v e. (r.0, r.1, reached_branch (offset_to a v) e))
-statement_bytes s a (jump_and_link rd target) r h =
-    jump_of (value_of s target) 21 a (λ v. Jal rd (offset_to a v)) h (λ v e. (r.0, reached_jump (offset_to a v) e))
-statement_bytes s a (load_immediate rd n) r h = load_spelled rd (modulo (2 ^ 32) n) (is_short (modulo (2 ^ 32) n)) refl r.0
-statement_bytes s a (load_address rd target) r h =
-    code_of (value_of s target) (lui_addi rd) (uses_pass false _ h).1 (λ v e. lui_addi_spelled rd v r.0)
-statement_bytes s a (words targets) r h = (flat_map (word_bytes s) targets, ((uses_pass false _ h).1, refl))
-statement_bytes s a (halves ns) r h = (flat_map (λ n. to_le_bytes w16 (modulo (2 ^ 16) n)) ns, refl)
-statement_bytes s a (bytes ns) r h = (map (modulo (2 ^ 8)) ns, refl)
-statement_bytes s a (ascii text) r h = (text, refl)
-statement_bytes s a (space n) r h = (replicate n 0, refl)
-statement_bytes s a (align n) r h = (replicate (size_of (align n) a) 0, refl)
-statement_bytes s a (entry target) r h = ([], (some_of (value_of s target) (uses_pass false _ h).1, refl))
+statement_bytes : (symbols : Symbols) (address : ℕ) (statement : Statement) → IsInRange statement
+    → fault_of_use symbols address statement ≡ None
+    → (own : List ℕ) × HasBytes symbols address statement own
+statement_bytes symbols address (instruction i) r h = one i r
+statement_bytes symbols address (float_instruction i) r h =
+    let w = the_word i r in (to_le_bytes w32 w.word, (w.word, w.fits, w.only.0, refl))
+statement_bytes symbols address (branch op rs1 rs2 target) r h =
+    jump_of (value_of symbols target) 13 address (λ v. Branch op rs1 rs2 (offset_to address v)) h
+    (λ v e. (r.0, r.1, reached_branch (offset_to address v) e))
+statement_bytes symbols address (jump_and_link rd target) r h =
+    jump_of (value_of symbols target) 21 address (λ v. Jal rd (offset_to address v)) h (λ v e. (r.0, reached_jump (offset_to address v) e))
+statement_bytes symbols address (load_immediate rd number) r h =
+    load_spelled rd (modulo (2 ^ 32) number) (is_short (modulo (2 ^ 32) number)) refl r.0
+statement_bytes symbols address (load_address rd target) r h =
+    code_of (value_of symbols target) (lui_addi rd) (uses_pass false _ h).1 (λ v e. lui_addi_spelled rd v r.0)
+statement_bytes symbols address (words targets) r h = (flat_map (word_bytes symbols) targets, ((uses_pass false _ h).1, refl))
+statement_bytes symbols address (halves ns) r h = (flat_map (λ number. to_le_bytes w16 (modulo (2 ^ 16) number)) ns, refl)
+statement_bytes symbols address (bytes ns) r h = (map (modulo (2 ^ 8)) ns, refl)
+statement_bytes symbols address (ascii text) r h = (text, refl)
+statement_bytes symbols address (space number) r h = (replicate number 0, refl)
+statement_bytes symbols address (align number) r h = (replicate (size_of (align number) address) 0, refl)
+statement_bytes symbols address (entry target) r h = ([], (some_of (value_of symbols target) (uses_pass false _ h).1, refl))
 
-line_bytes : (s : Symbols) (a : ℕ) (statement : Option Statement) → IfSome statement IsInRange → option_and_then (fault_of_use s a) statement ≡ None → (own : List ℕ) × LineHasBytes s a statement own
-line_bytes s a None r h = ([], refl)
-line_bytes s a (Some statement) r h = statement_bytes s a statement r h
+line_bytes : (symbols : Symbols) (address : ℕ) (statement : Option Statement) → IfSome statement IsInRange
+    → option_and_then (fault_of_use symbols address) statement ≡ None → (own : List ℕ) × LineHasBytes symbols address statement own
+line_bytes symbols address None r h = ([], refl)
+line_bytes symbols address (Some statement) r h = statement_bytes symbols address statement r h
 
-fault_parts : (number : ℕ) (fault : Option AsmKind) (others : Option (ℕ × AsmKind)) → option_or (option_map (λ kind. (number, kind)) fault) others ≡ None → (fault ≡ None) × (others ≡ None)
+fault_parts : (number : ℕ) (fault : Option AsmKind) (others : Option (ℕ × AsmKind))
+    → option_or (option_map (λ kind. (number, kind)) fault) others ≡ None → (fault ≡ None) × (others ≡ None)
 fault_parts number None others h = (refl, h)
 fault_parts number (Some kind) others h = cc
 
 -- lines, and their bytes from an address on
-record Laid (float : Bool) (s : Symbols) (a : ℕ) (texts : List (List ℕ)) : Type 0 where
+record Laid (float : Bool) (symbols : Symbols) (address : ℕ) (texts : List (List ℕ)) : Type 0 where
   lines : List Line
   bytes : List ℕ
   are_lines : map (line_of float) texts ≡ map Ok lines
-  laid : AreLaid s a lines bytes
+  laid : AreLaid symbols address lines bytes
 
 module _ (float : Bool) (ranges : (text : List ℕ) (line : Line) → line_of float text ≡ Ok line → IfSome line.statement IsInRange) where
-  lay : (s : Symbols) (n a : ℕ) (texts : List (List ℕ)) → AreSound float s a texts → uses_from float s n a texts ≡ None → Laid float s a texts
-  lay s n a [] sound uses = record { lines = []; bytes = []; are_lines = refl; laid = refl }
-  lay s n a (text ∷ rest) sound uses =
-      let p = ok_parts (line_of float text) (λ l. All (λ label. s label ≡ Some a) l.labels × (end_of_statement a l.statement ≤ 2 ^ 24)) sound.0 in
+  lay : (symbols : Symbols) (number address : ℕ) (texts : List (List ℕ)) → AreSound float symbols address texts
+      → uses_from float symbols number address texts ≡ None
+      → Laid float symbols address texts
+  lay symbols number address [] sound uses = record { lines = []; bytes = []; are_lines = refl; laid = refl }
+  lay symbols number address (text ∷ rest) sound uses =
+      let p = ok_parts (line_of float text)
+      (λ l. All (λ label. symbols label ≡ Some address) l.labels × (end_of_statement address l.statement ≤ 2 ^ 24))
+      sound.0 in
       let says : line_statement (line_of float text) ≡ p.0.statement = ap line_statement p.1 in
-      let faults = fault_parts n (option_and_then (fault_of_use s a) (line_statement (line_of float text))) (uses_from float s (n + 1) (end_from a (line_of float text)) rest) uses in
-      let none : option_and_then (fault_of_use s a) p.0.statement ≡ None = sym (ap (option_and_then (fault_of_use s a)) says) ∙ faults.0 in
-      let own = line_bytes s a p.0.statement (ranges text p.0 p.1) none in
-      let ends : end_from a (line_of float text) ≡ a + length own.0 = ap (end_of_statement a) says ∙ sym (length-line s a p.0.statement own.0 own.1) in
-      let more = lay s (n + 1) (end_from a (line_of float text)) rest sound.1 faults.1 in
+      let faults = fault_parts number (option_and_then (fault_of_use symbols address) (line_statement (line_of float text)))
+      (uses_from float symbols (number + 1) (end_from address (line_of float text)) rest) uses in
+      let none : option_and_then (fault_of_use symbols address) p.0.statement ≡ None =
+      sym (ap (option_and_then (fault_of_use symbols address)) says) ∙ faults.0 in
+      let own = line_bytes symbols address p.0.statement (ranges text p.0 p.1) none in
+      let ends : end_from address (line_of float text) ≡ address + length own.0 =
+      ap (end_of_statement address) says ∙ sym (length-line symbols address p.0.statement own.0 own.1) in
+      let more = lay symbols (number + 1) (end_from address (line_of float text)) rest sound.1 faults.1 in
       record {
         lines = p.0 ∷ more.lines;
         bytes = own.0 ++ more.bytes;
         are_lines = (λ i. p.1 i ∷ more.are_lines i);
-        laid = (own.0, more.bytes, refl, p.2.0, own.1, subst (λ e. AreLaid s e more.lines more.bytes) ends more.laid);
+        laid = (own.0, more.bytes, refl, p.2.0, own.1, subst (λ e. AreLaid symbols e more.lines more.bytes) ends more.laid);
       }
 
   pub some_image : (text : List ℕ) → text_fault float text ≡ None → (image : Image) × IsImageOfText float text image
   unfolding text_fault
   some_image text h =
-      let s = symbols_of (places_of float text) in
-      let parts = none_parts (first_faulty_line fault_alone (places_of float text)) (first_faulty_line (fault_of_uses s) (places_of float text)) h in
-      let l = lay s 1 0 (lines_of text) (sound_text float s text parts.0 (λ q. refl)) (sym (uses-placed float s 1 0 (λ _. false) (lines_of text)) ∙ parts.1) in
-      let image : Image = record { entry = last_entry s 0 l.lines; segments = segments_from_0 l.bytes } in
-      (image, image-laid float text s l.bytes image (λ q. refl) (record { lines = l.lines; are_lines = l.are_lines; laid = l.laid; entry_is = refl }) refl)
+      let symbols = symbols_of (places_of float text) in
+      let parts = none_parts (first_faulty_line fault_alone (places_of float text))
+      (first_faulty_line (fault_of_uses symbols) (places_of float text)) h in
+      let l = lay symbols 1 0 (lines_of text) (sound_text float symbols text parts.0 (λ q. refl))
+      (sym (uses-placed float symbols 1 0 (λ _. false) (lines_of text)) ∙ parts.1) in
+      let image : Image = record { entry = last_entry symbols 0 l.lines; segments = segments_from_0 l.bytes } in (
+        image,
+        image-laid float text symbols l.bytes image (λ q. refl)
+            (record { lines = l.lines; are_lines = l.are_lines; laid = l.laid; entry_is = refl }) refl,
+      )
     where
       none_parts : (first second : Option (ℕ × AsmKind)) → option_or first second ≡ None → (first ≡ None) × (second ≡ None)
       none_parts None second e = (refl, e)

@@ -1,5 +1,6 @@
 -- Lines without a fault in the first judging: what they say, that their labels have their addresses, and where they end.
-use Rattle.std.proofs.Common.{◌≡◌, ℕ, ◌+◌, ◌^◌, ◌≤◌, Bool, true, false, ◌||◌, nat_lt, List, [], ◌∷◌, All, Option, Some, None, is_some, IsOkAnd, Result, Ok, Err, option_map, refl, sym, ◌∙◌, ap, subst, if◌then◌else◌, ◌⊎◌, inl, inr, ⊎_elim, arith}
+use Rattle.std.proofs.Common.{◌≡◌, ℕ, ◌+◌, ◌^◌, ◌≤◌, Bool, true, false, ◌||◌, nat_lt, List, [], ◌∷◌, All, Option, Some, None, is_some}
+use Rattle.std.proofs.Common.{IsOkAnd, Result, Ok, Err, option_map, refl, sym, ◌∙◌, ap, subst, if◌then◌else◌, ◌⊎◌, inl, inr, ⊎_elim, arith}
 use Rattle.std.specs.List.{list_any}
 use Rattle.std.specs.Option.{option_map_or, option_or}
 use Rattle.std.specs.Str.{bytes_eq}
@@ -25,7 +26,8 @@ IsSoundLine symbols address line =
 -- so have those of lines from an address on, each where the one before it ends
 abbrev pub AreSound : (float : Bool) → Symbols → ℕ → List (List ℕ) → Type 0
 AreSound float symbols address [] = Unit {0}
-AreSound float symbols address (text ∷ rest) = IsSoundLine symbols address (line_of float text) × AreSound float symbols (end_from address (line_of float text)) rest
+AreSound float symbols address (text ∷ rest) =
+    IsSoundLine symbols address (line_of float text) × AreSound float symbols (end_from address (line_of float text)) rest
 
 -- no test of the first judging fails
 record PassesTests (address : ℕ) (known : List ℕ → Bool) (line : Line) : Type 0 where
@@ -40,7 +42,8 @@ tests_pass false false false h = (refl, refl)
 
 passes : (address : ℕ) (known : List ℕ → Bool) (line : Line) → fault_of_line address known (Ok line) ≡ None → PassesTests address known line
 passes address known line h =
-    let p = tests_pass (option_map_or (is_out_of_reach no_symbols address) line.statement false) (has_duplicate known line.labels) (nat_lt (2 ^ 24) (end_of_statement address line.statement)) h in
+    let p = tests_pass (option_map_or (is_out_of_reach no_symbols address) line.statement false) (has_duplicate known line.labels)
+    (nat_lt (2 ^ 24) (end_of_statement address line.statement)) h in
     let large : nat_lt (2 ^ 24) (end_of_statement address line.statement) ≡ false = p.1 in
     record { distinct = p.0; within = search (arith, large) }
 
@@ -52,103 +55,135 @@ or-true : (a b : Bool) → b ≡ true → (a || b) ≡ true
 or-true true b h = refl
 or-true false b h = h
 
-differs : (known : List ℕ → Bool) (label q : List ℕ) (same : Bool) → bytes_eq label q ≡ same → known label ≡ false → known q ≡ true → same ≡ false
-differs known label q false e absent present = refl
-differs known label q true e absent present =
-    let equal : label ≡ q = (bytes_decides label q).0 e in
+differs : (known : List ℕ → Bool) (label name : List ℕ) (same : Bool) → bytes_eq label name ≡ same → known label ≡ false → known name ≡ true
+    → same ≡ false
+differs known label name false e absent present = refl
+differs known label name true e absent present =
+    let equal : label ≡ name = (bytes_decides label name).0 e in
     let clash : true ≡ false = sym present ∙ sym (ap known equal) ∙ absent in
     cc
 
 -- a label that is known is none of the labels of a line that has no duplicate
-apart : (known : List ℕ → Bool) (labels : List (List ℕ)) (q : List ℕ) → has_duplicate known labels ≡ false → known q ≡ true → list_any (λ label. bytes_eq label q) labels ≡ false
-apart known [] q h k = refl
-apart known (label ∷ rest) q h k =
+apart : (known : List ℕ → Bool) (labels : List (List ℕ)) (name : List ℕ) → has_duplicate known labels ≡ false → known name ≡ true
+    → list_any (λ label. bytes_eq label name) labels ≡ false
+apart known [] name h k = refl
+apart known (label ∷ rest) name h k =
     let parts = or_false (known label) (has_duplicate (λ n. bytes_eq label n || known n) rest) h in
-    let head = differs known label q (bytes_eq label q) refl parts.0 k in
-    let tail = apart (λ n. bytes_eq label n || known n) rest q parts.1 (or-true (bytes_eq label q) (known q) k) in
+    let head = differs known label name (bytes_eq label name) refl parts.0 k in
+    let tail = apart (λ n. bytes_eq label n || known n) rest name parts.1 (or-true (bytes_eq label name) (known name) k) in
     (λ i. head i || tail i)
 
--- labels that are not q leave q as it was
-unchanged : (s : Symbols) (labels : List (List ℕ)) (a : ℕ) (q : List ℕ) → list_any (λ label. bytes_eq label q) labels ≡ false → with_labels s labels a q ≡ s q
-unchanged s [] a q h = refl
-unchanged s (label ∷ rest) a q h =
-    let parts = or_false (bytes_eq label q) (list_any (λ l. bytes_eq l q) rest) h in
-    unchanged (with_symbol s label a) rest a q parts.1 ∙ ap (λ b. if b then Some a else s q) parts.0
+-- labels that are not a name leave it as it was
+unchanged : (symbols : Symbols) (labels : List (List ℕ)) (address : ℕ) (name : List ℕ)
+    → list_any (λ label. bytes_eq label name) labels ≡ false
+    → with_labels symbols labels address name ≡ symbols name
+unchanged symbols [] address name h = refl
+unchanged symbols (label ∷ rest) address name h =
+    let parts = or_false (bytes_eq label name) (list_any (λ l. bytes_eq l name) rest) h in
+    unchanged (with_symbol symbols label address) rest address name parts.1 ∙ ap (λ b. if b then Some address else symbols name) parts.0
 
--- labels of which one is q give it their address
-given : (s : Symbols) (labels : List (List ℕ)) (a : ℕ) (q : List ℕ) → (s q ≡ Some a) ⊎ (list_any (λ label. bytes_eq label q) labels ≡ true) → with_labels s labels a q ≡ Some a
-given s [] a q h = ⊎_elim (λ e. e) (λ e. cc) h
-given s (label ∷ rest) a q h = given (with_symbol s label a) rest a q (by (bytes_eq label q) h)
+-- labels of which one is the name give it their address
+given : (symbols : Symbols) (labels : List (List ℕ)) (address : ℕ) (name : List ℕ)
+    → (symbols name ≡ Some address) ⊎ (list_any (λ label. bytes_eq label name) labels ≡ true)
+    → with_labels symbols labels address name ≡ Some address
+given symbols [] address name h = ⊎_elim (λ e. e) (λ e. cc) h
+given symbols (label ∷ rest) address name h = given (with_symbol symbols label address) rest address name (by (bytes_eq label name) h)
   where
-    by : (b : Bool) → (s q ≡ Some a) ⊎ ((b || list_any (λ l. bytes_eq l q) rest) ≡ true) → ((if b then Some a else s q) ≡ Some a) ⊎ (list_any (λ l. bytes_eq l q) rest ≡ true)
+    by : (b : Bool) → (symbols name ≡ Some address) ⊎ ((b || list_any (λ l. bytes_eq l name) rest) ≡ true)
+        → ((if b then Some address else symbols name) ≡ Some address) ⊎ (list_any (λ l. bytes_eq l name) rest ≡ true)
     by true g = inl refl
     by false g = g
 
-none_parts : (number : ℕ) (fault : Option AsmKind) (others : Option (ℕ × AsmKind)) → option_or (option_map (λ kind. (number, kind)) fault) others ≡ None → fault ≡ None
+none_parts : (number : ℕ) (fault : Option AsmKind) (others : Option (ℕ × AsmKind))
+    → option_or (option_map (λ kind. (number, kind)) fault) others ≡ None → fault ≡ None
 none_parts number None others h = refl
 none_parts number (Some kind) others h = cc
 
-distinct_labels : (a : ℕ) (known : List ℕ → Bool) (line : Result Line LineError) → fault_of_line a known line ≡ None → has_duplicate known (line_labels line) ≡ false
-distinct_labels a known (Ok line) h = (passes a known line h).distinct
-distinct_labels a known (Err fault) h = refl
+distinct_labels : (address : ℕ) (known : List ℕ → Bool) (line : Result Line LineError) → fault_of_line address known line ≡ None
+    → has_duplicate known (line_labels line) ≡ false
+distinct_labels address known (Ok line) h = (passes address known line h).distinct
+distinct_labels address known (Err fault) h = refl
 
 -- the first line of some without a fault, and those behind it
-module _ (float : Bool) (s : Symbols) (n a : ℕ) (text : List ℕ) (rest : List (List ℕ)) (h : first_faulty_line fault_alone (placed float n a (λ p. is_some (s p)) (text ∷ rest)) ≡ None) where
+module _ (float : Bool) (symbols : Symbols) (number address : ℕ) (text : List ℕ) (rest : List (List ℕ))
+    (h : first_faulty_line fault_alone (placed float number address (λ p. is_some (symbols p)) (text ∷ rest)) ≡ None) where
   after : Symbols
-  after = with_labels s (line_labels (line_of float text)) a
+  after = with_labels symbols (line_labels (line_of float text)) address
 
-  head : fault_of_line a (λ p. is_some (s p)) (line_of float text) ≡ None
-  head = none_parts n (fault_of_line a (λ p. is_some (s p)) (line_of float text)) (first_faulty_line fault_alone (placed float (n + 1) (end_from a (line_of float text)) (λ q. list_any (λ label. bytes_eq label q) (line_labels (line_of float text)) || is_some (s q)) rest)) h
+  head : fault_of_line address (λ p. is_some (symbols p)) (line_of float text) ≡ None
+  head =
+      none_parts number (fault_of_line address (λ p. is_some (symbols p)) (line_of float text))
+      (first_faulty_line fault_alone
+      (placed float (number + 1) (end_from address (line_of float text))
+      (λ name. list_any (λ label. bytes_eq label name) (line_labels (line_of float text)) || is_some (symbols name)) rest)) h
 
-  tail : first_faulty_line fault_alone (placed float (n + 1) (end_from a (line_of float text)) (λ p. is_some (after p)) rest) ≡ None
+  tail : first_faulty_line fault_alone (placed float (number + 1) (end_from address (line_of float text)) (λ p. is_some (after p)) rest)
+      ≡ None
   unfolding after
-  tail = sym (judged_more float s after n a (end_from a (line_of float text)) text rest refl (λ q. refl) head) ∙ h
+  tail = sym (judged_more float symbols after number address (end_from address (line_of float text)) text rest refl (λ name. refl) head) ∙ h
 
-  further : (q : List ℕ) → symbols_from s (placed float n a (λ p. is_some (s p)) (text ∷ rest)) q ≡ symbols_from after (placed float (n + 1) (end_from a (line_of float text)) (λ p. is_some (after p)) rest) q
+  further : (name : List ℕ) → symbols_from symbols (placed float number address (λ p. is_some (symbols p)) (text ∷ rest)) name
+      ≡ symbols_from after (placed float (number + 1) (end_from address (line_of float text)) (λ p. is_some (after p)) rest) name
   unfolding after
-  further = known_more float s after n a (end_from a (line_of float text)) text rest refl (λ q. refl)
+  further = known_more float symbols after number address (end_from address (line_of float text)) text rest refl (λ name. refl)
 
-  not_again : (q : List ℕ) → is_some (s q) ≡ true → after q ≡ s q
+  not_again : (name : List ℕ) → is_some (symbols name) ≡ true → after name ≡ symbols name
   unfolding after
-  not_again q k = unchanged s (line_labels (line_of float text)) a q (apart (λ p. is_some (s p)) (line_labels (line_of float text)) q (distinct_labels a (λ p. is_some (s p)) (line_of float text) head) k)
+  not_again name k =
+      unchanged symbols (line_labels (line_of float text)) address name
+      (apart (λ p. is_some (symbols p)) (line_labels (line_of float text)) name
+      (distinct_labels address (λ p. is_some (symbols p)) (line_of float text) head) k)
 
-  of_line : (q : List ℕ) → list_any (λ label. bytes_eq label q) (line_labels (line_of float text)) ≡ true → after q ≡ Some a
+  of_line : (name : List ℕ) → list_any (λ label. bytes_eq label name) (line_labels (line_of float text)) ≡ true → after name ≡ Some address
   unfolding after
-  of_line q member = given s (line_labels (line_of float text)) a q (inr member)
+  of_line name member = given symbols (line_labels (line_of float text)) address name (inr member)
 
 -- the lines behind a label do not change its address
-kept : (float : Bool) (s : Symbols) (n a : ℕ) (texts : List (List ℕ)) (q : List ℕ) → first_faulty_line fault_alone (placed float n a (λ p. is_some (s p)) texts) ≡ None → is_some (s q) ≡ true
-    → symbols_from s (placed float n a (λ p. is_some (s p)) texts) q ≡ s q
-kept float s n a [] q h k = refl
-kept float s n a (text ∷ rest) q h k =
-    let same = not_again float s n a text rest h q k in
-    further float s n a text rest h q ∙ kept float (after float s n a text rest h) (n + 1) (end_from a (line_of float text)) rest q (tail float s n a text rest h) (ap is_some same ∙ k) ∙ same
+kept : (float : Bool) (symbols : Symbols) (number address : ℕ) (texts : List (List ℕ)) (name : List ℕ)
+    → first_faulty_line fault_alone (placed float number address (λ p. is_some (symbols p)) texts) ≡ None → is_some (symbols name) ≡ true
+    → symbols_from symbols (placed float number address (λ p. is_some (symbols p)) texts) name ≡ symbols name
+kept float symbols number address [] name h k = refl
+kept float symbols number address (text ∷ rest) name h k =
+    let same = not_again float symbols number address text rest h name k in
+    further float symbols number address text rest h name
+    ∙ kept float (after float symbols number address text rest h) (number + 1) (end_from address (line_of float text)) rest name
+    (tail float symbols number address text rest h) (ap is_some same ∙ k) ∙ same
 
-each_member : (P : List ℕ → Type 0) (labels : List (List ℕ)) → ((q : List ℕ) → list_any (λ label. bytes_eq label q) labels ≡ true → P q) → All P labels
+each_member : (P : List ℕ → Type 0) (labels : List (List ℕ))
+    → ((name : List ℕ) → list_any (λ label. bytes_eq label name) labels ≡ true → P name)
+    → All P labels
 each_member P [] f = All-nil P
 each_member P (label ∷ rest) f =
     All-cons P label rest (f label (ap (λ b. b || list_any (λ l. bytes_eq l label) rest) ((bytes_decides label label).1 refl)))
-    (each_member P rest (λ q m. f q (or-true (bytes_eq label q) (list_any (λ l. bytes_eq l q) rest) m)))
+    (each_member P rest (λ name m. f name (or-true (bytes_eq label name) (list_any (λ l. bytes_eq l name) rest) m)))
 
-sound_line : (symbols : Symbols) (a : ℕ) (known : List ℕ → Bool) (line : Result Line LineError) → fault_of_line a known line ≡ None
-    → ((q : List ℕ) → list_any (λ label. bytes_eq label q) (line_labels line) ≡ true → symbols q ≡ Some a) → IsSoundLine symbols a line
-sound_line symbols a known (Err fault) h f = let clash : Some (kind_of fault) ≡ None = h in cc
-sound_line symbols a known (Ok line) h f = (each_member (λ label. symbols label ≡ Some a) line.labels f, (passes a known line h).within)
+sound_line : (symbols : Symbols) (address : ℕ) (known : List ℕ → Bool) (line : Result Line LineError)
+    → fault_of_line address known line ≡ None
+    → ((name : List ℕ) → list_any (λ label. bytes_eq label name) (line_labels line) ≡ true → symbols name ≡ Some address)
+    → IsSoundLine symbols address line
+sound_line symbols address known (Err fault) h f = let clash : Some (kind_of fault) ≡ None = h in cc
+sound_line symbols address known (Ok line) h f =
+    (each_member (λ label. symbols label ≡ Some address) line.labels f, (passes address known line h).within)
 
 -- where no line has a fault in the first judging, the lines are sound with the labels of all
-pub sound : (float : Bool) (s : Symbols) (n a : ℕ) (texts : List (List ℕ)) → first_faulty_line fault_alone (placed float n a (λ p. is_some (s p)) texts) ≡ None
-    → AreSound float (symbols_from s (placed float n a (λ p. is_some (s p)) texts)) a texts
-sound float s n a [] h = tt
-sound float s n a (text ∷ rest) h =
-    let t = after float s n a text rest h in
-    let at_end = end_from a (line_of float text) in
-    let others = tail float s n a text rest h in
-    let all = further float s n a text rest h in (
-      sound_line _ a (λ p. is_some (s p)) (line_of float text) (head float s n a text rest h)
-          (λ q m. let address = of_line float s n a text rest h q m in all q ∙ kept float t (n + 1) at_end rest q others (ap is_some address) ∙ address),
-      subst (λ symbols. AreSound float symbols at_end rest) (λ i q. sym (all q) i) (sound float t (n + 1) at_end rest others),
+pub sound : (float : Bool) (symbols : Symbols) (number address : ℕ) (texts : List (List ℕ))
+    → first_faulty_line fault_alone (placed float number address (λ p. is_some (symbols p)) texts) ≡ None
+    → AreSound float (symbols_from symbols (placed float number address (λ p. is_some (symbols p)) texts)) address texts
+sound float symbols number address [] h = tt
+sound float symbols number address (text ∷ rest) h =
+    let grown = after float symbols number address text rest h in
+    let at_end = end_from address (line_of float text) in
+    let others = tail float symbols number address text rest h in
+    let all = further float symbols number address text rest h in (
+      sound_line _ address (λ p. is_some (symbols p)) (line_of float text) (head float symbols number address text rest h)
+          (λ name m. let at_label = of_line float symbols number address text rest h name m in
+          all name ∙ kept float grown (number + 1) at_end rest name others (ap is_some at_label) ∙ at_label),
+      subst (λ all_symbols. AreSound float all_symbols at_end rest) (λ i name. sym (all name) i)
+          (sound float grown (number + 1) at_end rest others),
     )
 
 -- a text without a fault in the first judging is sound with its labels
-pub sound_text : (float : Bool) (symbols : Symbols) (text : List ℕ) → first_faulty_line fault_alone (places_of float text) ≡ None → ((q : List ℕ) → symbols q ≡ symbols_of (places_of float text) q) → AreSound float symbols 0 (lines_of text)
-sound_text float symbols text judged known = subst (λ s. AreSound float s 0 (lines_of text)) (λ i q. sym (known q) i) (sound float no_symbols 1 0 (lines_of text) judged)
+pub sound_text : (float : Bool) (symbols : Symbols) (text : List ℕ) → first_faulty_line fault_alone (places_of float text) ≡ None
+    → ((name : List ℕ) → symbols name ≡ symbols_of (places_of float text) name) → AreSound float symbols 0 (lines_of text)
+sound_text float symbols text judged known =
+    subst (λ s. AreSound float s 0 (lines_of text)) (λ i name. sym (known name) i) (sound float no_symbols 1 0 (lines_of text) judged)

@@ -10,18 +10,28 @@ use Rattle.rv_asm.specs.Symbols.{Symbols}
 use Rattle.rv_asm.specs.Text.{IsLaidOut, IsImageOfText}
 use Rattle.rv_asm.proofs.OnlyLabels.{only_labels_of}
 
-pub fault-first : (float : Bool) (text : List ℕ) (fault : ℕ × AsmKind) → first_faulty_line fault_alone (places_of float text) ≡ Some fault → text_fault float text ≡ Some fault
+pub fault-first : (float : Bool) (text : List ℕ) (fault : ℕ × AsmKind) → first_faulty_line fault_alone (places_of float text) ≡ Some fault
+    → text_fault float text ≡ Some fault
 unfolding text_fault
-fault-first float text fault e = ap (λ o. option_or o (first_faulty_line (fault_of_uses (symbols_of (places_of float text))) (places_of float text))) e
+fault-first float text fault e =
+    ap (λ o. option_or o (first_faulty_line (fault_of_uses (symbols_of (places_of float text))) (places_of float text))) e
 
-pub fault-second : (float : Bool) (text : List ℕ) (symbols : Symbols) (fault : Option (ℕ × AsmKind)) → first_faulty_line fault_alone (places_of float text) ≡ None → ((q : List ℕ) → symbols q ≡ symbols_of (places_of float text) q)
+pub fault-second : (float : Bool) (text : List ℕ) (symbols : Symbols) (fault : Option (ℕ × AsmKind))
+    → first_faulty_line fault_alone (places_of float text) ≡ None → ((q : List ℕ) → symbols q ≡ symbols_of (places_of float text) q)
     → first_faulty_line (fault_of_uses symbols) (places_of float text) ≡ fault → text_fault float text ≡ fault
 unfolding text_fault
 fault-second float text symbols fault none known e =
     ap (λ o. option_or o (first_faulty_line (fault_of_uses (symbols_of (places_of float text))) (places_of float text))) none
     ∙ (λ i. first_faulty_line (fault_of_uses (λ q. sym (known q) i)) (places_of float text)) ∙ e
 
-pub image-laid : (float : Bool) (text : List ℕ) (symbols : Symbols) (bytes : List ℕ) (image : Image) → ((q : List ℕ) → symbols q ≡ symbols_of (places_of float text) q)
+pub image-laid : (float : Bool) (text : List ℕ) (symbols : Symbols) (bytes : List ℕ) (image : Image)
+    → ((q : List ℕ) → symbols q ≡ symbols_of (places_of float text) q)
     → IsLaidOut float symbols (lines_of text) bytes image.entry → image.segments ≡ segments_from_0 bytes → IsImageOfText float text image
 image-laid float text symbols bytes image known out segments =
-    record { symbols = symbols; bytes = bytes; out = out; only_labels = only_labels_of float symbols text out.lines known out.are_lines; segments_are = segments }
+    record {
+      symbols = symbols;
+      bytes = bytes;
+      out = out;
+      only_labels = only_labels_of float symbols text out.lines known out.are_lines;
+      segments_are = segments;
+    }

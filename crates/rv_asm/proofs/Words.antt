@@ -1,5 +1,6 @@
 -- The targets of `.word`, as the code and as the definitions have them.
-use Rattle.std.proofs.Common.{◌≡◌, ℕ, ◌<◌, Bool, ◌+◌, false, ◌||◌, List, [], ◌∷◌, ◌++◌, length, map, take, All, Some, None, is_none, true, get_or, w32, refl, sym, ◌∙◌, ap}
+use Rattle.std.proofs.Common.{◌≡◌, ℕ, ◌<◌, Bool, ◌+◌, false, ◌||◌, List, [], ◌∷◌, ◌++◌, length, map, take, All, Some, None, is_none, true}
+use Rattle.std.proofs.Common.{get_or, w32, refl, sym, ◌∙◌, ap}
 use Rattle.std.specs.Int.{to_le_bytes}
 use Rattle.std.specs.List.{flat_map, list_any}
 use Rattle.std.proofs.lemmas.List.{get_or-map, length-map, map_more, flat_map_more}
@@ -19,16 +20,30 @@ pub All_of_map : {X Y : Type 0} (P : Y → Type 0) (g : X → Y) (xs : List X) �
 All_of_map P g xs h = λ k d lt. rw (get_or-map g xs k d (g d) lt) at (h k (g d) (rw (length-map xs g) lt))
 
 -- a target whose label no line has makes the statement one that uses such a label
-pub undefined_at : (symbols : Symbols) (targets : List Target) (i : ℕ) (d : Target) → i < length targets → value_of symbols (target_value (get_or targets i d)) ≡ None → uses_undefined symbols (words (map target_value targets)) ≡ true
+pub undefined_at : (symbols : Symbols) (targets : List Target) (i : ℕ) (d : Target) → i < length targets
+    → value_of symbols (target_value (get_or targets i d)) ≡ None → uses_undefined symbols (words (map target_value targets)) ≡ true
 undefined_at symbols targets i d lt e =
-    list_any_of_map (λ t. is_none (value_of symbols t)) target_value targets ∙ list_any_at (λ t. is_none (value_of symbols (target_value t))) targets i d lt (ap is_none e)
+    list_any_of_map (λ t. is_none (value_of symbols t)) target_value targets
+    ∙ list_any_at (λ t. is_none (value_of symbols (target_value t))) targets i d lt (ap is_none e)
 
 -- one more word is written
-pub words_more : (symbols : Symbols) (before old new own : List ℕ) (targets : List Target) (i value : ℕ) (d : Target) → i < length targets → Some value ≡ value_of symbols (target_value (get_or targets i d)) → old ≡ before ++ flat_map (word_bytes symbols) (map target_value (take i targets)) → new ≡ old ++ own → own ≡ to_le_bytes w32 value → new ≡ before ++ flat_map (word_bytes symbols) (map target_value (take (i + 1) targets))
+pub words_more : (symbols : Symbols) (before old new own : List ℕ) (targets : List Target) (i value : ℕ) (d : Target) → i < length targets
+    → Some value ≡ value_of symbols (target_value (get_or targets i d))
+    → old ≡ before ++ flat_map (word_bytes symbols) (map target_value (take i targets)) → new ≡ old ++ own → own ≡ to_le_bytes w32 value
+    → new ≡ before ++ flat_map (word_bytes symbols) (map target_value (take (i + 1) targets))
 words_more symbols before old new own targets i value d lt known was is is_own =
     let more = flat_map_more (word_bytes symbols) before (map target_value (take i targets)) (target_value (get_or targets i d)) in
     rw (is, was, is_own, map_more target_value targets i d lt) (rw (sym known) at more)
 
-pub defined_more : (symbols : Symbols) (targets : List Target) (i value : ℕ) (d : Target) → i < length targets → Some value ≡ value_of symbols (target_value (get_or targets i d)) → uses_undefined symbols (words (map target_value (take i targets))) ≡ false → uses_undefined symbols (words (map target_value (take (i + 1) targets))) ≡ false
+pub defined_more : (symbols : Symbols) (targets : List Target) (i value : ℕ) (d : Target) → i < length targets
+    → Some value ≡ value_of symbols (target_value (get_or targets i d))
+    → uses_undefined symbols (words (map target_value (take i targets))) ≡ false
+    → uses_undefined symbols (words (map target_value (take (i + 1) targets))) ≡ false
 defined_more symbols targets i value d lt known so_far =
-    rw (map_more target_value targets i d lt, list_any-append (λ t. is_none (value_of symbols t)) (map target_value (take i targets)) (target_value (get_or targets i d) ∷ []), so_far, sym known) refl
+    rw (
+      map_more target_value targets i d lt,
+      list_any-append (λ t. is_none (value_of symbols t)) (map target_value (take i targets))
+          (target_value (get_or targets i d) ∷ []),
+      so_far,
+      sym known,
+    ) refl

@@ -2,7 +2,8 @@
 use Rattle.std.specs.Prelude.{ℕ, List, ◌++◌, codes, decimal}
 use Rattle.rv_asm.specs.declared.errors.AsmError.{AsmError}
 use Rattle.rv_asm.specs.declared.errors.AsmKind.{AsmKind}
-use Rattle.rv_asm.specs.declared.errors.AsmKind.TheVariants.{BadToken, UnknownMnemonic, BadOperand, OutOfRange, DuplicateLabel, UndefinedLabel, TooLarge, NoMemory}
+use Rattle.rv_asm.specs.declared.errors.AsmKind.TheVariants.{BadToken, UnknownMnemonic, BadOperand, OutOfRange, DuplicateLabel}
+use Rattle.rv_asm.specs.declared.errors.AsmKind.TheVariants.{UndefinedLabel, TooLarge, NoMemory}
 
 -- the name of a kind
 abbrev pub kind_name : AsmKind → List ℕ

@@ -1,6 +1,7 @@
 -- The fault of a text (own rules throughout). Lines are judged twice: by what can be known of them without the addresses
 -- of labels, and, where no line has a fault then, by their uses of labels.
-use Rattle.std.specs.Prelude.{◌≡◌, ◌≢◌, ℕ, ◌^◌, Bool, false, ◌||◌, nat_lt, if◌then◌else◌, List, [], ◌∷◌, Option, Some, None, option_map, option_and_then, Result, Ok, Err}
+use Rattle.std.specs.Prelude.{◌≡◌, ◌≢◌, ℕ, ◌^◌, Bool, false, ◌||◌, nat_lt, if◌then◌else◌, List, [], ◌∷◌, Option, Some, None, option_map}
+use Rattle.std.specs.Prelude.{option_and_then, Result, Ok, Err}
 use Rattle.std.specs.Str.{bytes_eq}
 use Rattle.std.specs.Option.{option_map_or, option_or}
 use Rattle.asm_syntax.specs.Statements.{Statement, Line}
@@ -8,7 +9,8 @@ use Rattle.asm_syntax.specs.declared.error.LineError.{LineError}
 use Rattle.asm_syntax.specs.declared.error.LineError.TheVariants as own
 use Rattle.rv_asm.specs.declared.errors.AsmError.{AsmError}
 use Rattle.rv_asm.specs.declared.errors.AsmKind.{AsmKind}
-use Rattle.rv_asm.specs.declared.errors.AsmKind.TheVariants.{BadToken, UnknownMnemonic, BadOperand, OutOfRange, DuplicateLabel, UndefinedLabel, TooLarge, NoMemory}
+use Rattle.rv_asm.specs.declared.errors.AsmKind.TheVariants.{BadToken, UnknownMnemonic, BadOperand, OutOfRange, DuplicateLabel}
+use Rattle.rv_asm.specs.declared.errors.AsmKind.TheVariants.{UndefinedLabel, TooLarge, NoMemory}
 use Rattle.rv_asm.specs.Symbols.{Symbols, no_symbols}
 use Rattle.rv_asm.specs.Targets.{is_out_of_reach, uses_undefined}
 use Rattle.rv_asm.specs.Places.{Place, line_statement, end_from, places_of, symbols_of}

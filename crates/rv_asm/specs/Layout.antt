@@ -2,7 +2,8 @@
 -- 2.6 "Load and Store Instructions": a word is stored with its low byte first; chapter 25 "RISC-V Assembly Programmer's
 -- Handbook": `li` and `la`). What `.space`, `.align` and `.entry` do, and that `li` and `la` write just these instructions,
 -- are own rules.
-use Rattle.std.specs.Prelude.{◌≡◌, ℕ, ◌+◌, ◌-◌, ◌*◌, ◌^◌, ◌<◌, ◌++◌, Bool, if◌then◌else◌, List, [], ◌∷◌, length, map, flat_map, replicate, false, Some, IsSome, IsSomeAnd}
+use Rattle.std.specs.Prelude.{◌≡◌, ℕ, ◌+◌, ◌-◌, ◌*◌, ◌^◌, ◌<◌, ◌++◌, Bool, if◌then◌else◌, List, [], ◌∷◌, length, map, flat_map, replicate}
+use Rattle.std.specs.Prelude.{false, Some, IsSome, IsSomeAnd}
 use Rattle.std.specs.Int.{w16, w32, cast_signed, to_le_bytes, next_multiple_of}
 use Rattle.std.specs.Option.{option_map_or}
 use Rattle.rv_tables.specs.declared.instr.Instr.{Instr}
@@ -15,7 +16,8 @@ use Rattle.rv_tables.specs.Rows.{instruction_of}
 use Rattle.rv_float_tables.specs.declared.instr.FloatInstr.{FloatInstr}
 use Rattle.rv_float_tables.specs.Rows.{float_instruction_of}
 use Rattle.asm_syntax.specs.Operands.{Target}
-use Rattle.asm_syntax.specs.Statements.{Statement, instruction, float_instruction, branch, jump_and_link, load_immediate, load_address, words, halves, bytes, ascii, space, align, entry}
+use Rattle.asm_syntax.specs.Statements.{Statement, instruction, float_instruction, branch, jump_and_link, load_immediate, load_address}
+use Rattle.asm_syntax.specs.Statements.{words, halves, bytes, ascii, space, align, entry}
 use Rattle.rv_asm.specs.Symbols.{Symbols}
 use Rattle.rv_asm.specs.Targets.{modulo, is_signed, value_of, uses_undefined, offset_to}
 

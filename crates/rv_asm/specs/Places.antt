@@ -45,7 +45,8 @@ abbrev pub placed : (float : Bool) → ℕ → ℕ → (List ℕ → Bool) → L
 placed float number address is_earlier [] = []
 placed float number address is_earlier (text ∷ rest) =
     record { number = number; address = address; is_earlier = is_earlier; line = line_of float text }
-    ∷ placed float (number + 1) (end_from address (line_of float text)) (λ name. is_among (line_labels (line_of float text)) name || is_earlier name) rest
+    ∷ placed float (number + 1) (end_from address (line_of float text))
+    (λ name. is_among (line_labels (line_of float text)) name || is_earlier name) rest
 
 -- the lines of a text: they are counted from 1, and the first is at address 0
 abbrev pub places_of : (float : Bool) → List ℕ → List Place

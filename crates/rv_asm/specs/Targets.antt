@@ -1,5 +1,6 @@
 -- The values of targets, and how far jumps go to them.
-use Rattle.std.specs.Prelude.{ℕ, ◌^◌, ◌==◌, Bool, false, not, ◌&&◌, ℤ, pos, ◌+ℤ◌, ◌-ℤ◌, int_rem, unsigned_abs, List, [], ◌∷◌, Option, Some, None, is_none, option_map}
+use Rattle.std.specs.Prelude.{ℕ, ◌^◌, ◌==◌, Bool, false, not, ◌&&◌, ℤ, pos, ◌+ℤ◌, ◌-ℤ◌, int_rem, unsigned_abs, List, [], ◌∷◌, Option, Some}
+use Rattle.std.specs.Prelude.{None, is_none, option_map}
 use Rattle.std.specs.Int.{w32, cast_signed, int_rem_euclid}
 use Rattle.std.specs.List.{list_any}
 use Rattle.std.specs.Option.{option_map_or}
@@ -42,7 +43,8 @@ reach_of _ = None
 -- a jump, a branch being one too, has a target whose value is known and that its offset does not reach
 abbrev pub is_out_of_reach : Symbols → ℕ → Statement → Bool
 is_out_of_reach symbols address statement =
-    option_map_or (λ jump. option_map_or (λ value. not (is_reached jump.1 (offset_to address value))) (value_of symbols jump.0) false) (reach_of statement) false
+    option_map_or (λ jump. option_map_or (λ value. not (is_reached jump.1 (offset_to address value))) (value_of symbols jump.0) false)
+    (reach_of statement) false
 
 -- the targets of a statement
 abbrev pub targets_of : Statement → List Target

@@ -1,5 +1,6 @@
 -- The image of a text (own rules throughout).
-use Rattle.std.specs.Prelude.{◌≡◌, ℕ, Bool, ◌+◌, ◌++◌, List, [], ◌∷◌, length, map, fold, All, Any, Contains, Option, Some, None, IsSome, Ok, unwrap_or}
+use Rattle.std.specs.Prelude.{◌≡◌, ℕ, Bool, ◌+◌, ◌++◌, List, [], ◌∷◌, length, map}
+use Rattle.std.specs.Prelude.{fold, All, Any, Contains, Option, Some, None, IsSome, Ok, unwrap_or}
 use Rattle.node_memory.specs.Image.{Image, segments_from_0}
 use Rattle.asm_syntax.specs.Lines.{lines_of}
 use Rattle.asm_syntax.specs.Parse.{line_of}

@@ -1,6 +1,7 @@
 //! The first judging: what can be known of each line without the addresses of labels, and those addresses.
 
-ghost use Rattle.std.specs.Prelude.{◌≡◌, ◌≢◌, ◌^◌, ◌≤◌, List, ℕ, length, Option, None, Some, is_some, option_map, false, Ok, OnOk, IfOk, IfErr, IfSome};
+ghost use Rattle.std.specs.Prelude.{◌≡◌, ◌≢◌, ◌^◌, ◌≤◌, List, ℕ, length, Option, None, Some};
+ghost use Rattle.std.specs.Prelude.{is_some, option_map, false, Ok, OnOk, IfOk, IfErr, IfSome};
 ghost use Rattle.std.specs.Option.{SomeIff, option_map_or};
 ghost use Rattle.asm_syntax.specs.Parse.{line_of};
 ghost use Rattle.asm_syntax.specs.Statements.{IsInRange};

@@ -1,6 +1,7 @@
 //! The second judging, of uses of labels, and the bytes of the lines.
 
-ghost use Rattle.std.specs.Prelude.{◌≡◌, ◌≢◌, ◌^◌, ◌≤◌, List, ℕ, length, None, Some, unwrap_or, vec_len, option_and_then, IsOkAnd, OnOk, IfOk, IfErr};
+ghost use Rattle.std.specs.Prelude.{◌≡◌, ◌≢◌, ◌^◌, ◌≤◌, List, ℕ, length, None, Some, unwrap_or};
+ghost use Rattle.std.specs.Prelude.{vec_len, option_and_then, IsOkAnd, OnOk, IfOk, IfErr};
 ghost use Rattle.asm_syntax.specs.Lines.{lines_of};
 ghost use Rattle.asm_syntax.specs.Parse.{line_of};
 ghost use Rattle.rv_asm.specs.Faults.{fault_of_use, fault_of_uses, fault_alone, first_faulty_line};
@@ -32,7 +33,8 @@ fn write_line<A: Allocator + Copy>(
     ensures ok { OnOk result
         (option_and_then (fault_of_use (symbols labels.now) (vec_len program.old.bytes)) (line_statement (line_of float text.now)) ≡ None) }
     ensures err { IfErr result (λ kind. kind ≢ AsmKind.NoMemory
-        → option_and_then (fault_of_use (symbols labels.now) (vec_len program.old.bytes)) (line_statement (line_of float text.now)) ≡ Some kind) }
+        → option_and_then (fault_of_use (symbols labels.now) (vec_len program.old.bytes)) (line_statement (line_of float text.now))
+        ≡ Some kind) }
 {
     let line = parse_line(alloc, float, text)?;
     program.push_line(labels, &line)

@@ -1,6 +1,7 @@
 //! The bytes of statements.
 
-ghost use Rattle.std.specs.Prelude.{◌≡◌, ◌≢◌, ◌⊎◌, ◌+◌, ◌^◌, ◌<◌, ◌≤◌, ◌∷◌, ◌++◌, [], List, ℕ, map, flat_map, replicate, OnOk, OnErr, IfErr, All, IsSome, None, Some, is_none, vec_len, true, false};
+ghost use Rattle.std.specs.Prelude.{◌≡◌, ◌≢◌, ◌⊎◌, ◌+◌, ◌^◌, ◌<◌, ◌≤◌, ◌∷◌, ◌++◌, [], List, ℕ, map, flat_map, replicate};
+ghost use Rattle.std.specs.Prelude.{OnOk, OnErr, IfErr, All, IsSome, None, Some, is_none, vec_len, true, false};
 ghost use Rattle.std.specs.List.{list_any};
 ghost use Rattle.std.specs.Int.{w16, w32, to_le_bytes};
 ghost use Rattle.rv_tables.specs.Fields.{bits, sign_extended};

@@ -14,7 +14,8 @@ use Rattle.rv_tables.specs.Operands.{IsFound, IsImmediate}
 use Rattle.rv_tables.proofs.CompressedLookup.{meets_at}
 use Rattle.rv_tables.proofs.CompressedReads.{word_offset, lwsp_offset, swsp_offset}
 use Rattle.rv_tables.proofs.CompressedSpelling as IntegerSpelling
-use Rattle.rv_tables.proofs.CompressedTables.{apart, AreDisjoint-from_apart, tables_apart, of_met, ExpandsBy-from_expansion, expansion_by-ExpandsBy}
+use Rattle.rv_tables.proofs.CompressedTables.{apart, AreDisjoint-from_apart, tables_apart}
+use Rattle.rv_tables.proofs.CompressedTables.{of_met, ExpandsBy-from_expansion, expansion_by-ExpandsBy}
 use Rattle.rv_tables.proofs.Pairs.{AllPairs-from_pass}
 use Rattle.rv_tables.proofs.Tables.{found}
 use Rattle.rv_float_tables.specs.declared.instr.FloatInstr.{FloatInstr}
@@ -35,19 +36,23 @@ float_expansion_of-fields h = refl
 at_fields : (h q f3 : ℕ) → quadrant h ≡ q → funct3 h ≡ f3 → float_expansion_of h ≡ expansion_at h q f3
 at_fields h q f3 e f = rw (← e, ← f) (float_expansion_of-fields h)
 
-pub fld : (h : ℕ) → quadrant h ≡ 0 → funct3 h ≡ 1 → float_expansion_of h ≡ Some (Load Double (rs2_prime h) (rs1_prime h) (pos (immediate h double_layout)))
+pub fld : (h : ℕ) → quadrant h ≡ 0 → funct3 h ≡ 1
+    → float_expansion_of h ≡ Some (Load Double (rs2_prime h) (rs1_prime h) (pos (immediate h double_layout)))
 unfolding expansion_at float_compressed_rows
 fld h q f = at_fields h 0 1 q f
 
-pub flw : (h : ℕ) → quadrant h ≡ 0 → funct3 h ≡ 3 → float_expansion_of h ≡ Some (Load Single (rs2_prime h) (rs1_prime h) (pos (immediate h word_layout)))
+pub flw : (h : ℕ) → quadrant h ≡ 0 → funct3 h ≡ 3
+    → float_expansion_of h ≡ Some (Load Single (rs2_prime h) (rs1_prime h) (pos (immediate h word_layout)))
 unfolding expansion_at float_compressed_rows
 flw h q f = at_fields h 0 3 q f
 
-pub fsd : (h : ℕ) → quadrant h ≡ 0 → funct3 h ≡ 5 → float_expansion_of h ≡ Some (Store Double (rs1_prime h) (rs2_prime h) (pos (immediate h double_layout)))
+pub fsd : (h : ℕ) → quadrant h ≡ 0 → funct3 h ≡ 5
+    → float_expansion_of h ≡ Some (Store Double (rs1_prime h) (rs2_prime h) (pos (immediate h double_layout)))
 unfolding expansion_at float_compressed_rows
 fsd h q f = at_fields h 0 5 q f
 
-pub fsw : (h : ℕ) → quadrant h ≡ 0 → funct3 h ≡ 7 → float_expansion_of h ≡ Some (Store Single (rs1_prime h) (rs2_prime h) (pos (immediate h word_layout)))
+pub fsw : (h : ℕ) → quadrant h ≡ 0 → funct3 h ≡ 7
+    → float_expansion_of h ≡ Some (Store Single (rs1_prime h) (rs2_prime h) (pos (immediate h word_layout)))
 unfolding expansion_at float_compressed_rows
 fsw h q f = at_fields h 0 7 q f
 
@@ -89,7 +94,8 @@ pub compressed_disjoint : AllPairs AreDisjoint float_compressed_rows
 unfolding float_compressed_rows
 compressed_disjoint = AllPairs-from_pass apart AreDisjoint float_compressed_rows AreDisjoint-from_apart refl
 
-pub apart_from_integers : (r : CompressedRow FloatInstr) (s : CompressedRow Instr) → Contains float_compressed_rows r → Contains Integers.compressed_rows s → AreDisjoint r s
+pub apart_from_integers : (r : CompressedRow FloatInstr) (s : CompressedRow Instr) → Contains float_compressed_rows r
+    → Contains Integers.compressed_rows s → AreDisjoint r s
 unfolding float_compressed_rows Integers.compressed_rows
 apart_from_integers = tables_apart float_compressed_rows Integers.compressed_rows refl
 
@@ -132,7 +138,26 @@ fsdsp_offset h = grind (arith, ints)
 -- row by row, in the order of the list
 each_row : All ReadsWell float_compressed_rows
 unfolding float_compressed_rows
-each_row = All-from_recursion ReadsWell float_compressed_rows (λ h. (omega arith, omega arith, double_offset h), (λ h. (omega arith, omega arith, word_offset h), (λ h. (omega arith, omega arith, double_offset h), (λ h. (omega arith, omega arith, word_offset h), (λ h. (omega arith, omega arith, fldsp_offset h), (λ h. (omega arith, omega arith, lwsp_offset h), (λ h. (omega arith, omega arith, fsdsp_offset h), (λ h. (omega arith, omega arith, swsp_offset h), tt))))))))
+each_row =
+    All-from_recursion ReadsWell float_compressed_rows (
+      λ h. (omega arith, omega arith, double_offset h),
+      (
+        λ h. (omega arith, omega arith, word_offset h),
+        (
+          λ h. (omega arith, omega arith, double_offset h),
+          (
+            λ h. (omega arith, omega arith, word_offset h),
+            (
+              λ h. (omega arith, omega arith, fldsp_offset h),
+              (
+                λ h. (omega arith, omega arith, lwsp_offset h),
+                (λ h. (omega arith, omega arith, fsdsp_offset h), (λ h. (omega arith, omega arith, swsp_offset h), tt)),
+              ),
+            ),
+          ),
+        ),
+      ),
+    )
 
 pub IsEncodable-float_expansion_of : (h : ℕ) (i : FloatInstr) → float_expansion_of h ≡ Some i → IsEncodable i
 IsEncodable-float_expansion_of h i e =

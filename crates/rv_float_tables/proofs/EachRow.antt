@@ -14,7 +14,9 @@ use Rattle.rv_float_tables.specs.declared.instr.WordKind.TheVariants.{Signed, Un
 use Rattle.rv_float_tables.specs.declared.instr.CsrOp.TheVariants.{Write, Set, Clear}
 use Rattle.rv_tables.specs.Fields.{opcode, funct3, rs2}
 use Rattle.rv_float_tables.specs.Fields.{funct5, fmt, format_of}
-use Rattle.rv_float_tables.specs.Rows.{float_encodings, float_instruction_of, load_of, store_of, fused_of, arithmetic_of, square_root_of, sign_of, min_max_of, compare_of, class_of, to_word_of, from_word_of, to_format_of, move_to_integer_of, move_from_integer_of, csr_instruction_of, csr_immediate_of}
+use Rattle.rv_float_tables.specs.Rows.{float_encodings, float_instruction_of, load_of, store_of, fused_of, arithmetic_of, square_root_of}
+use Rattle.rv_float_tables.specs.Rows.{sign_of, min_max_of, compare_of, class_of, to_word_of, from_word_of, to_format_of}
+use Rattle.rv_float_tables.specs.Rows.{move_to_integer_of, move_from_integer_of, csr_instruction_of, csr_immediate_of}
 use Rattle.rv_float_tables.proofs.FieldCodes.{fmt_code}
 use Rattle.rv_float_tables.proofs.Lookup.{instruction_at, at_fields}
 
@@ -102,108 +104,130 @@ fnmadd w o =
       ]
     ]
 
-pub fadd : (w : ℕ) (format : Format) → opcode w ≡ 0x53 → funct5 w ≡ 0x00 → format_of (fmt w) ≡ Some format → float_instruction_of w ≡ arithmetic_of Add format w
+pub fadd : (w : ℕ) (format : Format) → opcode w ≡ 0x53 → funct5 w ≡ 0x00 → format_of (fmt w) ≡ Some format
+    → float_instruction_of w ≡ arithmetic_of Add format w
 unfolding instruction_at float_encodings
 fadd w Single o g k = at_fields w 0x53 _ 0x00 0 _ o refl g (fmt_code w Single k) refl
 fadd w Double o g k = at_fields w 0x53 _ 0x00 1 _ o refl g (fmt_code w Double k) refl
 
-pub fsub : (w : ℕ) (format : Format) → opcode w ≡ 0x53 → funct5 w ≡ 0x01 → format_of (fmt w) ≡ Some format → float_instruction_of w ≡ arithmetic_of Sub format w
+pub fsub : (w : ℕ) (format : Format) → opcode w ≡ 0x53 → funct5 w ≡ 0x01 → format_of (fmt w) ≡ Some format
+    → float_instruction_of w ≡ arithmetic_of Sub format w
 unfolding instruction_at float_encodings
 fsub w Single o g k = at_fields w 0x53 _ 0x01 0 _ o refl g (fmt_code w Single k) refl
 fsub w Double o g k = at_fields w 0x53 _ 0x01 1 _ o refl g (fmt_code w Double k) refl
 
-pub fmul : (w : ℕ) (format : Format) → opcode w ≡ 0x53 → funct5 w ≡ 0x02 → format_of (fmt w) ≡ Some format → float_instruction_of w ≡ arithmetic_of Mul format w
+pub fmul : (w : ℕ) (format : Format) → opcode w ≡ 0x53 → funct5 w ≡ 0x02 → format_of (fmt w) ≡ Some format
+    → float_instruction_of w ≡ arithmetic_of Mul format w
 unfolding instruction_at float_encodings
 fmul w Single o g k = at_fields w 0x53 _ 0x02 0 _ o refl g (fmt_code w Single k) refl
 fmul w Double o g k = at_fields w 0x53 _ 0x02 1 _ o refl g (fmt_code w Double k) refl
 
-pub fdiv : (w : ℕ) (format : Format) → opcode w ≡ 0x53 → funct5 w ≡ 0x03 → format_of (fmt w) ≡ Some format → float_instruction_of w ≡ arithmetic_of Div format w
+pub fdiv : (w : ℕ) (format : Format) → opcode w ≡ 0x53 → funct5 w ≡ 0x03 → format_of (fmt w) ≡ Some format
+    → float_instruction_of w ≡ arithmetic_of Div format w
 unfolding instruction_at float_encodings
 fdiv w Single o g k = at_fields w 0x53 _ 0x03 0 _ o refl g (fmt_code w Single k) refl
 fdiv w Double o g k = at_fields w 0x53 _ 0x03 1 _ o refl g (fmt_code w Double k) refl
 
-pub fsgnj : (w : ℕ) (format : Format) → opcode w ≡ 0x53 → funct5 w ≡ 0x04 → format_of (fmt w) ≡ Some format → funct3 w ≡ 0 → float_instruction_of w ≡ sign_of Sgnj format w
+pub fsgnj : (w : ℕ) (format : Format) → opcode w ≡ 0x53 → funct5 w ≡ 0x04 → format_of (fmt w) ≡ Some format → funct3 w ≡ 0
+    → float_instruction_of w ≡ sign_of Sgnj format w
 unfolding instruction_at float_encodings
 fsgnj w Single o g k f = at_fields w 0x53 0 0x04 0 _ o f g (fmt_code w Single k) refl
 fsgnj w Double o g k f = at_fields w 0x53 0 0x04 1 _ o f g (fmt_code w Double k) refl
 
-pub fsgnjn : (w : ℕ) (format : Format) → opcode w ≡ 0x53 → funct5 w ≡ 0x04 → format_of (fmt w) ≡ Some format → funct3 w ≡ 1 → float_instruction_of w ≡ sign_of Sgnjn format w
+pub fsgnjn : (w : ℕ) (format : Format) → opcode w ≡ 0x53 → funct5 w ≡ 0x04 → format_of (fmt w) ≡ Some format → funct3 w ≡ 1
+    → float_instruction_of w ≡ sign_of Sgnjn format w
 unfolding instruction_at float_encodings
 fsgnjn w Single o g k f = at_fields w 0x53 1 0x04 0 _ o f g (fmt_code w Single k) refl
 fsgnjn w Double o g k f = at_fields w 0x53 1 0x04 1 _ o f g (fmt_code w Double k) refl
 
-pub fsgnjx : (w : ℕ) (format : Format) → opcode w ≡ 0x53 → funct5 w ≡ 0x04 → format_of (fmt w) ≡ Some format → funct3 w ≡ 2 → float_instruction_of w ≡ sign_of Sgnjx format w
+pub fsgnjx : (w : ℕ) (format : Format) → opcode w ≡ 0x53 → funct5 w ≡ 0x04 → format_of (fmt w) ≡ Some format → funct3 w ≡ 2
+    → float_instruction_of w ≡ sign_of Sgnjx format w
 unfolding instruction_at float_encodings
 fsgnjx w Single o g k f = at_fields w 0x53 2 0x04 0 _ o f g (fmt_code w Single k) refl
 fsgnjx w Double o g k f = at_fields w 0x53 2 0x04 1 _ o f g (fmt_code w Double k) refl
 
-pub fmin : (w : ℕ) (format : Format) → opcode w ≡ 0x53 → funct5 w ≡ 0x05 → format_of (fmt w) ≡ Some format → funct3 w ≡ 0 → float_instruction_of w ≡ min_max_of Min format w
+pub fmin : (w : ℕ) (format : Format) → opcode w ≡ 0x53 → funct5 w ≡ 0x05 → format_of (fmt w) ≡ Some format → funct3 w ≡ 0
+    → float_instruction_of w ≡ min_max_of Min format w
 unfolding instruction_at float_encodings
 fmin w Single o g k f = at_fields w 0x53 0 0x05 0 _ o f g (fmt_code w Single k) refl
 fmin w Double o g k f = at_fields w 0x53 0 0x05 1 _ o f g (fmt_code w Double k) refl
 
-pub fmax : (w : ℕ) (format : Format) → opcode w ≡ 0x53 → funct5 w ≡ 0x05 → format_of (fmt w) ≡ Some format → funct3 w ≡ 1 → float_instruction_of w ≡ min_max_of Max format w
+pub fmax : (w : ℕ) (format : Format) → opcode w ≡ 0x53 → funct5 w ≡ 0x05 → format_of (fmt w) ≡ Some format → funct3 w ≡ 1
+    → float_instruction_of w ≡ min_max_of Max format w
 unfolding instruction_at float_encodings
 fmax w Single o g k f = at_fields w 0x53 1 0x05 0 _ o f g (fmt_code w Single k) refl
 fmax w Double o g k f = at_fields w 0x53 1 0x05 1 _ o f g (fmt_code w Double k) refl
 
-pub fle : (w : ℕ) (format : Format) → opcode w ≡ 0x53 → funct5 w ≡ 0x14 → format_of (fmt w) ≡ Some format → funct3 w ≡ 0 → float_instruction_of w ≡ compare_of Fle format w
+pub fle : (w : ℕ) (format : Format) → opcode w ≡ 0x53 → funct5 w ≡ 0x14 → format_of (fmt w) ≡ Some format → funct3 w ≡ 0
+    → float_instruction_of w ≡ compare_of Fle format w
 unfolding instruction_at float_encodings
 fle w Single o g k f = at_fields w 0x53 0 0x14 0 _ o f g (fmt_code w Single k) refl
 fle w Double o g k f = at_fields w 0x53 0 0x14 1 _ o f g (fmt_code w Double k) refl
 
-pub flt : (w : ℕ) (format : Format) → opcode w ≡ 0x53 → funct5 w ≡ 0x14 → format_of (fmt w) ≡ Some format → funct3 w ≡ 1 → float_instruction_of w ≡ compare_of Flt format w
+pub flt : (w : ℕ) (format : Format) → opcode w ≡ 0x53 → funct5 w ≡ 0x14 → format_of (fmt w) ≡ Some format → funct3 w ≡ 1
+    → float_instruction_of w ≡ compare_of Flt format w
 unfolding instruction_at float_encodings
 flt w Single o g k f = at_fields w 0x53 1 0x14 0 _ o f g (fmt_code w Single k) refl
 flt w Double o g k f = at_fields w 0x53 1 0x14 1 _ o f g (fmt_code w Double k) refl
 
-pub feq : (w : ℕ) (format : Format) → opcode w ≡ 0x53 → funct5 w ≡ 0x14 → format_of (fmt w) ≡ Some format → funct3 w ≡ 2 → float_instruction_of w ≡ compare_of Feq format w
+pub feq : (w : ℕ) (format : Format) → opcode w ≡ 0x53 → funct5 w ≡ 0x14 → format_of (fmt w) ≡ Some format → funct3 w ≡ 2
+    → float_instruction_of w ≡ compare_of Feq format w
 unfolding instruction_at float_encodings
 feq w Single o g k f = at_fields w 0x53 2 0x14 0 _ o f g (fmt_code w Single k) refl
 feq w Double o g k f = at_fields w 0x53 2 0x14 1 _ o f g (fmt_code w Double k) refl
 
-pub fcvt_s_d : (w : ℕ) → opcode w ≡ 0x53 → funct5 w ≡ 0x08 → format_of (fmt w) ≡ Some Single → rs2 w ≡ 1 → float_instruction_of w ≡ to_format_of Single w
+pub fcvt_s_d : (w : ℕ) → opcode w ≡ 0x53 → funct5 w ≡ 0x08 → format_of (fmt w) ≡ Some Single → rs2 w ≡ 1
+    → float_instruction_of w ≡ to_format_of Single w
 unfolding instruction_at float_encodings
 fcvt_s_d w o g k r = at_fields w 0x53 _ 0x08 0 1 o refl g (fmt_code w Single k) r
 
-pub fcvt_d_s : (w : ℕ) → opcode w ≡ 0x53 → funct5 w ≡ 0x08 → format_of (fmt w) ≡ Some Double → rs2 w ≡ 0 → float_instruction_of w ≡ to_format_of Double w
+pub fcvt_d_s : (w : ℕ) → opcode w ≡ 0x53 → funct5 w ≡ 0x08 → format_of (fmt w) ≡ Some Double → rs2 w ≡ 0
+    → float_instruction_of w ≡ to_format_of Double w
 unfolding instruction_at float_encodings
 fcvt_d_s w o g k r = at_fields w 0x53 _ 0x08 1 0 o refl g (fmt_code w Double k) r
 
-pub fsqrt : (w : ℕ) (format : Format) → opcode w ≡ 0x53 → funct5 w ≡ 0x0B → format_of (fmt w) ≡ Some format → rs2 w ≡ 0 → float_instruction_of w ≡ square_root_of format w
+pub fsqrt : (w : ℕ) (format : Format) → opcode w ≡ 0x53 → funct5 w ≡ 0x0B → format_of (fmt w) ≡ Some format → rs2 w ≡ 0
+    → float_instruction_of w ≡ square_root_of format w
 unfolding instruction_at float_encodings
 fsqrt w Single o g k r = at_fields w 0x53 _ 0x0B 0 0 o refl g (fmt_code w Single k) r
 fsqrt w Double o g k r = at_fields w 0x53 _ 0x0B 1 0 o refl g (fmt_code w Double k) r
 
-pub fcvt_w : (w : ℕ) (format : Format) → opcode w ≡ 0x53 → funct5 w ≡ 0x18 → format_of (fmt w) ≡ Some format → rs2 w ≡ 0 → float_instruction_of w ≡ to_word_of Signed format w
+pub fcvt_w : (w : ℕ) (format : Format) → opcode w ≡ 0x53 → funct5 w ≡ 0x18 → format_of (fmt w) ≡ Some format → rs2 w ≡ 0
+    → float_instruction_of w ≡ to_word_of Signed format w
 unfolding instruction_at float_encodings
 fcvt_w w Single o g k r = at_fields w 0x53 _ 0x18 0 0 o refl g (fmt_code w Single k) r
 fcvt_w w Double o g k r = at_fields w 0x53 _ 0x18 1 0 o refl g (fmt_code w Double k) r
 
-pub fcvt_wu : (w : ℕ) (format : Format) → opcode w ≡ 0x53 → funct5 w ≡ 0x18 → format_of (fmt w) ≡ Some format → rs2 w ≡ 1 → float_instruction_of w ≡ to_word_of Unsigned format w
+pub fcvt_wu : (w : ℕ) (format : Format) → opcode w ≡ 0x53 → funct5 w ≡ 0x18 → format_of (fmt w) ≡ Some format → rs2 w ≡ 1
+    → float_instruction_of w ≡ to_word_of Unsigned format w
 unfolding instruction_at float_encodings
 fcvt_wu w Single o g k r = at_fields w 0x53 _ 0x18 0 1 o refl g (fmt_code w Single k) r
 fcvt_wu w Double o g k r = at_fields w 0x53 _ 0x18 1 1 o refl g (fmt_code w Double k) r
 
-pub fcvt_from_w : (w : ℕ) (format : Format) → opcode w ≡ 0x53 → funct5 w ≡ 0x1A → format_of (fmt w) ≡ Some format → rs2 w ≡ 0 → float_instruction_of w ≡ from_word_of Signed format w
+pub fcvt_from_w : (w : ℕ) (format : Format) → opcode w ≡ 0x53 → funct5 w ≡ 0x1A → format_of (fmt w) ≡ Some format → rs2 w ≡ 0
+    → float_instruction_of w ≡ from_word_of Signed format w
 unfolding instruction_at float_encodings
 fcvt_from_w w Single o g k r = at_fields w 0x53 _ 0x1A 0 0 o refl g (fmt_code w Single k) r
 fcvt_from_w w Double o g k r = at_fields w 0x53 _ 0x1A 1 0 o refl g (fmt_code w Double k) r
 
-pub fcvt_from_wu : (w : ℕ) (format : Format) → opcode w ≡ 0x53 → funct5 w ≡ 0x1A → format_of (fmt w) ≡ Some format → rs2 w ≡ 1 → float_instruction_of w ≡ from_word_of Unsigned format w
+pub fcvt_from_wu : (w : ℕ) (format : Format) → opcode w ≡ 0x53 → funct5 w ≡ 0x1A → format_of (fmt w) ≡ Some format → rs2 w ≡ 1
+    → float_instruction_of w ≡ from_word_of Unsigned format w
 unfolding instruction_at float_encodings
 fcvt_from_wu w Single o g k r = at_fields w 0x53 _ 0x1A 0 1 o refl g (fmt_code w Single k) r
 fcvt_from_wu w Double o g k r = at_fields w 0x53 _ 0x1A 1 1 o refl g (fmt_code w Double k) r
 
-pub fmv_x_w : (w : ℕ) → opcode w ≡ 0x53 → funct5 w ≡ 0x1C → format_of (fmt w) ≡ Some Single → rs2 w ≡ 0 → funct3 w ≡ 0 → float_instruction_of w ≡ move_to_integer_of w
+pub fmv_x_w : (w : ℕ) → opcode w ≡ 0x53 → funct5 w ≡ 0x1C → format_of (fmt w) ≡ Some Single → rs2 w ≡ 0 → funct3 w ≡ 0
+    → float_instruction_of w ≡ move_to_integer_of w
 unfolding instruction_at float_encodings
 fmv_x_w w o g k r f = at_fields w 0x53 0 0x1C 0 0 o f g (fmt_code w Single k) r
 
-pub fclass : (w : ℕ) (format : Format) → opcode w ≡ 0x53 → funct5 w ≡ 0x1C → format_of (fmt w) ≡ Some format → rs2 w ≡ 0 → funct3 w ≡ 1 → float_instruction_of w ≡ class_of format w
+pub fclass : (w : ℕ) (format : Format) → opcode w ≡ 0x53 → funct5 w ≡ 0x1C → format_of (fmt w) ≡ Some format → rs2 w ≡ 0 → funct3 w ≡ 1
+    → float_instruction_of w ≡ class_of format w
 unfolding instruction_at float_encodings
 fclass w Single o g k r f = at_fields w 0x53 1 0x1C 0 0 o f g (fmt_code w Single k) r
 fclass w Double o g k r f = at_fields w 0x53 1 0x1C 1 0 o f g (fmt_code w Double k) r
 
-pub fmv_w_x : (w : ℕ) → opcode w ≡ 0x53 → funct5 w ≡ 0x1E → format_of (fmt w) ≡ Some Single → rs2 w ≡ 0 → funct3 w ≡ 0 → float_instruction_of w ≡ move_from_integer_of w
+pub fmv_w_x : (w : ℕ) → opcode w ≡ 0x53 → funct5 w ≡ 0x1E → format_of (fmt w) ≡ Some Single → rs2 w ≡ 0 → funct3 w ≡ 0
+    → float_instruction_of w ≡ move_from_integer_of w
 unfolding instruction_at float_encodings
 fmv_w_x w o g k r f = at_fields w 0x53 0 0x1E 0 0 o f g (fmt_code w Single k) r

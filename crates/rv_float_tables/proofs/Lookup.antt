@@ -45,22 +45,32 @@ agrees op f3 f5 f r2 m v =
     (cond (eqb m 0xFE00707F) (eqb f3 (funct3 v))
     (eqb r2 (rs2 v) && cond (eqb m 0xFFF0007F) true (eqb f3 (funct3 v))))))
 
-at_707F : (w v : ℕ) → eqb v (at_funct3 v + opcode v) ≡ true → eqb (bit_and w 0x707F) v ≡ (eqb (opcode w) (opcode v) && eqb (funct3 w) (funct3 v))
+at_707F : (w v : ℕ) → eqb v (at_funct3 v + opcode v) ≡ true
+    → eqb (bit_and w 0x707F) v ≡ (eqb (opcode w) (opcode v) && eqb (funct3 w) (funct3 v))
 at_707F w v h = grind (arith, nat_tests, under_707F w)
 
-at_600007F : (w v : ℕ) → eqb v (at_fmt v + opcode v) ≡ true → eqb (bit_and w 0x600007F) v ≡ (eqb (opcode w) (opcode v) && (eqb (fmt w) (fmt v) && true))
+at_600007F : (w v : ℕ) → eqb v (at_fmt v + opcode v) ≡ true
+    → eqb (bit_and w 0x600007F) v ≡ (eqb (opcode w) (opcode v) && (eqb (fmt w) (fmt v) && true))
 at_600007F w v h = grind (arith, nat_tests, under_600007F w)
 
-at_FE00007F : (w v : ℕ) → eqb v (at_funct7 v + opcode v) ≡ true → eqb (bit_and w 0xFE00007F) v ≡ (eqb (opcode w) (opcode v) && (eqb (fmt w) (fmt v) && (eqb (funct5 w) (funct5 v) && true)))
+at_FE00007F : (w v : ℕ) → eqb v (at_funct7 v + opcode v) ≡ true
+    → eqb (bit_and w 0xFE00007F) v ≡ (eqb (opcode w) (opcode v) && (eqb (fmt w) (fmt v) && (eqb (funct5 w) (funct5 v) && true)))
 at_FE00007F w v h = grind (arith, nat_tests, under_FE00007F w)
 
-at_FE00707F : (w v : ℕ) → eqb v (at_funct7 v + (at_funct3 v + opcode v)) ≡ true → eqb (bit_and w 0xFE00707F) v ≡ (eqb (opcode w) (opcode v) && (eqb (fmt w) (fmt v) && (eqb (funct5 w) (funct5 v) && eqb (funct3 w) (funct3 v))))
+at_FE00707F : (w v : ℕ) → eqb v (at_funct7 v + (at_funct3 v + opcode v)) ≡ true
+    → eqb (bit_and w 0xFE00707F) v
+    ≡ (eqb (opcode w) (opcode v) && (eqb (fmt w) (fmt v) && (eqb (funct5 w) (funct5 v) && eqb (funct3 w) (funct3 v))))
 at_FE00707F w v h = grind (arith, nat_tests, under_FE00707F w)
 
-at_FFF0007F : (w v : ℕ) → eqb v (at_funct7 v + (at_rs2 v + opcode v)) ≡ true → eqb (bit_and w 0xFFF0007F) v ≡ (eqb (opcode w) (opcode v) && (eqb (fmt w) (fmt v) && (eqb (funct5 w) (funct5 v) && (eqb (rs2 w) (rs2 v) && true))))
+at_FFF0007F : (w v : ℕ) → eqb v (at_funct7 v + (at_rs2 v + opcode v)) ≡ true
+    → eqb (bit_and w 0xFFF0007F) v
+    ≡ (eqb (opcode w) (opcode v) && (eqb (fmt w) (fmt v) && (eqb (funct5 w) (funct5 v) && (eqb (rs2 w) (rs2 v) && true))))
 at_FFF0007F w v h = grind (arith, nat_tests, under_FFF0007F w)
 
-at_FFF0707F : (w v : ℕ) → eqb v (at_funct7 v + (at_rs2 v + (at_funct3 v + opcode v))) ≡ true → eqb (bit_and w 0xFFF0707F) v ≡ (eqb (opcode w) (opcode v) && (eqb (fmt w) (fmt v) && (eqb (funct5 w) (funct5 v) && (eqb (rs2 w) (rs2 v) && eqb (funct3 w) (funct3 v)))))
+at_FFF0707F : (w v : ℕ) → eqb v (at_funct7 v + (at_rs2 v + (at_funct3 v + opcode v))) ≡ true
+    → eqb (bit_and w 0xFFF0707F) v
+    ≡ (eqb (opcode w) (opcode v)
+    && (eqb (fmt w) (fmt v) && (eqb (funct5 w) (funct5 v) && (eqb (rs2 w) (rs2 v) && eqb (funct3 w) (funct3 v)))))
 at_FFF0707F w v h = grind (arith, nat_tests, under_FFF0707F w)
 
 pub agrees-met : (w m v : ℕ) → known m v ≡ true → eqb (bit_and w m) v ≡ agrees (opcode w) (funct3 w) (funct5 w) (fmt w) (rs2 w) m v
@@ -94,7 +104,9 @@ instruction_at w op f3 f5 f r2 =
 pub float_instruction_of-fields : (w : ℕ) → float_instruction_of w ≡ instruction_at w (opcode w) (funct3 w) (funct5 w) (fmt w) (rs2 w)
 unfolding float_instruction_of instruction_at float_encodings
 float_instruction_of-fields w =
-    ap (λ (found : Option FloatEncoding). option_flatten (option_map (λ (e : FloatEncoding). e.read w) found)) (find-agree (meets w) _ (λ e. known e.row.mask e.row.value) float_encodings (λ e k. agrees-met w e.row.mask e.row.value k) refl)
+    ap (λ (found : Option FloatEncoding). option_flatten (option_map (λ (e : FloatEncoding). e.read w) found))
+    (find-agree (meets w) _ (λ e. known e.row.mask e.row.value) float_encodings (λ e k. agrees-met w e.row.mask e.row.value k) refl)
 
-pub at_fields : (w op f3 f5 f r2 : ℕ) → opcode w ≡ op → funct3 w ≡ f3 → funct5 w ≡ f5 → fmt w ≡ f → rs2 w ≡ r2 → float_instruction_of w ≡ instruction_at w op f3 f5 f r2
+pub at_fields : (w op f3 f5 f r2 : ℕ) → opcode w ≡ op → funct3 w ≡ f3 → funct5 w ≡ f5 → fmt w ≡ f → rs2 w ≡ r2
+    → float_instruction_of w ≡ instruction_at w op f3 f5 f r2
 at_fields w op f3 f5 f r2 e_op e_f3 e_f5 e_f e_r2 = rw (← e_op, ← e_f3, ← e_f5, ← e_f, ← e_r2) (float_instruction_of-fields w)

@@ -1,5 +1,6 @@
 -- The names of the registers, and their numbers.
-use Rattle.std.proofs.Common.{◌≡◌, ℕ, zero, suc, ◌+◌, Bool, true, false, ◌&&◌, nat_eq, List, [], ◌∷◌, slice_get, arith, Option, Some, None, refl, ap}
+use Rattle.std.proofs.Common.{◌≡◌, ℕ, zero, suc, ◌+◌, Bool, true, false, ◌&&◌, nat_eq}
+use Rattle.std.proofs.Common.{List, [], ◌∷◌, slice_get, arith, Option, Some, None, refl, ap}
 use Rattle.std.specs.Prelude.{IfSome}
 use Rattle.std.proofs.lemmas.Bool.{eqb-true, and_parts, false≢true}
 use Rattle.std.proofs.lemmas.Option.{same_Some}
@@ -25,7 +26,8 @@ same_number : (o : Option ℕ) (n : ℕ) → is_number o n ≡ true → o ≡ So
 same_number None n e = absurd (false≢true e)
 same_number (Some m) n e = ap Some (eqb-true m n e)
 
-numbered : (first n : ℕ) (names : List (List ℕ)) (name : List ℕ) → are_numbered_from first names ≡ true → slice_get names n ≡ Some name → float_register_number name ≡ Some (first + n)
+numbered : (first n : ℕ) (names : List (List ℕ)) (name : List ℕ) → are_numbered_from first names ≡ true → slice_get names n ≡ Some name
+    → float_register_number name ≡ Some (first + n)
 numbered first n [] name e at = cc
 numbered first zero (x ∷ names) name e at =
     let parts = and_parts (is_number (float_register_number x) first) (are_numbered_from (suc first) names) e in

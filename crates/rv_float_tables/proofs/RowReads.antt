@@ -10,7 +10,9 @@ use Rattle.rv_tables.proofs.Pairs.{◌⨾◌}
 use Rattle.rv_tables.proofs.RowReads.{IsImmediate-i_immediate, IsImmediate-s_immediate}
 use Rattle.rv_tables.proofs.Tables.{found}
 use Rattle.rv_float_tables.specs.declared.instr.FloatInstr.{FloatInstr}
-use Rattle.rv_float_tables.specs.declared.instr.FloatInstr.TheVariants.{Load, Store, Fused, Arithmetic, SquareRoot, Sign, MinMax, Compare, Class, ToWord, FromWord, ToFormat, MoveToInteger, MoveFromInteger, Csr, CsrImmediate}
+use Rattle.rv_float_tables.specs.declared.instr.FloatInstr.TheVariants.{Load, Store, Fused, Arithmetic, SquareRoot, Sign, MinMax, Compare}
+use Rattle.rv_float_tables.specs.declared.instr.FloatInstr.TheVariants.{Class, ToWord, FromWord, ToFormat, MoveToInteger, MoveFromInteger}
+use Rattle.rv_float_tables.specs.declared.instr.FloatInstr.TheVariants.{Csr, CsrImmediate}
 use Rattle.rv_float_tables.specs.declared.instr.Format.{Format}
 use Rattle.rv_float_tables.specs.declared.instr.Format.TheVariants.{Single, Double}
 use Rattle.rv_float_tables.specs.declared.instr.RoundingField.{RoundingField}
@@ -32,7 +34,9 @@ use Rattle.rv_float_tables.specs.declared.instr.FloatCsr.{FloatCsr}
 use Rattle.rv_float_tables.specs.Fields.{rs3, rm, csr, uimm, rounding_of, csr_of}
 use Rattle.rv_float_tables.specs.Mnemonics.{float_mnemonic_of, sample}
 use Rattle.rv_float_tables.specs.Operands.{IsEncodable}
-use Rattle.rv_float_tables.specs.Rows.{float_encodings, Spells, float_instruction_of, rounded, on_csr, load_of, store_of, fused_of, arithmetic_of, square_root_of, sign_of, min_max_of, compare_of, class_of, to_word_of, from_word_of, to_format_of, move_to_integer_of, move_from_integer_of, csr_instruction_of, csr_immediate_of}
+use Rattle.rv_float_tables.specs.Rows.{float_encodings, Spells, float_instruction_of, rounded, on_csr, load_of, store_of, fused_of}
+use Rattle.rv_float_tables.specs.Rows.{arithmetic_of, square_root_of, sign_of, min_max_of, compare_of, class_of, to_word_of, from_word_of}
+use Rattle.rv_float_tables.specs.Rows.{to_format_of, move_to_integer_of, move_from_integer_of, csr_instruction_of, csr_immediate_of}
 use Rattle.rv_float_tables.proofs.Spelling.{Spells-from_instruction}
 
 -- the operands of an instruction are in range, and it has this mnemonic
@@ -47,13 +51,15 @@ ReadsAlike read = (w : ℕ) (i : FloatInstr) → read w ≡ Some i → Suits (op
 plainly : (name : Option (List ℕ)) (i j : FloatInstr) → Some j ≡ Some i → Suits name j → Suits name i
 plainly name i j e suits = rw (← same_Some j i e) suits
 
-with_rounding : (name : Option (List ℕ)) (w : ℕ) (make : RoundingField → FloatInstr) (i : FloatInstr) → rounded w make ≡ Some i → ((r : RoundingField) → Suits name (make r)) → Suits name i
+with_rounding : (name : Option (List ℕ)) (w : ℕ) (make : RoundingField → FloatInstr) (i : FloatInstr) → rounded w make ≡ Some i
+    → ((r : RoundingField) → Suits name (make r)) → Suits name i
 with_rounding name w make i e suits = by_mode (rounding_of (rm w)) e where
   by_mode : (o : Option RoundingField) → option_map make o ≡ Some i → Suits name i
   by_mode None e = cc
   by_mode (Some r) e = rw (← same_Some (make r) i e) (suits r)
 
-with_csr : (name : Option (List ℕ)) (w : ℕ) (make : FloatCsr → FloatInstr) (i : FloatInstr) → on_csr w make ≡ Some i → ((c : FloatCsr) → Suits name (make c)) → Suits name i
+with_csr : (name : Option (List ℕ)) (w : ℕ) (make : FloatCsr → FloatInstr) (i : FloatInstr) → on_csr w make ≡ Some i
+    → ((c : FloatCsr) → Suits name (make c)) → Suits name i
 with_csr name w make i e suits = by_csr (csr_of (csr w)) e where
   by_csr : (o : Option FloatCsr) → option_map make o ≡ Some i → Suits name i
   by_csr None e = cc
@@ -69,7 +75,8 @@ store format w i e =
 
 fused : (op : FusedOp) (format : Format) → ReadsAlike (fused_of op format)
 fused op format w i e =
-    with_rounding _ w (Fused op format (rd w) (rs1 w) (rs2 w) (rs3 w)) i e (λ r. ((omega arith, omega arith, omega arith, omega arith), refl))
+    with_rounding _ w (Fused op format (rd w) (rs1 w) (rs2 w) (rs3 w)) i e
+    (λ r. ((omega arith, omega arith, omega arith, omega arith), refl))
 
 arithmetic : (op : ArithmeticOp) (format : Format) → ReadsAlike (arithmetic_of op format)
 arithmetic op format w i e =

@@ -9,7 +9,8 @@ use Rattle.rv_tables.specs.Tables.{MeetsRow, IsDisjoint}
 use Rattle.rv_tables.specs.declared.instr.Instr.{Instr}
 use Rattle.rv_tables.proofs.Pairs.{AllPairs-from_pass}
 use Rattle.rv_tables.proofs.Spelling as IntegerSpelling
-use Rattle.rv_tables.proofs.Tables.{apart, IsDisjoint-from_apart, HasDisjointRows, HasDisjointRows-from_apart, tables_apart, read_off-met, Reads-from_read_off, read_off-Reads}
+use Rattle.rv_tables.proofs.Tables.{apart, IsDisjoint-from_apart, HasDisjointRows, HasDisjointRows-from_apart}
+use Rattle.rv_tables.proofs.Tables.{tables_apart, read_off-met, Reads-from_read_off, read_off-Reads}
 use Rattle.rv_float_tables.specs.declared.instr.FloatInstr.{FloatInstr}
 use Rattle.rv_float_tables.specs.Rows.{FloatEncoding, float_encodings, Spells, IsReserved, float_instruction_of}
 
@@ -21,11 +22,13 @@ pub rows_disjoint : AllPairs IsDisjoint (map (λ e. e.row) float_encodings)
 unfolding float_encodings
 rows_disjoint = AllPairs-from_pass apart IsDisjoint (map (λ e. e.row) float_encodings) IsDisjoint-from_apart refl
 
-pub apart_from_integers : (e : FloatEncoding) (r : Integers.Encoding) → Contains float_encodings e → Contains Integers.encodings r → IsDisjoint e.row r.row
+pub apart_from_integers : (e : FloatEncoding) (r : Integers.Encoding) → Contains float_encodings e → Contains Integers.encodings r
+    → IsDisjoint e.row r.row
 unfolding float_encodings Integers.encodings
 apart_from_integers = tables_apart float_encodings Integers.encodings refl
 
-pub float_instruction_of-met : (w : ℕ) (e : FloatEncoding) → Contains float_encodings e → MeetsRow w e.row → float_instruction_of w ≡ e.read w
+pub float_instruction_of-met : (w : ℕ) (e : FloatEncoding) → Contains float_encodings e → MeetsRow w e.row
+    → float_instruction_of w ≡ e.read w
 unfolding float_instruction_of
 float_instruction_of-met w e listed met = ap option_flatten (read_off-met float_encodings encodings_disjoint w e listed met)
 

@@ -3,7 +3,9 @@
 use Rattle.std.specs.Prelude.{◌<◌}
 use Rattle.rv_tables.specs.Operands.{IsRegister, IsImmediate}
 use Rattle.rv_float_tables.specs.declared.instr.FloatInstr.{FloatInstr}
-use Rattle.rv_float_tables.specs.declared.instr.FloatInstr.TheVariants.{Load, Store, Fused, Arithmetic, SquareRoot, Sign, MinMax, Compare, Class, ToWord, FromWord, ToFormat, MoveToInteger, MoveFromInteger, Csr, CsrImmediate}
+use Rattle.rv_float_tables.specs.declared.instr.FloatInstr.TheVariants.{Load, Store, Fused, Arithmetic, SquareRoot, Sign, MinMax, Compare}
+use Rattle.rv_float_tables.specs.declared.instr.FloatInstr.TheVariants.{Class, ToWord, FromWord, ToFormat, MoveToInteger, MoveFromInteger}
+use Rattle.rv_float_tables.specs.declared.instr.FloatInstr.TheVariants.{Csr, CsrImmediate}
 
 -- each operand is in the range of its form
 abbrev pub IsEncodable : FloatInstr → Type 0

@@ -6,7 +6,9 @@
 use Rattle.std.specs.Prelude.{ℕ, ◌+◌, ◌*◌, ◌^◌, List, [], ◌∷◌, Option, Some, None}
 use Rattle.std.specs.Option.{option_map, option_flatten}
 use Rattle.rv_float_tables.specs.declared.instr.FloatInstr.{FloatInstr}
-use Rattle.rv_float_tables.specs.declared.instr.FloatInstr.TheVariants.{Load, Store, Fused, Arithmetic, SquareRoot, Sign, MinMax, Compare, Class, ToWord, FromWord, ToFormat, MoveToInteger, MoveFromInteger, Csr, CsrImmediate}
+use Rattle.rv_float_tables.specs.declared.instr.FloatInstr.TheVariants.{Load, Store, Fused, Arithmetic, SquareRoot, Sign, MinMax, Compare}
+use Rattle.rv_float_tables.specs.declared.instr.FloatInstr.TheVariants.{Class, ToWord, FromWord, ToFormat, MoveToInteger, MoveFromInteger}
+use Rattle.rv_float_tables.specs.declared.instr.FloatInstr.TheVariants.{Csr, CsrImmediate}
 use Rattle.rv_float_tables.specs.declared.instr.FloatForm.{FloatForm}
 use Rattle.rv_float_tables.specs.declared.instr.FloatForm.TheVariants as form
 use Rattle.rv_float_tables.specs.declared.instr.Format.{Format}

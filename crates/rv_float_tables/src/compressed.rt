@@ -17,7 +17,8 @@ pub fn decode16(half: u16) -> Option<FloatInstr>
     expansion(u32::from(half))
 }
 
-/// By matches on the quadrant and on funct3. The rows of quadrant 0 go through one of x8 to x15, those of quadrant 2 through the stack pointer.
+/// By matches on the quadrant and on funct3. The rows of quadrant 0 go through one of x8 to x15, those of quadrant 2 through the stack
+/// pointer.
 #[tactic(auto, using(crate::proofs::CompressedRows::expansions))]
 fn expansion(half: u32) -> Option<FloatInstr>
     ensures { result ≡ float_expansion_of half }

@@ -6,7 +6,8 @@ ghost use Rattle.rv_tables.specs.Fields as Fields;
 ghost use Rattle.rv_tables.specs.Operands.{IsFound};
 ghost use Rattle.rv_float_tables.specs.Fields.{funct5, fmt, format_of};
 ghost use Rattle.rv_float_tables.specs.Operands.{IsEncodable};
-ghost use Rattle.rv_float_tables.specs.Rows.{float_instruction_of, fused_of, arithmetic_of, square_root_of, to_word_of, from_word_of, to_format_of, csr_instruction_of, csr_immediate_of};
+ghost use Rattle.rv_float_tables.specs.Rows.{float_instruction_of, fused_of, arithmetic_of, square_root_of, to_word_of};
+ghost use Rattle.rv_float_tables.specs.Rows.{from_word_of, to_format_of, csr_instruction_of, csr_immediate_of};
 
 use crate::fields;
 use crate::instr::{

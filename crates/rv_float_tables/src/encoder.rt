@@ -3,9 +3,12 @@
 ghost use Rattle.std.specs.Prelude.{◌≡◌, ◌+◌, ◌*◌, ◌^◌, ◌<◌, ◌++◌, codes, Some};
 ghost use Rattle.rv_tables.specs.Words.{IsEncoded};
 ghost use Rattle.rv_float_tables.specs.Fields.{format_code};
-ghost use Rattle.rv_float_tables.specs.Mnemonics.{float_row_named, load_mnemonic, store_mnemonic, fused_mnemonic, arithmetic_mnemonic, sign_mnemonic, min_max_mnemonic, compare_mnemonic, to_word_mnemonic, from_word_mnemonic, to_format_mnemonic, csr_mnemonic};
+ghost use Rattle.rv_float_tables.specs.Mnemonics.{float_row_named, load_mnemonic, store_mnemonic, fused_mnemonic};
+ghost use Rattle.rv_float_tables.specs.Mnemonics.{arithmetic_mnemonic, sign_mnemonic, min_max_mnemonic, compare_mnemonic};
+ghost use Rattle.rv_float_tables.specs.Mnemonics.{to_word_mnemonic, from_word_mnemonic, to_format_mnemonic, csr_mnemonic};
 ghost use Rattle.rv_float_tables.specs.Operands.{IsEncodable};
-ghost use Rattle.rv_float_tables.specs.Rows.{float_instruction_of, load_row, store_row, fused_row, arithmetic_row, sign_row, min_max_row, compare_row, to_word_row, from_word_row, to_format_row, csr_row, csr_immediate_row};
+ghost use Rattle.rv_float_tables.specs.Rows.{float_instruction_of, load_row, store_row, fused_row, arithmetic_row, sign_row, min_max_row};
+ghost use Rattle.rv_float_tables.specs.Rows.{compare_row, to_word_row, from_word_row, to_format_row, csr_row, csr_immediate_row};
 ghost use Rattle.rv_float_tables.specs.declared.instr.Format.{Format as AnyFormat};
 
 use crate::fields::{csr_number, format_code, rounding_code};

@@ -1,7 +1,8 @@
 //! The bit fields of a word that those of whole numbers have not, and what their values stand for.
 
 ghost use Rattle.std.specs.Prelude.{◌≡◌};
-ghost use Rattle.rv_float_tables.specs.Fields.{funct5, fmt, rm, csr, uimm, rs3, format_of, format_code, rounding_of, rounding_code, csr_of, csr_number};
+ghost use Rattle.rv_float_tables.specs.Fields.{funct5, fmt, rm, csr, uimm, rs3, format_of, format_code};
+ghost use Rattle.rv_float_tables.specs.Fields.{rounding_of, rounding_code, csr_of, csr_number};
 
 use crate::instr::{FloatCsr, Format, RoundingField};
 pub use rv_tables::fields::{bits, funct3, i_immediate, opcode, rd, rs1, rs2, s_immediate};

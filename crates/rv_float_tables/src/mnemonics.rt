@@ -1,7 +1,10 @@
 //! The names of the instructions, of rounding modes, and of control and status registers.
 
 ghost use Rattle.std.specs.Prelude.{◌≡◌, ◌++◌, codes};
-ghost use Rattle.rv_float_tables.specs.Mnemonics.{float_mnemonic_of, of_format, load_mnemonic, store_mnemonic, fused_mnemonic, arithmetic_mnemonic, sign_mnemonic, min_max_mnemonic, compare_mnemonic, to_word_mnemonic, from_word_mnemonic, to_format_mnemonic, csr_mnemonic, rounding_name, rounding_named, csr_name, csr_named};
+ghost use Rattle.rv_float_tables.specs.Mnemonics.{float_mnemonic_of, of_format, load_mnemonic, store_mnemonic, fused_mnemonic};
+ghost use Rattle.rv_float_tables.specs.Mnemonics.{arithmetic_mnemonic, sign_mnemonic, min_max_mnemonic, compare_mnemonic};
+ghost use Rattle.rv_float_tables.specs.Mnemonics.{to_word_mnemonic, from_word_mnemonic, to_format_mnemonic, csr_mnemonic};
+ghost use Rattle.rv_float_tables.specs.Mnemonics.{rounding_name, rounding_named, csr_name, csr_named};
 
 use crate::instr::{
     ArithmeticOp, CompareOp, CsrOp, FloatCsr, FloatInstr, Format, FusedOp, MinMaxOp, RoundingField,

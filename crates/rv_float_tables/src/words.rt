@@ -55,7 +55,8 @@ pub fn r4_word(opcode: u32, rd: u8, funct3: u32, rs1: u8, rs2: u8, fmt: u32, rs3
     requires opcode { opcode < 2 ^ 7 }
     requires funct3 { funct3 < 2 ^ 3 }
     requires fmt { fmt < 2 ^ 2 }
-    ensures { IsEncoded (IsRegister rd × IsRegister rs1 × IsRegister rs2 × IsRegister rs3) (IsR4Word opcode rd funct3 rs1 rs2 fmt rs3) result }
+    ensures { IsEncoded (IsRegister rd × IsRegister rs1 × IsRegister rs2 × IsRegister rs3)
+        (IsR4Word opcode rd funct3 rs1 rs2 fmt rs3) result }
 {
     if rd >= 32 || rs1 >= 32 || rs2 >= 32 || rs3 >= 32 {
         return None;

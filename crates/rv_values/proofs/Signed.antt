@@ -25,10 +25,12 @@ signed-abs : (a : ℕ) → a < 2 ^ 32 → unsigned_abs (cast_signed w32 a) ≤ 2
 signed-abs a fits = grind (arith, ints)
 
 -- `i64::from` of a register's signed value
-pub widened-abs : (a : ℕ) (z wide : ℤ) → a < 2 ^ 32 → z ≡ cast_signed w32 a → wide ≡ cast_signed w32 (cast_unsigned w32 z) → unsigned_abs wide ≤ 2 ^ 31
+pub widened-abs : (a : ℕ) (z wide : ℤ) → a < 2 ^ 32 → z ≡ cast_signed w32 a → wide ≡ cast_signed w32 (cast_unsigned w32 z)
+    → unsigned_abs wide ≤ 2 ^ 31
 widened-abs a z wide fits z_is wide_is = rw (wide_is, z_is, of_z-to_z w32 a fits) (signed-abs a fits)
 
-pub product-fits : (x y : ℤ) → unsigned_abs x ≤ 2 ^ 31 → unsigned_abs y < 2 ^ 32 → FitsSigned w64 (cast_signed w64 (cast_unsigned w64 x) *ℤ cast_signed w64 (cast_unsigned w64 y))
+pub product-fits : (x y : ℤ) → unsigned_abs x ≤ 2 ^ 31 → unsigned_abs y < 2 ^ 32
+    → FitsSigned w64 (cast_signed w64 (cast_unsigned w64 x) *ℤ cast_signed w64 (cast_unsigned w64 y))
 product-fits x y x_abs y_abs =
     let x_fits = fits_signed_from_abs w64 x (omega arith) in
     let y_fits = fits_signed_from_abs w64 y (omega arith) in

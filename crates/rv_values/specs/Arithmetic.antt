@@ -1,11 +1,13 @@
 -- What the instructions compute from registers and immediates, in whole numbers (RISC-V Unprivileged ISA 20191213,
 -- section 2.4 "Integer Computational Instructions", section 2.5 "Control Transfer Instructions", chapter 7 "M").
 -- A register is the number from 0 to 2 ^ 32 - 1 that its bits are without sign.
-use Rattle.std.specs.Prelude.{ℕ, ◌+◌, ◌-◌, ◌*◌, ◌/◌, ◌%◌, ◌^◌, ◌==◌, Bool, not, nat_lt, if◌then◌else◌, bit_and, bit_or, bit_xor, ℤ, pos, ◌+ℤ◌, ◌-ℤ◌, ◌*ℤ◌, int_lt, int_div, int_rem, unsigned_abs}
+use Rattle.std.specs.Prelude.{ℕ, ◌+◌, ◌-◌, ◌*◌, ◌/◌, ◌%◌, ◌^◌, ◌==◌, Bool, not, nat_lt, if◌then◌else◌, bit_and, bit_or, bit_xor, ℤ, pos}
+use Rattle.std.specs.Prelude.{◌+ℤ◌, ◌-ℤ◌, ◌*ℤ◌, int_lt, int_div, int_rem, unsigned_abs}
 use Rattle.std.specs.Int.{int_div_euclid, int_rem_euclid}
 use Rattle.rv_tables.specs.Fields.{sign_extended}
 use Rattle.rv_tables.specs.declared.instr.ROp.{ROp}
-use Rattle.rv_tables.specs.declared.instr.ROp.TheVariants.{Add, Sub, Sll, Slt, Sltu, Xor, Srl, Sra, Or, And, Mul, Mulh, Mulhsu, Mulhu, Div, Divu, Rem, Remu}
+use Rattle.rv_tables.specs.declared.instr.ROp.TheVariants.{Add, Sub, Sll, Slt, Sltu, Xor, Srl, Sra, Or, And, Mul, Mulh, Mulhsu, Mulhu, Div}
+use Rattle.rv_tables.specs.declared.instr.ROp.TheVariants.{Divu, Rem, Remu}
 use Rattle.rv_tables.specs.declared.instr.IOp.{IOp}
 use Rattle.rv_tables.specs.declared.instr.IOp.TheVariants.{Addi, Slti, Sltiu, Xori, Ori, Andi}
 use Rattle.rv_tables.specs.declared.instr.ShiftOp.{ShiftOp}

@@ -7,7 +7,8 @@ use Rattle.std.proofs.lemmas.Grind.{common_steps}
 use Rattle.std.proofs.lemmas.Slice.Eq.{slice_eq-Decides}
 use Rattle.node_memory.specs.Bytes.{bytes_at}
 
-pub same-lists : {X : Type 0} (xs ys : List X) → length xs ≡ length ys → ((k : ℕ) → k < length xs → slice_get xs k ≡ slice_get ys k) → xs ≡ ys
+pub same-lists : {X : Type 0} (xs ys : List X) → length xs ≡ length ys → ((k : ℕ) → k < length xs → slice_get xs k ≡ slice_get ys k)
+    → xs ≡ ys
 same-lists [] [] same each = refl
 same-lists [] (y ∷ ys) same each = absurd (omega (arith, same))
 same-lists (x ∷ xs) [] same each = absurd (omega (arith, same))

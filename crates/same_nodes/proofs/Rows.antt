@@ -19,7 +19,8 @@ rows-more xs ys k x y in_xs in_ys alike rows =
     (AllZip-push (λ (a : PreparedNode) (b : PreparedNode). LookAlike a.node b.node) (take k xs) (take k ys) x y rows alike)
 
 -- at all places
-pub rows-all : (xs ys : List PreparedNode) (k : ℕ) → length xs ≡ length ys → length xs ≤ k → RowsLookAlike (take k xs) (take k ys) → RowsLookAlike xs ys
+pub rows-all : (xs ys : List PreparedNode) (k : ℕ) → length xs ≡ length ys → length xs ≤ k → RowsLookAlike (take k xs) (take k ys)
+    → RowsLookAlike xs ys
 rows-all xs ys k same all rows =
     subst (λ zs. RowsLookAlike xs zs) (take_all k ys (omega (arith, same, all)))
     (subst (λ zs. RowsLookAlike zs (take k ys)) (take_all k xs all) rows)

@@ -1,5 +1,6 @@
 -- The steps of a rank, counted one after another.
-use Rattle.std.proofs.Common.{◌≡◌, ℕ, zero, suc, ◌+◌, ◌-◌, ◌<◌, ◌≤◌, ◌^◌, ◌==◌, true, false, cond, List, [], ◌∷◌, ◌++◌, length, drop, get_or, take, Option, Some, None, inl, inr, refl, sym, ap, subst, ◌∙◌, arith, suc-add, zero-add}
+use Rattle.std.proofs.Common.{◌≡◌, ℕ, zero, suc, ◌+◌, ◌-◌, ◌<◌, ◌≤◌, ◌^◌, ◌==◌, true, false, cond, List, [], ◌∷◌, ◌++◌, length, drop}
+use Rattle.std.proofs.Common.{get_or, take, Option, Some, None, inl, inr, refl, sym, ap, subst, ◌∙◌, arith, suc-add, zero-add}
 use Rattle.std.specs.Prelude.{slice_get, if◌then◌else◌}
 use Rattle.std.specs.Option.{option_map_or}
 use Rattle.std.proofs.lemmas.Bool.{cases_lt, false≢true}
@@ -19,10 +20,12 @@ use Rattle.machine_core.proofs.Steps.{after-nil, after-cons}
 use Rattle.step_counts.specs.Counts.{addresses, count_in}
 use Rattle.step_counts.specs.Parts.{addresses_at}
 use Rattle.step_counts.specs.Table.{TableState, told, IsEmpty}
-use Rattle.step_counts.proofs.Addresses.{LastOutside, addresses-few, addresses-split, addresses-stopped, count_in-cons, count_in-le, last-outside}
+use Rattle.step_counts.proofs.Addresses.{LastOutside, addresses-few, addresses-split, addresses-stopped}
+use Rattle.step_counts.proofs.Addresses.{count_in-cons, count_in-le, last-outside}
 
 -- j steps, and then k
-pub after-more : (j k : ℕ) (m : MachineState) (rank : ℕ) → after (after m (steps_of rank j)) (steps_of rank k) ≡ after m (steps_of rank (j + k))
+pub after-more : (j k : ℕ) (m : MachineState) (rank : ℕ)
+    → after (after m (steps_of rank j)) (steps_of rank k) ≡ after m (steps_of rank (j + k))
 after-more zero k m rank =
     ap (λ (x : MachineState). after x (steps_of rank k)) (after-nil m) ∙ ap (λ n. after m (steps_of rank n)) (sym (zero-add k))
 after-more (suc j) k m rank =
@@ -48,7 +51,8 @@ few-at m rank sound = by (slice_get m.nodes rank) refl
 last-at : (m : MachineState) (rank : ℕ) → IsSoundMachine m → LastOutside m.settings.memory (addresses_at m rank)
 last-at m rank sound = by (slice_get m.nodes rank) refl
   where
-    by : (o : Option NodeState) → slice_get m.nodes rank ≡ o → LastOutside m.settings.memory (option_map_or (λ (n : NodeState). addresses m.input n) o [])
+    by : (o : Option NodeState) → slice_get m.nodes rank ≡ o
+        → LastOutside m.settings.memory (option_map_or (λ (n : NodeState). addresses m.input n) o [])
     by None is = tt
     by (Some n) is = last-outside m.input (n.limit - n.ticks) m.settings.memory n (node-of m rank n sound is).memory
 
@@ -60,18 +64,21 @@ none-left m rank off = by (slice_get m.nodes rank) off
     by (Some n) off = addresses-stopped m.input n off
 
 -- a rank that runs makes a step
-some-next : (m : MachineState) (rank k : ℕ) → 0 < k → is_enabled m (Step rank) ≡ true → 0 < length (next_addresses_at m.input rank k m.nodes)
+some-next : (m : MachineState) (rank k : ℕ) → 0 < k → is_enabled m (Step rank) ≡ true
+    → 0 < length (next_addresses_at m.input rank k m.nodes)
 some-next m rank zero some on = absurd (omega (arith, some))
 some-next m rank (suc k) some on = by (slice_get m.nodes rank) on
   where
     by : (o : Option NodeState) → option_map_or runs o false ≡ true → 0 < length (option_map_or (next_addresses m.input (suc k)) o [])
     by None on = absurd (false≢true on)
     by (Some n) on =
-        let one : length (next_addresses m.input (suc k) n) ≡ suc (length (next_addresses m.input k (local_step m.input n))) = ap length (next-running m.input k n on) in
+        let one : length (next_addresses m.input (suc k) n) ≡ suc (length (next_addresses m.input k (local_step m.input n))) =
+        ap length (next-running m.input k n on) in
         omega (arith, one)
 
 -- the addresses of the next k steps, and then those that are left
-left-after : (m : MachineState) (rank k : ℕ) → IsSoundMachine m → addresses_at m rank ≡ next_addresses_at m.input rank k m.nodes ++ addresses_at (after m (steps_of rank k)) rank
+left-after : (m : MachineState) (rank k : ℕ) → IsSoundMachine m
+    → addresses_at m rank ≡ next_addresses_at m.input rank k m.nodes ++ addresses_at (after m (steps_of rank k)) rank
 left-after m rank k sound = by (slice_get m.nodes rank) refl ∙ ap (λ xs. next_addresses_at m.input rank k m.nodes ++ xs) (sym next)
   where
     all : List ℕ → Option NodeState → List ℕ
@@ -81,13 +88,15 @@ left-after m rank k sound = by (slice_get m.nodes rank) refl ∙ ap (λ xs. next
     next = ap (λ (x : MachineState). addresses_at x rank) (after-often k m rank)
 
     by : (o : Option NodeState) → slice_get m.nodes rank ≡ o
-        → all m.input (slice_get m.nodes rank) ≡ next_addresses_at m.input rank k m.nodes ++ all m.input (slice_get (stepped_often m.input rank k m.nodes) rank)
+        → all m.input (slice_get m.nodes rank) ≡ next_addresses_at m.input rank k m.nodes
+        ++ all m.input (slice_get (stepped_often m.input rank k m.nodes) rank)
     by None is =
         let none = often-none m.input k rank m.nodes is in
         rw (is, none) refl
     by (Some n) is =
         let found : slice_get (stepped_often m.input rank k m.nodes) rank ≡ Some (local_steps m.input k n) =
-        ap (λ (xs : List NodeState). slice_get xs rank) (often-found m.input k rank m.nodes n is) ∙ slice_get-slice_set m.nodes rank n (local_steps m.input k n) is in
+        ap (λ (xs : List NodeState). slice_get xs rank) (often-found m.input k rank m.nodes n is)
+        ∙ slice_get-slice_set m.nodes rank n (local_steps m.input k n) is in
         rw (is, found) (addresses-split m.input k n (node-of m rank n sound is).sound.node)
 
 -- of these steps some are left, and the table has the others
@@ -108,7 +117,8 @@ module _ (steps left : List ℕ) (first : ℕ) (t : TableState) (so_far : Counte
   pub none-outside : t.outside ≡ None
   none-outside = so_far.inside (omega arith)
 
-  pub Counted-next : (u : TableState) → ((other : ℕ) → told u other ≡ told t other + (if first == other then 1 else 0)) → u.memory ≡ t.memory
+  pub Counted-next : (u : TableState) → ((other : ℕ) → told u other ≡ told t other + (if first == other then 1 else 0))
+      → u.memory ≡ t.memory
       → (first < t.memory → u.outside ≡ t.outside) → Counted steps left u
   Counted-next u more memory inside = record {
     told = λ other.
@@ -128,7 +138,8 @@ pub record Counting (old new : MachineState) (rank : ℕ) (t : TableState) : Typ
   pub is : new ≡ after old (steps_of rank count)
   pub counted : Counted (addresses_at old rank) (addresses_at new rank) t
 
-pub Counting-start : (m : MachineState) (rank : ℕ) (t : TableState) → IsSoundMachine m → IsEmpty t → t.memory ≡ m.settings.memory → Counting m m rank t
+pub Counting-start : (m : MachineState) (rank : ℕ) (t : TableState) → IsSoundMachine m → IsEmpty t → t.memory ≡ m.settings.memory
+    → Counting m m rank t
 Counting-start m rank t sound empty memory = record {
   count = 0;
   is = sym (after-nil m);
@@ -146,31 +157,42 @@ module _ (old new : MachineState) (rank : ℕ) (t : TableState) (sound : IsSound
 
   -- once the rank has stopped, the table has all of them
   pub stopped-told : is_enabled new (Step rank) ≡ false → (address : ℕ) → told t address ≡ count_in (addresses_at old rank) address
-  stopped-told off = all-told (addresses_at old rank) t (subst (λ xs. Counted (addresses_at old rank) xs t) (none-left new rank off) so_far.counted)
+  stopped-told off =
+      all-told (addresses_at old rank) t (subst (λ xs. Counted (addresses_at old rank) xs t) (none-left new rank off) so_far.counted)
 
   module _ (next : MachineState) (k : ℕ) (made : next ≡ after new (steps_of rank k)) where
     pub made-more : (n : ℕ) × (next ≡ after old (steps_of rank n))
-    made-more = (so_far.count + k, made ∙ ap (λ (x : MachineState). after x (steps_of rank k)) so_far.is ∙ after-more so_far.count k old rank)
+    made-more =
+        (so_far.count + k, made ∙ ap (λ (x : MachineState). after x (steps_of rank k)) so_far.is ∙ after-more so_far.count k old rank)
 
     -- steps that were made and are not counted yet
     split : addresses_at new rank ≡ next_addresses_at new.input rank k new.nodes ++ addresses_at next rank
-    split = left-after new rank k still-sound ∙ ap (λ (x : MachineState). next_addresses_at new.input rank k new.nodes ++ addresses_at x rank) (sym made)
+    split =
+        left-after new rank k still-sound
+        ∙ ap (λ (x : MachineState). next_addresses_at new.input rank k new.nodes ++ addresses_at x rank) (sym made)
 
-    pub Counted-made : (made_at : List ℕ) → made_at ≡ next_addresses_at new.input rank k new.nodes → Counted (addresses_at old rank) (made_at ++ addresses_at next rank) t
-    Counted-made made_at is = subst (λ xs. Counted (addresses_at old rank) xs t) (split ∙ ap (λ xs. xs ++ addresses_at next rank) (sym is)) so_far.counted
+    pub Counted-made : (made_at : List ℕ) → made_at ≡ next_addresses_at new.input rank k new.nodes
+        → Counted (addresses_at old rank) (made_at ++ addresses_at next rank) t
+    Counted-made made_at is =
+        subst (λ xs. Counted (addresses_at old rank) xs t) (split ∙ ap (λ xs. xs ++ addresses_at next rank) (sym is)) so_far.counted
 
   -- fewer are left
-  pub fewer : (next : MachineState) (k : ℕ) → 0 < k → is_enabled new (Step rank) ≡ true → next ≡ after new (steps_of rank k) → length (addresses_at next rank) < length (addresses_at new rank)
+  pub fewer : (next : MachineState) (k : ℕ) → 0 < k → is_enabled new (Step rank) ≡ true → next ≡ after new (steps_of rank k)
+      → length (addresses_at next rank) < length (addresses_at new rank)
   fewer next k some on made =
       let both = ap length (split next k made) ∙ length-append (next_addresses_at new.input rank k new.nodes) (addresses_at next rank) in
       omega (arith, both, some-next new rank k some on)
 
   -- once all that were made are counted
-  pub Counting-more : (next : MachineState) (k : ℕ) (u : TableState) → next ≡ after new (steps_of rank k) → Counted (addresses_at old rank) (addresses_at next rank) u → Counting old next rank u
+  pub Counting-more : (next : MachineState) (k : ℕ) (u : TableState) → next ≡ after new (steps_of rank k)
+      → Counted (addresses_at old rank) (addresses_at next rank) u → Counting old next rank u
   Counting-more next k u made counted = record { count = (made-more next k made).0; is = (made-more next k made).1; counted = counted }
 
 -- the next address of those that are left
-pub next_left : (pcs rest : List ℕ) (made place : ℕ) → place < made → made ≤ length pcs → drop place (take made pcs) ++ rest ≡ get_or pcs place 0 ∷ drop (place + 1) (take made pcs) ++ rest
+pub next_left : (pcs rest : List ℕ) (made place : ℕ) → place < made → made ≤ length pcs
+    → drop place (take made pcs) ++ rest ≡ get_or pcs place 0 ∷ drop (place + 1) (take made pcs) ++ rest
 next_left pcs rest made place below within =
     let long = length-take-le made pcs within in
-    ap (λ xs. xs ++ rest) (drop_more (take made pcs) place 0 (omega (arith, below, long)) ∙ ap (λ x. x ∷ drop (place + 1) (take made pcs)) (get_or-take made pcs place 0 below))
+    ap (λ xs. xs ++ rest)
+    (drop_more (take made pcs) place 0 (omega (arith, below, long))
+    ∙ ap (λ x. x ∷ drop (place + 1) (take made pcs)) (get_or-take made pcs place 0 below))

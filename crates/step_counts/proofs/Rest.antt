@@ -16,7 +16,8 @@ within_over zero m over = refl
 within_over (suc k) m over = ap (λ b. if b then [] else superstep_lines m ++ lines_within k (superstep m)) over
 
 -- one without it has those of its superstep first
-within_open : (k : ℕ) (m : MachineState) → is_some m.outcome ≡ false → lines_within (suc k) m ≡ superstep_lines m ++ lines_within k (superstep m)
+within_open : (k : ℕ) (m : MachineState) → is_some m.outcome ≡ false
+    → lines_within (suc k) m ≡ superstep_lines m ++ lines_within k (superstep m)
 unfolding lines_within
 within_open k m open_yet = ap (λ b. if b then [] else superstep_lines m ++ lines_within k (superstep m)) open_yet
 
@@ -25,7 +26,8 @@ within_enough : (k : ℕ) (m : MachineState) → IsSome (iterate superstep k m).
 within_enough zero m over = within_over zero m over ∙ sym (within_over (suc zero) m over)
 within_enough (suc k) m over = by (is_some m.outcome) refl (within_enough k (superstep m) over)
   where
-    by : (b : Bool) → is_some m.outcome ≡ b → lines_within k (superstep m) ≡ lines_within (suc k) (superstep m) → lines_within (suc k) m ≡ lines_within (suc (suc k)) m
+    by : (b : Bool) → is_some m.outcome ≡ b → lines_within k (superstep m) ≡ lines_within (suc k) (superstep m)
+        → lines_within (suc k) m ≡ lines_within (suc (suc k)) m
     by true is rest = within_over (suc k) m is ∙ sym (within_over (suc (suc k)) m is)
     by false is rest = within_open k m is ∙ ap (λ ls. superstep_lines m ++ ls) rest ∙ sym (within_open (suc k) m is)
 
@@ -37,7 +39,8 @@ ends_within : (m : MachineState) → IsSoundMachine m → IsSome (iterate supers
 unfolding end_of
 ends_within m sound = subst (λ (k : ℕ). IsSome (iterate superstep k m).outcome) (add-one m.settings.limit) (end_of-over m sound)
 
-pub lines_next : (m : MachineState) → IsSoundMachine m → is_some m.outcome ≡ false → lines_of m ≡ superstep_lines m ++ lines_of (superstep m)
+pub lines_next : (m : MachineState) → IsSoundMachine m → is_some m.outcome ≡ false
+    → lines_of m ≡ superstep_lines m ++ lines_of (superstep m)
 unfolding lines_of
 lines_next m sound open_yet =
     ap (λ (k : ℕ). lines_within k m) (add-one m.settings.limit)

@@ -1,5 +1,6 @@
 -- The counts of a rank, added up.
-use Rattle.std.proofs.Common.{◌≡◌, ℕ, zero, suc, ◌+◌, ◌-◌, ◌^◌, ◌<◌, ◌≤◌, ◌==◌, max, Bool, true, false, cond, List, [], ◌∷◌, length, map, replicate, Option, Some, None, inl, inr, refl, sym, ap, ap₂, ◌∙◌, arith}
+use Rattle.std.proofs.Common.{◌≡◌, ℕ, zero, suc, ◌+◌, ◌-◌, ◌^◌, ◌<◌, ◌≤◌, ◌==◌, max, Bool, true, false, cond, List, [], ◌∷◌, length, map}
+use Rattle.std.proofs.Common.{replicate, Option, Some, None, inl, inr, refl, sym, ap, ap₂, ◌∙◌, arith}
 use Rattle.std.specs.Prelude.{All, sum_by, zip, is_some}
 use Rattle.std.specs.Fn.{iterate}
 use Rattle.std.specs.List.{fold, range_with_len}
@@ -65,12 +66,14 @@ sum-none [] = refl
 sum-none (x ∷ xs) = omega (arith, sum_by-cons (λ (y : ℕ). 0) x xs, sum-none xs)
 
 -- the counts of all addresses are as many as the steps
-pub counts-sum : (made : List ℕ) (bound : ℕ) → All (λ address. address < bound) made → sum_by (count_in made) (range_with_len 0 bound) ≡ length made
+pub counts-sum : (made : List ℕ) (bound : ℕ) → All (λ address. address < bound) made
+    → sum_by (count_in made) (range_with_len 0 bound) ≡ length made
 counts-sum [] bound all = sum-same (count_in []) (λ (x : ℕ). 0) (range_with_len 0 bound) (λ x. refl) ∙ sum-none (range_with_len 0 bound)
 counts-sum (first ∷ made) bound all =
     let here = All-head (λ address. address < bound) first made all in
     let rest = counts-sum made bound (All-tail (λ address. address < bound) first made all) in
-    let parts = sum-same (count_in (first ∷ made)) (λ x. one_at first x + count_in made x) (range_with_len 0 bound) (λ x. count_in-cons first made x) in
+    let parts = sum-same (count_in (first ∷ made)) (λ x. one_at first x + count_in made x) (range_with_len 0 bound)
+    (λ x. count_in-cons first made x) in
     omega (arith, parts, sum-both (one_at first) (count_in made) (range_with_len 0 bound), one-within first bound here, rest)
 
 -- and as many as the ticks
@@ -97,17 +100,21 @@ AllCountsAreTicks-supersteps k m sound words =
 
 -- ticks, node by node
 each-ticks : (input : List ℕ) (nodes : List NodeState) → All IsNode nodes
-    → map (λ (n : NodeState). length (addresses input n)) nodes ≡ map (λ (at : NodeState × ℕ). at.0.ticks - at.1) (zip (map (phase input) nodes) (map (λ (n : NodeState). n.ticks) nodes))
+    → map (λ (n : NodeState). length (addresses input n)) nodes
+    ≡ map (λ (at : NodeState × ℕ). at.0.ticks - at.1) (zip (map (phase input) nodes) (map (λ (n : NodeState). n.ticks) nodes))
 each-ticks input [] sound = refl
 each-ticks input (n ∷ rest) sound =
-    ap₂ (λ (k : ℕ) (ks : List ℕ). k ∷ ks) (steps-ticks input n (All-head IsNode n rest sound)) (each-ticks input rest (All-tail IsNode n rest sound))
+    ap₂ (λ (k : ℕ) (ks : List ℕ). k ∷ ks) (steps-ticks input n (All-head IsNode n rest sound))
+    (each-ticks input rest (All-tail IsNode n rest sound))
 
-pub greatest-work : (m : MachineState) → IsSoundMachine m → HasBegun m → fold max 0 (map (λ (n : NodeState). length (addresses m.input n)) m.nodes) ≡ (cost_row (with_phases m)).w
+pub greatest-work : (m : MachineState) → IsSoundMachine m → HasBegun m
+    → fold max 0 (map (λ (n : NodeState). length (addresses m.input n)) m.nodes) ≡ (cost_row (with_phases m)).w
 greatest-work m sound begun =
     ap (fold max 0) (each-ticks m.input m.nodes (IsNode-each m sound))
     ∙ ap (λ (started : List ℕ). most_ticks (map (phase m.input) m.nodes) started) (sym begun)
 
-zero_ticks : (image : Image) (s : Settings) (from k : ℕ) → replicate k 0 ≡ map (λ (n : NodeState). n.ticks) (map (node_at_start image s) (range_with_len from k))
+zero_ticks : (image : Image) (s : Settings) (from k : ℕ)
+    → replicate k 0 ≡ map (λ (n : NodeState). n.ticks) (map (node_at_start image s) (range_with_len from k))
 zero_ticks image s from zero = refl
 zero_ticks image s from (suc k) = ap (λ (ks : List ℕ). 0 ∷ ks) (zero_ticks image s (from + 1) k)
 
@@ -115,7 +122,8 @@ pub HasBegun-fresh : (image : Image) (input : List ℕ) (s : Settings) → HasBe
 HasBegun-fresh image input s = zero_ticks image s 0 s.nodes
 
 HasBegun-exchange : (m : MachineState) → HasBegun (with_exchange m)
-HasBegun-exchange m = sym (map-begun (closed_by m.settings.clock m.ledger) m.nodes (λ (n : NodeState). n.ticks) (λ n. refl) (λ n. refl) m.nodes)
+HasBegun-exchange m =
+    sym (map-begun (closed_by m.settings.clock m.ledger) m.nodes (λ (n : NodeState). n.ticks) (λ n. refl) (λ n. refl) m.nodes)
 
 HasBegun-decided : (o : Option Outcome) (m p : MachineState) → p.nodes ≡ m.nodes → (decided o p).outcome ≡ None → HasBegun (decided o p)
 HasBegun-decided None m p same open_yet = HasBegun-exchange p

@@ -1,5 +1,6 @@
 -- The address of a step is a word: pc is one, and each effect leaves one in it.
-use Rattle.std.proofs.Common.{◌≡◌, ℕ, zero, suc, ◌-◌, ◌/◌, ◌*◌, ◌%◌, ◌^◌, ◌<◌, ◌==◌, Bool, true, false, ◌≤◌, List, [], ◌∷◌, length, take, Option, Some, None, Ok, Err, refl, subst, pos, ◌+ℤ◌, arith}
+use Rattle.std.proofs.Common.{◌≡◌, ℕ, zero, suc, ◌-◌, ◌/◌, ◌*◌, ◌%◌, ◌^◌, ◌<◌, ◌==◌, Bool, true, false, ◌≤◌, List, [], ◌∷◌, length, take}
+use Rattle.std.proofs.Common.{Option, Some, None, Ok, Err, refl, subst, pos, ◌+ℤ◌, arith}
 use Rattle.std.specs.Prelude.{All, is_some, if◌then◌else◌}
 use Rattle.std.specs.declared.result.Result.{Result}
 use Rattle.std.specs.Fn.{iterate}
@@ -26,14 +27,16 @@ use Rattle.bsp_requests.specs.Message.{Message}
 use Rattle.node_memory.specs.Bytes.{fits}
 use Rattle.node_memory.specs.Image.{Image}
 use Rattle.node_core.specs.declared.call.Call.{Call}
-use Rattle.node_core.specs.declared.call.Call.TheVariants.{End, Nprocs, Pid, Sync, PushReg, PopReg, Put, Get, Hpput, Hpget, SetTagsize, Send, Qsize, GetTag, Move, Abort, Write, Read}
+use Rattle.node_core.specs.declared.call.Call.TheVariants.{End, Nprocs, Pid, Sync, PushReg, PopReg, Put, Get, Hpput, Hpget, SetTagsize}
+use Rattle.node_core.specs.declared.call.Call.TheVariants.{Send, Qsize, GetTag, Move, Abort, Write, Read}
 use Rattle.node_core.specs.declared.state.Fault.TheVariants.{LoadOutside}
 use Rattle.node_core.specs.Addresses.{next_addresses}
 use Rattle.node_core.specs.Calls.{Check, checked, checks, ecall_effect, first_message, get_tag_effect, move_effect, named_call, performed}
 use Rattle.node_core.specs.Clock.{asks_clock, clocked, tells, time_at}
 use Rattle.node_core.specs.Effects.{address, effect_of, load_effect, load_size, loaded, plain_effect, store_effect}
 use Rattle.node_core.specs.Executed.{code_effect, effect_if_any, executed, fetched, float_effect_if_any}
-use Rattle.node_core.specs.Floats.{float_effect_of, float_load_effect, integer_source, integer_target, on_unit, outcome_effect, pattern_at, size_of}
+use Rattle.node_core.specs.Floats.{float_effect_of, float_load_effect, integer_source, integer_target}
+use Rattle.node_core.specs.Floats.{on_unit, outcome_effect, pattern_at, size_of}
 use Rattle.node_core.specs.Hart.{Hart, After, faults, goes_on, past, reg, with_reg}
 use Rattle.node_core.specs.Node.{NodeState, PreparedNode, is_running, local_step}
 use Rattle.node_core.proofs.Addresses.{next-running, next-stopped, next-zero}
@@ -104,7 +107,8 @@ module _ (h : Hart) (n : ℕ) where
 
   word-load : (op : LoadOp) (rd addr : ℕ) → LeavesWord h (load_effect op rd addr n h)
   word-load op rd addr =
-      word-if h (fits (length h.memory) addr (load_size op)) (goes_on (past n (with_reg rd (loaded op h.memory addr) h))) (faults LoadOutside h)
+      word-if h (fits (length h.memory) addr (load_size op)) (goes_on (past n (with_reg rd (loaded op h.memory addr) h)))
+      (faults LoadOutside h)
       (λ word. below _) (λ word. word)
 
   word-plain : (op : PlainOp) (input : List ℕ) → LeavesWord h (plain_effect op n input h)
@@ -142,7 +146,8 @@ module _ (h : Hart) (n : ℕ) where
   word-float (float.Store format rs1 rs2 imm) u = word-store _ _
   word-float i u = word-outcome (integer_target i) (float_effect i (reg h (integer_source i)) 0 u)
 
-  word-on_unit : (unit : Option FloatState) (effect : FloatState → After) → ((u : FloatState) → LeavesWord h (effect u)) → LeavesWord h (on_unit unit effect h)
+  word-on_unit : (unit : Option FloatState) (effect : FloatState → After) → ((u : FloatState) → LeavesWord h (effect u))
+      → LeavesWord h (on_unit unit effect h)
   word-on_unit None effect leaves = λ word. word
   word-on_unit (Some u) effect leaves = leaves u
 
@@ -174,7 +179,9 @@ pub word-local_step : (input : List ℕ) (n : NodeState) → HasWordPc n → Has
 word-local_step input n word = by (is_running n.state) refl
   where
     by : (b : Bool) → is_running n.state ≡ b → HasWordPc (local_step input n)
-    by true is = rw (local_step-running input n is) (word-clocked n.hart input (time_at n.clock n.ticks) (executed input n.hart) (word-executed n.hart input) word)
+    by true is =
+        rw (local_step-running input n is)
+        (word-clocked n.hart input (time_at n.clock n.ticks) (executed input n.hart) (word-executed n.hart input) word)
     by false is = rw (local_step-stopped input n is) word
 
 abbrev pub IsWord : ℕ → Type 0
@@ -185,7 +192,8 @@ words-next : (input : List ℕ) (k : ℕ) (n : NodeState) → HasWordPc n → Al
 words-next input zero n word = rw (next-zero input n) (All-nil IsWord)
 words-next input (suc k) n word = by (is_running n.state) refl (words-next input k (local_step input n) (word-local_step input n word))
   where
-    by : (b : Bool) → is_running n.state ≡ b → All IsWord (next_addresses input k (local_step input n)) → All IsWord (next_addresses input (suc k) n)
+    by : (b : Bool) → is_running n.state ≡ b → All IsWord (next_addresses input k (local_step input n))
+        → All IsWord (next_addresses input (suc k) n)
     by true is rest = rw (next-running input k n is) (All-cons IsWord n.hart.pc (next_addresses input k (local_step input n)) word rest)
     by false is rest = rw (next-stopped input (suc k) n is) (All-nil IsWord)
 
@@ -211,7 +219,8 @@ HasWordPcs-superstep m words = by (is_some m.outcome) refl
   where
     by : (over : Bool) → is_some m.outcome ≡ over → HasWordPcs (superstep m)
     by true is = rw (superstep-over m is) words
-    by false is = rw (superstep-open m is) (HasWordPcs-turned (with_phases m) (All-phases m.input HasWordPc (word-local_step m.input) m.nodes words))
+    by false is =
+        rw (superstep-open m is) (HasWordPcs-turned (with_phases m) (All-phases m.input HasWordPc (word-local_step m.input) m.nodes words))
 
 pub HasWordPcs-supersteps : (k : ℕ) (m : MachineState) → HasWordPcs m → HasWordPcs (iterate superstep k m)
 HasWordPcs-supersteps zero m words = words
@@ -222,4 +231,5 @@ pub words-read : (row : List PreparedNode) (nodes : List NodeState) (k : ℕ) �
     → All (λ (p : PreparedNode). p.node.hart.pc < 2 ^ 32) (take k row) → All HasWordPc nodes
 words-read row nodes k whole are words =
     subst (All HasWordPc) are
-    (All-map HasWordPc (λ (p : PreparedNode). p.node) row (subst (All (λ (p : PreparedNode). p.node.hart.pc < 2 ^ 32)) (take_all k row whole) words))
+    (All-map HasWordPc (λ (p : PreparedNode). p.node) row
+    (subst (All (λ (p : PreparedNode). p.node.hart.pc < 2 ^ 32)) (take_all k row whole) words))

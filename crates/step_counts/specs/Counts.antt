@@ -1,6 +1,7 @@
 -- Where the work of a run is: how many instructions each rank makes at each address in each superstep, and the lines that tell of it (own
 -- format: comma-separated values).
-use Rattle.std.specs.Prelude.{◌≡◌, ℕ, ◌+◌, ◌-◌, ◌^◌, ◌<◌, ◌==◌, zero, suc, nat_lt, List, [], ◌++◌, codes, count_by, flat_map, map, sum_by, All, if◌then◌else◌, is_some}
+use Rattle.std.specs.Prelude.{◌≡◌, ℕ, ◌+◌, ◌-◌, ◌^◌, ◌<◌, ◌==◌, zero, suc, nat_lt, List, [], ◌++◌, codes, count_by, flat_map, map, sum_by}
+use Rattle.std.specs.Prelude.{All, if◌then◌else◌, is_some}
 use Rattle.std.specs.Fmt.{decimal}
 use Rattle.std.specs.List.{range_with_len}
 use Rattle.rv_listing.specs.Numerals.{eight_digits}

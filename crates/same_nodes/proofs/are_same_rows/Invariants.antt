@@ -1,3 +1,4 @@
+-- The nodes before this place look alike.
 use Rattle.std.proofs.Common.{take}
 use Rattle.same_nodes.specs.Same.{RowsLookAlike}
 use Rattle.same_nodes.proofs.are_same_rows.Given as goal

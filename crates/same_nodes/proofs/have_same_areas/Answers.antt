@@ -1,3 +1,4 @@
+-- Two lists of areas that are equally long and have the same area at each slot are the same list.
 use Rattle.std.proofs.Common.{arith}
 use Rattle.same_nodes.proofs.Lists.{same-lists}
 use Rattle.same_nodes.proofs.have_same_areas.Goals as goal

@@ -1,3 +1,4 @@
+-- The areas in the slots before this one are the same.
 use Rattle.std.proofs.Common.{◌≡◌, ℕ, ◌<◌}
 use Rattle.std.specs.Prelude.{slice_get}
 use Rattle.same_nodes.proofs.have_same_areas.Given as goal

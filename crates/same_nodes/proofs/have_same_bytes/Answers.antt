@@ -1,3 +1,4 @@
+-- The two copies have all bytes of the memories, so where the copies are the same, the memories are.
 use Rattle.std.proofs.Common.{◌≡◌, ◌∙◌, sym}
 use Rattle.same_nodes.proofs.Lists.{bytes_at-whole, same-numbers}
 use Rattle.same_nodes.proofs.have_same_bytes.Goals as goal

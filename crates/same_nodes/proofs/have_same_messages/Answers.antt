@@ -1,3 +1,4 @@
+-- Two inboxes that are equally long and have the same message at each place are the same.
 use Rattle.std.proofs.Common.{arith}
 use Rattle.same_nodes.proofs.Lists.{same-lists}
 use Rattle.same_nodes.proofs.have_same_messages.Goals as goal

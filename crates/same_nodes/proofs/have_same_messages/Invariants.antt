@@ -1,3 +1,4 @@
+-- The messages before this place are the same.
 use Rattle.std.proofs.Common.{◌≡◌, ℕ, ◌<◌}
 use Rattle.std.specs.Prelude.{slice_get}
 use Rattle.same_nodes.proofs.have_same_messages.Given as goal

@@ -1,3 +1,4 @@
+-- The registers before number n are the same.
 use Rattle.std.proofs.Common.{◌≡◌, ℕ, ◌<◌}
 use Rattle.std.specs.Prelude.{slice_index}
 use Rattle.same_nodes.proofs.have_same_registers.Given as goal

@@ -1,3 +1,4 @@
+-- Two nodes with equally many requests, the same at each place, and the same output ask the same of the exchange.
 use Rattle.std.proofs.Common.{◌≡◌, ◌∙◌, sym, arith}
 use Rattle.same_nodes.proofs.Lists.{same-lists, same-numbers}
 use Rattle.same_nodes.proofs.Records.{same-requests}

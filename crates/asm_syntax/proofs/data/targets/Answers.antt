@@ -1,3 +1,4 @@
+-- Each operand adds its target; no target is the fault at once, and one out of range is the fault if no such operand follows.
 use Rattle.std.proofs.Common.{◌≡◌, ◌≢◌, [], Ok, map, append-nil, sym, ap, ◌∙◌, arith, rules}
 use Rattle.std.specs.List.{list_all}
 use Rattle.asm_syntax.specs.declared.error.LineError.TheVariants.{OutOfRange}
@@ -14,7 +15,8 @@ returns-then-ne-clause-err g c =
     let other : c.in-Err.fault ≢ OutOfRange = search rules in
     λ _. ap (judged (list_all fits_target)) (one_or_more-all target_in ops c.loop-operand.invariant.0)
     ∙ (sym c.loop-operand.invariant.1
-    ∙ gathered-fault fits_target target_in ops c.loop-operand.operand-index _ c.loop-operand.fits (map target_value c.loop-operand.targets.items) c.in-Err.fault c.loop-operand-test.true (sym c.in-Err.ensures) other)
+    ∙ gathered-fault fits_target target_in ops c.loop-operand.operand-index _ c.loop-operand.fits
+    (map target_value c.loop-operand.targets.items) c.in-Err.fault c.loop-operand-test.true (sym c.in-Err.ensures) other)
 
 pub loop-operand-preserved : goal.loop-operand-preserved
 loop-operand-preserved g c =
@@ -22,10 +24,16 @@ loop-operand-preserved g c =
       c.loop-operand.invariant.0,
       elim c.match-target.branch [
         | in-Ok+in_ok-push-in-Ok w ↦
-            rw (w.fits-is, w.targets-is) (pushed target_value fits_target target_in ops c.loop-operand.operand-index _ c.loop-operand.fits c.loop-operand.targets.items w.push.new.self.items w.in-Ok.target _ c.loop-operand-test.true w.in_ok-push-in-Ok.ensures.items w.in-Ok.ensures c.loop-operand.invariant.1)
+            rw (w.fits-is, w.targets-is)
+            (pushed target_value fits_target target_in ops c.loop-operand.operand-index _ c.loop-operand.fits
+            c.loop-operand.targets.items w.push.new.self.items w.in-Ok.target _ c.loop-operand-test.true
+            w.in_ok-push-in-Ok.ensures.items w.in-Ok.ensures c.loop-operand.invariant.1)
         | in-Err+else-ne w ↦
             let out : w.in-Err.fault ≡ OutOfRange = search rules in
-            rw (w.fits-is, w.targets-is) (skipped fits_target target_in ops c.loop-operand.operand-index _ c.loop-operand.fits (map target_value c.loop-operand.targets.items) w.in-Err.fault _ c.loop-operand-test.true out w.in-Err.ensures c.loop-operand.invariant.1)
+            rw (w.fits-is, w.targets-is)
+            (skipped fits_target target_in ops c.loop-operand.operand-index _ c.loop-operand.fits
+            (map target_value c.loop-operand.targets.items) w.in-Err.fault _ c.loop-operand-test.true out w.in-Err.ensures
+            c.loop-operand.invariant.1)
       ],
     )
 

@@ -13,7 +13,8 @@ copied_now : (o : Option (Bor FloatForm)) → option_copied o ≡ option_map (λ
 copied_now None = refl
 copied_now (Some f) = refl
 
-named : (name : List ℕ) (r : Option FloatForm) (table : List FloatForm) → table ≡ float_forms → r ≡ find (λ f. bytes_eq (float_mnemonic f) name) table → r ≡ float_form_named name
+named : (name : List ℕ) (r : Option FloatForm) (table : List FloatForm) → table ≡ float_forms
+    → r ≡ find (λ f. bytes_eq (float_mnemonic f) name) table → r ≡ float_form_named name
 unfolding float_form_named
 named name r table is found = found ∙ ap (find (λ f. bytes_eq (float_mnemonic f) name)) is
 
@@ -24,5 +25,6 @@ table c = c.iter.ensures.rest
 pub returns : goal.returns
 returns c =
     let name = c.args.mnemonic.now in
-    let found = find_from_yields_List (λ f. bytes_eq (float_mnemonic f) name) _ _ c.find.result c.find.ensures.ran (YieldsList-from_slice _ refl) (λ x b q k. search (rules, tests)) in
+    let found = find_from_yields_List (λ f. bytes_eq (float_mnemonic f) name) _ _ c.find.result c.find.ensures.ran
+    (YieldsList-from_slice _ refl) (λ x b q k. search (rules, tests)) in
     named name c.copied.result c.iter.result.rest.now (table c) (c.copied.ensures ∙ (copied_now c.find.result ∙ found))

@@ -7,7 +7,8 @@ use Rattle.asm_syntax.specs.FloatOperands.{read_all}
 use Rattle.asm_syntax.specs.TokenViews.{operand_values}
 use Rattle.asm_syntax.proofs.float_operands.read_all.Goals as goal
 
-ended : (kinds : List Kind) (rest : List (Bor (List Token))) (o : FloatOperands) → length rest < 1 → read_all kinds (operand_values rest) o ≡ Ok o
+ended : (kinds : List Kind) (rest : List (Bor (List Token))) (o : FloatOperands) → length rest < 1
+    → read_all kinds (operand_values rest) o ≡ Ok o
 ended [] rest o none = refl
 ended (kind ∷ kinds) [] o none = refl
 ended (kind ∷ kinds) (operand ∷ rest) o none = absurd (omega (arith, none))

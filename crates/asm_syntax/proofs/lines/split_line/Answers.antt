@@ -1,3 +1,4 @@
+-- A line feed ends the first line, and the lines of the text behind it are the others; without one there is one line.
 use Rattle.std.proofs.Common.{◌≡◌, ◌+◌, ◌-◌, length, take, drop, arith, length-drop}
 use Rattle.std.proofs.lemmas.List.{take_all}
 use Rattle.asm_syntax.proofs.LineSplits.{lines_of-found, lines_of-absent}

@@ -1,4 +1,4 @@
--- What the search finds in the end, which tries other ways first.
+-- An operand that begins with no label is the target of its number; written out, since the search would try other ways first.
 use Rattle.std.proofs.Common.{arith}
 use Rattle.std.proofs.lemmas.Grind.{common_steps}
 use Rattle.asm_syntax.proofs.operand.any_target.Goals as goal

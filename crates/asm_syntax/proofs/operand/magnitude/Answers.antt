@@ -1,3 +1,4 @@
+-- The value is that of the word's number, or the limit where it is more, and 0 for another word.
 use Rattle.std.proofs.Common.{◌≡◌, ◌∙◌, ℕ, min, Option, Some, None, unwrap_or, ap, refl, arith}
 use Rattle.std.specs.Option.{option_map}
 use Rattle.std.proofs.lemmas.Int.{ints}

@@ -1,3 +1,4 @@
+-- Clamping a number whose sign was turned is turning the sign of the clamped number.
 use Rattle.std.proofs.Common.{arith}
 use Rattle.std.specs.Prelude.{unwrap_or}
 use Rattle.std.proofs.lemmas.Int.{ints}

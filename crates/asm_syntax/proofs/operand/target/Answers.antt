@@ -1,4 +1,4 @@
--- What the search finds in the end, which tries other ways first.
+-- A target in its range is the one that is read, and one beyond it the fault; written out, since the search would try other ways first.
 use Rattle.std.proofs.Common.{arith}
 use Rattle.std.proofs.lemmas.Grind.{common_steps}
 use Rattle.asm_syntax.proofs.operand.target.Goals as goal

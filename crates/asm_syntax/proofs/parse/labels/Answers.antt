@@ -14,11 +14,19 @@ behind_labels-none _ h = refl
 pub returns-clause-labels : goal.returns-clause-labels
 returns-clause-labels g c =
     let none : labels_in (map token_value c.loop-rest.rest.now) ≡ [] =
-    elim c.if-rest-lt2.branch [ in_default w ↦ grind (arith, common_steps) | in_default-2 w ↦ grind (arith, common_steps) | in_default-3 w ↦ grind (arith, common_steps) ] in
+    elim c.if-rest-lt2.branch [
+      | in_default w ↦ grind (arith, common_steps)
+      | in_default-2 w ↦ grind (arith, common_steps)
+      | in_default-3 w ↦ grind (arith, common_steps)
+    ] in
     sym (append-nil _) ∙ (ap (λ more. map (λ label. label.now) c.loop-rest.labels.items ++ more) (sym none) ∙ c.loop-rest.invariant.0)
 
 pub returns-clause-rest : goal.returns-clause-rest
 returns-clause-rest g c =
     let none : labels_in (map token_value c.loop-rest.rest.now) ≡ [] =
-    elim c.if-rest-lt2.branch [ in_default w ↦ grind (arith, common_steps) | in_default-2 w ↦ grind (arith, common_steps) | in_default-3 w ↦ grind (arith, common_steps) ] in
+    elim c.if-rest-lt2.branch [
+      | in_default w ↦ grind (arith, common_steps)
+      | in_default-2 w ↦ grind (arith, common_steps)
+      | in_default-3 w ↦ grind (arith, common_steps)
+    ] in
     sym (behind_labels-none _ none) ∙ c.loop-rest.invariant.1

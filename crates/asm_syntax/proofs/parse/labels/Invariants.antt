@@ -1,3 +1,4 @@
+-- The labels so far and those that the rest begins with are all labels, and what comes behind them is the same.
 use Rattle.std.proofs.Common.{◌≡◌, ◌++◌, length, map}
 use Rattle.asm_syntax.specs.Parse.{labels_in, behind_labels}
 use Rattle.asm_syntax.specs.TokenViews.{token_value}

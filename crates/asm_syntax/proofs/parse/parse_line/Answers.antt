@@ -1,3 +1,4 @@
+-- The numbers of a statement that was read are in range.
 use Rattle.asm_syntax.specs.Views.{statement_value}
 use Rattle.asm_syntax.proofs.Facts.{statement_in-in_range, IfSome-mapped}
 use Rattle.asm_syntax.proofs.parse.parse_line.Goals as goal

@@ -1,4 +1,4 @@
--- What the search finds in the end, which tries other ways first.
+-- A statement that does not begin with a name has no known mnemonic; written out, since the search would try other ways first.
 use Rattle.std.proofs.Common.{arith}
 use Rattle.std.proofs.lemmas.Grind.{common_steps}
 use Rattle.asm_syntax.proofs.parse.statement.Goals as goal

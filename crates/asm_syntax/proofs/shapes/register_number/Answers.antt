@@ -1,3 +1,4 @@
+-- The fault is that of the first of the two operands that is wrong, and else that of a number out of range.
 use mir.Syntax.{w64}
 use mir.Val.{to_z, of_z}
 use Rattle.std.proofs.Common.{◌≡◌, Err, sym, ap, ◌∙◌, rules}
@@ -19,7 +20,9 @@ returns-in_err-number-clause-value c =
     let low : to_z w64 (of_z w64 c.args.low) ≡ c.args.low = search rules in
     let high : to_z w64 (of_z w64 c.args.high) ≡ c.args.high = search rules in
     let fault : c.from_residual-in_err-number.result ≡ Err c.in_err-number.field-0.0 = search rules in
-    fault ∙ (ap (if_ok (λ y. (c.in_ok-rd.rd, y))) (sym c.in_err-number.was) ∙ two_judged number_in (is_within (from_to c.args.low c.args.high)) _ _ _ _ c.in-len2.len_at_least c.in-len2.len_below is (rw (low, high) at c.number_within.ensures.value))
+    fault ∙ (ap (if_ok (λ y. (c.in_ok-rd.rd, y))) (sym c.in_err-number.was)
+    ∙ two_judged number_in (is_within (from_to c.args.low c.args.high)) _ _ _ _ c.in-len2.len_at_least c.in-len2.len_below is
+    (rw (low, high) at c.number_within.ensures.value))
 
 pub returns-clause-value : goal.returns-clause-value
 returns-clause-value c =
@@ -27,4 +30,7 @@ returns-clause-value c =
     let low : to_z w64 (of_z w64 c.args.low) ≡ c.args.low = search rules in
     let high : to_z w64 (of_z w64 c.args.high) ≡ c.args.high = search rules in
     let number : to_z w64 (of_z w64 c.in_ok-number.number) ≡ c.in_ok-number.number = search rules in
-    rw number (ap (if_ok (λ y. (c.in_ok-rd.rd, y))) (sym c.in_ok-number.was) ∙ two_judged number_in (is_within (from_to c.args.low c.args.high)) _ _ _ _ c.in-len2.len_at_least c.in-len2.len_below is (rw (low, high) at c.number_within.ensures.value))
+    rw number
+    (ap (if_ok (λ y. (c.in_ok-rd.rd, y))) (sym c.in_ok-number.was)
+    ∙ two_judged number_in (is_within (from_to c.args.low c.args.high)) _ _ _ _ c.in-len2.len_at_least c.in-len2.len_below is
+    (rw (low, high) at c.number_within.ensures.value))

@@ -1,3 +1,4 @@
+-- The bytes that were passed and those that the rest of the string has make the length of the string.
 use Rattle.std.proofs.Common.{length}
 use Rattle.std.specs.Option.{option_map}
 use Rattle.asm_syntax.specs.Tokens.{text_from}

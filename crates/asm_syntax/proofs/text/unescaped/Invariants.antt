@@ -1,3 +1,4 @@
+-- The text so far and what the rest stands for are what all bytes stand for.
 use Rattle.std.proofs.Common.{◌≡◌, ◌++◌, length}
 use Rattle.asm_syntax.specs.TokenViews.{unescaped}
 use Rattle.asm_syntax.proofs.text.unescaped.Given as goal

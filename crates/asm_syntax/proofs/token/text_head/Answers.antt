@@ -1,3 +1,4 @@
+-- The token is the string's content with the bytes that spell it, and there is none where the string has no end.
 use Rattle.asm_syntax.proofs.TextBytes.{text_token, no_text_token}
 use Rattle.asm_syntax.proofs.token.text_head.Goals as goal
 

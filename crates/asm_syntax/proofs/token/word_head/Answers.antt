@@ -1,3 +1,4 @@
+-- The token is that of the whole word, and there is none where the word is no name and no number.
 use Rattle.std.proofs.Common.{◌+◌, ap, ◌∙◌, drop}
 use Rattle.std.specs.List.{prefix_len}
 use Rattle.std.specs.Option.{option_map_or}
@@ -12,7 +13,8 @@ returns-in-Some-clause-value c =
     let rest = drop 1 c.args.line.now in
     let parts = word_parts is_word_byte c.args.line.now c.word_len-len.result c.requires.not_empty c.requires.word c.word_len-len.ensures in
     let found = rw (parts.0, parts.1) at c.in-Some.ensures in
-    ap (token (token_value c.in-Some.token)) parts.2 ∙ ap (λ o. option_map_or (λ t. token t (prefix_len is_word_byte rest + 1)) o nothing) found
+    ap (token (token_value c.in-Some.token)) parts.2 ∙ ap (λ o. option_map_or (λ t. token t (prefix_len is_word_byte rest + 1)) o nothing)
+    found
 
 pub returns-in-None-clause-value : goal.returns-in-None-clause-value
 returns-in-None-clause-value c =

@@ -1,3 +1,4 @@
+-- The bytes that were passed and the bytes of words behind them make the length of the word.
 use Rattle.std.proofs.Common.{◌≡◌, ◌+◌, drop}
 use Rattle.std.specs.List.{prefix_len}
 use Rattle.asm_syntax.specs.Bytes.{is_word_byte}

@@ -7,4 +7,5 @@ use Rattle.bsp_console.proofs.answer.add_state.Goals as goal
 pub returns-in-Some : goal.returns-in-Some
 returns-in-Some g c =
     rw c.in-Some.is (IfOk-weaker c.add_kept.result _ _
-    (λ u written. written ∙ ap₂ (λ k nodes. string_bytes c.args.text.now ++ kept_text c.args.number k nodes) c.superstep.ensures c.nodes.ensures) c.add_kept.ensures)
+    (λ u written. written ∙ ap₂ (λ k nodes. string_bytes c.args.text.now ++ kept_text c.args.number k nodes) c.superstep.ensures
+    c.nodes.ensures) c.add_kept.ensures)

@@ -25,7 +25,8 @@ told-requires g c = λ rows is.
 -- a refusal is told of a debugger that is as it was, but for what the last command made
 told-refusal : (fault : Option DebugError) (done : Type 0) (old new : DebuggerState) (text : List ℕ) (e : DebugError)
     → ((e ≡ NoMemory) ⊎ (fault ≡ Some e)) → (e ≡ NoMemory → ⊥) → text ≡ verdict_text (Refused e)
-    → new.machine ≡ after old.machine (events_of new.last) → new ≡ record old { machine = new.machine; last = new.last } → (IsSome fault → new.last ≡ [])
+    → new.machine ≡ after old.machine (events_of new.last) → new ≡ record old { machine = new.machine; last = new.last }
+    → (IsSome fault → new.last ≡ [])
     → DoesOrRefuses fault done (record old { last = [] }) new text
 unfolding after
 told-refusal fault done old new text e (inl memory) other is machine others unmade = absurd (other memory)
@@ -37,14 +38,18 @@ told-refusal fault done old new text e (inr refused) other is machine others unm
 
 pub returns-in-Err-clause-told : goal.returns-in-Err-clause-told
 returns-in-Err-clause-told g c =
-    IfOk-weaker c.verdict_of.result _ _ (λ a verdict. told-refusal _ _ c.args.debugger.now c.command.new.self a.text.items c.in-Err.error c.in-Err.ensures.refused verdict.0 verdict.1
+    IfOk-weaker c.verdict_of.result _ _
+    (λ a verdict. told-refusal _ _ c.args.debugger.now c.command.new.self a.text.items c.in-Err.error c.in-Err.ensures.refused verdict.0
+    verdict.1
     c.command.ensures.machine c.command.ensures.others c.command.ensures.unmade) c.verdict_of.ensures
 
 -- and it is one
-is_refusal : (fault : Option DebugError) (e : DebugError) (refused : Bool) → ((e ≡ NoMemory) ⊎ (fault ≡ Some e)) → (e ≡ NoMemory → ⊥) → refused ≡ true → refused ≡ is_some fault
+is_refusal : (fault : Option DebugError) (e : DebugError) (refused : Bool) → ((e ≡ NoMemory) ⊎ (fault ≡ Some e)) → (e ≡ NoMemory → ⊥)
+    → refused ≡ true → refused ≡ is_some fault
 is_refusal fault e refused (inl memory) other is = absurd (other memory)
 is_refusal fault e refused (inr due) other is = rw due is
 
 pub returns-in-Err-clause-refused : goal.returns-in-Err-clause-refused
 returns-in-Err-clause-refused g c =
-    IfOk-weaker c.verdict_of.result _ _ (λ a verdict. is_refusal _ c.in-Err.error a.refused c.in-Err.ensures.refused verdict.0 verdict.2) c.verdict_of.ensures
+    IfOk-weaker c.verdict_of.result _ _ (λ a verdict. is_refusal _ c.in-Err.error a.refused c.in-Err.ensures.refused verdict.0 verdict.2)
+    c.verdict_of.ensures

@@ -28,7 +28,9 @@ returns-clause-told g c =
     rw c.done.ensures.told (c.in_ok-extend_from_slice.ensures.items ∙ ap (λ bs. a.text.items ++ bs)
     (c.as_slice.ensures.value ∙ placed.0 ∙ ap (λ (m : MachineState). place_or_refusal m c.args.rank) c.machine.ensures.value)) in
     does-more (command_fault d.machine c.args.command) (Replies (tells_in c.args.manner j) c.args.command d n a.text.items)
-    (RepliesThere (tells_in c.args.manner j) c.args.rank c.args.command d n c.done.result.text.items) (record d { last = [] }) n a.text.items
+    (RepliesThere (tells_in c.args.manner j) c.args.rank c.args.command d n c.done.result.text.items) (record d { last = [] }) n
+    a.text.items
     c.done.result.text.items a.refused c.in_ok-answer.ensures.refused c.if-answer.false
-    (λ (does : Replies (tells_in c.args.manner j) c.args.command d n a.text.items). record { reply = a.text.items; does = does; told = told })
+    (λ (does : Replies (tells_in c.args.manner j) c.args.command d n a.text.items).
+    record { reply = a.text.items; does = does; told = told })
     c.in_ok-answer.ensures.told

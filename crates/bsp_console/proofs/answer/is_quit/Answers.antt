@@ -1,3 +1,4 @@
+-- Only the line `quit` ends the session: the arm of `Quit` answers true, and every other line is another one than `quit`.
 use Rattle.std.proofs.Common.{sym, refl}
 use Rattle.bsp_console.proofs.Scripts.{is_quit-other}
 use Rattle.bsp_console.proofs.answer.is_quit.Goals as goal

@@ -15,4 +15,5 @@ returns-in-Framed g c =
     let answer = c.in_ok-answer.answer in
     let told = rw c.in-Framed.is at c.in_ok-answer.ensures.told in
     rw c.in-Framed.is (IfOk-weaker c.framed_text.result _ _
-    (λ text is. (answer.text.items, told, is ∙ ap₂ framed_text c.in_ok-answer.ensures.refused c.as_slice.ensures.value)) c.framed_text.ensures)
+    (λ text is. (answer.text.items, told, is ∙ ap₂ framed_text c.in_ok-answer.ensures.refused c.as_slice.ensures.value))
+    c.framed_text.ensures)

@@ -6,7 +6,8 @@ use Rattle.bsp_console.proofs.dialogue.answer_lines.Given as goal
 
 abbrev pub invariant-loop-lines : goal.invariant-loop-lines
 invariant-loop-lines g l = record {
-  talking : IsTalking (says_in l.manner l.job) l.initial.debugger (g.C.Read.remaining l.initial.commands.inner) (g.C.Read.remaining l.commands.inner) (g.W.Write.contents l.initial.out.inner) (g.W.Write.contents l.out.inner) l.lines l.debugger;
+  talking : IsTalking (says_in l.manner l.job) l.initial.debugger (g.C.Read.remaining l.initial.commands.inner)
+      (g.C.Read.remaining l.commands.inner) (g.W.Write.contents l.initial.out.inner) (g.W.Write.contents l.out.inner) l.lines l.debugger;
   commands : l.initial.commands.failures ≤ l.commands.failures;
   out : l.initial.out.failures ≤ l.out.failures;
 }

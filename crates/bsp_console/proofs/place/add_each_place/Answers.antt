@@ -10,7 +10,8 @@ use Rattle.bsp_console.proofs.place.add_each_place.Goals as goal
 abbrev lines : MachineState → List PreparedNode → List ℕ
 lines m nodes = flat_map (λ (p : PreparedNode). place_line m p.node) nodes
 
-more : (m : MachineState) (nodes : List PreparedNode) (k : ℕ) (n : PreparedNode) (before after whole : List ℕ) → k < length nodes → n ≡ get_or nodes k n
+more : (m : MachineState) (nodes : List PreparedNode) (k : ℕ) (n : PreparedNode) (before after whole : List ℕ) → k < length nodes
+    → n ≡ get_or nodes k n
     → after ≡ before ++ place_line m n.node → before ++ lines m (drop k nodes) ≡ whole → after ++ lines m (drop (k + 1) nodes) ≡ whole
 more m nodes k n before after whole within is written so_far =
     let cut : drop k nodes ≡ n ∷ drop (k + 1) nodes = drop_more nodes k n within ∙ ap (λ p. p ∷ drop (k + 1) nodes) (sym is) in
@@ -19,11 +20,13 @@ more m nodes k n before after whole within is written so_far =
 
 pub loop-node-preserved : goal.loop-node-preserved
 loop-node-preserved g c =
-    more c.args.machine.now c.args.nodes.now c.loop-node.node-index c.node-item.result (string_bytes c.loop-node.text) (string_bytes c.add_place_of.new.text) _
+    more c.args.machine.now c.args.nodes.now c.loop-node.node-index c.node-item.result (string_bytes c.loop-node.text)
+    (string_bytes c.add_place_of.new.text) _
     c.loop-node-test.true c.node-item.is (c.in_ok-add_place_of.ensures {u = tt}) c.loop-node.invariant
 
 pub returns : goal.returns
 returns g c =
-    sym (ap (λ ns. string_bytes c.loop-node.text ++ lines c.args.machine.now ns) (drop_all c.loop-node.node-index c.args.nodes.now c.loop-node-test.false)
+    sym (ap (λ ns. string_bytes c.loop-node.text ++ lines c.args.machine.now ns)
+    (drop_all c.loop-node.node-index c.args.nodes.now c.loop-node-test.false)
     ∙ append-nil (string_bytes c.loop-node.text))
     ∙ c.loop-node.invariant

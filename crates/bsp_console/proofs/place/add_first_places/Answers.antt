@@ -13,7 +13,8 @@ state p = p.node
 
 all : (m : MachineState) (nodes : List PreparedNode) (told count : ℕ) (before placed whole : List ℕ) → map state nodes ≡ m.nodes
     → told ≡ min 16 (length nodes) → count ≡ length nodes - 16
-    → placed ≡ before ++ flat_map (place_line m) (map state (take told nodes)) → whole ≡ placed ++ more_text count → whole ≡ before ++ first_places m
+    → placed ≡ before ++ flat_map (place_line m) (map state (take told nodes)) → whole ≡ placed ++ more_text count
+    → whole ≡ before ++ first_places m
 all m nodes told count before placed whole are few more first last =
     let firsts : map state (take told nodes) ≡ take 16 m.nodes =
     ap (λ n. map state (take n nodes)) few ∙ ap (map state) (take_min 16 nodes) ∙ sym (take-map state 16 nodes) ∙ ap (take 16) are in
@@ -29,5 +30,6 @@ slice_bounds-add_places-end g c =
 pub returns : goal.returns
 returns g c =
     IfOk-weaker c.add_more.result _ _
-    (λ u written. all c.args.machine.now c.nodes-nodes.result.now c.min-told.result c.saturating_sub.result (string_bytes c.args.text.now) (string_bytes c.add_places.new.text) _
+    (λ u written. all c.args.machine.now c.nodes-nodes.result.now c.min-told.result c.saturating_sub.result (string_bytes c.args.text.now)
+    (string_bytes c.add_places.new.text) _
     c.nodes-nodes.ensures c.min-told.ensures c.saturating_sub.ensures (c.in_ok-add_places.ensures {u = tt}) written) c.add_more.ensures

@@ -16,4 +16,5 @@ lines_of_states m (n ∷ ns) = ap (λ bs. place_line m n.node ++ bs) (lines_of_s
 pub returns : goal.returns
 returns g c =
     IfOk-weaker c.add_each_place.result _ _
-    (λ u written. written ∙ ap (λ bs. string_bytes c.args.text.now ++ bs) (lines_of_states c.args.machine.now c.args.nodes.now)) c.add_each_place.ensures
+    (λ u written. written ∙ ap (λ bs. string_bytes c.args.text.now ++ bs) (lines_of_states c.args.machine.now c.args.nodes.now))
+    c.add_each_place.ensures

@@ -17,9 +17,11 @@ returns-in_err-answer_to-clause-err g c =
     let other : line_of c.split_line.result.0.now ≡ Quit → ⊥ =
     λ quits. is_quit-false _ (sym c.is_quit.ensures ∙ c.if-is_quit.false) (c.parse_line-line.ensures ∙ quits) in
     rw (exit.1, exit.2) (answering-stops (plain c.args.job.now) _ _ _ c.split_line.result.0.now _ c.lines.debugger c.answer_to.new.debugger
-    (stream g.W.Write.contents c.args.out.now c.answer_to.new.out) (g.W.Write.contents c.lines.out.inner) c.lines.out.failures c.in_err-answer_to.field-0.0
+    (stream g.W.Write.contents c.args.out.now c.answer_to.new.out) (g.W.Write.contents c.lines.out.inner) c.lines.out.failures
+    c.in_err-answer_to.field-0.0
     (λ reply. Answered (plainly c.args.job.now) c.args.job.now c.parse_line-line.result c.lines.debugger reply c.answer_to.new.debugger)
-    (λ reply. subst (λ asked. Answered (plainly c.args.job.now) c.args.job.now asked c.lines.debugger reply c.answer_to.new.debugger) c.parse_line-line.ensures)
+    (λ reply. subst (λ asked. Answered (plainly c.args.job.now) c.args.job.now asked c.lines.debugger reply c.answer_to.new.debugger)
+    c.parse_line-line.ensures)
     c.lines.invariant.answering left other c.lines.invariant.out
     (with_left c.in_err-answer_to.ensures.err (λ refused. (refused.0, ap (λ o. g.W.Write.contents o.inner) refused.1))))
 
@@ -30,8 +32,11 @@ lines-preserved g c =
     λ quits. is_quit-false _ (sym c.is_quit.ensures ∙ c.if-is_quit.false) (c.parse_line-line.ensures ∙ quits) in
     let (text, answered, written) = c.in_ok-answer_to.ensures.ok in
     record {
-      answering = answering-step (plain c.args.job.now) _ _ _ c.split_line.result.0.now _ c.lines.debugger c.answer_to.new.debugger _ (g.W.Write.contents c.lines.out.inner) _ text
+      answering =
+          answering-step (plain c.args.job.now) _ _ _ c.split_line.result.0.now _ c.lines.debugger c.answer_to.new.debugger _
+          (g.W.Write.contents c.lines.out.inner) _ text
           c.lines.invariant.answering left other
-          (subst (λ asked. Answered (plainly c.args.job.now) c.args.job.now asked c.lines.debugger text c.answer_to.new.debugger) c.parse_line-line.ensures answered) written;
+          (subst (λ asked. Answered (plainly c.args.job.now) c.args.job.now asked c.lines.debugger text c.answer_to.new.debugger)
+          c.parse_line-line.ensures answered) written;
       out = omega arith;
     }

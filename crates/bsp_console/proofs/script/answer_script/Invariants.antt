@@ -7,7 +7,8 @@ use Rattle.bsp_console.proofs.script.answer_script.Given as goal
 
 abbrev pub invariant-lines : goal.invariant-lines
 invariant-lines g l = record {
-  answering : IsAnswering (plain l.job) (answered_lines l.script) (option_map_or (λ text. lines_of text.now) l.rest []) l.initial.debugger l.debugger (g.W.Write.contents l.initial.out.inner) (g.W.Write.contents l.out.inner);
+  answering : IsAnswering (plain l.job) (answered_lines l.script) (option_map_or (λ text. lines_of text.now) l.rest []) l.initial.debugger
+      l.debugger (g.W.Write.contents l.initial.out.inner) (g.W.Write.contents l.out.inner);
   out : l.initial.out.failures ≤ l.out.failures;
 }
 

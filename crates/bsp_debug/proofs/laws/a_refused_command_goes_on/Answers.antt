@@ -1,3 +1,4 @@
+-- The events before and after a refusal make together one whole answer of the command.
 use Rattle.bsp_debug.proofs.Again.{again}
 use Rattle.bsp_debug.proofs.laws.a_refused_command_goes_on.Goals as goal
 

@@ -1,3 +1,4 @@
+-- A machine that is reached from a sound one has its end, and so have the debugger's machine and each state that it keeps.
 use Rattle.std.specs.Prelude.{IfSome}
 use Rattle.std.proofs.lemmas.List.Elements.{All-weaker}
 use Rattle.bsp_debug.specs.Reached.{EndsAs}
@@ -15,4 +16,5 @@ returns-clause-debugger c d r = reached-ends d.first d.machine r.first r.machine
 
 pub returns-clause-kept : goal.returns-clause-kept
 returns-clause-kept c d r =
-    All-weaker (IsReachedIfKept d.first) (λ state. IfSome state (λ m. EndsAs d.first m)) (λ state is. kept-ends d.first r.first state is) d.kept r.kept
+    All-weaker (IsReachedIfKept d.first) (λ state. IfSome state (λ m. EndsAs d.first m)) (λ state is. kept-ends d.first r.first state is)
+    d.kept r.kept

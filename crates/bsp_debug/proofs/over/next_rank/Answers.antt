@@ -16,7 +16,8 @@ rank_in nodes = rank_of (lowest is_running nodes)
 pub returns-in-Some : goal.returns-in-Some
 returns-in-Some g c =
     let node = c.in-Some.node.now in
-    c.rank.ensures ∙ sym (ap rank_in (sym c.nodes.ensures) ∙ ap rank_of (lowest-is c.nodes.result.now is_running (Some node) c.in-Some.ensures))
+    c.rank.ensures
+    ∙ sym (ap rank_in (sym c.nodes.ensures) ∙ ap rank_of (lowest-is c.nodes.result.now is_running (Some node) c.in-Some.ensures))
 
 pub returns-in-None : goal.returns-in-None
 returns-in-None g c =

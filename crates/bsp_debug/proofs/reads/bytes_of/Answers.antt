@@ -1,3 +1,4 @@
+-- The range lies in the memory, so the bytes that are appended are those of the range.
 use Rattle.std.proofs.Common.{◌∙◌, ap}
 use Rattle.node_memory.specs.Bytes.{bytes_at}
 use Rattle.bsp_debug.specs.Reply.{bytes}

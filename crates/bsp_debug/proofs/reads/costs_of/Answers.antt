@@ -1,3 +1,4 @@
+-- The rows of the reply are those of the machine's ledger.
 use Rattle.std.proofs.Common.{◌∙◌, ap}
 use Rattle.bsp_debug.specs.Reply.{costs}
 use Rattle.bsp_debug.proofs.reads.costs_of.Goals as goal

@@ -1,3 +1,4 @@
+-- The registers read so far are those of the unit, one more with each pass, and after 32 of them all are.
 use Rattle.std.proofs.Common.{◌≡◌, ◌≢◌, ◌<◌, ℕ, length, map, get_or, arith, sym, ◌∙◌, refl, below_more, get_or-set_other, get_or-set_same}
 use Rattle.std.specs.List.{range_with_len}
 use Rattle.std.proofs.Math.ListN.{length-set}

@@ -1,3 +1,4 @@
+-- The messages read so far are the first ones of the queue, one more with each pass, and at its length all of them.
 use Rattle.std.proofs.Common.{◌≡◌, ℕ, ◌+◌, ◌<◌, inl, inr, List, [], ◌∷◌, ◌++◌, length, take, Some, None, slice_get, arith, sym, ap, ◌∙◌}
 use Rattle.std.proofs.lemmas.List.{take_more, take_all}
 use Rattle.std.proofs.lemmas.Option.{slice_get_cases, slice_get_within, get_or_from_slice_get}
@@ -7,7 +8,8 @@ use Rattle.bsp_debug.proofs.reads.queue_of.Goals as goal
 use Rattle.bsp_debug.proofs.reads.queue_of.Goals.{in-Some+in_ok-copy_of+in_ok-push, in_default}
 
 -- the first messages with the next one are those up to and with it
-take-next : (inbox queue : List Message) (i : ℕ) (m : Message) (first : List Message) → inbox ≡ queue → Some m ≡ slice_get inbox i → first ≡ take i queue → first ++ m ∷ [] ≡ take (i + 1) queue
+take-next : (inbox queue : List Message) (i : ℕ) (m : Message) (first : List Message) → inbox ≡ queue → Some m ≡ slice_get inbox i
+    → first ≡ take i queue → first ++ m ∷ [] ≡ take (i + 1) queue
 take-next inbox queue i m first same found are =
     let within = slice_get_within inbox i m (sym found) in
     let here = get_or_from_slice_get inbox i m m (sym found) in
@@ -31,7 +33,8 @@ loop-i-preserved g c =
     elim c.match-at.branch [
       | in-Some+in_ok-copy_of+in_ok-push w ↦
           rw (w.messages-is, w.in_ok-push.ensures.items, w.in_ok-copy_of.ensures)
-          (take-next inbox queue c.loop-i.i w.in-Some.message.now c.loop-i.messages.items c.inbox-inbox.ensures w.in-Some.ensures c.loop-i.invariant)
+          (take-next inbox queue c.loop-i.i w.in-Some.message.now c.loop-i.messages.items c.inbox-inbox.ensures w.in-Some.ensures
+          c.loop-i.invariant)
       | in_default w ↦
           absurd (none-within inbox c.loop-i.i (omega (arith, c.loop-i-test.true, c.count-i-end.ensures.value)) w.in_default.ensures)
     ]

@@ -1,3 +1,4 @@
+-- The loop's steps are those of the definition: where it stops the node has returned, and a refusal comes before that.
 use Rattle.std.proofs.Common.{◌≡◌, ◌+◌, ◌<◌, ◌≤◌, inl, inr, true, false, sym, ap, ◌∙◌, arith}
 use Rattle.std.proofs.lemmas.Bool.{cases_order, false≢true}
 use Rattle.std.proofs.lemmas.Result.{err_from_is_err_and}
@@ -45,10 +46,13 @@ loop-made-preserved g c =
     let m = c.args.machine.now in
     let enabled : is_enabled c.loop-made.machine (Step c.args.rank) ≡ true = sym c.in_ok-apply.ensures.enabled ∙ c.if-not-branch.false in
     let here = ap (λ (x : MachineState). is_enabled x (Step c.args.rank)) (sym so_far.is) ∙ enabled in
-    let free = λ (some : 0 < c.loop-made._made). ap (has_arrived c.args.points.now c.args.rank c.args.addr c.args.sp) (sym so_far.is) ∙ so_far.passes some in
+    let free = λ (some : 0 < c.loop-made._made). ap (has_arrived c.args.points.now c.args.rank c.args.addr c.args.sp) (sym so_far.is)
+    ∙ so_far.passes some in
     record {
       on = GoesOn-next c.args.points.now m c.args.rank c.args.addr c.args.sp c.loop-made._made so_far.on here free;
-      is = c.in_ok-apply.ensures.ok ∙ ap (λ (x : MachineState). event x (Step c.args.rank)) so_far.is ∙ sym (after_steps-last c.loop-made._made m c.args.rank);
+      is =
+          c.in_ok-apply.ensures.ok ∙ ap (λ (x : MachineState). event x (Step c.args.rank)) so_far.is
+          ∙ sym (after_steps-last c.loop-made._made m c.args.rank);
       passes = λ some. sym c.has_arrived.ensures ∙ c.if-has_arrived.false;
     }
 
@@ -80,14 +84,18 @@ returns-then-not-branch-clause-ok g c =
     let so_far = c.loop-made.invariant in
     let m = c.args.machine.now in
     let off : is_enabled c.loop-made.machine (Step c.args.rank) ≡ false = sym c.in_ok-apply.ensures.enabled ∙ c.if-not-branch.true in
-    let same : c.apply.new.self ≡ c.loop-made.machine = c.in_ok-apply.ensures.ok ∙ event-disabled c.loop-made.machine (Step c.args.rank) off in
+    let same : c.apply.new.self ≡ c.loop-made.machine =
+    c.in_ok-apply.ensures.ok ∙ event-disabled c.loop-made.machine (Step c.args.rank) off in
     let stopped = ap (λ (x : MachineState). is_enabled x (Step c.args.rank)) (sym so_far.is) ∙ off in (
       c.loop-made._made,
       same ∙ so_far.is,
       record {
         on = so_far.on;
         some = λ enabled. elim (cases_order 0 c.loop-made._made) [
-          | inl none ↦ absurd (false≢true (sym off ∙ ap (λ (x : MachineState). is_enabled x (Step c.args.rank)) (so_far.is ∙ ap (after_steps m c.args.rank) (sym none) ∙ after_steps-zero m c.args.rank) ∙ enabled))
+          | inl none ↦
+              absurd (false≢true
+              (sym off ∙ ap (λ (x : MachineState). is_enabled x (Step c.args.rank))
+              (so_far.is ∙ ap (after_steps m c.args.rank) (sym none) ∙ after_steps-zero m c.args.rank) ∙ enabled))
           | inr other ↦ elim other [
             | inl some ↦ some
             | inr below ↦ absurd (omega (arith, below))
@@ -103,13 +111,17 @@ returns-then-has_arrived-clause-ok g c =
     let m = c.args.machine.now in
     let enabled : is_enabled c.loop-made.machine (Step c.args.rank) ≡ true = sym c.in_ok-apply.ensures.enabled ∙ c.if-not-branch.false in
     let here = ap (λ (x : MachineState). is_enabled x (Step c.args.rank)) (sym so_far.is) ∙ enabled in
-    let free = λ (some : 0 < c.loop-made._made). ap (has_arrived c.args.points.now c.args.rank c.args.addr c.args.sp) (sym so_far.is) ∙ so_far.passes some in
-    let there = c.in_ok-apply.ensures.ok ∙ ap (λ (x : MachineState). event x (Step c.args.rank)) so_far.is ∙ sym (after_steps-last c.loop-made._made m c.args.rank) in (
+    let free = λ (some : 0 < c.loop-made._made). ap (has_arrived c.args.points.now c.args.rank c.args.addr c.args.sp) (sym so_far.is)
+    ∙ so_far.passes some in
+    let there = c.in_ok-apply.ensures.ok ∙ ap (λ (x : MachineState). event x (Step c.args.rank)) so_far.is
+    ∙ sym (after_steps-last c.loop-made._made m c.args.rank) in (
       c.loop-made._made + 1,
       there,
       record {
         on = GoesOn-next c.args.points.now m c.args.rank c.args.addr c.args.sp c.loop-made._made so_far.on here free;
         some = λ on. omega arith;
-        arrived = λ on. ap (has_arrived c.args.points.now c.args.rank c.args.addr c.args.sp) (sym there) ∙ sym c.has_arrived.ensures ∙ c.if-has_arrived.true;
+        arrived =
+            λ on. ap (has_arrived c.args.points.now c.args.rank c.args.addr c.args.sp) (sym there) ∙ sym c.has_arrived.ensures
+            ∙ c.if-has_arrived.true;
       },
     )

@@ -1,3 +1,4 @@
+-- The steps made so far lead to the machine as it is, and since the first of them the node has not arrived.
 use Rattle.std.proofs.Common.{◌≡◌, ◌<◌, false}
 use Rattle.bsp_debug.specs.Returns.{has_arrived, GoesOn}
 use Rattle.bsp_debug.specs.Trace.{after_steps}

@@ -1,3 +1,4 @@
+-- No steps need no entry, and some steps are one entry more.
 use Rattle.std.proofs.Common.{◌≡◌, ℕ, zero, suc, ◌<◌, ◌∙◌, List, [], ◌∷◌, ◌++◌, sym, arith}
 use Rattle.bsp_debug.specs.declared.made.Made.{Made}
 use Rattle.bsp_debug.specs.declared.made.Made.TheVariants.{Steps}

@@ -1,3 +1,4 @@
+-- The steps made so far lead to the machine as it is, are no more than asked for, and have come to no point.
 use Rattle.std.proofs.Common.{◌≡◌, ◌<◌, ◌≤◌, None}
 use Rattle.bsp_debug.specs.Trace.{after_steps, point_at, RunsOn}
 use Rattle.bsp_debug.proofs.trace.run_node_to_point.Given as goal

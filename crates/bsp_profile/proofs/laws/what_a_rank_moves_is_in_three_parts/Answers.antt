@@ -1,3 +1,4 @@
+-- What a row has as sent and kept is all that the rank sends in the exchange; likewise what it receives.
 use Rattle.bsp_profile.proofs.Ledgers.{row-received, row-sent}
 use Rattle.bsp_profile.proofs.laws.what_a_rank_moves_is_in_three_parts.Goals as goal
 

@@ -37,7 +37,10 @@ returns g c =
     get_or_default m.started i s 0 (omega (arith, length-started m sound)) ∙ ap (λ (xs : List ℕ). get_or xs i 0) (sym c.started.ensures) in
     row_there m i n s sound inside there begun
     ∙ ap (λ (r : Row). Some r)
-    (row_is m t.count t.cells.items c.requires.tally i c.requires.rank n s c.superstep.result c.rank.result c.saturating_sub.result c.moved_out.result
+    (row_is m t.count t.cells.items c.requires.tally i c.requires.rank n s c.superstep.result c.rank.result c.saturating_sub.result
+    c.moved_out.result
     c.moved_in.result c.bytes.result c.messages.result c.len.result c.state.result (rank_at m i n sound inside there)
-    c.superstep.ensures c.rank.ensures (c.saturating_sub.ensures ∙ ap (λ (x : ℕ). x - s) c.ticks.ensures.value) c.moved_out.ensures c.moved_in.ensures
-    c.bytes.ensures.value c.messages.ensures (c.len.ensures.len ∙ ap (λ (r : Requests). length r.requests) c.requests.ensures.value) c.state.ensures)
+    c.superstep.ensures c.rank.ensures (c.saturating_sub.ensures ∙ ap (λ (x : ℕ). x - s) c.ticks.ensures.value) c.moved_out.ensures
+    c.moved_in.ensures
+    c.bytes.ensures.value c.messages.ensures (c.len.ensures.len ∙ ap (λ (r : Requests). length r.requests) c.requests.ensures.value)
+    c.state.ensures)

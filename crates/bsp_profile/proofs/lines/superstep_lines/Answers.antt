@@ -7,4 +7,5 @@ pub returns : goal.returns
 unfolding superstep_lines
 returns g c =
     c.in_ok-write_flows.ensures
-    ∙ ap (λ (bs : List ℕ). bs ++ flow_lines c.args.machine.now) (c.in_ok-write_rows.ensures ∙ ap (λ (bs : List ℕ). bs ++ row_lines c.args.machine.now) c.new-text.ensures.bytes)
+    ∙ ap (λ (bs : List ℕ). bs ++ flow_lines c.args.machine.now)
+    (c.in_ok-write_rows.ensures ∙ ap (λ (bs : List ℕ). bs ++ row_lines c.args.machine.now) c.new-text.ensures.bytes)

@@ -14,12 +14,16 @@ loop-to-preserved g c =
     let now = string_bytes c.loop-to.text in
     elim c.if-bytes-gt0.branch [
       | then-bytes-gt0+in_ok-writeln w ↦
-          rw w.text-is (next_of_range (flow_lines_between m from) to (string_bytes c.args.text.now) now (string_bytes w.writeln.new.self) c.loop-to.invariant
+          rw w.text-is
+          (next_of_range (flow_lines_between m from) to (string_bytes c.args.text.now) now (string_bytes w.writeln.new.self)
+          c.loop-to.invariant
           (w.in_ok-writeln.ensures.bytes
           ∙ ap (λ (bs : List ℕ). now ++ bs)
-          (flow_yes m t.count t.cells.items c.requires.tally from to c.requires.from c.loop-to-test.true c.bytes-bytes.result w.superstep.result c.bytes-bytes.ensures.value w.superstep.ensures (omega (arith, w.if-bytes-gt0.true)))))
+          (flow_yes m t.count t.cells.items c.requires.tally from to c.requires.from c.loop-to-test.true c.bytes-bytes.result
+          w.superstep.result c.bytes-bytes.ensures.value w.superstep.ensures (omega (arith, w.if-bytes-gt0.true)))))
       | else-bytes-gt0 w ↦
           rw w.text-is (next_of_range (flow_lines_between m from) to (string_bytes c.args.text.now) now now c.loop-to.invariant
           (same_text now now (flow_lines_between m from to) refl
-          (flow_no m t.count t.cells.items c.requires.tally from to c.requires.from c.loop-to-test.true c.bytes-bytes.result 0 c.bytes-bytes.ensures.value (omega (arith, w.if-bytes-gt0.false)))))
+          (flow_no m t.count t.cells.items c.requires.tally from to c.requires.from c.loop-to-test.true c.bytes-bytes.result 0
+          c.bytes-bytes.ensures.value (omega (arith, w.if-bytes-gt0.false)))))
     ]

@@ -1,3 +1,4 @@
+-- After some supersteps the machine is on its way to the same end, and the profile with the lines that are left is the whole.
 use Rattle.std.proofs.Common.{◌≡◌, ◌+◌, ◌-◌, ◌++◌, length}
 use Rattle.std.specs.Prelude.{IsSome}
 use Rattle.machine_core.specs.Turn.{end_of}

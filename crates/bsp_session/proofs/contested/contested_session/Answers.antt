@@ -17,7 +17,9 @@ returns-in_err-machine-clause-err g c =
     let n = stream g.R.Read.remaining c.args.input.now c.start.new.input in
     let out = stream g.W.Write.contents c.args.out.now c.args.out.now in
     let told = stream g.C.Write.contents c.args.contested.now c.args.contested.now in
-    rw (p.1, p.2) (untold TellsContested (session_of i n out c.args.job.now) told _ (c.in_err-machine.ensures.err out (record { bytes = refl; failures = refl })) (record { bytes = refl; failures = refl }))
+    rw (p.1, p.2)
+    (untold TellsContested (session_of i n out c.args.job.now) told _
+    (c.in_err-machine.ensures.err out (record { bytes = refl; failures = refl })) (record { bytes = refl; failures = refl }))
 
 pub returns-in_err-machine-clause-nothing_written : goal.returns-in_err-machine-clause-nothing_written
 returns-in_err-machine-clause-nothing_written g c =
@@ -38,7 +40,8 @@ returns-in_err-told-clause-err g c =
     let told = stream g.C.Write.contents c.args.contested.now c.args.contested.now in
     let s : Session = session_of i n out c.args.job.now in
     rw (p.1, p.2) (untold TellsContested s told _
-    (IsErrorOf-threads s c.in_ok-machine.machine _ (c.in_ok-machine.ensures.ok out) (record { bytes = refl; failures = refl }) c.in_err-told.ensures.end.err) (record { bytes = refl; failures = refl }))
+    (IsErrorOf-threads s c.in_ok-machine.machine _ (c.in_ok-machine.ensures.ok out) (record { bytes = refl; failures = refl })
+    c.in_err-told.ensures.end.err) (record { bytes = refl; failures = refl }))
 
 pub returns-in_err-told-clause-nothing_written : goal.returns-in_err-told-clause-nothing_written
 returns-in_err-told-clause-nothing_written g c =
@@ -52,8 +55,10 @@ returns-clause-ok g c =
     let out : Stream = stream g.W.Write.contents c.args.out.now c.write_both.new.out in
     let told : Stream = stream g.C.Write.contents c.args.contested.now c.write_both.new.told in
     let s : Session = session_of i n out c.args.job.now in
-    IfOk-weaker c.write_both.result (WritesBoth s.job c.run_told.new.machine c.as_bytes.result.now out told) (ReportsAndTells TellsContested s told)
-    (ReportsAndTells-both TellsContested s told c.in_ok-machine.machine c.run_told.new.machine c.as_bytes.result.now (c.in_ok-machine.ensures.ok out) c.in_ok-told.ensures.end.is
+    IfOk-weaker c.write_both.result (WritesBoth s.job c.run_told.new.machine c.as_bytes.result.now out told)
+    (ReportsAndTells TellsContested s told)
+    (ReportsAndTells-both TellsContested s told c.in_ok-machine.machine c.run_told.new.machine c.as_bytes.result.now
+    (c.in_ok-machine.ensures.ok out) c.in_ok-told.ensures.end.is
     (subst (TellsContested c.in_ok-machine.machine) (sym c.as_bytes.ensures) c.in_ok-told.ensures.told)) c.write_both.ensures.ok
 
 pub returns-clause-err : goal.returns-clause-err
@@ -63,6 +68,8 @@ returns-clause-err g c =
     let out : Stream = stream g.W.Write.contents c.args.out.now c.write_both.new.out in
     let told : Stream = stream g.C.Write.contents c.args.contested.now c.write_both.new.told in
     let s : Session = session_of i n out c.args.job.now in
-    IfErr-weaker c.write_both.result (IsErrorOfBoth s.job c.run_told.new.machine c.as_bytes.result.now out told) (IsErrorOfTold TellsContested s told)
-    (IsErrorOfTold-both TellsContested s told c.in_ok-machine.machine c.run_told.new.machine c.as_bytes.result.now (c.in_ok-machine.ensures.ok out) c.in_ok-told.ensures.end.is
+    IfErr-weaker c.write_both.result (IsErrorOfBoth s.job c.run_told.new.machine c.as_bytes.result.now out told)
+    (IsErrorOfTold TellsContested s told)
+    (IsErrorOfTold-both TellsContested s told c.in_ok-machine.machine c.run_told.new.machine c.as_bytes.result.now
+    (c.in_ok-machine.ensures.ok out) c.in_ok-told.ensures.end.is
     (subst (TellsContested c.in_ok-machine.machine) (sym c.as_bytes.ensures) c.in_ok-told.ensures.told)) c.write_both.ensures.err

@@ -1,3 +1,4 @@
+-- A refusal of memory or of the pool is an error of the job's threads; all that is told is what the run appends to nothing.
 use Rattle.std.proofs.Common.{◌++◌, ◌∙◌, ℕ, List, ap, rules}
 use Rattle.std.proofs.lemmas.Result.{err_from_is_err_and}
 use Rattle.bsp_session.proofs.Jobs.{IsErrorOfThreads-of_pool}

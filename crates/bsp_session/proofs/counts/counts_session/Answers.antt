@@ -17,7 +17,9 @@ returns-in_err-machine-clause-err g c =
     let n = stream g.R.Read.remaining c.args.input.now c.start.new.input in
     let out = stream g.W.Write.contents c.args.out.now c.args.out.now in
     let told = stream g.C.Write.contents c.args.counts.now c.args.counts.now in
-    rw (p.1, p.2) (untold AreCounts (session_of i n out c.args.job.now) told _ (c.in_err-machine.ensures.err out (record { bytes = refl; failures = refl })) (record { bytes = refl; failures = refl }))
+    rw (p.1, p.2)
+    (untold AreCounts (session_of i n out c.args.job.now) told _
+    (c.in_err-machine.ensures.err out (record { bytes = refl; failures = refl })) (record { bytes = refl; failures = refl }))
 
 pub returns-in_err-machine-clause-nothing_written : goal.returns-in_err-machine-clause-nothing_written
 returns-in_err-machine-clause-nothing_written g c =
@@ -33,7 +35,8 @@ returns-in_err-told-clause-err g c =
     let told = stream g.C.Write.contents c.args.counts.now c.args.counts.now in
     let s : Session = session_of i n out c.args.job.now in
     rw (p.1, p.2) (untold AreCounts s told NoMemory
-    (IsErrorOf-threads s c.in_ok-machine.machine NoMemory (c.in_ok-machine.ensures.ok out) (record { bytes = refl; failures = refl }) tt) (record { bytes = refl; failures = refl }))
+    (IsErrorOf-threads s c.in_ok-machine.machine NoMemory (c.in_ok-machine.ensures.ok out) (record { bytes = refl; failures = refl }) tt)
+    (record { bytes = refl; failures = refl }))
 
 pub returns-in_err-told-clause-nothing_written : goal.returns-in_err-told-clause-nothing_written
 returns-in_err-told-clause-nothing_written g c =
@@ -48,7 +51,8 @@ returns-clause-ok g c =
     let told : Stream = stream g.C.Write.contents c.args.counts.now c.write_both.new.told in
     let s : Session = session_of i n out c.args.job.now in
     IfOk-weaker c.write_both.result (WritesBoth s.job c.run.new.machine c.as_bytes.result.now out told) (ReportsAndTells AreCounts s told)
-    (ReportsAndTells-both AreCounts s told c.in_ok-machine.machine c.run.new.machine c.as_bytes.result.now (c.in_ok-machine.ensures.ok out) c.in_ok-told.ensures.ok.end
+    (ReportsAndTells-both AreCounts s told c.in_ok-machine.machine c.run.new.machine c.as_bytes.result.now (c.in_ok-machine.ensures.ok out)
+    c.in_ok-told.ensures.ok.end
     (c.as_bytes.ensures.value ∙ c.in_ok-told.ensures.counts)) c.write_both.ensures.ok
 
 pub returns-clause-err : goal.returns-clause-err
@@ -59,5 +63,6 @@ returns-clause-err g c =
     let told : Stream = stream g.C.Write.contents c.args.counts.now c.write_both.new.told in
     let s : Session = session_of i n out c.args.job.now in
     IfErr-weaker c.write_both.result (IsErrorOfBoth s.job c.run.new.machine c.as_bytes.result.now out told) (IsErrorOfTold AreCounts s told)
-    (IsErrorOfTold-both AreCounts s told c.in_ok-machine.machine c.run.new.machine c.as_bytes.result.now (c.in_ok-machine.ensures.ok out) c.in_ok-told.ensures.ok.end
+    (IsErrorOfTold-both AreCounts s told c.in_ok-machine.machine c.run.new.machine c.as_bytes.result.now (c.in_ok-machine.ensures.ok out)
+    c.in_ok-told.ensures.ok.end
     (c.as_bytes.ensures.value ∙ c.in_ok-told.ensures.counts)) c.write_both.ensures.err

@@ -1,3 +1,4 @@
+-- The output grows by what each superstep writes, up to any number of them and up to the end.
 use Rattle.bsp_session.proofs.Supersteps.{output-all, output-first}
 use Rattle.bsp_session.proofs.laws.the_supersteps_write_the_output.Goals as goal
 

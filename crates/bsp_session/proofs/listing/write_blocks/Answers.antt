@@ -1,5 +1,6 @@
 -- Each line goes from those that are left to the block, and a whole block to what is written.
-use Rattle.std.proofs.Common.{◌≡◌, ◌<◌, Bool, ◌∙◌, ap, sym, List, [], ◌∷◌, ◌++◌, ℕ, length, string_bytes, append_assoc, append-nil, arith, length-append}
+use Rattle.std.proofs.Common.{◌≡◌, ◌<◌, Bool, ◌∙◌, ap, sym, List, [], ◌∷◌}
+use Rattle.std.proofs.Common.{◌++◌, ℕ, length, string_bytes, append_assoc, append-nil, arith, length-append}
 use Rattle.std.specs.List.{flat_map}
 use Rattle.std.proofs.KnownBytes.{Appends-trans, Appends-nil}
 use Rattle.std.proofs.lemmas.Grind.{flat_map-append}
@@ -18,10 +19,12 @@ moved all done waiting line left next is begins =
     is ∙ ap (λ ls. done ++ ls) (ap (λ ls. waiting ++ ls) begins ∙ sym (append_assoc waiting (line ∷ []) next))
 
 -- its text goes to the end of the block
-grown : (float : Bool) (waiting : List Line) (line : Line) (block new : List ℕ) → block ≡ flat_map (ended_line float) waiting → new ≡ block ++ ended_line float line
+grown : (float : Bool) (waiting : List Line) (line : Line) (block new : List ℕ) → block ≡ flat_map (ended_line float) waiting
+    → new ≡ block ++ ended_line float line
     → new ≡ flat_map (ended_line float) (waiting ++ line ∷ [])
 grown float waiting line block new is more =
-    more ∙ ap (λ bs. bs ++ ended_line float line) is ∙ ap (λ bs. flat_map (ended_line float) waiting ++ bs) (sym (append-nil (ended_line float line)))
+    more ∙ ap (λ bs. bs ++ ended_line float line) is
+    ∙ ap (λ bs. flat_map (ended_line float) waiting ++ bs) (sym (append-nil (ended_line float line)))
     ∙ sym (flat_map-append (ended_line float) waiting (line ∷ []))
 
 -- some line is left
@@ -54,8 +57,13 @@ returns-in_err-write_whole-clause-err g c =
     let whole = texts-parted c.args.float (lines_of_segment c.args.segment.now) done more c.next.new.self
     (moved _ done waiting c.in-Some.line c.loop-line.line-iterator c.next.new.self is c.in-Some.ensures.steps) in
     rw (p.1, p.2) (
-      AppendsPrefix-behind (flat_map (ended_line c.args.float) done) (flat_map (ended_line c.args.float) more) (flat_map (ended_line c.args.float) c.next.new.self) _ _ _ _ whole appended
-          (rw (c.as_bytes.ensures.value, grown c.args.float waiting c.in-Some.line (string_bytes c.loop-line.block) (string_bytes c.writeln.new.self) block c.in_ok-writeln.ensures.bytes)
+      AppendsPrefix-behind (flat_map (ended_line c.args.float) done) (flat_map (ended_line c.args.float) more)
+          (flat_map (ended_line c.args.float) c.next.new.self) _ _ _ _ whole appended
+          (rw (
+            c.as_bytes.ensures.value,
+            grown c.args.float waiting c.in-Some.line (string_bytes c.loop-line.block)
+                (string_bytes c.writeln.new.self) block c.in_ok-writeln.ensures.bytes,
+          )
           at c.in_err-write_whole.ensures.err),
       HasRisen-above _ _ _ c.loop-line.invariant.rises c.in_err-write_whole.ensures.fault,
     )
@@ -64,13 +72,16 @@ pub loop-line-preserved-then-len-ge-BLOCK : goal.loop-line-preserved-then-len-ge
 loop-line-preserved-then-len-ge-BLOCK g c =
     let (done, waiting, is, appended, block) = c.loop-line.invariant.written in
     let more = waiting ++ c.in-Some.line ∷ [] in
-    let text = grown c.args.float waiting c.in-Some.line (string_bytes c.loop-line.block) (string_bytes c.writeln.new.self) block c.in_ok-writeln.ensures.bytes in
+    let text = grown c.args.float waiting c.in-Some.line (string_bytes c.loop-line.block) (string_bytes c.writeln.new.self) block
+    c.in_ok-writeln.ensures.bytes in
     record {
       written = (
         done ++ more,
         [],
-        moved _ done waiting c.in-Some.line c.loop-line.line-iterator c.next.new.self is c.in-Some.ensures.steps ∙ sym (append_assoc done more c.next.new.self),
-        rw (flat_map-append (ended_line c.args.float) done more) (Appends-trans _ _ _ _ _ appended (rw (c.as_bytes.ensures.value, text) at c.in_ok-write_whole.ensures.ok)),
+        moved _ done waiting c.in-Some.line c.loop-line.line-iterator c.next.new.self is c.in-Some.ensures.steps
+            ∙ sym (append_assoc done more c.next.new.self),
+        rw (flat_map-append (ended_line c.args.float) done more)
+            (Appends-trans _ _ _ _ _ appended (rw (c.as_bytes.ensures.value, text) at c.in_ok-write_whole.ensures.ok)),
         c.clear.ensures.bytes,
       );
       rises = omega arith;
@@ -85,12 +96,18 @@ loop-line-preserved g c =
         waiting ++ c.in-Some.line ∷ [],
         moved _ done waiting c.in-Some.line c.loop-line.line-iterator c.next.new.self is c.in-Some.ensures.steps,
         appended,
-        grown c.args.float waiting c.in-Some.line (string_bytes c.loop-line.block) (string_bytes c.writeln.new.self) block c.in_ok-writeln.ensures.bytes,
+        grown c.args.float waiting c.in-Some.line (string_bytes c.loop-line.block) (string_bytes c.writeln.new.self) block
+            c.in_ok-writeln.ensures.bytes,
       );
       rises = c.loop-line.invariant.rises;
     }
 
 pub returns-clause-ok : goal.returns-clause-ok
 returns-clause-ok g c =
-    let (done, waiting, is, appended, block) = c.loop-line.invariant.written in
-    (done, waiting, is ∙ ap (λ ls. done ++ (waiting ++ ls)) c.in-None.ensures.steps.0 ∙ ap (λ ls. done ++ ls) (append-nil waiting), appended, block)
+    let (done, waiting, is, appended, block) = c.loop-line.invariant.written in (
+      done,
+      waiting,
+      is ∙ ap (λ ls. done ++ (waiting ++ ls)) c.in-None.ensures.steps.0 ∙ ap (λ ls. done ++ ls) (append-nil waiting),
+      appended,
+      block,
+    )

@@ -11,6 +11,8 @@ returns-in_err-write_segment-clause-err g c =
     let p = err_from_is_err_and c.from_residual.result c.from_residual.ensures.1 in
     rw (p.1, p.2)
     (IsErrorOfLines-at c.args.float c.args.image.now c.as_slice-segment-items.result.now c.loop-segment.segment-index c.segment-item.result
-    (stream g.W.Write.contents c.args.out.now c.write_segment.new.out) (stream g.W.Write.contents c.loop-segment.out c.write_segment.new.out) _
+    (stream g.W.Write.contents c.args.out.now c.write_segment.new.out)
+    (stream g.W.Write.contents c.loop-segment.out c.write_segment.new.out) _
     (c.as_slice-segment-items.ensures ∙ ap (λ (i : Image). i.segments) c.image.view_is)
-    (omega arith) c.segment-item.is refl refl c.loop-segment.invariant.rises c.loop-segment.invariant.written c.in_err-write_segment.ensures.err)
+    (omega arith) c.segment-item.is refl refl c.loop-segment.invariant.rises c.loop-segment.invariant.written
+    c.in_err-write_segment.ensures.err)

@@ -1,3 +1,4 @@
+-- An error before the first byte leaves the output as it was, and one while writing comes after the bytes that were written.
 use Rattle.std.proofs.Common.{◌∙◌, inr, refl}
 use Rattle.std.proofs.lemmas.Result.{err_from_is_err_and}
 use Rattle.bsp_session.proofs.listing.write_saved.Goals as goal
@@ -5,7 +6,8 @@ use Rattle.bsp_session.proofs.listing.write_saved.Goals as goal
 pub returns-in_err-file-clause-err : goal.returns-in_err-file-clause-err
 returns-in_err-file-clause-err g c =
     let p = err_from_is_err_and c.from_residual.result c.from_residual.ensures.1 in
-    rw (p.1, p.2) (λ text float given. inr (record { i = given.i; read = given.read; unwritten = record { bytes = refl; failures = refl } }))
+    rw (p.1, p.2)
+    (λ text float given. inr (record { i = given.i; read = given.read; unwritten = record { bytes = refl; failures = refl } }))
 
 pub returns-in_err-write_whole-clause-err : goal.returns-in_err-write_whole-clause-err
 returns-in_err-write_whole-clause-err g c =

@@ -16,7 +16,9 @@ returns-in_err-machine-clause-err g c =
     let i = stream g.I.Read.remaining c.args.image.now c.start.new.image in
     let n = stream g.R.Read.remaining c.args.input.now c.start.new.input in
     let out = stream g.W.Write.contents c.args.out.now c.args.out.now in
-    rw (p.1, p.2) (IsErrorOfLive-of (session_of i n out c.args.job.now) _ (c.in_err-machine.ensures.err out (record { bytes = refl; failures = refl })))
+    rw (p.1, p.2)
+    (IsErrorOfLive-of (session_of i n out c.args.job.now) _
+    (c.in_err-machine.ensures.err out (record { bytes = refl; failures = refl })))
 
 pub returns-in_err-machine-clause-bad_settings : goal.returns-in_err-machine-clause-bad_settings
 returns-in_err-machine-clause-bad_settings g c =
@@ -24,7 +26,9 @@ returns-in_err-machine-clause-bad_settings g c =
     let i = stream g.I.Read.remaining c.args.image.now c.start.new.image in
     let n = stream g.R.Read.remaining c.args.input.now c.start.new.input in
     let out = stream g.W.Write.contents c.args.out.now c.args.out.now in
-    rw (p.1, p.2) (settings_exact (session_of i n out c.args.job.now) (Err _) tt (c.in_err-machine.ensures.err out (record { bytes = refl; failures = refl })))
+    rw (p.1, p.2)
+    (settings_exact (session_of i n out c.args.job.now) (Err _) tt
+    (c.in_err-machine.ensures.err out (record { bytes = refl; failures = refl })))
 
 pub returns-in_err-machine-clause-nothing_written : goal.returns-in_err-machine-clause-nothing_written
 returns-in_err-machine-clause-nothing_written g c =
@@ -48,7 +52,9 @@ returns-in_err-run_live-clause-err g c =
     let i = stream g.I.Read.remaining c.args.image.now c.start.new.image in
     let n = stream g.R.Read.remaining c.args.input.now c.start.new.input in
     let out = stream g.W.Write.contents c.args.out.now c.run_live.new.out in
-    rw (p.1, p.2) (IsErrorOfLive-run (session_of i n out c.args.job.now) c.in_ok-machine.machine _ (c.in_ok-machine.ensures.ok out) c.in_err-run_live.ensures.err)
+    rw (p.1, p.2)
+    (IsErrorOfLive-run (session_of i n out c.args.job.now) c.in_ok-machine.machine _ (c.in_ok-machine.ensures.ok out)
+    c.in_err-run_live.ensures.err)
 
 pub returns-in_err-run_live-clause-bad_settings : goal.returns-in_err-run_live-clause-bad_settings
 returns-in_err-run_live-clause-bad_settings g c =
@@ -60,7 +66,9 @@ returns-in_err-run_live-clause-bad_settings g c =
 pub returns-in_err-run_live-clause-nothing_written : goal.returns-in_err-run_live-clause-nothing_written
 returns-in_err-run_live-clause-nothing_written g c =
     let p = err_from_is_err_and c.from_residual-in_err-run_live.result c.from_residual-in_err-run_live.ensures.1 in
-    rw (p.1, p.2) (inr (late c.args.job.now c.in_ok-machine.machine (stream g.W.Write.contents c.args.out.now c.run_live.new.out) _ c.in_err-run_live.ensures.err))
+    rw (p.1, p.2)
+    (inr (late c.args.job.now c.in_ok-machine.machine (stream g.W.Write.contents c.args.out.now c.run_live.new.out) _
+    c.in_err-run_live.ensures.err))
 
 pub returns-in_err-write_lines-clause-err : goal.returns-in_err-write_lines-clause-err
 returns-in_err-write_lines-clause-err g c =
@@ -70,7 +78,8 @@ returns-in_err-write_lines-clause-err g c =
     let out = stream g.W.Write.contents c.args.out.now c.write_lines.new.out in
     let ran = c.in_ok-run_live.ensures in
     rw (p.1, p.2) (IsErrorOfLive-lines (session_of i n out c.args.job.now) c.in_ok-machine.machine c.run_live.new.machine
-    (stream g.W.Write.contents c.run_live.new.out c.write_lines.new.out) _ (c.in_ok-machine.ensures.ok out) ran.ended.end refl refl c.run_live.ensures.never_falls ran.written
+    (stream g.W.Write.contents c.run_live.new.out c.write_lines.new.out) _ (c.in_ok-machine.ensures.ok out) ran.ended.end refl refl
+    c.run_live.ensures.never_falls ran.written
     c.in_err-write_lines.ensures.err)
 
 pub returns-in_err-write_lines-clause-bad_settings : goal.returns-in_err-write_lines-clause-bad_settings
@@ -83,7 +92,9 @@ returns-in_err-write_lines-clause-bad_settings g c =
 pub returns-in_err-write_lines-clause-nothing_written : goal.returns-in_err-write_lines-clause-nothing_written
 returns-in_err-write_lines-clause-nothing_written g c =
     let p = err_from_is_err_and c.from_residual-in_err-write_lines.result c.from_residual-in_err-write_lines.ensures.1 in
-    rw (p.1, p.2) (inr (late_lines c.args.job.now c.run_live.new.machine (stream g.W.Write.contents c.run_live.new.out c.write_lines.new.out) _ c.in_err-write_lines.ensures.err))
+    rw (p.1, p.2)
+    (inr (late_lines c.args.job.now c.run_live.new.machine (stream g.W.Write.contents c.run_live.new.out c.write_lines.new.out) _
+    c.in_err-write_lines.ensures.err))
 
 pub returns-clause-ok : goal.returns-clause-ok
 returns-clause-ok g c =
@@ -91,8 +102,12 @@ returns-clause-ok g c =
     let out : Stream = stream g.W.Write.contents c.args.out.now c.write_lines.new.out in
     record {
       start = c.in_ok-machine.machine;
-      reports = ReportsFrom-end (session_of (stream g.I.Read.remaining c.args.image.now c.start.new.image) (stream g.R.Read.remaining c.args.input.now c.start.new.input) out c.args.job.now)
-          c.in_ok-machine.machine c.run_live.new.machine (c.in_ok-machine.ensures.ok out) ran.ended.end (Appends-trans _ _ _ _ _ ran.written c.in_ok-write_lines.ensures.ok);
+      reports =
+          ReportsFrom-end
+          (session_of (stream g.I.Read.remaining c.args.image.now c.start.new.image)
+          (stream g.R.Read.remaining c.args.input.now c.start.new.input) out c.args.job.now)
+          c.in_ok-machine.machine c.run_live.new.machine (c.in_ok-machine.ensures.ok out) ran.ended.end
+          (Appends-trans _ _ _ _ _ ran.written c.in_ok-write_lines.ensures.ok);
       outcome = rw ran.ended.end at c.outcome_of.ensures;
     }
 

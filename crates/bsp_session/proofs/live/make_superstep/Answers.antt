@@ -18,9 +18,11 @@ pub returns-in_err-run_phase_sparing-clause-err : goal.returns-in_err-run_phase_
 returns-in_err-run_phase_sparing-clause-err g c =
     let p = err_from_is_err_and c.from_residual.result c.from_residual.ensures.1 in
     let m = c.args.machine.now in
-    let was = λ (cause : PoolError) (is : c.in_err-run_phase_sparing.field-0.0 ≡ cause). c.in_err-run_phase_sparing.was ∙ ap (λ (e : PoolError). Err e) is in
+    let was = λ (cause : PoolError) (is : c.in_err-run_phase_sparing.field-0.0 ≡ cause). c.in_err-run_phase_sparing.was
+    ∙ ap (λ (e : PoolError). Err e) is in
     let e = c.run_phase_sparing.ensures.refusals in
-    rw (p.1, p.2) (IsErrorOfSuperstep-of_pool c.args.job.now m (stream g.W.Write.contents c.args.out.now c.args.out.now) _ c.requires.numbers
+    rw (p.1, p.2)
+    (IsErrorOfSuperstep-of_pool c.args.job.now m (stream g.W.Write.contents c.args.out.now c.args.out.now) _ c.requires.numbers
     (λ is. e.bad_workers.0 (was _ is)) (λ is. e.bad_slice.0 (was _ is))
     (λ is. let wanted = e.no_worker (was _ is) in (wanted.0, rw (← length-nodes m c.requires.sound) wanted.1))
     (record { bytes = refl; failures = refl }))
@@ -33,22 +35,27 @@ returns-in_err-turn-clause-err g c =
 pub returns-clause-made : goal.returns-clause-made
 returns-clause-made g c =
     let m = c.args.machine.now in
-    superstep-made m c.requires.sound (rw c.requires.going refl) c.turn.new.self (c.in_ok-turn.ensures.ok ∙ ap (λ (x : MachineState). event x Turn) c.in_ok-run_phase_sparing.ensures.ok)
+    superstep-made m c.requires.sound (rw c.requires.going refl) c.turn.new.self
+    (c.in_ok-turn.ensures.ok ∙ ap (λ (x : MachineState). event x Turn) c.in_ok-run_phase_sparing.ensures.ok)
 
 pub slice_bounds-write_at_once-count : goal.slice_bounds-write_at_once-count
 slice_bounds-write_at_once-count g c =
     let m = c.args.machine.now in
     let open_yet : is_some m.outcome ≡ false = rw c.requires.going refl in
-    let made = superstep-made m c.requires.sound open_yet c.turn.new.self (c.in_ok-turn.ensures.ok ∙ ap (λ (x : MachineState). event x Turn) c.in_ok-run_phase_sparing.ensures.ok) in
-    let is = output-made m c.turn.new.self c.output-before.result.now c.output.result.now made open_yet c.output-before.ensures c.output.ensures in
+    let made = superstep-made m c.requires.sound open_yet c.turn.new.self
+    (c.in_ok-turn.ensures.ok ∙ ap (λ (x : MachineState). event x Turn) c.in_ok-run_phase_sparing.ensures.ok) in
+    let is = output-made m c.turn.new.self c.output-before.result.now c.output.result.now made open_yet c.output-before.ensures
+    c.output.ensures in
     reaches c.output-before.result.now c.output.result.now (written (with_phases m).nodes) is
 
 pub slice_bounds-write_at_once-start : goal.slice_bounds-write_at_once-start
 slice_bounds-write_at_once-start g c =
     let m = c.args.machine.now in
     let open_yet : is_some m.outcome ≡ false = rw c.requires.going refl in
-    let made = superstep-made m c.requires.sound open_yet c.turn.new.self (c.in_ok-turn.ensures.ok ∙ ap (λ (x : MachineState). event x Turn) c.in_ok-run_phase_sparing.ensures.ok) in
-    let is = output-made m c.turn.new.self c.output-before.result.now c.output.result.now made open_yet c.output-before.ensures c.output.ensures in
+    let made = superstep-made m c.requires.sound open_yet c.turn.new.self
+    (c.in_ok-turn.ensures.ok ∙ ap (λ (x : MachineState). event x Turn) c.in_ok-run_phase_sparing.ensures.ok) in
+    let is = output-made m c.turn.new.self c.output-before.result.now c.output.result.now made open_yet c.output-before.ensures
+    c.output.ensures in
     reaches c.output-before.result.now c.output.result.now (written (with_phases m).nodes) is
 
 pub returns-in_err-write_at_once-clause-err : goal.returns-in_err-write_at_once-clause-err
@@ -56,10 +63,13 @@ returns-in_err-write_at_once-clause-err g c =
     let p = err_from_is_err_and c.from_residual-in_err-write_at_once.result c.from_residual-in_err-write_at_once.ensures.1 in
     let m = c.args.machine.now in
     let open_yet : is_some m.outcome ≡ false = rw c.requires.going refl in
-    let made = superstep-made m c.requires.sound open_yet c.turn.new.self (c.in_ok-turn.ensures.ok ∙ ap (λ (x : MachineState). event x Turn) c.in_ok-run_phase_sparing.ensures.ok) in
-    let is = output-made m c.turn.new.self c.output-before.result.now c.output.result.now made open_yet c.output-before.ensures c.output.ensures in
+    let made = superstep-made m c.requires.sound open_yet c.turn.new.self
+    (c.in_ok-turn.ensures.ok ∙ ap (λ (x : MachineState). event x Turn) c.in_ok-run_phase_sparing.ensures.ok) in
+    let is = output-made m c.turn.new.self c.output-before.result.now c.output.result.now made open_yet c.output-before.ensures
+    c.output.ensures in
     rw (p.1, p.2) (
-      rw (← added-part c.output-before.result.now c.output.result.now (written (with_phases m).nodes) is) c.in_err-write_at_once.ensures.err,
+      rw (← added-part c.output-before.result.now c.output.result.now (written (with_phases m).nodes) is)
+          c.in_err-write_at_once.ensures.err,
       c.in_err-write_at_once.ensures.fault,
     )
 
@@ -67,6 +77,8 @@ pub returns-clause-written : goal.returns-clause-written
 returns-clause-written g c =
     let m = c.args.machine.now in
     let open_yet : is_some m.outcome ≡ false = rw c.requires.going refl in
-    let made = superstep-made m c.requires.sound open_yet c.turn.new.self (c.in_ok-turn.ensures.ok ∙ ap (λ (x : MachineState). event x Turn) c.in_ok-run_phase_sparing.ensures.ok) in
-    let is = output-made m c.turn.new.self c.output-before.result.now c.output.result.now made open_yet c.output-before.ensures c.output.ensures in
+    let made = superstep-made m c.requires.sound open_yet c.turn.new.self
+    (c.in_ok-turn.ensures.ok ∙ ap (λ (x : MachineState). event x Turn) c.in_ok-run_phase_sparing.ensures.ok) in
+    let is = output-made m c.turn.new.self c.output-before.result.now c.output.result.now made open_yet c.output-before.ensures
+    c.output.ensures in
     rw (← added-part c.output-before.result.now c.output.result.now (written (with_phases m).nodes) is) c.in_ok-write_at_once.ensures.ok

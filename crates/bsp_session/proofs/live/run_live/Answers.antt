@@ -37,8 +37,10 @@ returns-in_err-make_superstep-clause-err g c =
     let none = none_from m.outcome (λ x is. false≢true (sym open_yet ∙ ap is_some is)) in
     let so_far = c.loop-machine.invariant in
     rw (p.1, p.2) (IsErrorOfLiveRun-at c.args.job.now c.args.machine.now m so_far.so_far.0
-    (stream g.W.Write.contents c.args.out.now c.make_superstep.new.out) (stream g.W.Write.contents c.loop-machine.out c.make_superstep.new.out) _
-    so_far.so_far.1 (end_of-superstep m c.outcome.ensures.sound ∙ so_far.same_end) so_far.settings none refl refl so_far.rises so_far.written
+    (stream g.W.Write.contents c.args.out.now c.make_superstep.new.out)
+    (stream g.W.Write.contents c.loop-machine.out c.make_superstep.new.out) _
+    so_far.so_far.1 (end_of-superstep m c.outcome.ensures.sound ∙ so_far.same_end) so_far.settings none refl refl so_far.rises
+    so_far.written
     c.in_err-make_superstep.ensures.err)
 
 pub loop-machine-smaller : goal.loop-machine-smaller

@@ -17,7 +17,9 @@ returns-in_err-machine-clause-err g c =
     let n = stream g.R.Read.remaining c.args.input.now c.start.new.input in
     let out = stream g.W.Write.contents c.args.out.now c.args.out.now in
     let told = stream g.P.Write.contents c.args.profile.now c.args.profile.now in
-    rw (p.1, p.2) (untold IsProfile (session_of i n out c.args.job.now) told _ (c.in_err-machine.ensures.err out (record { bytes = refl; failures = refl })) (record { bytes = refl; failures = refl }))
+    rw (p.1, p.2)
+    (untold IsProfile (session_of i n out c.args.job.now) told _
+    (c.in_err-machine.ensures.err out (record { bytes = refl; failures = refl })) (record { bytes = refl; failures = refl }))
 
 pub returns-in_err-machine-clause-nothing_written : goal.returns-in_err-machine-clause-nothing_written
 returns-in_err-machine-clause-nothing_written g c =
@@ -38,7 +40,8 @@ returns-in_err-told-clause-err g c =
     let told = stream g.P.Write.contents c.args.profile.now c.args.profile.now in
     let s : Session = session_of i n out c.args.job.now in
     rw (p.1, p.2) (untold IsProfile s told _
-    (IsErrorOf-threads s c.in_ok-machine.machine _ (c.in_ok-machine.ensures.ok out) (record { bytes = refl; failures = refl }) c.in_err-told.ensures.end.err) (record { bytes = refl; failures = refl }))
+    (IsErrorOf-threads s c.in_ok-machine.machine _ (c.in_ok-machine.ensures.ok out) (record { bytes = refl; failures = refl })
+    c.in_err-told.ensures.end.err) (record { bytes = refl; failures = refl }))
 
 pub returns-in_err-told-clause-nothing_written : goal.returns-in_err-told-clause-nothing_written
 returns-in_err-told-clause-nothing_written g c =
@@ -52,8 +55,10 @@ returns-clause-ok g c =
     let out : Stream = stream g.W.Write.contents c.args.out.now c.write_both.new.out in
     let told : Stream = stream g.P.Write.contents c.args.profile.now c.write_both.new.told in
     let s : Session = session_of i n out c.args.job.now in
-    IfOk-weaker c.write_both.result (WritesBoth s.job c.run_profiled.new.machine c.as_bytes.result.now out told) (ReportsAndTells IsProfile s told)
-    (ReportsAndTells-both IsProfile s told c.in_ok-machine.machine c.run_profiled.new.machine c.as_bytes.result.now (c.in_ok-machine.ensures.ok out) c.in_ok-told.ensures.end.is
+    IfOk-weaker c.write_both.result (WritesBoth s.job c.run_profiled.new.machine c.as_bytes.result.now out told)
+    (ReportsAndTells IsProfile s told)
+    (ReportsAndTells-both IsProfile s told c.in_ok-machine.machine c.run_profiled.new.machine c.as_bytes.result.now
+    (c.in_ok-machine.ensures.ok out) c.in_ok-told.ensures.end.is
     (c.as_bytes.ensures ∙ c.in_ok-told.ensures.profile)) c.write_both.ensures.ok
 
 pub returns-clause-err : goal.returns-clause-err
@@ -63,6 +68,8 @@ returns-clause-err g c =
     let out : Stream = stream g.W.Write.contents c.args.out.now c.write_both.new.out in
     let told : Stream = stream g.P.Write.contents c.args.profile.now c.write_both.new.told in
     let s : Session = session_of i n out c.args.job.now in
-    IfErr-weaker c.write_both.result (IsErrorOfBoth s.job c.run_profiled.new.machine c.as_bytes.result.now out told) (IsErrorOfTold IsProfile s told)
-    (IsErrorOfTold-both IsProfile s told c.in_ok-machine.machine c.run_profiled.new.machine c.as_bytes.result.now (c.in_ok-machine.ensures.ok out) c.in_ok-told.ensures.end.is
+    IfErr-weaker c.write_both.result (IsErrorOfBoth s.job c.run_profiled.new.machine c.as_bytes.result.now out told)
+    (IsErrorOfTold IsProfile s told)
+    (IsErrorOfTold-both IsProfile s told c.in_ok-machine.machine c.run_profiled.new.machine c.as_bytes.result.now
+    (c.in_ok-machine.ensures.ok out) c.in_ok-told.ensures.end.is
     (c.as_bytes.ensures ∙ c.in_ok-told.ensures.profile)) c.write_both.ensures.err

@@ -1,3 +1,4 @@
+-- A refusal of memory or of the pool is an error of the job's threads; the profile is what the run appends to nothing.
 use Rattle.std.proofs.Common.{◌++◌, ◌∙◌, ℕ, List, ap, rules}
 use Rattle.std.proofs.lemmas.Result.{err_from_is_err_and}
 use Rattle.bsp_profile.specs.Lines.{lines_of}

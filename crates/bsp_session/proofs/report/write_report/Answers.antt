@@ -22,7 +22,9 @@ pub returns-in_err-write_whole-clause-err : goal.returns-in_err-write_whole-clau
 returns-in_err-write_whole-clause-err g c =
     let p = err_from_is_err_and c.from_residual-in_err-write_whole.result c.from_residual-in_err-write_whole.ensures.1 in
     rw (p.1, p.2) (record {
-      written = AppendsPrefix-behind [] c.output.result.now (report_lines c.args.job.now c.args.machine.now) (report_of c.args.job.now c.args.machine.now) _ _ _
+      written =
+          AppendsPrefix-behind [] c.output.result.now (report_lines c.args.job.now c.args.machine.now)
+          (report_of c.args.job.now c.args.machine.now) _ _ _
           (rw c.output.ensures refl) (Appends-nil (g.W.Write.contents c.args.out.now.inner)) c.in_err-write_whole.ensures.err;
       failed = c.in_err-write_whole.ensures.fault;
     })
@@ -37,7 +39,9 @@ pub returns-in_err-write_whole-2-clause-err : goal.returns-in_err-write_whole-2-
 returns-in_err-write_whole-2-clause-err g c =
     let p = err_from_is_err_and c.from_residual-in_err-write_whole-2.result c.from_residual-in_err-write_whole-2.ensures.1 in
     let whole : report_of c.args.job.now c.args.machine.now ≡ c.output.result.now ++ (c.as_bytes.result.now ++ []) =
-    rw c.output.ensures (ap (λ ys. c.args.machine.now.output ++ ys) (sym (append-nil c.as_bytes.result.now ∙ c.as_bytes.ensures.value ∙ c.in_ok-lines.ensures.text))) in
+    rw c.output.ensures
+    (ap (λ ys. c.args.machine.now.output ++ ys)
+    (sym (append-nil c.as_bytes.result.now ∙ c.as_bytes.ensures.value ∙ c.in_ok-lines.ensures.text))) in
     rw (p.1, p.2) (record {
       written = AppendsPrefix-behind c.output.result.now c.as_bytes.result.now [] (report_of c.args.job.now c.args.machine.now) _ _ _
           whole c.in_ok-write_whole.ensures.ok c.in_err-write_whole-2.ensures.err;

@@ -1,3 +1,4 @@
+-- A refusal of the pool is an error of the job's threads.
 use Rattle.std.proofs.Common.{rules}
 use Rattle.std.proofs.lemmas.Result.{err_from_is_err_and}
 use Rattle.bsp_session.proofs.Jobs.{IsErrorOfThreads-of_pool}

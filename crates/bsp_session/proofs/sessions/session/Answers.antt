@@ -19,7 +19,9 @@ returns-in_err-machine-clause-bad_settings g c =
     let i = stream g.I.Read.remaining c.args.image.now c.start.new.image in
     let n = stream g.R.Read.remaining c.args.input.now c.start.new.input in
     let out = stream g.W.Write.contents c.args.out.now c.args.out.now in
-    rw (p.1, p.2) (settings_exact (session_of i n out c.args.job.now) (Err _) tt (c.in_err-machine.ensures.err out (record { bytes = refl; failures = refl })))
+    rw (p.1, p.2)
+    (settings_exact (session_of i n out c.args.job.now) (Err _) tt
+    (c.in_err-machine.ensures.err out (record { bytes = refl; failures = refl })))
 
 pub run_to_end-requires-after_bounds : goal.run_to_end-requires-after_bounds
 run_to_end-requires-after_bounds g c =
@@ -32,7 +34,9 @@ returns-in_err-run_to_end-clause-err g c =
     let i = stream g.I.Read.remaining c.args.image.now c.start.new.image in
     let n = stream g.R.Read.remaining c.args.input.now c.start.new.input in
     let out = stream g.W.Write.contents c.args.out.now c.args.out.now in
-    rw (p.1, p.2) (IsErrorOf-threads (session_of i n out c.args.job.now) c.in_ok-machine.machine _ (c.in_ok-machine.ensures.ok out) (record { bytes = refl; failures = refl }) c.in_err-run_to_end.ensures.err)
+    rw (p.1, p.2)
+    (IsErrorOf-threads (session_of i n out c.args.job.now) c.in_ok-machine.machine _ (c.in_ok-machine.ensures.ok out)
+    (record { bytes = refl; failures = refl }) c.in_err-run_to_end.ensures.err)
 
 pub returns-in_err-run_to_end-clause-bad_settings : goal.returns-in_err-run_to_end-clause-bad_settings
 returns-in_err-run_to_end-clause-bad_settings g c =
@@ -42,7 +46,8 @@ returns-in_err-run_to_end-clause-bad_settings g c =
     let out = stream g.W.Write.contents c.args.out.now c.args.out.now in
     let s : Session = session_of i n out c.args.job.now in
     rw (p.1, p.2) (settings_exact s (Err _) tt
-    (IsErrorOf-threads s c.in_ok-machine.machine _ (c.in_ok-machine.ensures.ok out) (record { bytes = refl; failures = refl }) c.in_err-run_to_end.ensures.err))
+    (IsErrorOf-threads s c.in_ok-machine.machine _ (c.in_ok-machine.ensures.ok out) (record { bytes = refl; failures = refl })
+    c.in_err-run_to_end.ensures.err))
 
 pub returns-in_err-write_report-clause-err : goal.returns-in_err-write_report-clause-err
 returns-in_err-write_report-clause-err g c =
@@ -50,7 +55,9 @@ returns-in_err-write_report-clause-err g c =
     let i = stream g.I.Read.remaining c.args.image.now c.start.new.image in
     let n = stream g.R.Read.remaining c.args.input.now c.start.new.input in
     let out = stream g.W.Write.contents c.args.out.now c.write_report.new.out in
-    rw (p.1, p.2) (IsErrorOf-report (session_of i n out c.args.job.now) c.in_ok-machine.machine c.run_to_end.new.machine _ (c.in_ok-machine.ensures.ok out) c.in_ok-run_to_end.ensures.is c.in_err-write_report.ensures.err)
+    rw (p.1, p.2)
+    (IsErrorOf-report (session_of i n out c.args.job.now) c.in_ok-machine.machine c.run_to_end.new.machine _
+    (c.in_ok-machine.ensures.ok out) c.in_ok-run_to_end.ensures.is c.in_err-write_report.ensures.err)
 
 pub returns-in_err-write_report-clause-bad_settings : goal.returns-in_err-write_report-clause-bad_settings
 returns-in_err-write_report-clause-bad_settings g c =
@@ -60,7 +67,8 @@ returns-in_err-write_report-clause-bad_settings g c =
     let out = stream g.W.Write.contents c.args.out.now c.write_report.new.out in
     let s : Session = session_of i n out c.args.job.now in
     rw (p.1, p.2) (settings_exact s (Err _) tt
-    (IsErrorOf-report s c.in_ok-machine.machine c.run_to_end.new.machine _ (c.in_ok-machine.ensures.ok out) c.in_ok-run_to_end.ensures.is c.in_err-write_report.ensures.err))
+    (IsErrorOf-report s c.in_ok-machine.machine c.run_to_end.new.machine _ (c.in_ok-machine.ensures.ok out) c.in_ok-run_to_end.ensures.is
+    c.in_err-write_report.ensures.err))
 
 pub returns-in_err-write_report-clause-nothing_written : goal.returns-in_err-write_report-clause-nothing_written
 returns-in_err-write_report-clause-nothing_written g c =
@@ -73,7 +81,10 @@ returns-clause-ok g c =
     let is = c.in_ok-run_to_end.ensures.is in
     record {
       start = c.in_ok-machine.machine;
-      reports = ReportsFrom-end (session_of (stream g.I.Read.remaining c.args.image.now c.start.new.image) (stream g.R.Read.remaining c.args.input.now c.start.new.input) out c.args.job.now)
+      reports =
+          ReportsFrom-end
+          (session_of (stream g.I.Read.remaining c.args.image.now c.start.new.image)
+          (stream g.R.Read.remaining c.args.input.now c.start.new.input) out c.args.job.now)
           c.in_ok-machine.machine c.run_to_end.new.machine (c.in_ok-machine.ensures.ok out) is c.in_ok-write_report.ensures.ok;
       outcome = rw is at c.outcome_of.ensures;
     }

@@ -23,7 +23,9 @@ returns-in_err-image-clause-err g c =
     let p = err_from_is_err_and c.from_residual-in_err-image.result c.from_residual-in_err-image.ensures.1 in
     let i = stream g.I.Read.remaining c.args.image.now c.read_both.new.image in
     let n = stream g.R.Read.remaining c.args.input.now c.read_both.new.input in
-    rw (p.1, p.2) (λ out untouched. IsErrorOf-run (session_of i n out c.args.job.now) c.in_ok-file.file.items c.in_ok-file.input.items _ c.in_ok-file.ensures.ok
+    rw (p.1, p.2)
+    (λ out untouched. IsErrorOf-run (session_of i n out c.args.job.now) c.in_ok-file.file.items c.in_ok-file.input.items _
+    c.in_ok-file.ensures.ok
     (IsErrorOfRun-of_image c.args.job.now c.in_ok-file.file.items _ (rw c.as_slice.ensures.value at c.in_err-image.ensures.err)) untouched)
 
 pub returns-in_err-new-clause-err : goal.returns-in_err-new-clause-err
@@ -31,7 +33,9 @@ returns-in_err-new-clause-err g c =
     let p = err_from_is_err_and c.from_residual-in_err-new.result c.from_residual-in_err-new.ensures.1 in
     let i = stream g.I.Read.remaining c.args.image.now c.read_both.new.image in
     let n = stream g.R.Read.remaining c.args.input.now c.read_both.new.input in
-    rw (p.1, p.2) (λ out untouched. IsErrorOf-run (session_of i n out c.args.job.now) c.in_ok-file.file.items c.in_ok-file.input.items _ c.in_ok-file.ensures.ok
+    rw (p.1, p.2)
+    (λ out untouched. IsErrorOf-run (session_of i n out c.args.job.now) c.in_ok-file.file.items c.in_ok-file.input.items _
+    c.in_ok-file.ensures.ok
     (IsErrorOfRun-of_machine c.args.job.now c.in_ok-file.file.items c.in_ok-image.image c.new.result _ c.in_ok-file.ensures.ok.settings
     (rw c.as_slice.ensures.value at c.in_ok-image.ensures.ok) c.in_err-new.was c.new.ensures.fault) untouched)
 
@@ -45,7 +49,9 @@ returns-clause-ok g c =
       read = c.in_ok-file.ensures.ok;
       image = record {
         gives = rw c.as_slice.ensures.value at c.in_ok-image.ensures.ok;
-        fits = fits_memory c.in_ok-image.image c.args.job.now c.in_ok-file.ensures.ok.settings (λ is. cc ((c.in_ok-new.ensures.fault SegmentOutside (λ same. cc)).1 is));
+        fits =
+            fits_memory c.in_ok-image.image c.args.job.now c.in_ok-file.ensures.ok.settings
+            (λ is. cc ((c.in_ok-new.ensures.fault SegmentOutside (λ same. cc)).1 is));
       };
       is = c.in_ok-new.ensures.ok;
     }

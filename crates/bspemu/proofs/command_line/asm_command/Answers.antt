@@ -1,3 +1,4 @@
+-- The command has the shape of `asm`: each argument that is added is that of its rule, in the order of the definition.
 use Rattle.std.proofs.Common.{codes, rules}
 use Rattle.std.proofs.lemmas.Result.{IfOk-weaker}
 use Rattle.clap.specs.Words.{new_app}

@@ -1,3 +1,4 @@
+-- An action is what the words ask for by clap's rules, and a refused parse answers the fault that these rules give.
 use Rattle.std.proofs.Common.{ap, ◌∙◌}
 use Rattle.std.proofs.lemmas.Result.{err_from_is_err_and}
 use Rattle.clap.specs.Words.{is_simple_and_free}

@@ -1,3 +1,4 @@
+-- There is a conflict if, and only if, the options that were read ask for several ways of telling the run.
 use Rattle.std.proofs.Common.{◌∙◌, codes}
 use Rattle.clap.specs.Words.{found_of, rows_of}
 use Rattle.clap.proofs.WalkLemmas.{first_value-rows}

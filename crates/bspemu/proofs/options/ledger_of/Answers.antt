@@ -1,3 +1,4 @@
+-- The version of the ledger is that of the number that was read, and none is answered only if the number is no version.
 use Rattle.std.proofs.Common.{codes}
 use Rattle.clap.specs.Words.{found_of, rows_of}
 use Rattle.bspemu.specs.Options.{number_of_ledger}
@@ -19,4 +20,5 @@ returns-clause-none c =
 pub returns-in_err-get_one-clause-none : goal.returns-in_err-get_one-clause-none
 returns-in_err-get_one-clause-none c =
     rw c.from_residual.ensures
-    (λ version gives. no_number_of_getter 32 (number_of_ledger version) (found_of c.args.found.now) (codes "ledger") c.in_err-get_one.ensures.value gives)
+    (λ version gives. no_number_of_getter 32 (number_of_ledger version) (found_of c.args.found.now) (codes "ledger")
+    c.in_err-get_one.ensures.value gives)

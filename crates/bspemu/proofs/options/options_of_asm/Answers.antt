@@ -1,3 +1,4 @@
+-- The options are the values that the matches of `asm` have; a value that is missing contradicts the shape of the command.
 use Rattle.std.proofs.Common.{◌∙◌, codes, sym}
 use Rattle.clap.specs.Words.{found_of}
 use Rattle.clap.proofs.WalkLemmas.{first_value-rows}

@@ -1,3 +1,4 @@
+-- The options are the values that the matches of `list` have; a value that is missing contradicts the shape of the command.
 use Rattle.std.proofs.Common.{◌∙◌, ap, codes, List, Some, sym, ℕ}
 use Rattle.clap.specs.Words.{found_of}
 use Rattle.clap.proofs.WalkLemmas.{first_value-rows}
@@ -9,7 +10,9 @@ returns-clause-some c =
     let found = found_of c.args.list.now in
     record {
       image = sym (c.in_ok-get_str.ensures ∙ first_value-rows found (codes "image"));
-      format = sym (c.in_ok-get_str-2.ensures ∙ first_value-rows found (codes "format")) ∙ ap (λ (name : List ℕ). Some name) c.in_ok-format_named.ensures.some.0;
+      format =
+          sym (c.in_ok-get_str-2.ensures ∙ first_value-rows found (codes "format"))
+          ∙ ap (λ (name : List ℕ). Some name) c.in_ok-format_named.ensures.some.0;
       float = flag_of_getter _ found (codes "float") c.in_ok-float.ensures.none c.in_ok-float.ensures.value;
       language = c.in_ok-format_named.ensures.some.1;
     }

@@ -1,3 +1,4 @@
+-- Each of the options is the value that its getter reads; where one is missing, the matches cannot give the options.
 use Rattle.std.proofs.Common.{◌∙◌, ap, codes, List, Some, sym, ℕ}
 use Rattle.clap.specs.Words.{found_of}
 use Rattle.clap.proofs.WalkLemmas.{first_value-rows}
@@ -10,7 +11,9 @@ returns-clause-some c =
     record {
       image = sym (c.in_ok-get_str.ensures ∙ first_value-rows found (codes "image"));
       input = sym (c.get_str-2.ensures ∙ first_value-rows found (codes "input"));
-      format = sym (c.in_ok-get_str-2.ensures ∙ first_value-rows found (codes "format")) ∙ ap (λ (name : List ℕ). Some name) c.in_ok-format_named.ensures.some.0;
+      format =
+          sym (c.in_ok-get_str-2.ensures ∙ first_value-rows found (codes "format"))
+          ∙ ap (λ (name : List ℕ). Some name) c.in_ok-format_named.ensures.some.0;
       ledger = c.in_ok-ledger_of.ensures.some;
       settings = c.in_ok-settings.ensures.some;
       language = c.in_ok-format_named.ensures.some.1;
@@ -31,7 +34,8 @@ returns-in_err-get_str-2-clause-none c =
 pub returns-in_err-format_named-clause-none : goal.returns-in_err-format_named-clause-none
 returns-in_err-format_named-clause-none c =
     let row = c.in_ok-get_str-2.ensures ∙ first_value-rows (found_of c.args.found.now) (codes "format") in
-    rw c.from_residual-in_err-format_named.ensures (λ o gives. c.in_err-format_named.ensures.none o.job.format (same_text (row ∙ gives.format)))
+    rw c.from_residual-in_err-format_named.ensures
+    (λ o gives. c.in_err-format_named.ensures.none o.job.format (same_text (row ∙ gives.format)))
 
 pub returns-in_err-settings-clause-none : goal.returns-in_err-settings-clause-none
 returns-in_err-settings-clause-none c =

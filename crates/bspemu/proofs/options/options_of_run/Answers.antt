@@ -1,3 +1,4 @@
+-- The options are those of any machine with the values of `run`; where one is missing, the matches cannot give the options.
 use Rattle.std.proofs.Common.{codes}
 use Rattle.clap.specs.Words.{found_of}
 use Rattle.bspemu.proofs.Getters.{flag_of_getter, no_flag_of_getter, no_number_of_getter, number_of_getter}
@@ -18,17 +19,20 @@ returns-clause-some c =
 pub returns-in_err-workers-clause-none : goal.returns-in_err-workers-clause-none
 returns-in_err-workers-clause-none c =
     rw c.from_residual.ensures
-    (λ o gives. no_number_of_getter 32 o.machine.job.workers (found_of c.args.run.now) (codes "workers") c.in_err-workers.ensures.value gives.workers)
+    (λ o gives. no_number_of_getter 32 o.machine.job.workers (found_of c.args.run.now) (codes "workers") c.in_err-workers.ensures.value
+    gives.workers)
 
 pub returns-in_err-slice-clause-none : goal.returns-in_err-slice-clause-none
 returns-in_err-slice-clause-none c =
     rw c.from_residual-in_err-slice.ensures
-    (λ o gives. no_number_of_getter 64 o.machine.job.slice (found_of c.args.run.now) (codes "slice") c.in_err-slice.ensures.value gives.slice)
+    (λ o gives. no_number_of_getter 64 o.machine.job.slice (found_of c.args.run.now) (codes "slice") c.in_err-slice.ensures.value
+    gives.slice)
 
 pub returns-in_err-report-clause-none : goal.returns-in_err-report-clause-none
 returns-in_err-report-clause-none c =
     rw c.from_residual-in_err-report.ensures
-    (λ o gives. no_flag_of_getter o.machine.job.report (found_of c.args.run.now) (codes "report") c.in_err-report.ensures.value gives.report)
+    (λ o gives. no_flag_of_getter o.machine.job.report (found_of c.args.run.now) (codes "report") c.in_err-report.ensures.value
+    gives.report)
 
 pub returns-in_err-options_of_machine-clause-none : goal.returns-in_err-options_of_machine-clause-none
 returns-in_err-options_of_machine-clause-none c =

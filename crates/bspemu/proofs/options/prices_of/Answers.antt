@@ -1,3 +1,4 @@
+-- Prices are the two numbers and the version that were read; where one is missing, the matches cannot give prices.
 use Rattle.std.proofs.Common.{codes}
 use Rattle.clap.specs.Words.{found_of}
 use Rattle.bspemu.proofs.Getters.{no_number_of_getter, number_of_getter}

@@ -1,3 +1,4 @@
+-- Settings are the numbers, the clock and the flag that were read; where one is missing, the matches cannot give settings.
 use Rattle.std.proofs.Common.{codes}
 use Rattle.clap.specs.Words.{found_of}
 use Rattle.bspemu.proofs.Getters.{flag_of_getter, no_flag_of_getter, no_number_of_getter, number_of_getter}

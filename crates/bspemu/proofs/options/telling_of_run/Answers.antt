@@ -1,3 +1,4 @@
+-- How the run is told follows from the flag and the three files that were read, and is none only if they ask for several ways.
 use Rattle.std.proofs.Common.{◌∙◌, codes}
 use Rattle.clap.specs.Words.{found_of, rows_of}
 use Rattle.clap.proofs.WalkLemmas.{first_value-rows}

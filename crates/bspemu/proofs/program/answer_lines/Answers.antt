@@ -1,3 +1,4 @@
+-- The answer is that of the session of lines that the flags chose: framed, a dialogue, or a script.
 use Rattle.std.proofs.Common.{inl, inr, refl}
 use Rattle.std.proofs.lemmas.Result.{IfErr-weaker, on_ok_weaker}
 use Rattle.bspemu.proofs.program.answer_lines.Goals as goal

@@ -1,3 +1,4 @@
+-- The outcome of the session that assembles is the program's answer to `asm`.
 use Rattle.std.proofs.Common.{refl}
 use Rattle.bspemu.proofs.Sessions.{answer_of_asm}
 use Rattle.bspemu.proofs.program.assemble.Goals as goal

@@ -1,3 +1,4 @@
+-- The outcome of the session that lists is the program's answer to `list`.
 use Rattle.std.proofs.Common.{refl}
 use Rattle.bspemu.proofs.Sessions.{answer_of_list}
 use Rattle.bspemu.proofs.program.list.Goals as goal

@@ -1,3 +1,4 @@
+-- The outcome of the session that also tells what is contested is the program's answer to `run`.
 use Rattle.std.proofs.Common.{refl}
 use Rattle.bspemu.proofs.Sessions.{answer_of_contested}
 use Rattle.bspemu.proofs.program.run_contested.Goals as goal

@@ -1,3 +1,4 @@
+-- The outcome of the session that also counts steps is the program's answer to `run`.
 use Rattle.std.proofs.Common.{refl}
 use Rattle.bspemu.proofs.Sessions.{answer_of_counted}
 use Rattle.bspemu.proofs.program.run_counted.Goals as goal

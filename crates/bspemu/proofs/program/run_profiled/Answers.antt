@@ -1,3 +1,4 @@
+-- The outcome of the session that also writes a profile is the program's answer to `run`.
 use Rattle.std.proofs.Common.{refl}
 use Rattle.bspemu.proofs.Sessions.{answer_of_profiled}
 use Rattle.bspemu.proofs.program.run_profiled.Goals as goal

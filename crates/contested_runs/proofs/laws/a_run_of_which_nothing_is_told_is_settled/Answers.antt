@@ -1,3 +1,4 @@
+-- If no line is told, each superstep is settled, and so every order of its requests comes to the same end.
 use Rattle.std.proofs.Common.{◌+◌}
 use Rattle.settled_runs.proofs.Runs.{last-same}
 use Rattle.contested_runs.proofs.Settled.{told-settled}

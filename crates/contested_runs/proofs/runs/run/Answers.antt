@@ -33,23 +33,27 @@ returns-in_err-check_numbers-clause-lines_left g c = tells-nothing c.args.machin
 
 pub returns-in_err-run_phase_sparing-clause-lines_left : goal.returns-in_err-run_phase_sparing-clause-lines_left
 returns-in_err-run_phase_sparing-clause-lines_left g c =
-    tells-phase c.args.machine.now c.loop-machine.machine c.run_phase_sparing.new.machine c.args.told.now c.loop-machine.told c.outcome.ensures.sound c.in_err-run_phase_sparing.ensures.err
+    tells-phase c.args.machine.now c.loop-machine.machine c.run_phase_sparing.new.machine c.args.told.now c.loop-machine.told
+    c.outcome.ensures.sound c.in_err-run_phase_sparing.ensures.err
     c.loop-machine.invariant.told
 
 pub turn-requires-clause-sound : goal.turn-requires-clause-sound
-turn-requires-clause-sound g c = subst IsSoundMachine (sym c.in_ok-run_phase_sparing.ensures.ok) (phases-sound c.loop-machine.machine c.outcome.ensures.sound)
+turn-requires-clause-sound g c =
+    subst IsSoundMachine (sym c.in_ok-run_phase_sparing.ensures.ok) (phases-sound c.loop-machine.machine c.outcome.ensures.sound)
 
 pub turn-requires-clause-enabled : goal.turn-requires-clause-enabled
 turn-requires-clause-enabled g c =
     let open_yet = ap is_some (sym c.outcome.ensures.value) ∙ c.is_none.ensures ∙ ap not c.loop-machine-test.true in
-    ap (λ (x : MachineState). is_enabled x Turn) c.in_ok-run_phase_sparing.ensures.ok ∙ turn-enabled c.loop-machine.machine c.outcome.ensures.sound open_yet
+    ap (λ (x : MachineState). is_enabled x Turn) c.in_ok-run_phase_sparing.ensures.ok
+    ∙ turn-enabled c.loop-machine.machine c.outcome.ensures.sound open_yet
 
 pub loop-machine-smaller : goal.loop-machine-smaller
 loop-machine-smaller g c =
     let m = c.loop-machine.machine in
     let sound = c.outcome.ensures.sound in
     let open_yet = ap is_some (sym c.outcome.ensures.value) ∙ c.is_none.ensures ∙ ap not c.loop-machine-test.true in
-    let turned : c.turn.new.machine ≡ event (with_phases m) Turn = c.in_ok-turn.ensures.machine ∙ ap (λ (x : MachineState). event x Turn) c.in_ok-run_phase_sparing.ensures.ok in
+    let turned : c.turn.new.machine ≡ event (with_phases m) Turn =
+    c.in_ok-turn.ensures.machine ∙ ap (λ (x : MachineState). event x Turn) c.in_ok-run_phase_sparing.ensures.ok in
     rows_left m sound open_yet c.turn.new.machine (superstep-made m sound open_yet c.turn.new.machine turned)
 
 pub loop-machine-preserved : goal.loop-machine-preserved
@@ -59,11 +63,14 @@ loop-machine-preserved g c =
     let sound = c.outcome.ensures.sound in
     let open_yet = ap is_some (sym c.outcome.ensures.value) ∙ c.is_none.ensures ∙ ap not c.loop-machine-test.true in
     let phased : c.run_phase_sparing.new.machine ≡ with_phases m = c.in_ok-run_phase_sparing.ensures.ok in
-    let turned : c.turn.new.machine ≡ event (with_phases m) Turn = c.in_ok-turn.ensures.machine ∙ ap (λ (x : MachineState). event x Turn) phased in
+    let turned : c.turn.new.machine ≡ event (with_phases m) Turn =
+    c.in_ok-turn.ensures.machine ∙ ap (λ (x : MachineState). event x Turn) phased in
     let made : c.turn.new.machine ≡ superstep m = superstep-made m sound open_yet c.turn.new.machine turned in
     let added = c.in_ok-turn.ensures.told in
     record {
-      so_far = LeadsTo-turn c.args.machine.now (with_phases m) c.turn.new.machine (LeadsTo-on c.args.machine.now m (with_phases m) so_far.so_far (phases_reached m sound)) turned;
+      so_far =
+          LeadsTo-turn c.args.machine.now (with_phases m) c.turn.new.machine
+          (LeadsTo-on c.args.machine.now m (with_phases m) so_far.so_far (phases_reached m sound)) turned;
       same_end = ap end_of made ∙ end_of-superstep m sound ∙ so_far.same_end;
       told = tells-superstep c.args.machine.now m c.turn.new.machine c.args.told.now c.loop-machine.told c.turn.new.self open_yet made
           (added.0, subst (λ (x : MachineState). AreTurnLines x added.0) phased added.1, added.2) so_far.told;
@@ -74,8 +81,10 @@ pub returns-in_err-turn-clause-lines_left : goal.returns-in_err-turn-clause-line
 returns-in_err-turn-clause-lines_left g c =
     let m = c.loop-machine.machine in
     let sound = c.outcome.ensures.sound in
-    let phased = tells-phase c.args.machine.now m (with_phases m) c.args.told.now c.loop-machine.told sound (phases_reached m sound) c.loop-machine.invariant.told in
-    subst (λ (x : MachineState). TellsUpTo c.args.machine.now x c.args.told.now c.turn.new.self) (sym (c.in_err-turn.ensures.same_machine ∙ c.in_ok-run_phase_sparing.ensures.ok))
+    let phased = tells-phase c.args.machine.now m (with_phases m) c.args.told.now c.loop-machine.told sound (phases_reached m sound)
+    c.loop-machine.invariant.told in
+    subst (λ (x : MachineState). TellsUpTo c.args.machine.now x c.args.told.now c.turn.new.self)
+    (sym (c.in_err-turn.ensures.same_machine ∙ c.in_ok-run_phase_sparing.ensures.ok))
     (subst (TellsUpTo c.args.machine.now (with_phases m) c.args.told.now) (sym c.in_err-turn.ensures.same_told) phased)
 
 pub returns-clause-told : goal.returns-clause-told
@@ -110,23 +119,28 @@ returns-in_err-run_phase_sparing-clause-machine g c =
         unchanged = search rules;
         no_worker = λ refused.
             let own : c.in_err-run_phase_sparing.field-0.0 ≡ NoWorker = cc (p.1, p.2, refused) in
-            let wanted = c.run_phase_sparing.ensures.refusals.no_worker (c.in_err-run_phase_sparing.was ∙ ap (λ (e : PoolError). Err e) own) in
+            let wanted =
+            c.run_phase_sparing.ensures.refusals.no_worker (c.in_err-run_phase_sparing.was ∙ ap (λ (e : PoolError). Err e) own) in
             (wanted.0, omega (arith, wanted.1, LeadsTo-length c.args.machine.now c.loop-machine.machine c.loop-machine.invariant.so_far));
       };
       ok = search rules;
       ended = search rules;
-      err = rw p.1 (LeadsTo-on c.args.machine.now c.loop-machine.machine c.run_phase_sparing.new.machine c.loop-machine.invariant.so_far c.in_err-run_phase_sparing.ensures.err);
+      err =
+          rw p.1 (LeadsTo-on c.args.machine.now c.loop-machine.machine c.run_phase_sparing.new.machine c.loop-machine.invariant.so_far
+          c.in_err-run_phase_sparing.ensures.err);
       over = search rules;
       stopped = search rules;
       going = λ within.
-          rw p.1 (LeadsWithoutTurn-outcome c.loop-machine.machine c.run_phase_sparing.new.machine c.in_err-run_phase_sparing.ensures.err ∙ none_from c.loop-machine.machine.outcome (λ x is. false≢true (sym open_yet ∙ ap is_some is)));
+          rw p.1 (LeadsWithoutTurn-outcome c.loop-machine.machine c.run_phase_sparing.new.machine c.in_err-run_phase_sparing.ensures.err
+          ∙ none_from c.loop-machine.machine.outcome (λ x is. false≢true (sym open_yet ∙ ap is_some is)));
     }
 
 pub returns-in_err-turn-clause-machine : goal.returns-in_err-turn-clause-machine
 returns-in_err-turn-clause-machine g c =
     let p = err_from_is_err_and c.from_residual-in_err-turn.result c.from_residual-in_err-turn.ensures.1 in
     let m = c.loop-machine.machine in
-    let reached = LeadsTo-on c.args.machine.now m (with_phases m) c.loop-machine.invariant.so_far (phases_reached m c.outcome.ensures.sound) in
+    let reached =
+    LeadsTo-on c.args.machine.now m (with_phases m) c.loop-machine.invariant.so_far (phases_reached m c.outcome.ensures.sound) in
     record {
       refusals = record { bad_workers = search rules; bad_slice = search rules; unchanged = search rules; no_worker = search rules };
       ok = search rules;

@@ -1,3 +1,4 @@
+-- After some supersteps the machine is on its way to the same end, and the text has the lines of the supersteps that are over.
 use Rattle.std.proofs.Common.{◌≡◌, ◌+◌, ◌-◌, length}
 use Rattle.std.specs.Prelude.{IsSome}
 use Rattle.machine_core.specs.Turn.{end_of}

@@ -34,12 +34,18 @@ returns g c =
           let makes = sym c.makes_exchange.ensures ∙ w.if-makes_exchange.true in
           let ranges : AreContestedRanges (landings m.nodes) found =
           subst (λ (ns : List NodeState). AreContestedRanges (landings ns) found) w.nodes.ensures
-          (record { contested = w.in_ok-found.ensures.contested; exact = w.in_ok-found.ensures.exact; apart = w.in_ok-found.ensures.apart }) in
+          (record {
+            contested = w.in_ok-found.ensures.contested;
+            exact = w.in_ok-found.ensures.exact;
+            apart = w.in_ok-found.ensures.apart;
+          }) in
           let text =
           w.in_ok-write_ranges.ensures
           ∙ ap (λ (bs : List ℕ). bs ++ range_lines w.superstep.result w.deref.result.now) c.new-text.ensures.bytes
           ∙ ap (λ (cs : List ContestedRange). range_lines w.superstep.result cs) w.deref.ensures.value in
           rw w.text-is (subst (AreTurnLines m) (sym text) (turn-lines m w.superstep.result found makes w.superstep.ensures ranges))
       | else-makes_exchange w ↦
-          rw w.text-is (subst (AreTurnLines m) (sym c.new-text.ensures.bytes) (no-lines m (sym c.makes_exchange.ensures ∙ w.if-makes_exchange.false)))
+          rw w.text-is
+          (subst (AreTurnLines m) (sym c.new-text.ensures.bytes)
+          (no-lines m (sym c.makes_exchange.ensures ∙ w.if-makes_exchange.false)))
     ]

@@ -1,7 +1,7 @@
+-- The text has the lines of the ranges before this one, behind what it had before.
 use Rattle.std.proofs.Common.{◌≡◌, ◌++◌, take, string_bytes}
 use Rattle.contested_runs.specs.Lines.{range_lines}
 use Rattle.contested_runs.proofs.turn.write_ranges.Given as goal
 
--- the lines of the ranges before this one are written
 abbrev pub invariant-loop-range : goal.invariant-loop-range
 invariant-loop-range g l = string_bytes l.text ≡ string_bytes l.initial.text ++ range_lines l.superstep (take l.range-index l.found)

@@ -16,4 +16,5 @@ pub returns : goal.returns
 returns g c =
     let fcsr = c.args.fcsr in
     IfOk-weaker c.format.result _ _
-    (λ text written. written ∙ line-is (decimal c.args.rank) (eight_digits fcsr) (decimal (fcsr / 32 % 8)) (flag_names fcsr)) c.format.ensures.ok
+    (λ text written. written ∙ line-is (decimal c.args.rank) (eight_digits fcsr) (decimal (fcsr / 32 % 8)) (flag_names fcsr))
+    c.format.ensures.ok

@@ -15,7 +15,8 @@ loop-node-init g c =
 
 pub loop-node-preserved : goal.loop-node-preserved
 loop-node-preserved g c =
-    more c.in-Some.others.now c.loop-node.node-index c.node-item.result (group_value c.loop-node.group) _ (string_bytes c.loop-node.text) _ _
+    more c.in-Some.others.now c.loop-node.node-index c.node-item.result (group_value c.loop-node.group) _ (string_bytes c.loop-node.text) _
+    _
     c.loop-node-test.true c.node-item.is (c.in_ok-add_next.ensures {u = tt}) c.loop-node.invariant
 
 pub returns : goal.returns

@@ -14,7 +14,8 @@ joined : (kept number word superstep groups end before one two three : List ℕ)
 joined kept number word superstep groups end before one two three first second third =
     let all : three ≡ ((before ++ (kept ++ (number ++ (word ++ superstep)))) ++ groups) ++ end =
     third ∙ ap (λ bs. bs ++ end) second ∙ ap (λ bs. (bs ++ groups) ++ end) first in
-    let parts : ((before ++ (kept ++ (number ++ (word ++ superstep)))) ++ groups) ++ end ≡ before ++ (kept ++ number ++ word ++ superstep ++ groups ++ end) =
+    let parts : ((before ++ (kept ++ (number ++ (word ++ superstep)))) ++ groups) ++ end
+    ≡ before ++ (kept ++ number ++ word ++ superstep ++ groups ++ end) =
     simp append_assoc in
     all ∙ parts
 
@@ -22,5 +23,6 @@ pub returns : goal.returns
 returns g c =
     IfOk-weaker c.writeln.result _ _
     (λ u written. joined (codes "kept ") (decimal c.args.number) (codes " superstep ") (decimal c.args.superstep)
-    (flat_map group_text (groups_of (map (λ (p : PreparedNode). p.node) c.args.nodes.now))) (codes "\n") (string_bytes c.args.text.now) _ _ _
+    (flat_map group_text (groups_of (map (λ (p : PreparedNode). p.node) c.args.nodes.now))) (codes "\n") (string_bytes c.args.text.now) _ _
+    _
     c.in_ok-write.ensures.bytes (c.in_ok-add_groups.ensures {u = tt}) written) c.writeln.ensures.bytes

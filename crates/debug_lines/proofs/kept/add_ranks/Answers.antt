@@ -1,4 +1,4 @@
--- What the search finds in the end, which tries other ways first.
+-- The text has the one rank, or the first and the last; written out, since the search would try other ways first.
 use Rattle.std.proofs.Common.{arith}
 use Rattle.std.proofs.lemmas.Grind.{common_steps}
 use Rattle.debug_lines.proofs.kept.add_ranks.Goals as goal

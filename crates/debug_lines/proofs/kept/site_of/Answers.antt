@@ -6,4 +6,5 @@ use Rattle.debug_lines.proofs.kept.site_of.Goals as goal
 pub returns : goal.returns
 returns g c =
     IfOk-weaker c.format.result _ _
-    (λ text written. let w = rw (c.pc.ensures, c.state-state.ensures) at written in let v = simp append_assoc at w in simp append_assoc v) c.format.ensures.ok
+    (λ text written. let w = rw (c.pc.ensures, c.state-state.ensures) at written in let v = simp append_assoc at w in simp append_assoc v)
+    c.format.ensures.ok

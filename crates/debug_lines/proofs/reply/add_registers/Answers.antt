@@ -1,5 +1,6 @@
 -- Each register adds its entry.
-use Rattle.std.proofs.Common.{◌≡◌, ℕ, ◌+◌, ◌<◌, List, ◌∷◌, ◌++◌, get_or, drop, length, string_bytes, add-one, drop-cons, append_assoc, sym, ap, ◌∙◌}
+use Rattle.std.proofs.Common.{◌≡◌, ℕ, ◌+◌, ◌<◌, List, ◌∷◌, ◌++◌, get_or, drop}
+use Rattle.std.proofs.Common.{length, string_bytes, add-one, drop-cons, append_assoc, sym, ap, ◌∙◌}
 use Rattle.std.specs.Prelude.{codes}
 use Rattle.std.specs.Fmt.{decimal}
 use Rattle.std.specs.List.{flat_map, enumerate_from}
@@ -8,7 +9,8 @@ use Rattle.debug_lines.specs.Replies.{entry_end, register_entry}
 use Rattle.debug_lines.proofs.reply.add_registers.Goals as goal
 
 -- its parts are written in another order than the definition joins them in
-entry-is : (number value end : List ℕ) → codes "x" ++ (number ++ (codes "=" ++ (value ++ end))) ≡ codes "x" ++ number ++ codes "=" ++ value ++ end
+entry-is : (number value end : List ℕ) → codes "x" ++ (number ++ (codes "=" ++ (value ++ end)))
+    ≡ codes "x" ++ number ++ codes "=" ++ value ++ end
 entry-is number value end = simp append_assoc
 
 more : (x : List ℕ) (k : ℕ) (end before after whole : List ℕ) → k < length x → end ≡ entry_end 4 (length x) k
@@ -17,7 +19,8 @@ more : (x : List ℕ) (k : ℕ) (end before after whole : List ℕ) → k < leng
     → after ++ flat_map (register_entry (length x)) (enumerate_from (k + 1) (drop (k + 1) x)) ≡ whole
 more x k end before after whole within is written so_far =
     let entry = register_entry (length x) (k, get_or x k 0) in
-    let added : after ≡ before ++ entry = rw is at written ∙ ap (λ bs. before ++ bs) (entry-is (decimal k) (eight_digits (get_or x k 0)) (entry_end 4 (length x) k)) in
+    let added : after ≡ before ++ entry =
+    rw is at written ∙ ap (λ bs. before ++ bs) (entry-is (decimal k) (eight_digits (get_or x k 0)) (entry_end 4 (length x) k)) in
     let cut : drop k x ≡ get_or x k 0 ∷ drop (k + 1) x = rw (add-one, drop-cons x k 0) in
     let rest = flat_map (register_entry (length x)) (enumerate_from (k + 1) (drop (k + 1) x)) in
     ap (λ bs. bs ++ rest) added ∙ append_assoc before entry rest

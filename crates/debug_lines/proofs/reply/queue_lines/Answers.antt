@@ -1,4 +1,4 @@
--- What the search finds in the end, which tries other ways first.
+-- The text and the messages that are left make all lines; written out, since the search would try other ways first.
 use Rattle.std.proofs.Common.{arith}
 use Rattle.std.proofs.lemmas.Grind.{common_steps}
 use Rattle.debug_lines.proofs.reply.queue_lines.Goals as goal

@@ -1,3 +1,4 @@
+-- The text and the points that are left make all lines; each pass adds the line of the next point.
 use Rattle.std.proofs.Common.{refl}
 use Rattle.std.proofs.lemmas.List.{drop_all, drop_more}
 use Rattle.debug_lines.specs.Shown.{point_line}

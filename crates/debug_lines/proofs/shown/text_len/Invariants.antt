@@ -1,3 +1,4 @@
+-- The bytes that were passed and those that still belong to the text make the length of the text.
 use Rattle.std.proofs.Common.{◌≡◌, ◌+◌, drop}
 use Rattle.std.specs.List.{prefix_len}
 use Rattle.debug_lines.specs.Shown.{is_of_text}

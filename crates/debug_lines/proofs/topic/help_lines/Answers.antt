@@ -1,3 +1,4 @@
+-- The text and the topics that are left make all of the help; each pass adds that of the next topic.
 use Rattle.std.proofs.Common.{refl, ap, ◌∙◌}
 use Rattle.std.proofs.lemmas.List.{drop_all, drop_more}
 use Rattle.std.specs.List.{flat_map}
@@ -13,4 +14,6 @@ loop-topic-preserved g c =
     one-more help_line _ _ _ _ _ _ (drop_more _ _ _ c.loop-topic-test.true) (c.in_ok-add_help.ensures {u = tt}) c.loop-topic.invariant
 
 pub returns : goal.returns
-returns g c = none-left help_line _ _ _ (drop_all _ _ c.loop-topic-test.false) c.loop-topic.invariant ∙ ap (flat_map help_line) c.all_topics-topics.ensures
+returns g c =
+    none-left help_line _ _ _ (drop_all _ _ c.loop-topic-test.false) c.loop-topic.invariant
+    ∙ ap (flat_map help_line) c.all_topics-topics.ensures

@@ -13,12 +13,15 @@ copied_now : (o : Option (Bor Topic)) → option_copied o ≡ option_map (λ x. 
 copied_now None = refl
 copied_now (Some t) = refl
 
-named : (name : List ℕ) (r : Option Topic) (table : List Topic) → table ≡ topics → r ≡ find (λ t. bytes_eq (topic_name t) name) table → r ≡ topic_named name
+named : (name : List ℕ) (r : Option Topic) (table : List Topic) → table ≡ topics → r ≡ find (λ t. bytes_eq (topic_name t) name) table
+    → r ≡ topic_named name
 unfolding topic_named
 named name r table is found = found ∙ ap (find (λ t. bytes_eq (topic_name t) name)) is
 
 pub returns : goal.returns
 returns c =
     let name = c.args.word.now in
-    let found = find_from_yields_List (λ t. bytes_eq (topic_name t) name) _ _ c.find.result c.find.ensures.ran (YieldsList-from_slice _ refl) (λ x b q k. search (rules, tests)) in
-    named name c.copied.result c.iter.result.rest.now (c.iter.ensures.rest ∙ c.all_topics.ensures) (c.copied.ensures ∙ (copied_now c.find.result ∙ found))
+    let found = find_from_yields_List (λ t. bytes_eq (topic_name t) name) _ _ c.find.result c.find.ensures.ran
+    (YieldsList-from_slice _ refl) (λ x b q k. search (rules, tests)) in
+    named name c.copied.result c.iter.result.rest.now (c.iter.ensures.rest ∙ c.all_topics.ensures)
+    (c.copied.ensures ∙ (copied_now c.find.result ∙ found))

@@ -1,3 +1,4 @@
+-- The spaces that were passed and those that come next make all spaces at the beginning of the line.
 use Rattle.std.proofs.Common.{◌≡◌, ◌+◌, drop}
 use Rattle.std.specs.List.{prefix_len}
 use Rattle.debug_lines.specs.Words.{is_space}

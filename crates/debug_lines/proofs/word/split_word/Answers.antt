@@ -1,3 +1,4 @@
+-- A line of spaces alone has no word; any other line has the first word and then the words of what is behind it.
 use Rattle.std.proofs.Common.{◌≡◌, ◌<◌, length, sym, arith}
 use Rattle.std.proofs.lemmas.Grind.{common_steps}
 use Rattle.debug_lines.proofs.FirstWords.{no_word, first_word}

@@ -1,3 +1,4 @@
+-- The bytes that were passed and those up to the next space make the length of the first word.
 use Rattle.std.proofs.Common.{◌≡◌, ◌+◌, drop}
 use Rattle.std.specs.List.{position_or_len}
 use Rattle.debug_lines.specs.Words.{is_space}

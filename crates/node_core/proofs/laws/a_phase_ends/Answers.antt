@@ -1,3 +1,4 @@
+-- A node does as many steps as it has ticks left, and then it has stopped, so that another phase changes nothing.
 use Rattle.std.proofs.Common.{◌-◌, arith}
 use Rattle.node_core.proofs.Sound.{local_steps-end, phase-phase}
 use Rattle.node_core.proofs.laws.a_phase_ends.Goals as goal

@@ -1,3 +1,4 @@
+-- No steps change nothing, one of them is the step, and two runs of steps make one run of their sum.
 use Rattle.node_core.proofs.Steps.{local_steps-zero, local_steps-one, local_steps-add}
 use Rattle.node_core.proofs.laws.steps_add_up.Goals as goal
 

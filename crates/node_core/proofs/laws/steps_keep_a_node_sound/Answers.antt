@@ -1,3 +1,4 @@
+-- A step keeps a node sound, and so do any number of steps.
 use Rattle.node_core.proofs.Sound.{IsSoundNode-local_step, IsSoundNode-local_steps}
 use Rattle.node_core.proofs.laws.steps_keep_a_node_sound.Goals as goal
 

@@ -1,3 +1,4 @@
+-- After a step, and after any number of them, a node is a later one of the same; the step of a running node is one tick.
 use Rattle.node_core.proofs.Sound.{IsLater-local_step, IsLater-local_steps, local_step-ticks}
 use Rattle.node_core.proofs.laws.steps_keep_what_a_node_is.Goals as goal
 

@@ -1,3 +1,4 @@
+-- Each line adds its labels and goes on to the next, so that at the end the labels are those of the text, or the first fault is answered.
 use Rattle.std.proofs.Common.{◌≡◌, ◌∷◌, ◌+◌, ◌≤◌, length, is_some, ◌∙◌, ap, arith}
 use Rattle.rv_asm.specs.Faults.{fault_alone, first_faulty_line}
 use Rattle.rv_asm.specs.Labels.{symbols}
@@ -13,11 +14,13 @@ lines-preserved g c =
     let texts = lines_in c.split_line.result.1 in
     let lines : lines_in c.lines.rest ≡ line ∷ texts = ap lines_in c.in-Some.is ∙ c.split_line.ensures.lines in
     let left : left_in c.lines.rest ≡ length c.in-Some.remaining.now + 1 = ap left_in c.in-Some.is in
-    let fewer : left_in c.split_line.result.1 ≤ length c.in-Some.remaining.now = left-below c.split_line.result.1 _ c.split_line.ensures.shorter in
+    let fewer : left_in c.split_line.result.1 ≤ length c.in-Some.remaining.now =
+    left-below c.split_line.result.1 _ c.split_line.ensures.shorter in
     record {
       judged = c.lines.invariant.judged
           ∙ ap (λ ls. first_faulty_line fault_alone (placed c.args.float c.lines.number c.lines.address (λ q. is_some (s q)) ls)) lines
-          ∙ judged_more c.args.float s t c.lines.number c.lines.address c.in-Ok.end line texts c.in-Ok.ensures.end c.in-Ok.ensures.labels c.in-Ok.ensures.ok;
+          ∙ judged_more c.args.float s t c.lines.number c.lines.address c.in-Ok.end line texts c.in-Ok.ensures.end c.in-Ok.ensures.labels
+          c.in-Ok.ensures.ok;
       known = λ q. c.lines.invariant.known q
           ∙ ap (λ ls. symbols_from s (placed c.args.float c.lines.number c.lines.address (λ p. is_some (s p)) ls) q) lines
           ∙ known_more c.args.float s t c.lines.number c.lines.address c.in-Ok.end line texts c.in-Ok.ensures.end c.in-Ok.ensures.labels q;

@@ -1,3 +1,4 @@
+-- Each line adds its bytes and goes on to the next, so that at the end the program is laid out as the text, or the first fault is answered.
 use Rattle.std.proofs.Common.{◌≡◌, ◌∷◌, ◌+◌, ◌≤◌, length, vec_len, None, false, rules, sym, ◌∙◌, ap, subst, arith}
 use Rattle.asm_syntax.specs.Lines.{lines_of}
 use Rattle.rv_asm.specs.Labels.{symbols}
@@ -28,11 +29,14 @@ lines-preserved g c =
     let texts = lines_in c.split_line.result.1 in
     let lines : lines_in c.lines.rest ≡ line ∷ texts = ap lines_in c.in-Some.is ∙ c.split_line.ensures.lines in
     let left : left_in c.lines.rest ≡ length c.in-Some.remaining.now + 1 = ap left_in c.in-Some.is in
-    let fewer : left_in c.split_line.result.1 ≤ length c.in-Some.remaining.now = left-below c.split_line.result.1 _ c.split_line.ensures.shorter in
-    let n = next f s (lines_of c.args.text.now) c.lines.number (vec_len c.lines.program.bytes) (vec_len c.write_line.new.program.bytes) line texts c.lines.program.bytes.items c.write_line.new.program.bytes.items c.lines.program.entry c.write_line.new.program.entry
+    let fewer : left_in c.split_line.result.1 ≤ length c.in-Some.remaining.now =
+    left-below c.split_line.result.1 _ c.split_line.ensures.shorter in
+    let n = next f s (lines_of c.args.text.now) c.lines.number (vec_len c.lines.program.bytes) (vec_len c.write_line.new.program.bytes) line
+    texts c.lines.program.bytes.items c.write_line.new.program.bytes.items c.lines.program.entry c.write_line.new.program.entry
     c.lines.program.bytes.ok.0 c.write_line.new.program.bytes.ok.0
     (subst (AreSound f s (vec_len c.lines.program.bytes)) lines c.lines.invariant.sound)
-    (subst (λ ls. IsLaidUpTo f s (lines_of c.args.text.now) ls c.lines.program.bytes.items c.lines.program.entry) lines c.lines.invariant.laid)
+    (subst (λ ls. IsLaidUpTo f s (lines_of c.args.text.now) ls c.lines.program.bytes.items c.lines.program.entry) lines
+    c.lines.invariant.laid)
     c.in-Ok.ensures.bytes c.in-Ok.ensures.entry c.in-Ok.ensures.ok in
     record {
       sound = n.sound;
@@ -46,4 +50,5 @@ pub returns-clause-laid : goal.returns-clause-laid
 returns-clause-laid g c =
     let none : c.lines.rest ≡ None = search rules in
     laid_whole c.args.float (symbols c.args.labels.now) (lines_of c.args.text.now) c.lines.program.bytes.items c.lines.program.entry
-    (subst (λ ls. IsLaidUpTo c.args.float (symbols c.args.labels.now) (lines_of c.args.text.now) ls c.lines.program.bytes.items c.lines.program.entry) (ap lines_in none) c.lines.invariant.laid)
+    (subst (λ ls. IsLaidUpTo c.args.float (symbols c.args.labels.now) (lines_of c.args.text.now) ls c.lines.program.bytes.items
+    c.lines.program.entry) (ap lines_in none) c.lines.invariant.laid)

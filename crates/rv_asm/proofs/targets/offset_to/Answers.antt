@@ -1,3 +1,4 @@
+-- The offset is the difference of the addresses, cut to 32 bits and read with its sign.
 use Rattle.std.proofs.Common.{◌≡◌, ◌^◌, pos, ◌-ℤ◌, ◌∙◌, rules, w32, w64}
 use Rattle.std.proofs.lemmas.Int.{to_z-of_z}
 use Rattle.rv_asm.specs.Targets.{modulo}

@@ -1,3 +1,4 @@
+-- The bytes of the numbers before this one are written.
 use Rattle.std.proofs.Common.{◌≡◌, ◌++◌, ◌^◌, take, map}
 use Rattle.rv_asm.specs.Targets.{modulo}
 use Rattle.rv_asm.proofs.writer.push_bytes.Given as goal

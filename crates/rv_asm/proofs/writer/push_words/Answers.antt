@@ -1,3 +1,4 @@
+-- Each target adds the bytes of its word, where its label has an address; one that has none is the fault.
 use Rattle.std.proofs.Common.{sym, ◌∙◌}
 use Rattle.asm_syntax.specs.Operands.{IsTarget}
 use Rattle.asm_syntax.specs.Views.{target_value}
@@ -16,6 +17,9 @@ loop-target-preserved g c =
     let i = c.loop-target.target-index in
     let value = sym c.in-Some.is ∙ c.value_of.ensures in
     record {
-      written = words_more known c.args.bytes.now.items c.loop-target.bytes.items c.extend_from_slice.new.self.items c.to_le_bytes.result targets i c.in-Some.value _ c.loop-target-test.true value c.loop-target.invariant.written c.in_ok-extend_from_slice.ensures.items c.to_le_bytes.ensures;
+      written =
+          words_more known c.args.bytes.now.items c.loop-target.bytes.items c.extend_from_slice.new.self.items c.to_le_bytes.result targets
+          i c.in-Some.value _ c.loop-target-test.true value c.loop-target.invariant.written c.in_ok-extend_from_slice.ensures.items
+          c.to_le_bytes.ensures;
       defined = defined_more known targets i c.in-Some.value _ c.loop-target-test.true value c.loop-target.invariant.defined;
     }

@@ -1,3 +1,4 @@
+-- Two instructions that one word spells are of one row, and have the same operands.
 use Rattle.rv_float_tables.proofs.Spelling.{same_from_Spells}
 use Rattle.rv_float_tables.proofs.laws.a_word_spells_at_most_one_instruction.Goals as goal
 

@@ -1,3 +1,4 @@
+-- Past register 31 the list of names has none.
 use Rattle.std.proofs.Common.{◌≤◌, sym, arith}
 use Rattle.std.proofs.lemmas.Option.{slice_get_past}
 use Rattle.rv_float_tables.specs.Registers.{convention_names}

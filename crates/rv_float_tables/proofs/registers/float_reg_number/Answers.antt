@@ -1,3 +1,4 @@
+-- The number that is found in the table of names is that of the definition, and is a register's.
 use Rattle.std.proofs.Common.{◌≡◌}
 use Rattle.rv_float_tables.specs.Registers.{float_register_names, float_register_number}
 use Rattle.rv_float_tables.proofs.NameTables.{IsRegister-float_register_number}

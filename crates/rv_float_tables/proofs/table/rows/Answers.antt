@@ -1,3 +1,4 @@
+-- The table lists the rows of the definitions in their order, and they are disjoint.
 use Rattle.std.proofs.Common.{refl}
 use Rattle.rv_float_tables.specs.Rows.{float_encodings}
 use Rattle.rv_float_tables.proofs.Spelling.{rows_disjoint}

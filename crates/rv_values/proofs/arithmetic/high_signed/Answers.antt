@@ -1,3 +1,4 @@
+-- The product of two words with signs fits 64 bits with a sign.
 use Rattle.std.proofs.Common.{arith}
 use Rattle.rv_values.proofs.Signed.{widened-abs, product-fits}
 use Rattle.rv_values.proofs.arithmetic.high_signed.Goals as goal

@@ -1,3 +1,4 @@
+-- The product of a word with a sign and one without fits 64 bits with a sign.
 use Rattle.rv_values.proofs.Signed.{widened-abs, product-fits}
 use Rattle.rv_values.proofs.arithmetic.high_signed_unsigned.Goals as goal
 

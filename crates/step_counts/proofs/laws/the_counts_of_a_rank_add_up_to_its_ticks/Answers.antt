@@ -1,3 +1,4 @@
+-- A rank's counts add up to its steps, and these to its ticks, as long as its addresses are words.
 use Rattle.step_counts.proofs.Sums.{counts-sum, counts-ticks, machine-ticks, steps-ticks}
 use Rattle.step_counts.proofs.Words.{HasWordPcs-fresh, HasWordPcs-superstep, words-addresses}
 use Rattle.step_counts.proofs.laws.the_counts_of_a_rank_add_up_to_its_ticks.Goals as goal

@@ -1,3 +1,4 @@
+-- The most steps of a rank in a superstep are its w, where the superstep has just begun.
 use Rattle.step_counts.proofs.Sums.{greatest-work, HasBegun-fresh, HasBegun-superstep}
 use Rattle.step_counts.proofs.laws.the_greatest_sum_of_counts_is_w.Goals as goal
 

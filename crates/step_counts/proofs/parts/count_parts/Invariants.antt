@@ -1,3 +1,4 @@
+-- The ranks below this one have made their parts, and the text has their lines.
 use Rattle.std.proofs.Common.{◌≡◌, ◌++◌, take, string_bytes}
 use Rattle.std.specs.Prelude.{flat_map}
 use Rattle.step_counts.specs.Counts.{node_lines}

@@ -1,3 +1,4 @@
+-- The steps made and counted so far, and those that the rank still has to make, are all of its steps.
 use Rattle.std.proofs.Common.{◌≡◌, ◌++◌, drop, length, take}
 use Rattle.step_counts.specs.Parts.{addresses_at}
 use Rattle.step_counts.proofs.Counting.{Counted, Counting}

@@ -1,3 +1,4 @@
+-- After some supersteps the machine is on its way to the same end, and the text with the lines that are left is the whole.
 use Rattle.std.proofs.Common.{◌≡◌, ◌+◌, ◌-◌, ◌++◌, length, string_bytes}
 use Rattle.machine_core.specs.Turn.{end_of}
 use Rattle.machine_core.proofs.Supersteps.{IsWalked}

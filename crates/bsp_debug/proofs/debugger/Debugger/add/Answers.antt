@@ -22,7 +22,8 @@ pub returns-clause-set : goal.returns-clause-set
 returns-clause-set g c = subst (λ (d : DebuggerState). HasAlso c.args.point d.points c.add.new.self) c.self.view_is c.in_ok-add.ensures.set
 
 pub returns-clause-count : goal.returns-clause-count
-returns-clause-count g c = points-counted (debugger_view c.self.inside) c.args.self.now c.add.new.self c.args.point c.in_ok-add.ensures.count c.self.view_is
+returns-clause-count g c =
+    points-counted (debugger_view c.self.inside) c.args.self.now c.add.new.self c.args.point c.in_ok-add.ensures.count c.self.view_is
 
 pub returns-clause-others : goal.returns-clause-others
 returns-clause-others g c = same-points (debugger_view c.self.inside) c.args.self.now c.add.new.self c.self.view_is

@@ -10,8 +10,11 @@ first (Err e) s = refl
 first (Ok u) s = refl
 
 pub returns-in-Step : goal.returns-in-Step
-returns-in-Step g c = rw (c.in-Step.is, c.and.ensures) (first c.check_rank.result c.check_open.result ∙ ap₂ option_or c.check_rank.ensures c.check_open.ensures)
+returns-in-Step g c =
+    rw (c.in-Step.is, c.and.ensures)
+    (first c.check_rank.result c.check_open.result ∙ ap₂ option_or c.check_rank.ensures c.check_open.ensures)
 
 pub returns-in-Fregs : goal.returns-in-Fregs
 returns-in-Fregs g c =
-    rw (c.in-Fregs.is, c.and-in-Fregs.ensures) (first c.check_rank-in-Fregs.result c.check_unit.result ∙ ap₂ option_or c.check_rank-in-Fregs.ensures c.check_unit.ensures)
+    rw (c.in-Fregs.is, c.and-in-Fregs.ensures)
+    (first c.check_rank-in-Fregs.result c.check_unit.result ∙ ap₂ option_or c.check_rank-in-Fregs.ensures c.check_unit.ensures)

@@ -15,7 +15,8 @@ pub invariant_of-self : goal.invariant_of-self
 invariant_of-self g c = record { first = c.self.invariant.first; machine = c.self.invariant.machine; kept = c.self.invariant.kept }
 
 pub returns-clause-set : goal.returns-clause-set
-returns-clause-set g c = subst (λ (d : DebuggerState). HasNoMore c.args.point d.points c.remove.new.self) c.self.view_is c.remove.ensures.set
+returns-clause-set g c =
+    subst (λ (d : DebuggerState). HasNoMore c.args.point d.points c.remove.new.self) c.self.view_is c.remove.ensures.set
 
 pub returns-clause-count : goal.returns-clause-count
 returns-clause-count g c =

@@ -1,3 +1,4 @@
+-- The text that is written is the name of the error.
 use Rattle.std.proofs.Common.{rules}
 use Rattle.bsp_debug.proofs.error.DebugErrorDisplay.fmt.Goals as goal
 

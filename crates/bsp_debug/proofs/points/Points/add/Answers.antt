@@ -1,3 +1,4 @@
+-- A point that is inserted into the ordered set is there beside the others; after a refusal nothing has changed.
 use Rattle.bsp_debug.proofs.PointOrder.{HasAlso-insert}
 use Rattle.bsp_debug.proofs.points.Points.add.Goals as goal
 use Rattle.bsp_debug.proofs.points.Points.add.Goals.{in-Ok, in-Err}

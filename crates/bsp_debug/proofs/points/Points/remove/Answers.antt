@@ -1,3 +1,4 @@
+-- After a removal the point is not in the ordered set, the others are, and the answer says whether it was there.
 use Rattle.std.proofs.Common.{◌∙◌, ap}
 use Rattle.bsp_debug.specs.Points.{is_set}
 use Rattle.bsp_debug.proofs.PointOrder.{HasNoMore-remove, is_set-order}

@@ -1,3 +1,4 @@
+-- With no event made, the machine is the one with which the trace begins.
 use Rattle.std.proofs.Common.{sym}
 use Rattle.machine_core.proofs.Steps.{after-nil}
 use Rattle.bsp_debug.proofs.trace.Trace.begin.Goals as goal

@@ -1,3 +1,4 @@
+-- With its events forgotten, the trace begins with the machine as it is, which keeps to its invariant.
 use Rattle.std.proofs.Common.{sym}
 use Rattle.machine_core.proofs.Steps.{after-nil}
 use Rattle.bsp_debug.proofs.trace.Trace.forget.Goals as goal

@@ -1,3 +1,4 @@
+-- Each pass goes on where the last one ended: through a phase, which may stop at a point, and through a turn, which may be the end.
 use Rattle.std.proofs.Common.{◌≡◌, inl, false, Some, None, Ok, refl, ap, subst, ◌∙◌}
 use Rattle.std.specs.Prelude.{is_some}
 use Rattle.std.proofs.lemmas.Result.{err_from_is_err_and}
@@ -57,7 +58,8 @@ go_through_turn-requires-clause-open g c =
 pub go_through_turn-requires-clause-stopped : goal.go_through_turn-requires-clause-stopped
 go_through_turn-requires-clause-stopped g c =
     let none : c.go_through_phase.result ≡ Ok None = c.in_ok-point.was ∙ ap Ok c.in_default.is in
-    ap (λ (m : MachineState). some_runs m.nodes) (c.go_through_phase.ensures.whole none) ∙ phases-stopped c.loop-point.self.machine c.go_through_phase.ensures.sound
+    ap (λ (m : MachineState). some_runs m.nodes) (c.go_through_phase.ensures.whole none)
+    ∙ phases-stopped c.loop-point.self.machine c.go_through_phase.ensures.sound
 
 pub returns-in_err-stop-clause-start : goal.returns-in_err-stop-clause-start
 returns-in_err-stop-clause-start g c = c.go_through_turn.ensures.start ∙ c.go_through_phase.ensures.start ∙ c.loop-point.invariant.start
@@ -85,8 +87,10 @@ loop-point-smaller g c =
     let sound = c.go_through_phase.ensures.sound in
     let open_yet : is_some m.outcome ≡ false = ap is_some c.loop-point.invariant.outcome in
     let none : c.go_through_phase.result ≡ Ok None = c.in_ok-point.was ∙ ap Ok c.in_default.is in
-    let turned : c.go_through_turn.new.self.machine ≡ event (with_phases m) Turn = c.in_ok-stop.ensures.made ∙ ap (λ (x : MachineState). event x Turn) (c.go_through_phase.ensures.whole none) in
-    rows_left m sound open_yet c.go_through_turn.new.self.machine (superstep-made m sound open_yet c.go_through_turn.new.self.machine turned)
+    let turned : c.go_through_turn.new.self.machine ≡ event (with_phases m) Turn =
+    c.in_ok-stop.ensures.made ∙ ap (λ (x : MachineState). event x Turn) (c.go_through_phase.ensures.whole none) in
+    rows_left m sound open_yet c.go_through_turn.new.self.machine
+    (superstep-made m sound open_yet c.go_through_turn.new.self.machine turned)
 
 pub loop-point-preserved : goal.loop-point-preserved
 loop-point-preserved g c =

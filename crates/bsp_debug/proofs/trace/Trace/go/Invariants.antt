@@ -1,3 +1,4 @@
+-- Between two passes `go` is under way: it has met no stop, the machine has no outcome, and the trace began where it did.
 use Rattle.std.proofs.Common.{◌≡◌, ◌+◌, ◌-◌, None, length}
 use Rattle.bsp_debug.specs.Going.{IsGoing}
 use Rattle.bsp_debug.specs.Trace.{EndsBelow}

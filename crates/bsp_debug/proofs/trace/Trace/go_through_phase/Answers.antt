@@ -1,3 +1,4 @@
+-- Each rank in turn goes on with the phase, up to the first point; when all ranks have stopped, the phase is whole.
 use Rattle.std.proofs.Common.{◌≡◌, None, Ok, refl, ap, ◌∙◌, subst, arith}
 use Rattle.machine_core.specs.declared.settings.Settings.{Settings}
 use Rattle.machine_core.specs.Machine.{MachineState}
@@ -49,7 +50,8 @@ loop-rank-preserved g c =
     let t = c.loop-rank.self in
     let rank = c.loop-rank.rank in
     let none : c.go_through_node.result ≡ Ok None = c.in_ok-point.was ∙ ap Ok c.in_default.is in
-    let whole : c.go_through_node.new.self.machine ≡ after_steps t.machine rank t.machine.settings.limit = c.go_through_node.ensures.whole none in
+    let whole : c.go_through_node.new.self.machine ≡ after_steps t.machine rank t.machine.settings.limit =
+    c.go_through_node.ensures.whole none in
     record {
       trace = c.go_through_node.ensures.trace;
       phasing = IsPhasing-more c.args.self.now.machine t.machine c.go_through_node.new.self.machine rank so_far.phasing whole;
@@ -71,7 +73,8 @@ returns-clause-whole g c is =
     let so_far = c.loop-rank.invariant in
     let old = c.args.self.now.machine in
     let sound = subst IsSoundMachine c.machine.ensures.value c.settings-rank-end.ensures.sound in
-    let same : c.settings-rank-end.result ≡ old.settings = c.settings-rank-end.ensures.value ∙ ap (λ (m : MachineState). m.settings) c.machine.ensures.value in
+    let same : c.settings-rank-end.result ≡ old.settings =
+    c.settings-rank-end.ensures.value ∙ ap (λ (m : MachineState). m.settings) c.machine.ensures.value in
     let nodes : c.settings-rank-end.result.nodes ≡ old.settings.nodes = ap (λ (s : Settings). s.nodes) same in
     let long = length-nodes c.loop-rank.self.machine so_far.phasing.sound ∙ ap (λ (s : Settings). s.nodes) so_far.settings in
     IsPhasing-done old c.loop-rank.self.machine c.loop-rank.rank sound (omega (arith, long, nodes, c.loop-rank-test.false)) so_far.phasing

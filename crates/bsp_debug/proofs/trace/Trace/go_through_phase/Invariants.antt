@@ -1,3 +1,4 @@
+-- The nodes below this rank have stopped, all others stand where the phase began, and `go` has met no stop.
 use Rattle.std.proofs.Common.{◌≡◌, None}
 use Rattle.machine_core.proofs.Phased.{IsPhasing}
 use Rattle.bsp_debug.specs.Going.{IsGoing}

@@ -1,3 +1,4 @@
+-- The turn follows a phase in which all have stopped: it goes on the way of `go`, or ends it with the machine's outcome.
 use Rattle.std.proofs.Common.{◌≡◌, sym, ap, ◌∙◌}
 use Rattle.std.proofs.lemmas.Result.{err_from_is_err_and}
 use Rattle.machine_core.specs.Machine.{MachineState}
@@ -20,41 +21,53 @@ returns-in_err-turn-clause-gone g c =
 pub returns-in-Some-clause-gone : goal.returns-in-Some-clause-gone
 returns-in-Some-clause-gone g c =
     let t = c.args.self.now in
-    let made = turn-made t c.requires.open c.requires.stopped c.in_ok-turn.field-0 c.turn.new.self c.in_ok-turn.ensures.value c.in_ok-turn.ensures.ok in
-    rw made (turn-finished c.args.points.now t c.turn.ensures.was_trace c.requires.open c.requires.stopped c.in-Some.outcome c.requires.going
-    (ap (λ (x : Traced). x.machine.outcome) (sym made) ∙ ap (λ (m : MachineState). m.outcome) (sym c.machine.ensures.value) ∙ sym c.outcome.ensures.value ∙ c.in-Some.is))
+    let made = turn-made t c.requires.open c.requires.stopped c.in_ok-turn.field-0 c.turn.new.self c.in_ok-turn.ensures.value
+    c.in_ok-turn.ensures.ok in
+    rw made (turn-finished c.args.points.now t c.turn.ensures.was_trace c.requires.open c.requires.stopped c.in-Some.outcome
+    c.requires.going
+    (ap (λ (x : Traced). x.machine.outcome) (sym made) ∙ ap (λ (m : MachineState). m.outcome) (sym c.machine.ensures.value)
+    ∙ sym c.outcome.ensures.value ∙ c.in-Some.is))
 
 pub returns-in-Some-clause-order : goal.returns-in-Some-clause-order
 returns-in-Some-clause-order g c =
     let t = c.args.self.now in
-    rw (turn-made t c.requires.open c.requires.stopped c.in_ok-turn.field-0 c.turn.new.self c.in_ok-turn.ensures.value c.in_ok-turn.ensures.ok) (EndsBelow-turn 0 t.made)
+    rw (turn-made t c.requires.open c.requires.stopped c.in_ok-turn.field-0 c.turn.new.self c.in_ok-turn.ensures.value
+    c.in_ok-turn.ensures.ok) (EndsBelow-turn 0 t.made)
 
 pub returns-then-has-clause-gone : goal.returns-then-has-clause-gone
 returns-then-has-clause-gone g c =
     let t = c.args.self.now in
-    let made = turn-made t c.requires.open c.requires.stopped c.in_ok-turn.field-0 c.turn.new.self c.in_ok-turn.ensures.value c.in_ok-turn.ensures.ok in
+    let made = turn-made t c.requires.open c.requires.stopped c.in_ok-turn.field-0 c.turn.new.self c.in_ok-turn.ensures.value
+    c.in_ok-turn.ensures.ok in
     let number : c.superstep.result ≡ (turned t).machine.exchanges =
-    c.superstep.ensures ∙ ap (λ (m : MachineState). m.exchanges) c.machine-2.ensures.value ∙ ap (λ (x : Traced). x.machine.exchanges) made in
+    c.superstep.ensures ∙ ap (λ (m : MachineState). m.exchanges) c.machine-2.ensures.value
+    ∙ ap (λ (x : Traced). x.machine.exchanges) made in
     rw (made, number) (turn-stopped c.args.points.now t c.turn.ensures.was_trace c.requires.open c.requires.stopped c.requires.going
-    (ap (λ (x : Traced). x.machine.outcome) (sym made) ∙ ap (λ (m : MachineState). m.outcome) (sym c.machine.ensures.value) ∙ sym c.outcome.ensures.value ∙ c.in_default.is)
+    (ap (λ (x : Traced). x.machine.outcome) (sym made) ∙ ap (λ (m : MachineState). m.outcome) (sym c.machine.ensures.value)
+    ∙ sym c.outcome.ensures.value ∙ c.in_default.is)
     (ap (λ k. is_set c.args.points.now (Superstep k)) (sym number) ∙ sym c.has.ensures ∙ c.if-has.true))
 
 pub returns-then-has-clause-order : goal.returns-then-has-clause-order
 returns-then-has-clause-order g c =
     let t = c.args.self.now in
-    rw (turn-made t c.requires.open c.requires.stopped c.in_ok-turn.field-0 c.turn.new.self c.in_ok-turn.ensures.value c.in_ok-turn.ensures.ok) (EndsBelow-turn 0 t.made)
+    rw (turn-made t c.requires.open c.requires.stopped c.in_ok-turn.field-0 c.turn.new.self c.in_ok-turn.ensures.value
+    c.in_ok-turn.ensures.ok) (EndsBelow-turn 0 t.made)
 
 pub returns-clause-gone : goal.returns-clause-gone
 returns-clause-gone g c =
     let t = c.args.self.now in
-    let made = turn-made t c.requires.open c.requires.stopped c.in_ok-turn.field-0 c.turn.new.self c.in_ok-turn.ensures.value c.in_ok-turn.ensures.ok in
+    let made = turn-made t c.requires.open c.requires.stopped c.in_ok-turn.field-0 c.turn.new.self c.in_ok-turn.ensures.value
+    c.in_ok-turn.ensures.ok in
     let number : c.superstep.result ≡ (turned t).machine.exchanges =
-    c.superstep.ensures ∙ ap (λ (m : MachineState). m.exchanges) c.machine-2.ensures.value ∙ ap (λ (x : Traced). x.machine.exchanges) made in
+    c.superstep.ensures ∙ ap (λ (m : MachineState). m.exchanges) c.machine-2.ensures.value
+    ∙ ap (λ (x : Traced). x.machine.exchanges) made in
     rw made (turn-going c.args.points.now t c.turn.ensures.was_trace c.requires.open c.requires.stopped c.requires.going
-    (ap (λ (x : Traced). x.machine.outcome) (sym made) ∙ ap (λ (m : MachineState). m.outcome) (sym c.machine.ensures.value) ∙ sym c.outcome.ensures.value ∙ c.in_default.is)
+    (ap (λ (x : Traced). x.machine.outcome) (sym made) ∙ ap (λ (m : MachineState). m.outcome) (sym c.machine.ensures.value)
+    ∙ sym c.outcome.ensures.value ∙ c.in_default.is)
     (ap (λ k. is_set c.args.points.now (Superstep k)) (sym number) ∙ sym c.has.ensures ∙ c.if-has.false))
 
 pub returns-clause-order : goal.returns-clause-order
 returns-clause-order g c =
     let t = c.args.self.now in
-    rw (turn-made t c.requires.open c.requires.stopped c.in_ok-turn.field-0 c.turn.new.self c.in_ok-turn.ensures.value c.in_ok-turn.ensures.ok) (EndsBelow-turn 0 t.made)
+    rw (turn-made t c.requires.open c.requires.stopped c.in_ok-turn.field-0 c.turn.new.self c.in_ok-turn.ensures.value
+    c.in_ok-turn.ensures.ok) (EndsBelow-turn 0 t.made)

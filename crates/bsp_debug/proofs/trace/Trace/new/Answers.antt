@@ -1,3 +1,4 @@
+-- A new trace has no events, so its machine is the one with which it begins.
 use Rattle.std.proofs.Common.{sym}
 use Rattle.machine_core.proofs.Steps.{after-nil}
 use Rattle.bsp_debug.proofs.trace.Trace.new.Goals as goal

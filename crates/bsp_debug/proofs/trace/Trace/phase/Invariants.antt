@@ -1,3 +1,4 @@
+-- The nodes below this rank have stopped, all others stand where the phase began, and the entries are the steps made so far.
 use Rattle.std.proofs.Common.{◌≡◌, ◌*◌, ◌≤◌, ◌^◌, length}
 use Rattle.machine_core.specs.Events.{after}
 use Rattle.machine_core.proofs.Phased.{IsPhasing}

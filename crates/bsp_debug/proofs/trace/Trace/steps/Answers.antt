@@ -1,3 +1,4 @@
+-- The steps that the node made are taken down as one entry, and those before a refusal too.
 use Rattle.std.proofs.Common.{◌-◌, sym, ap, ap₂, ◌∙◌, arith}
 use Rattle.std.proofs.lemmas.Result.{err_from_is_err_and}
 use Rattle.machine_core.specs.Machine.{MachineState}
@@ -10,7 +11,13 @@ pub returns-in_err-reserve-clause-err : goal.returns-in_err-reserve-clause-err
 returns-in_err-reserve-clause-err g c =
     let p = err_from_is_err_and c.from_residual.result c.from_residual.ensures.1 in
     let t : Traced = record { start = c.self.inside.start.value; machine = c.self.inside.machine; made = c.self.inside.made.items } in
-    rw p.1 (0, omega arith, rw (c.in_err-reserve.ensures.items) (c.self.view_is ∙ sym (ap (λ (m : MachineState). record c.args.self.now { machine = m }) (after_steps-zero c.args.self.now.machine c.args.rank))))
+    rw p.1 (
+      0,
+      omega arith,
+      rw (c.in_err-reserve.ensures.items)
+          (c.self.view_is
+          ∙ sym (ap (λ (m : MachineState). record c.args.self.now { machine = m }) (after_steps-zero c.args.self.now.machine c.args.rank))),
+    )
 
 pub invariant_of-self-in_err-ran : goal.invariant_of-self-in_err-ran
 invariant_of-self-in_err-ran g c =
@@ -25,7 +32,8 @@ pub returns-in_err-ran-clause-err : goal.returns-in_err-ran-clause-err
 returns-in_err-ran-clause-err g c =
     let p = err_from_is_err_and c.from_residual-in_err-ran.result c.from_residual-in_err-ran.ensures.1 in
     let t : Traced = record { start = c.self.inside.start.value; machine = c.self.inside.machine; made = c.self.inside.made.items } in
-    rw p.1 (part-is t c.args.self.now c.self.view_is c.args.rank c.run_node-ran.new.self c.note_steps.new.made.items c.saturating_sub-count.result
+    rw p.1 (part-is t c.args.self.now c.self.view_is c.args.rank c.run_node-ran.new.self c.note_steps.new.made.items
+    c.saturating_sub-count.result
     (c.saturating_sub-count.ensures ∙ ap₂ (λ a b. a - b) c.ticks_of.ensures c.ticks_of-before.ensures)
     (c.note_steps.ensures ∙ ap (λ xs. with_steps xs c.args.rank c.saturating_sub-count.result) c.in_ok-reserve.ensures.items)
     c.args.most c.in_err-ran.ensures.err)
@@ -54,7 +62,8 @@ returns-clause-few g c =
 pub returns-clause-ok : goal.returns-clause-ok
 returns-clause-ok g c =
     let t : Traced = record { start = c.self.inside.start.value; machine = c.self.inside.machine; made = c.self.inside.made.items } in
-    stepped-is t c.args.self.now c.self.view_is c.args.rank c.run_node-ran.new.self c.note_steps.new.made.items c.saturating_sub-count.result
+    stepped-is t c.args.self.now c.self.view_is c.args.rank c.run_node-ran.new.self c.note_steps.new.made.items
+    c.saturating_sub-count.result
     (c.saturating_sub-count.ensures ∙ ap₂ (λ a b. a - b) c.ticks_of.ensures c.ticks_of-before.ensures)
     (c.note_steps.ensures ∙ ap (λ xs. with_steps xs c.args.rank c.saturating_sub-count.result) c.in_ok-reserve.ensures.items)
     c.args.most c.in_ok-ran.ensures.ok

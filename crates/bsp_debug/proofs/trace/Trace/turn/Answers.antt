@@ -1,3 +1,4 @@
+-- A turn is taken down where it is made; without room for its entry nothing changes, and one that is not enabled is not made.
 use Rattle.std.proofs.Common.{◌≡◌, true, sym, ap, ◌∙◌}
 use Rattle.std.proofs.lemmas.Result.{err_from_is_err_and}
 use Rattle.machine_core.specs.declared.event.Event.TheVariants.{Turn}

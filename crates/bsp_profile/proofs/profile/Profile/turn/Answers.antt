@@ -1,3 +1,4 @@
+-- The machine's turn is enabled, so what was made is the turn.
 use Rattle.std.proofs.Common.{◌∙◌}
 use Rattle.machine_core.specs.declared.event.Event.TheVariants.{Turn}
 use Rattle.machine_core.proofs.Steps.{event-enabled}

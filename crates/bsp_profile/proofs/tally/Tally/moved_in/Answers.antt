@@ -15,7 +15,10 @@ loop-from-preserved g c =
     elim c.if-from-rank.branch [
       | then-from-rank w ↦
           let more = others_yes f c.loop-from.from c.args.rank w.if-from-rank.true in
-          rw w.all-is (record { sum = omega (arith, more, c.loop-from.invariant.sum, w.bytes-all.ensures.value); bounded = omega (arith, c.loop-from.invariant.bounded, w.bytes-all.ensures.bounded) })
+          rw w.all-is (record {
+            sum = omega (arith, more, c.loop-from.invariant.sum, w.bytes-all.ensures.value);
+            bounded = omega (arith, c.loop-from.invariant.bounded, w.bytes-all.ensures.bounded);
+          })
       | else-from-rank w ↦
           let same = others_no f c.loop-from.from c.args.rank w.if-from-rank.false in
           rw w.all-is (record { sum = c.loop-from.invariant.sum ∙ sym same; bounded = omega (arith, c.loop-from.invariant.bounded) })

@@ -15,7 +15,10 @@ loop-to-preserved g c =
     elim c.if-to-rank.branch [
       | then-to-rank w ↦
           let more = others_yes f c.loop-to.to c.args.rank w.if-to-rank.true in
-          rw w.all-is (record { sum = omega (arith, more, c.loop-to.invariant.sum, w.bytes-all.ensures.value); bounded = omega (arith, c.loop-to.invariant.bounded, w.bytes-all.ensures.bounded) })
+          rw w.all-is (record {
+            sum = omega (arith, more, c.loop-to.invariant.sum, w.bytes-all.ensures.value);
+            bounded = omega (arith, c.loop-to.invariant.bounded, w.bytes-all.ensures.bounded);
+          })
       | else-to-rank w ↦
           let same = others_no f c.loop-to.to c.args.rank w.if-to-rank.false in
           rw w.all-is (record { sum = c.loop-to.invariant.sum ∙ sym same; bounded = omega (arith, c.loop-to.invariant.bounded) })

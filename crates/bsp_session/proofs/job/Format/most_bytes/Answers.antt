@@ -1,3 +1,4 @@
+-- The limit of an ELF file is the one of the definition.
 use Rattle.std.proofs.Common.{refl}
 use Rattle.bsp_session.proofs.job.Format.most_bytes.Goals as goal
 

@@ -1,3 +1,4 @@
+-- A line that is no command is answered as refused, with the name `BadCommand`.
 use Rattle.debug_lines.proofs.verdict.VerdictDisplay.fmt.Goals as goal
 
 pub returns-in-BadCommand-clause-writes : goal.returns-in-BadCommand-clause-writes

@@ -1,3 +1,4 @@
+-- The call of number 9 is that of the definitions' table.
 use Rattle.node_core.proofs.call.Call.of_number.Goals as goal
 
 pub returns-in-9 : goal.returns-in-9

@@ -1,3 +1,4 @@
+-- The operands fit their fields, so each kind of instruction has its effect; only a store and a call may be refused memory.
 use Rattle.std.proofs.Common.{sym, ap, ◌∙◌, SFits, w32, rules, pos, ◌+ℤ◌}
 use Rattle.std.proofs.lemmas.Int.{to_z-of_z}
 use Rattle.rv_values.specs.Arithmetic.{modulo}

@@ -1,3 +1,4 @@
+-- Where memory is refused, the code at pc is an instruction that may be refused: of whole numbers, or of floating point.
 use Rattle.std.proofs.Common.{◌≡◌, ◌%◌, Some, sym, ap, ◌∙◌}
 use Rattle.std.specs.Prelude.{option_map}
 use Rattle.rv_tables.specs.Codes.{code_in, code_length}

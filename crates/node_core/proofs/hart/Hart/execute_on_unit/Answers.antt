@@ -1,3 +1,4 @@
+-- An instruction that neither loads nor stores has just the effect that the unit has of it.
 use Rattle.std.proofs.Common.{◌∙◌}
 use Rattle.node_core.proofs.Floats.{on_unit-operation}
 use Rattle.node_core.proofs.hart.Hart.execute_on_unit.Goals as goal

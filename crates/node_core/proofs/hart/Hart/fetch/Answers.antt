@@ -1,3 +1,4 @@
+-- The code that begins a word read from pc is the code at pc.
 use Rattle.std.proofs.Common.{◌∙◌, ap}
 use Rattle.node_core.specs.Executed.{fetched}
 use Rattle.node_core.specs.Hart.{PreparedHart}

@@ -1,3 +1,4 @@
+-- The payload of the first message is shorter than 2^32 bytes, and so is its tag.
 use Rattle.std.proofs.Common.{◌∙◌, sym, ap, arith}
 use Rattle.std.specs.Prelude.{option_copied}
 use Rattle.node_core.proofs.Messages.{IsShort-first}

@@ -1,3 +1,4 @@
+-- The checks that a get has passed make it well addressed and within the limits, so the hart stays sound with it.
 use Rattle.std.proofs.Common.{◌≡◌, ◌∙◌, sym, refl, true, false, length}
 use Rattle.bsp_slots.proofs.Positions.{IsLastEntry-from}
 use Rattle.bsp_requests.specs.Requests.{is_full_for}

@@ -1,3 +1,4 @@
+-- The checks that a put has passed make it well addressed and within the limits, so the hart stays sound with it.
 use Rattle.std.proofs.Common.{◌≡◌, ◌∙◌, ap, sym, true, false, length, arith}
 use Rattle.std.proofs.lemmas.Grind.{common_steps}
 use Rattle.bsp_slots.proofs.Positions.{IsLastEntry-from}

@@ -1,3 +1,4 @@
+-- The checks that a message has passed make it well addressed and within the limits, so the hart stays sound with it.
 use Rattle.std.proofs.Common.{◌≡◌, ◌+◌, ap, true, false, length, arith}
 use Rattle.std.proofs.lemmas.Grind.{common_steps}
 use Rattle.bsp_requests.specs.Requests.{is_full_for}

@@ -1,3 +1,4 @@
+-- The pages that the bytes land in are the memory's own, and nothing else of the hart changes.
 use Rattle.std.proofs.Common.{◌≡◌, ℕ, List, Bool, ap, ap₂, ◌∙◌}
 use Rattle.node_memory.specs.Bytes.{with_bytes}
 use Rattle.node_core.specs.Hart.{PreparedHart, with_memory}

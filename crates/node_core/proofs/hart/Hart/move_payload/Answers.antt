@@ -1,3 +1,4 @@
+-- The bytes moved are the first ones of the payload, and the message is gone; with no message, or memory refused, nothing changes.
 use Rattle.std.proofs.Common.{◌≡◌, None, Err, true, length, take, sym, ap, ◌∙◌}
 use Rattle.std.specs.Prelude.{option_copied}
 use Rattle.node_memory.specs.Bytes.{fits}

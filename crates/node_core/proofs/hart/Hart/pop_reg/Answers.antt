@@ -1,3 +1,4 @@
+-- A pop that was noted keeps the hart sound and takes away the room for the turn; an area that is not registered is the fault.
 use Rattle.std.proofs.Common.{arith, rules}
 use Rattle.std.proofs.lemmas.Grind.{common_steps}
 use Rattle.node_core.specs.Inside.{hart_view}

@@ -1,3 +1,4 @@
+-- A push that was noted had room for one more, so the hart stays sound with it.
 use Rattle.std.proofs.Common.{◌≡◌, false, arith}
 use Rattle.std.proofs.lemmas.Grind.{common_steps}
 use Rattle.bsp_slots.specs.Registrations.{is_full}

@@ -1,3 +1,4 @@
+-- A register other than x0 gets the value, as in the definition.
 use Rattle.std.proofs.Common.{arith}
 use Rattle.std.proofs.lemmas.Grind.{common_steps}
 use Rattle.node_core.proofs.hart.Hart.set_reg.Goals as goal

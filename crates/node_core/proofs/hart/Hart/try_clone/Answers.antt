@@ -1,3 +1,4 @@
+-- The clone has the same bytes of memory and the same communication, so it keeps to the invariant too.
 use Rattle.std.proofs.Common.{◌≡◌, ap}
 use Rattle.node_memory.specs.Pages.{PagedMemory}
 use Rattle.node_core.proofs.hart.Hart.try_clone.Goals as goal

@@ -1,3 +1,4 @@
+-- Output whose bytes do not all lie in the memory meets the fault of the call's checks.
 use Rattle.std.proofs.Common.{◌∙◌, sym}
 use Rattle.node_core.proofs.hart.Hart.write.Goals as goal
 

@@ -1,3 +1,4 @@
+-- Once all pages are the memory's own no write is refused, so an error comes before any byte has changed.
 use Rattle.std.proofs.Common.{length}
 use Rattle.node_memory.specs.Pages.{Owns}
 use Rattle.node_memory.proofs.Owned.{Owns-kept}

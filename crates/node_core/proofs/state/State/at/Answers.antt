@@ -1,3 +1,4 @@
+-- A node that would run with no tick left is exhausted.
 use Rattle.std.proofs.Common.{arith}
 use Rattle.std.proofs.lemmas.Grind.{common_steps}
 use Rattle.node_core.proofs.state.State.at.Goals as goal

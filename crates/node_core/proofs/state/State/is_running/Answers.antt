@@ -1,3 +1,4 @@
+-- A node in the state `Running` runs.
 use Rattle.node_core.proofs.state.State.is_running.Goals as goal
 
 pub returns-in-Running : goal.returns-in-Running

@@ -1,3 +1,4 @@
+-- The text of the state `Exhausted` is the one of the definition.
 use Rattle.node_core.proofs.state.StateDisplay.fmt.Goals as goal
 
 pub returns-in-Exhausted-clause-writes : goal.returns-in-Exhausted-clause-writes

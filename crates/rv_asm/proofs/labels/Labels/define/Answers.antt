@@ -1,3 +1,4 @@
+-- A label that is inserted is found at its address, beside all others; one that was there already is a duplicate.
 use Rattle.std.proofs.Common.{refl, inr, rules}
 use Rattle.std.proofs.lemmas.Map.Text.{btree_map_updates_str}
 use Rattle.rv_asm.proofs.labels.Labels.define.Goals as goal

@@ -1,3 +1,4 @@
+-- The cells below this address are empty, and those beyond the highest one have always been.
 use Rattle.std.proofs.Common.{◌≡◌, ◌<◌, ◌≤◌, ℕ, length}
 use Rattle.std.specs.Prelude.{slice_index}
 use Rattle.step_counts.proofs.table.Table.clear.Given as goal

@@ -1,5 +1,6 @@
 -- The addresses within the memory, and then the one past it.
-use Rattle.std.proofs.Common.{◌≡◌, ◌+◌, ◌<◌, ◌≤◌, ◌∙◌, ◌++◌, ◌^◌, List, ℕ, None, Some, length, get_or, ap, sym, subst, arith, append_assoc, append-nil, string_bytes}
+use Rattle.std.proofs.Common.{◌≡◌, ◌+◌, ◌<◌, ◌≤◌, ◌∙◌, ◌++◌, ◌^◌, List, ℕ, None}
+use Rattle.std.proofs.Common.{Some, length, get_or, ap, sym, subst, arith, append_assoc, append-nil, string_bytes}
 use Rattle.std.proofs.lemmas.List.{get_or_default}
 use Rattle.step_counts.specs.Counts.{line_of, lines_below}
 use Rattle.step_counts.specs.Table.{TableState, IsTable, told}
@@ -17,7 +18,8 @@ loop-address-init g c =
       text =
           sym (append-nil first)
           ∙ ap (λ (ls : List ℕ). first ++ ls)
-          (sym (skip-first c.args.superstep c.args.rank (told t) c.self.inside.low (λ address less. told-below t table address (omega (arith, less, low)))));
+          (sym (skip-first c.args.superstep c.args.rank (told t) c.self.inside.low
+          (λ address less. told-below t table address (omega (arith, less, low)))));
     }
 
 pub loop-address-preserved : goal.loop-address-preserved
@@ -32,10 +34,13 @@ loop-address-preserved g c =
     let inside : address < length t.cells = omega (arith, below, table.high) in
     let address_within : address + 1 ≤ t.memory = omega (arith, inside, table.within) in
     let is : n ≡ told t address =
-    c.index.ensures ∙ ap (λ (cs : List ℕ). get_or cs address n) cells ∙ get_or_default t.cells address n 0 inside ∙ told-at t table address below in
+    c.index.ensures ∙ ap (λ (cs : List ℕ). get_or cs address n) cells ∙ get_or_default t.cells address n 0 inside
+    ∙ told-at t table address below in
     record {
       within = address_within;
-      text = next_below c.args.superstep c.args.rank (told t) address n (string_bytes c.args.text.now) (string_bytes c.loop-address.text) (string_bytes c.write_count.new.text)
+      text =
+          next_below c.args.superstep c.args.rank (told t) address n (string_bytes c.args.text.now) (string_bytes c.loop-address.text)
+          (string_bytes c.write_count.new.text)
           is c.loop-address.invariant.text c.in_ok-write_count.ensures;
     }
 
@@ -54,7 +59,8 @@ returns-in_ok-write_count-2 g c =
     ∙ ap (λ (bs : List ℕ). bs ++ line) c.loop-address.invariant.text
     ∙ append_assoc first (lines_below from c.args.superstep c.args.rank (told t)) line
     ∙ ap (λ (ls : List ℕ). first ++ ls)
-    (sym (all-outside t table c.args.superstep c.args.rank from (2 ^ 32) there is (omega (arith, c.loop-address-test.false, high)) (omega (arith, c.loop-address.invariant.within, past.0)) past.1))
+    (sym (all-outside t table c.args.superstep c.args.rank from (2 ^ 32) there is (omega (arith, c.loop-address-test.false, high))
+    (omega (arith, c.loop-address.invariant.within, past.0)) past.1))
 
 pub returns-in_default : goal.returns-in_default
 returns-in_default g c =
@@ -64,4 +70,5 @@ returns-in_default g c =
     let none : t.outside ≡ None = sym (ap (λ (x : TableState). x.outside) c.self.view_is) ∙ c.in_default.is in
     c.loop-address.invariant.text
     ∙ ap (λ (ls : List ℕ). string_bytes c.args.text.now ++ ls)
-    (sym (all-inside t table c.args.superstep c.args.rank c.loop-address.address (2 ^ 32) none (omega (arith, c.loop-address-test.false, high)) (omega (arith, c.loop-address.invariant.within, table.few))))
+    (sym (all-inside t table c.args.superstep c.args.rank c.loop-address.address (2 ^ 32) none
+    (omega (arith, c.loop-address-test.false, high)) (omega (arith, c.loop-address.invariant.within, table.few))))

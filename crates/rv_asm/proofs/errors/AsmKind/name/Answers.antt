@@ -1,5 +1,0 @@
-use Rattle.std.proofs.Common.{refl}
-use Rattle.rv_asm.proofs.errors.AsmKind.name.Goals as goal
-
-pub returns-in-UndefinedLabel : goal.returns-in-UndefinedLabel
-returns-in-UndefinedLabel c = rw c.in-UndefinedLabel.is refl

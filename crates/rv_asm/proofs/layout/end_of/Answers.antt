@@ -1,5 +1,0 @@
-use Rattle.std.proofs.Common.{rules}
-use Rattle.rv_asm.proofs.layout.end_of.Goals as goal
-
-pub returns : goal.returns
-returns g c = search rules

@@ -9,9 +9,9 @@ pub mod Fetch
 pub mod Floats
 pub mod Harts
 pub mod Messages
+pub mod MicroOps
 pub mod Moves
 pub mod NotWritten
-pub mod OfKinds
 pub mod OneStep
 pub mod OwnStores
 pub mod Ranks

@@ -8,6 +8,7 @@ pub mod Executed
 pub mod Floats
 pub mod Hart
 pub mod Inside
+pub mod MicroOps
 pub mod Names
 pub mod Node
 pub mod Straight

@@ -18,33 +18,21 @@
 //! `lib.Ieee` defines it.
 #![tactic(auto)]
 
+mod arithmetic;
 mod class;
-mod compare_double;
-mod compare_single;
+mod compare;
 mod convert;
 mod double;
 pub mod laws;
+mod pattern;
 mod rounding;
 mod sign;
 mod single;
 
-pub use class::{class_d, class_s, is_signaling_d, is_signaling_s};
-pub use compare_double::{eq_d, is_before_d, le_d, lt_d, max_d, min_d};
-pub use compare_single::{eq_s, is_before_s, le_s, lt_s, max_s, min_s};
-pub use convert::{
-    boxed, d_to_s, d_to_word, d_to_word_unsigned, rounded_whole_d, rounded_whole_s, s_to_d,
-    s_to_word, s_to_word_unsigned, unboxed, word_to_d, word_to_s, word_unsigned_to_d,
-    word_unsigned_to_s,
-};
-pub use double::{
-    add_d, div_d, mul_d, multiply_add_d, multiply_subtract_d, negated_multiply_add_d,
-    negated_multiply_subtract_d, sqrt_d, sub_d,
-};
+pub use arithmetic::{multiply_subtract, negated_multiply_add, negated_multiply_subtract};
+pub use class::{class_mask, is_signaling};
+pub use compare::{is_at_most, is_before, is_equal, is_less, is_negative, maximum, minimum};
+pub use convert::{boxed, d_to_s, s_to_d, to_unsigned_word, to_word, unboxed};
+pub use pattern::Pattern;
 pub use rounding::Rounding;
-pub use sign::{
-    sign_injected_d, sign_injected_s, sign_negated_d, sign_negated_s, sign_xored_d, sign_xored_s,
-};
-pub use single::{
-    add_s, div_s, mul_s, multiply_add_s, multiply_subtract_s, negated_multiply_add_s,
-    negated_multiply_subtract_s, sqrt_s, sub_s,
-};
+pub use sign::{sign_injected, sign_negated, sign_xored};

@@ -4,13 +4,17 @@
 //! one. So each operation is one line: the pattern of what the standard's operation gives for the patterns' values. Nothing here
 //! allocates, and every pattern has an answer.
 //!
+//! [`Pattern`] is the trait of both types. It has what the host does with a pattern, which `src/double.rt` and `src/single.rt` say for one
+//! format each; all else is written, and proved, once for both.
+//!
 //! What callers may rely on:
 //!
-//! - [`add_d`] to [`negated_multiply_add_d`], and the same of singles, round to the nearest, ties to even; a NaN that comes out is canonical,
-//!   whatever went in.
-//! - [`min_d`], [`max_d`] and the comparisons take -0 and +0 as the manual has them: the former tell them apart, the latter do not.
-//! - [`sign_injected_d`] and its kin, and [`class_d`], are of the pattern, and see a NaN's sign and payload.
-//! - [`d_to_word`] and its kin round as they are told ([`Rounding`]), and stop at the ends of the range.
+//! - [`Pattern::add`] to [`Pattern::multiply_add`], and [`multiply_subtract`] to [`negated_multiply_add`], round to the nearest, ties to
+//!   even; a NaN that comes out is canonical, whatever went in. Those of numbers, as [`Pattern::add_numbers`], do not ask whether an
+//!   operand is a NaN.
+//! - [`minimum`], [`maximum`] and the comparisons take -0 and +0 as the manual has them: the former tell them apart, the latter do not.
+//! - [`sign_injected`] and its kin, and [`class_mask`], are of the pattern, and see a NaN's sign and payload.
+//! - [`to_word`] and [`to_unsigned_word`] round as they are told ([`Rounding`]), and stop at the ends of the range.
 //! - [`boxed`] and [`unboxed`] put a single into a wide register and take it out.
 //! - [`laws`] has what holds of all patterns: a NaN is written as the canonical one, and a boxed single comes out of its box.
 //!

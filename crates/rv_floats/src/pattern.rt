@@ -36,7 +36,8 @@ pub trait Pattern: Copy {
 
     /// FMADD: `self * factor + term`.
     fn multiply_add(self, factor: Self, term: Self) -> Self
-        ensures { bits result ≡ to_bits format (float_mul_add format (of_bits format (bits self)) (of_bits format (bits factor)) (of_bits format (bits term))) };
+        ensures { bits result ≡ to_bits format
+            (float_mul_add format (of_bits format (bits self)) (of_bits format (bits factor)) (of_bits format (bits term))) };
 
     /// FADD of numbers whose sum is a number. Nothing asks whether one is a NaN, and so it is with the other operations on numbers.
     fn add_numbers(self, other: Self) -> Self

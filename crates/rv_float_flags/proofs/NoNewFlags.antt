@@ -1,11 +1,11 @@
 -- In both formats: operands of which it is known at once that an operation raises no new flags are numbers, so is the result, and it raises
 -- none.
-use Rattle.std.proofs.Common.{◌≡◌, ℕ, Bool, true, false, not, ◌&&◌, arith, refl, sym, ◌∙◌}
+use Rattle.std.proofs.Common.{◌≡◌, ℕ, Bool, true, false, not, ◌&&◌, arith, refl, sym}
 use Rattle.std.proofs.lemmas.Bool.{and_parts}
 use Rattle.std.proofs.lemmas.Float.{not_nan_f32_bits}
 use Rattle.std.specs.Float.{float_zero}
 use Rattle.rv_float_flags.specs.Flags.{accrued}
-use Rattle.rv_float_flags.specs.NoNewFlags.{double_root_raises_no_new_flags, is_finite, is_single_finite, product_raises_no_new_flags, quotient_raises_no_new_flags, root_raises_no_new_flags, single_root_raises_no_new_flags, sum_raises_no_new_flags}
+use Rattle.rv_float_flags.specs.NoNewFlags.{is_finite, is_single_finite, product_raises_no_new_flags, quotient_raises_no_new_flags, root_raises_no_new_flags, sum_raises_no_new_flags}
 use Rattle.rv_float_flags.specs.Operations.{add_flags, div_flags, mul_flags, sqrt_flags, sub_flags}
 use Rattle.rv_float_flags.specs.declared.flags.Flags.{Flags}
 use Rattle.rv_float_flags.proofs.FiniteResults.{difference_no_nan, finite, pattern_no_nan, product_no_nan, sum_no_nan}
@@ -14,7 +14,7 @@ use Rattle.rv_float_flags.proofs.NoNewFlagsSingle as Single
 use Rattle.rv_float_flags.proofs.Quotients.{both_normal, normal_below, quotient, quotient_no_nan}
 use Rattle.rv_float_flags.proofs.Singles as Singles
 use lib.Dec.{T}
-use lib.Ieee.{Float, Format, add, binary32, binary64, div, is_nan, lt, mul, nan_bits, of_bits, sub}
+use lib.Ieee.{Format, add, binary32, binary64, div, is_nan, lt, mul, nan_bits, of_bits, sub}
 
 abbrev pub AreNumbers : Format → ℕ → ℕ → Type 0
 AreNumbers f a b = T (not (nan_bits f a)) × T (not (nan_bits f b))

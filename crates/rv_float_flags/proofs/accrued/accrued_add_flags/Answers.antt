@@ -1,5 +1,5 @@
 -- The flags of a finite sum are those of its rounding, whatever is there.
-use Rattle.std.proofs.Common.{ap, ◌∙◌, refl}
+use Rattle.std.proofs.Common.{ap, ◌∙◌}
 use Rattle.rv_float_flags.specs.Flags.{accrued, invalid}
 use Rattle.rv_float_flags.specs.Operations.{sum_flags}
 use Rattle.rv_float_flags.proofs.Negated.{same_unlike}

@@ -1,5 +1,5 @@
 -- The flags of a finite product are those of its rounding, whatever is there.
-use Rattle.std.proofs.Common.{ap, ◌∙◌, refl}
+use Rattle.std.proofs.Common.{ap, ◌∙◌}
 use Rattle.rv_float_flags.specs.Flags.{accrued, invalid}
 use Rattle.rv_float_flags.specs.Operations.{product_flags}
 use Rattle.rv_float_flags.proofs.Operations.{none_signals, of_product_so}

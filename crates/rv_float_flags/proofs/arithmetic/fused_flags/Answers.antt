@@ -1,5 +1,4 @@
 -- The flags of a finite fused sum are those of its rounding.
-use Rattle.std.proofs.Common.{ap, ◌∙◌, refl}
 use Rattle.rv_float_flags.proofs.Negated.{same_unlike}
 use Rattle.rv_float_flags.proofs.Operations.{of_fused}
 use Rattle.rv_float_flags.proofs.arithmetic.fused_flags.Goals as goal

@@ -1,5 +1,4 @@
 -- The flags of a finite product are those of its rounding.
-use Rattle.std.proofs.Common.{refl}
 use Rattle.rv_float_flags.proofs.Operations.{of_product}
 use Rattle.rv_float_flags.proofs.arithmetic.product_flags.Goals as goal
 use lib.Ieee.{of_bits}

@@ -1,7 +1,6 @@
 -- The flags of a finite quotient are those of its rounding.
 use Rattle.std.proofs.Common.{sym, ◌∙◌}
-use Rattle.rv_float_flags.proofs.Operations.{by_values, of_quotient}
-use Rattle.rv_float_flags.specs.Operations.{is_division_by_zero, is_invalid_quotient}
+use Rattle.rv_float_flags.proofs.Operations.{of_quotient}
 use Rattle.rv_float_flags.proofs.arithmetic.quotient_flags.Goals as goal
 use lib.Ieee.{of_bits}
 

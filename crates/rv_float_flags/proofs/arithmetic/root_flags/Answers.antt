@@ -1,6 +1,5 @@
 -- A root is inexact where its square is another value.
-use Rattle.std.proofs.Common.{ap, sym, ◌∙◌}
-use Rattle.std.specs.Float.{float_zero}
+use Rattle.std.proofs.Common.{sym, ◌∙◌}
 use Rattle.rv_float_flags.proofs.Operations.{of_square}
 use Rattle.rv_float_flags.proofs.arithmetic.root_flags.Goals as goal
 use lib.Ieee.{of_bits}

@@ -82,10 +82,11 @@ def functions_in(lines: Sequence[str], module: str, types: Mapping[str, str]) ->
         elif line.strip().startswith(IN_CYCLE):
             in_cycle = True
         elif function and function[1] == indent:
-            head = re.compile(rf"{indent}\S.*(?<=[{{}};])")
-            opened = next(it for it in range(number, len(lines)) if head.fullmatch(lines[it]))
-            if prefix is not None and not in_cycle and lines[opened].endswith("{"):
-                yield prefix + function[2], opened, lines.index(f"{indent}}}", opened)
+            if prefix is not None and not in_cycle:
+                head = re.compile(rf"{indent}\S.*(?<=[{{}};])")
+                opened = next(it for it in range(number, len(lines)) if head.fullmatch(lines[it]))
+                if lines[opened].endswith("{"):
+                    yield prefix + function[2], opened, lines.index(f"{indent}}}", opened)
             in_cycle = False
 
 

@@ -4,11 +4,14 @@ use Rattle.std.proofs.lemmas.Bool.{le-ltb}
 use Rattle.std.specs.Prelude.{if◌then◌else◌}
 use Rattle.rv_floats.specs.Comparisons.{is_before, maximum, minimum}
 use lib.Dec.{T}
-use lib.Ieee.{Format, hid, is_nan, of_bits, ones, to_bits, top}
+use lib.Ieee.{Format, hid, is_nan, nan_bits, of_bits, ones, to_bits, top}
 use lib.Ieee.Bits.{nan_bits_above, nan_bits_is, to_bits-of_bits}
 
 pub number : (f : Format) (a : ℕ) → a % top f ≤ ones f * hid f → is_nan (of_bits f a) ≡ false
 number f a l = sym (nan_bits_is f a) ∙ nan_bits_above f a ∙ le-ltb (ones f * hid f) (a % top f) l
+
+pub number_pattern : (f : Format) (a : ℕ) → a % top f ≤ ones f * hid f → T (not (nan_bits f a))
+number_pattern f a l = subst (λ (n : Bool). T (not n)) (sym (nan_bits_above f a ∙ le-ltb (ones f * hid f) (a % top f) l)) tt
 
 chosen : (f : Format) (a b : ℕ) (s : Bool) → a < 2 * top f → b < 2 * top f → a % top f ≤ ones f * hid f → b % top f ≤ ones f * hid f
     → (if s then b else a) ≡ to_bits f (if s then of_bits f b else of_bits f a)

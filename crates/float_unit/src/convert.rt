@@ -6,12 +6,12 @@ ghost use Rattle.rv_float_flags.specs.Conversions.{exact_word};
 ghost use Rattle.rv_float_flags.specs.Flags.{rounding_flags};
 ghost use Rattle.rv_float_modes.specs.Operations.{word_in};
 ghost use Rattle.rv_float_tables.specs.declared.instr.Format.TheVariants.{Single};
-ghost use lib.Ieee.{binary32, binary64};
+ghost use lib.Ieee.{binary32};
 
 use rv_float_flags::{Flags, d_to_s_flags, word_to_s_flags, word_unsigned_to_s_flags};
 use rv_float_modes::{Rounded, d_to_s_in, word_to_s_in, word_unsigned_to_s_in};
 use rv_float_tables::WordKind;
-use rv_floats::{Rounding, d_to_s, word_to_d, word_to_s, word_unsigned_to_d, word_unsigned_to_s};
+use rv_floats::{Pattern, Rounding, d_to_s};
 
 /// FCVT.S.D.
 pub fn double_to_single(mode: Rounding, a: u64) -> Rounded
@@ -34,7 +34,7 @@ pub fn word_to_single(kind: WordKind, mode: Rounding, x: u32) -> Rounded
 {
     match mode {
         Rounding::NearestEven => Rounded {
-            bits: nearest_single(kind, x) as u64,
+            bits: nearest::<u32>(kind, x) as u64,
             flags: nearest_single_flags(kind, x),
         },
         _ => word_otherwise(kind, mode, x),
@@ -52,13 +52,14 @@ fn word_otherwise(kind: WordKind, mode: Rounding, x: u32) -> Rounded
     }
 }
 
+/// FCVT of a word, to the nearest, ties to even. To doubles it is exact.
 #[inline(always)]
-pub fn nearest_single(kind: WordKind, x: u32) -> u32
-    ensures { result ≡ Values.from_word binary32 (Values.whole kind x) }
+pub fn nearest<P: Pattern>(kind: WordKind, x: u32) -> P
+    ensures { P.bits result ≡ Values.from_word P.format (Values.whole kind x) }
 {
     match kind {
-        WordKind::Signed => word_to_s(x.cast_signed()),
-        WordKind::Unsigned => word_unsigned_to_s(x),
+        WordKind::Signed => P::of_word(x.cast_signed()),
+        WordKind::Unsigned => P::of_unsigned_word(x),
     }
 }
 
@@ -68,16 +69,5 @@ fn nearest_single_flags(kind: WordKind, x: u32) -> Flags
     match kind {
         WordKind::Signed => word_to_s_flags(x.cast_signed()),
         WordKind::Unsigned => word_unsigned_to_s_flags(x),
-    }
-}
-
-/// FCVT.D.W, FCVT.D.WU, which are exact.
-#[inline(always)]
-pub fn word_to_double(kind: WordKind, x: u32) -> u64
-    ensures { result ≡ Values.from_word binary64 (Values.whole kind x) }
-{
-    match kind {
-        WordKind::Signed => word_to_d(x.cast_signed()),
-        WordKind::Unsigned => word_unsigned_to_d(x),
     }
 }

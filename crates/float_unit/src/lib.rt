@@ -18,15 +18,14 @@
 #![tactic(auto)]
 
 mod convert;
-mod double;
 mod effect;
 mod fault;
 mod frequent;
 mod frequent_conversion;
 mod frequent_move;
 mod frequent_single;
+mod operations;
 mod ordered;
-mod single;
 mod unit;
 mod whole;
 

@@ -1,81 +1,45 @@
 //! Comparisons, minimum and maximum of numbers, which are no NaNs. Nothing asks whether an operand is a NaN.
 
-ghost use Rattle.std.specs.Prelude.{◌≡◌, ◌%◌, ◌^◌, ◌≤◌, nat_le, if◌then◌else◌};
+ghost use Rattle.std.specs.Prelude.{◌≡◌, ◌*◌, ◌%◌, ◌<◌, ◌≤◌, nat_le, if◌then◌else◌};
 ghost use Rattle.float_unit.specs.Values as Values;
-ghost use lib.Ieee.{binary32, binary64};
+ghost use lib.Ieee.{hid, ones, top};
 
 use rv_float_tables::{CompareOp, MinMaxOp};
-use rv_floats::{is_before_d, is_before_s};
+use rv_floats::{Pattern, is_before};
 
-/// FEQ.D, FLT.D, FLE.D.
+/// FEQ, FLT, FLE.
 #[inline(always)]
-pub fn compares_d(op: CompareOp, a: u64, b: u64) -> bool
-    requires first { a % 2 ^ 63 ≤ 0x7ff0_0000_0000_0000 }
-    requires second { b % 2 ^ 63 ≤ 0x7ff0_0000_0000_0000 }
-    ensures { result ≡ Values.compares op binary64 a b }
+pub fn compares<P: Pattern>(op: CompareOp, a: P, b: P) -> bool
+    requires first { P.bits a % top P.format ≤ ones P.format * hid P.format }
+    requires second { P.bits b % top P.format ≤ ones P.format * hid P.format }
+    ensures { result ≡ Values.compares op P.format (P.bits a) (P.bits b) }
 {
-    let (x, y) = (f64::from_bits(a), f64::from_bits(b));
     match op {
-        CompareOp::Feq => x == y,
-        CompareOp::Flt => x < y,
-        CompareOp::Fle => x <= y,
+        CompareOp::Feq => a.is_number_equal(b),
+        CompareOp::Flt => a.is_number_less(b),
+        CompareOp::Fle => a.is_number_at_most(b),
     }
 }
 
-/// FEQ.S, FLT.S, FLE.S.
+/// Whether FMIN or FMAX is the second operand.
 #[inline(always)]
-pub fn compares_s(op: CompareOp, a: u32, b: u32) -> bool
-    requires first { a % 2 ^ 31 ≤ 0x7f80_0000 }
-    requires second { b % 2 ^ 31 ≤ 0x7f80_0000 }
-    ensures { result ≡ Values.compares op binary32 a b }
+pub fn is_second<P: Pattern>(op: MinMaxOp, a: P, b: P) -> bool
+    requires first_fits { P.bits a < 2 * top P.format }
+    requires second_fits { P.bits b < 2 * top P.format }
+    requires first { P.bits a % top P.format ≤ ones P.format * hid P.format }
+    requires second { P.bits b % top P.format ≤ ones P.format * hid P.format }
+    ensures { (if result then P.bits b else P.bits a) ≡ Values.min_max op P.format (P.bits a) (P.bits b) }
 {
-    let (x, y) = (f32::from_bits(a), f32::from_bits(b));
     match op {
-        CompareOp::Feq => x == y,
-        CompareOp::Flt => x < y,
-        CompareOp::Fle => x <= y,
+        MinMaxOp::Min => is_before(b, a),
+        MinMaxOp::Max => is_before(a, b),
     }
 }
 
-/// Whether FMIN.D or FMAX.D is the second operand.
+/// Whether it is a number, by its pattern.
 #[inline(always)]
-pub fn is_second_d(op: MinMaxOp, a: u64, b: u64) -> bool
-    requires first { a % 2 ^ 63 ≤ 0x7ff0_0000_0000_0000 }
-    requires second { b % 2 ^ 63 ≤ 0x7ff0_0000_0000_0000 }
-    ensures { (if result then b else a) ≡ Values.min_max op binary64 a b }
+pub fn is_number<P: Pattern>(a: P) -> bool
+    ensures { result ≡ nat_le (P.bits a % top P.format) (ones P.format * hid P.format) }
 {
-    let (x, y) = (f64::from_bits(a), f64::from_bits(b));
-    match op {
-        MinMaxOp::Min => is_before_d(y, x),
-        MinMaxOp::Max => is_before_d(x, y),
-    }
-}
-
-/// Whether FMIN.S or FMAX.S is the second operand.
-#[inline(always)]
-pub fn is_second_s(op: MinMaxOp, a: u32, b: u32) -> bool
-    requires first { a % 2 ^ 31 ≤ 0x7f80_0000 }
-    requires second { b % 2 ^ 31 ≤ 0x7f80_0000 }
-    ensures { (if result then b else a) ≡ Values.min_max op binary32 a b }
-{
-    let (x, y) = (f32::from_bits(a), f32::from_bits(b));
-    match op {
-        MinMaxOp::Min => is_before_s(y, x),
-        MinMaxOp::Max => is_before_s(x, y),
-    }
-}
-
-/// Whether a double is a number, by its pattern.
-#[inline(always)]
-pub fn is_number_d(a: u64) -> bool
-    ensures { result ≡ nat_le (a % 2 ^ 63) 0x7ff0_0000_0000_0000 }
-{
-    a % 0x8000_0000_0000_0000 <= 0x7ff0_0000_0000_0000
-}
-
-#[inline(always)]
-pub fn is_number_s(a: u32) -> bool
-    ensures { result ≡ nat_le (a % 2 ^ 31) 0x7f80_0000 }
-{
-    a % 0x8000_0000 <= 0x7f80_0000
+    a.to_u64() % P::top() <= P::top() - P::hidden()
 }

@@ -1,11 +1,12 @@
 pub mod FiniteResults
-pub mod Found
-pub mod FoundSingles
 pub mod Fractions
 pub mod Limits
 pub mod Literals
 pub mod Magnitudes
 pub mod Negated
+pub mod NoNewFlags
+pub mod NoNewFlagsDouble
+pub mod NoNewFlagsSingle
 pub mod Numbers
 pub mod Odd
 pub mod Operations
@@ -13,7 +14,6 @@ pub mod Quotients
 pub mod Results
 pub mod Roundings
 pub mod Shifts
-pub mod Signs
 pub mod Singles
 pub mod Sums
 pub mod Tiny

@@ -1,40 +1,49 @@
--- The bounds of words as the code writes them.
+-- The bounds of words, and zero, as the code writes them in either format.
 use Rattle.std.proofs.Common.{◌≡◌, Bool, true, false, ◌&&◌, ap, sym, ◌∙◌, refl}
-use Rattle.std.specs.Float.{minus_one, minus_two_to, two_to}
+use Rattle.std.specs.Float.{float_zero, minus_one, minus_two_to, two_to}
 use lib.Count.{count_trailing_zeros}
-use lib.Ieee.{Float, binary32, binary64, neg, odd, of_bits, of_fields}
+use lib.Dec.{T}
+use lib.IntN.{ℤ, pos, negsuc}
+use lib.Ieee.{Float, Format, add, binary32, binary64, climb, fits, odd, of_bits, of_int, round, size, span, sum, to_bits, units}
+use lib.Ieee.Bits.{of_bits-to_bits}
+use lib.Ieee.Fits.{add-fits, round-fits}
 
-pub limit_31_d : of_bits binary64 0x41e0_0000_0000_0000 ≡ two_to 31
-unfolding of_bits of_fields odd count_trailing_zeros
-limit_31_d = refl
+word_fits : (f : Format) (n : ℤ) → T (fits f (of_int f n))
+unfolding of_int
+word_fits f (pos n) = round-fits f false n 1
+word_fits f (negsuc n) = round-fits f true _ 1
 
-pub limit_32_d : of_bits binary64 0x41f0_0000_0000_0000 ≡ two_to 32
-unfolding of_bits of_fields odd count_trailing_zeros
-limit_32_d = refl
+-- the pattern of a word stands for it
+pub of_word : (f : Format) (n : ℤ) (v : Float) → of_int f n ≡ v → of_bits f (to_bits f (of_int f n)) ≡ v
+of_word f n v is = of_bits-to_bits f (of_int f n) (word_fits f n) ∙ is
 
-pub limit_31_s : of_bits binary32 0x4f00_0000 ≡ two_to 31
-unfolding of_bits of_fields odd count_trailing_zeros
-limit_31_s = refl
+pub zero_word : (f : Format) → of_int f (pos 0) ≡ float_zero
+unfolding of_int round size span climb units odd count_trailing_zeros
+zero_word binary32 = refl
+zero_word binary64 = refl
 
-pub limit_32_s : of_bits binary32 0x4f80_0000 ≡ two_to 32
-unfolding of_bits of_fields odd count_trailing_zeros
-limit_32_s = refl
+pub word_limit : (f : Format) → of_int f (pos 2147483648) ≡ two_to 31
+unfolding of_int round size span climb units odd count_trailing_zeros
+word_limit binary32 = refl
+word_limit binary64 = refl
 
-pub minus_31_d : neg (of_bits binary64 0x41e0_0000_0000_0000) ≡ minus_two_to 31
-unfolding of_bits of_fields odd count_trailing_zeros neg
-minus_31_d = refl
+pub least_word : (f : Format) → of_int f (negsuc 2147483647) ≡ minus_two_to 31
+unfolding of_int round size span climb units odd count_trailing_zeros
+least_word binary32 = refl
+least_word binary64 = refl
 
-pub minus_31_s : neg (of_bits binary32 0x4f00_0000) ≡ minus_two_to 31
-unfolding of_bits of_fields odd count_trailing_zeros neg
-minus_31_s = refl
+pub below_zero : (f : Format) → of_int f (negsuc 0) ≡ minus_one
+unfolding of_int round size span climb units odd count_trailing_zeros
+below_zero binary32 = refl
+below_zero binary64 = refl
 
-pub minus_one_d : neg (of_bits binary64 0x3ff0_0000_0000_0000) ≡ minus_one
-unfolding of_bits of_fields odd count_trailing_zeros neg
-minus_one_d = refl
+twice_limit : (f : Format) → add f (two_to 31) (two_to 31) ≡ two_to 32
+unfolding add sum round size span climb units odd count_trailing_zeros
+twice_limit binary32 = refl
+twice_limit binary64 = refl
 
-pub minus_one_s : neg (of_bits binary32 0x3f80_0000) ≡ minus_one
-unfolding of_bits of_fields odd count_trailing_zeros neg
-minus_one_s = refl
+pub of_twice : (f : Format) (v : Float) → v ≡ two_to 31 → of_bits f (to_bits f (add f v v)) ≡ two_to 32
+of_twice f v is = of_bits-to_bits f (add f v v) (add-fits f v v) ∙ ap (λ (x : Float). add f x x) is ∙ twice_limit f
 
 -- two tests with bounds, of which the first passed, and of which it did not
 pub passed : (t u : Float → Bool) (a b c d : Float) → a ≡ c → b ≡ d → t a ≡ true → u b ≡ t c && u d

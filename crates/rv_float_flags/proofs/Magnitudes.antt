@@ -1,12 +1,12 @@
 -- The magnitude of a pattern: its digits, at the place of its exponent.
-use Rattle.std.proofs.Common.{◌≡◌, ℕ, zero, suc, ◌+◌, ◌*◌, ◌/◌, ◌%◌, ◌^◌, ◌<◌, Bool, true, false, cond, sym, ap, ◌∙◌, subst, refl, arith}
+use Rattle.std.proofs.Common.{◌≡◌, ℕ, zero, suc, ◌+◌, ◌-◌, ◌*◌, ◌/◌, ◌%◌, ◌^◌, ◌<◌, Bool, true, false, cond, sym, ap, ◌∙◌, subst, refl, arith}
 use Rattle.std.proofs.lemmas.Bool.{cond-true, cond-false, eq-eqb, ne_eqb}
 use Rattle.std.proofs.lemmas.Nat.{pow-add}
 use Rattle.std.specs.Float.{float_is_finite}
 use Rattle.rv_float_flags.specs.Scaled.{IsMagnitude}
 use Rattle.rv_float_flags.specs.declared.scaled.Scaled.{Scaled}
 use lib.Dec.{eqb, leb}
-use lib.Ieee.{Float, Format, nan, inf, fin, hid, low, odd, of_bits, of_fields, ones, prec, top}
+use lib.Ieee.{Float, Format, nan, inf, fin, binary32, binary64, emax, hid, low, odd, of_bits, of_fields, ones, prec, top}
 use lib.Ieee.Exact.{HasValue, odd_sign}
 use lib.Ieee.Positive.{num, den}
 
@@ -83,3 +83,62 @@ pub normal : (f : Format) (b x j : ℕ) (p : Scaled) → b % top f / hid f ≡ s
     → p.digits ≡ hid f + b % hid f → p.place ≡ x + j → hid f + b % hid f < 2 ^ prec f → x + j < 2046 → IsMagnitude f (of_bits f b) p
 normal f b x j p e o l d g n h =
     digits_at f (of_bits f b) (leb (top f) b) (hid f + b % hid f) x j p (fields_of f b (suc x) e ∙ under_ones f (leb (top f) b) x (b % hid f) o) l d g n h
+
+-- ---- the same, by what the code reads of a format
+
+exponent_read : (f : Format) (b u t h : ℕ) → u ≡ b → t ≡ top f → h ≡ hid f → u % t / h ≡ b % top f / hid f
+exponent_read f b u t h pattern sign hidden =
+    ap (λ (n : ℕ). n % t / h) pattern ∙ ap (λ (n : ℕ). b % n / h) sign ∙ ap (λ (n : ℕ). b % top f / n) hidden
+
+ones_of : (f : Format) → top f / hid f - 1 ≡ ones f
+ones_of binary32 = refl
+ones_of binary64 = refl
+
+pub ones_read : (f : Format) (t h : ℕ) → t ≡ top f → h ≡ hid f → t / h - 1 ≡ ones f
+ones_read f t h sign hidden = ap (λ (n : ℕ). n / h - 1) sign ∙ ap (λ (n : ℕ). top f / n - 1) hidden ∙ ones_of f
+
+least_of : (f : Format) → low f + (1074 - low f) ≡ 1074
+least_of binary32 = refl
+least_of binary64 = refl
+
+fraction_most : (f : Format) (b : ℕ) → hid f + b % hid f < 2 ^ prec f
+fraction_most binary32 b = omega arith
+fraction_most binary64 b = omega arith
+
+least_most : (f : Format) → 1074 - low f < 2046
+least_most binary32 = omega arith
+least_most binary64 = omega arith
+
+ones_next : (f : Format) → ones f ≡ suc (2 * emax f)
+ones_next binary32 = refl
+ones_next binary64 = refl
+
+next_of : (n : ℕ) → (n ≡ 0 → ⊥) → n ≡ suc (n - 1)
+next_of zero h = absurd (h refl)
+next_of (suc n) h = omega arith
+
+below_ones : (n : ℕ) → (n ≡ 2047 → ⊥) → n < 2048 → n < 2047
+below_ones n other below = omega (arith, other, below)
+
+place_most : (f : Format) (b x : ℕ) → b % top f / hid f ≡ suc x → (suc x ≡ ones f → ⊥) → x + (1074 - low f) < 2046
+place_most binary32 b x e o = omega (arith, e)
+place_most binary64 b x e o = let below : suc x < 2047 = below_ones _ o (omega (arith, e)) in omega (arith, below)
+
+pub no_magnitude_read : (f : Format) (b u t h : ℕ) → u ≡ b → t ≡ top f → h ≡ hid f → u % t / h ≡ ones f → float_is_finite (of_bits f b) ≡ false
+no_magnitude_read f b u t h pattern sign hidden at =
+    no_magnitude f b (2 * emax f) (sym (exponent_read f b u t h pattern sign hidden) ∙ at ∙ ones_next f) (sym (ones_next f))
+
+pub subnormal_read : (f : Format) (b u t h l : ℕ) (p : Scaled) → u ≡ b → t ≡ top f → h ≡ hid f → l ≡ low f → u % t / h ≡ 0
+    → p.digits ≡ b % hid f → p.place ≡ 1074 - l → IsMagnitude f (of_bits f b) p
+subnormal_read f b u t h l p pattern sign hidden lowest at digits place =
+    subnormal f b (1074 - low f) p (sym (exponent_read f b u t h pattern sign hidden) ∙ at) (least_of f) digits (place ∙ ap (λ (n : ℕ). 1074 - n) lowest)
+    (let m = fraction_most f b in omega (arith, m)) (least_most f)
+
+pub normal_read : (f : Format) (b u t h l : ℕ) (p : Scaled) → u ≡ b → t ≡ top f → h ≡ hid f → l ≡ low f → (u % t / h ≡ 0 → ⊥) → (u % t / h ≡ ones f → ⊥)
+    → p.digits ≡ hid f + b % hid f → p.place ≡ u % t / h - 1 + (1074 - l) → IsMagnitude f (of_bits f b) p
+normal_read f b u t h l p pattern sign hidden lowest nonzero finite digits place =
+    let x = u % t / h - 1 in
+    let next : u % t / h ≡ suc x = next_of _ nonzero in
+    let at : b % top f / hid f ≡ suc x = sym (exponent_read f b u t h pattern sign hidden) ∙ next in
+    let below : suc x ≡ ones f → ⊥ = λ same. finite (next ∙ same) in
+    normal f b x (1074 - low f) p at below (least_of f) digits (place ∙ ap (λ (n : ℕ). x + (1074 - n)) lowest) (fraction_most f b) (place_most f b x at below)

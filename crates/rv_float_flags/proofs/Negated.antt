@@ -5,7 +5,7 @@ use Rattle.rv_floats.specs.Signs.{sign_negated}
 use Rattle.rv_float_flags.specs.Flags.{invalid}
 use Rattle.rv_float_flags.specs.Operations.{add_flags, any_signaling, fused_flags, multiply_add_flags, multiply_subtract_flags, negated_multiply_add_flags, negated_multiply_subtract_flags, sub_flags, sum_flags}
 use Rattle.rv_float_flags.specs.declared.flags.Flags.{Flags}
-use Rattle.rv_float_flags.proofs.Signs.{of_negated, signaling_negated}
+use Rattle.rv_floats.proofs.Signs.{of_negated, signaling_negated}
 use lib.Ieee.{Float, Format, neg, of_bits, unlike}
 
 pub same_unlike : (s t a b : Bool) → s ≡ a → t ≡ b → unlike s t ≡ unlike a b

@@ -8,7 +8,7 @@ use Rattle.std.specs.Float.{float_is_finite, float_is_infinite}
 use Rattle.std.specs.Prelude.{Some}
 use Rattle.rv_float_flags.specs.Exact.{exact_quotient, is_inexact, rounded, Ratio}
 use Rattle.rv_float_flags.specs.Flags.{accrued, invalid}
-use Rattle.rv_float_flags.specs.Found.{is_normal, is_quotient_found}
+use Rattle.rv_float_flags.specs.NoNewFlags.{is_normal, double_quotient_raises_no_new_flags}
 use Rattle.rv_float_flags.specs.Operations.{div_flags, is_division_by_zero, is_invalid_quotient, is_zero, quotient_flags}
 use Rattle.rv_float_flags.specs.Scaled.{amount, exponent, IsFraction, IsMagnitude}
 use Rattle.rv_float_flags.specs.declared.flags.Flags.{Flags}
@@ -103,7 +103,7 @@ normal_of a h =
     let each = and_parts _ _ h in
     normal_so a (leb-true _ _ each.0) (leb-true _ _ each.1)
 
-pub quotient : (g : Flags) (a b : ℕ) → is_quotient_found g a b ≡ true → accrued g (div_flags binary64 a b) ≡ g
+pub quotient : (g : Flags) (a b : ℕ) → double_quotient_raises_no_new_flags g a b ≡ true → accrued g (div_flags binary64 a b) ≡ g
 quotient g a b found =
     let range = and_parts _ _ found in
     let second = and_parts _ _ range.0 in
@@ -155,7 +155,7 @@ quotient_no_nan a b h k =
 pub normal_below : (a : ℕ) → is_normal a ≡ true → a % 9223372036854775808 < 9218868437227405312
 normal_below a h = let l = leb-true _ _ (and_parts (nat_le 1 (exponent a)) _ h).1 in omega (arith, l)
 
-pub both_normal : (g : Flags) (a b : ℕ) → is_quotient_found g a b ≡ true → (is_normal a ≡ true) × (is_normal b ≡ true)
+pub both_normal : (g : Flags) (a b : ℕ) → double_quotient_raises_no_new_flags g a b ≡ true → (is_normal a ≡ true) × (is_normal b ≡ true)
 both_normal g a b h =
     let two = and_parts (g.nx && is_normal a) (is_normal b) (and_parts _ _ h).0 in
     ((and_parts g.nx (is_normal a) two.0).1, two.1)

@@ -1,6 +1,6 @@
 pub mod Conversions
 pub mod Exact
 pub mod Flags
-pub mod Found
+pub mod NoNewFlags
 pub mod Operations
 pub mod Scaled

@@ -3,72 +3,69 @@
 ghost use Rattle.std.specs.Prelude.{◌≡◌};
 ghost use Rattle.rv_float_flags.specs.Flags.{accrued};
 ghost use Rattle.rv_float_flags.specs.Operations as Operations;
-ghost use lib.Ieee.{binary64};
 
-use crate::double::{add_flags_d, div_flags_d, is_negative_d, mul_flags_d};
+use crate::arithmetic::{add_flags, div_flags, mul_flags};
 use crate::flags::Flags;
-use crate::magnitude::magnitude_d;
-use crate::rounding::{LIMIT_D, accrued_sum_rounding};
+use crate::magnitude::magnitude_of;
+use crate::no_new_flags::Quick;
+use crate::rounding::{accrued_sum_rounding, limit};
 use crate::scaled::ZERO;
-use crate::unflagged::is_quotient_found;
-use rv_floats::{add_d, mul_d, sign_negated_d};
-use std::num::f64_from_bits_with_nan;
+use rv_floats::{Pattern, is_negative, sign_negated};
 
-/// FADD.D.
+/// FADD.
 #[inline(always)]
-pub fn accrued_add_flags_d(flags: Flags, a: u64, b: u64) -> Flags
-    ensures { result ≡ accrued flags (Operations.add_flags binary64 a b) }
+pub fn accrued_add_flags<P: Pattern>(flags: Flags, a: P, b: P) -> Flags
+    ensures { result ≡ accrued flags (Operations.add_flags P.format (P.bits a) (P.bits b)) }
 {
-    let (x, y) = (f64_from_bits_with_nan(a), f64_from_bits_with_nan(b));
-    let opposite = is_negative_d(x) != is_negative_d(y);
-    match (magnitude_d(a), magnitude_d(b)) {
+    let opposite = is_negative(a) != is_negative(b);
+    match (magnitude_of(a), magnitude_of(b)) {
         (Some(p), Some(q)) => accrued_sum_rounding(
             flags,
             p.raised(),
             q.raised(),
             opposite,
-            magnitude_d(add_d(a, b)),
-            LIMIT_D,
+            magnitude_of(a.add(b)),
+            limit::<P>(),
         ),
-        _ => flags | add_flags_d(a, b),
+        _ => flags | add_flags(a, b),
     }
 }
 
-/// FSUB.D.
+/// FSUB.
 #[inline(always)]
-pub fn accrued_sub_flags_d(flags: Flags, a: u64, b: u64) -> Flags
-    ensures { result ≡ accrued flags (Operations.sub_flags binary64 a b) }
+pub fn accrued_sub_flags<P: Pattern>(flags: Flags, a: P, b: P) -> Flags
+    ensures { result ≡ accrued flags (Operations.sub_flags P.format (P.bits a) (P.bits b)) }
 {
-    accrued_add_flags_d(flags, a, sign_negated_d(b, b))
+    accrued_add_flags(flags, a, sign_negated(b, b))
 }
 
-/// FMUL.D.
+/// FMUL.
 #[inline(always)]
-pub fn accrued_mul_flags_d(flags: Flags, a: u64, b: u64) -> Flags
-    ensures { result ≡ accrued flags (Operations.mul_flags binary64 a b) }
+pub fn accrued_mul_flags<P: Pattern>(flags: Flags, a: P, b: P) -> Flags
+    ensures { result ≡ accrued flags (Operations.mul_flags P.format (P.bits a) (P.bits b)) }
 {
-    match (magnitude_d(a), magnitude_d(b)) {
+    match (magnitude_of(a), magnitude_of(b)) {
         (Some(p), Some(q)) => accrued_sum_rounding(
             flags,
             p.times(q),
             ZERO,
             false,
-            magnitude_d(mul_d(a, b)),
-            LIMIT_D,
+            magnitude_of(a.mul(b)),
+            limit::<P>(),
         ),
-        _ => flags | mul_flags_d(a, b),
+        _ => flags | mul_flags(a, b),
     }
 }
 
-/// FDIV.D.
+/// FDIV.
 // For speed: most quotients are found out at once.
 #[inline(always)]
-pub fn accrued_div_flags_d(flags: Flags, a: u64, b: u64) -> Flags
-    ensures { result ≡ accrued flags (Operations.div_flags binary64 a b) }
+pub fn accrued_div_flags<P: Quick>(flags: Flags, a: P, b: P) -> Flags
+    ensures { result ≡ accrued flags (Operations.div_flags P.format (P.bits a) (P.bits b)) }
 {
-    if is_quotient_found(flags, a, b) {
+    if P::quotient_raises_no_new_flags(flags, a, b) {
         flags
     } else {
-        flags | div_flags_d(a, b)
+        flags | div_flags(a, b)
     }
 }

@@ -5,52 +5,28 @@ ghost use Rattle.rv_float_flags.specs.Conversions as Conversions;
 ghost use Rattle.rv_float_flags.specs.Conversions.{exact_word, is_signed_word, is_unsigned_word, word_flags};
 ghost use Rattle.rv_float_flags.specs.Flags as Defined;
 ghost use Rattle.rv_float_flags.specs.Flags.{rounding_flags};
-ghost use lib.Ieee.{binary32, binary64, of_bits};
+ghost use lib.Ieee.{binary32, of_bits};
 
 use crate::flags::{Flags, INVALID, NONE, inexact_if, invalid_if};
-use crate::magnitude::{magnitude_d, magnitude_s};
-use crate::rounding::{LIMIT_S, sum_rounding};
+use crate::magnitude::magnitude_of;
+use crate::rounding::{limit, sum_rounding};
 use crate::scaled::{Scaled, ZERO};
-use rv_floats::{
-    Rounding, d_to_s, is_signaling_d, is_signaling_s, rounded_whole_d, rounded_whole_s, word_to_s,
-    word_unsigned_to_s,
-};
-use std::num::{f32_from_bits_with_nan, f64_from_bits_with_nan};
+use rv_floats::{Pattern, Rounding, d_to_s, is_at_most, is_equal, is_less, is_signaling};
 
-/// FCVT.W.D.
-pub fn d_to_word_flags(a: u64, mode: Rounding) -> Flags
-    ensures { result ≡ word_flags is_signed_word mode binary64 (of_bits binary64 a) }
+/// FCVT.W.
+pub fn to_word_flags<P: Pattern>(a: P, mode: Rounding) -> Flags
+    ensures { result ≡ word_flags is_signed_word mode P.format (of_bits P.format (P.bits a)) }
 {
-    let x = f64_from_bits_with_nan(a);
-    let whole = rounded_whole_d(x, mode);
-    flags_of_word(is_signed_word_d(whole), whole == x)
+    let whole = a.rounded_whole(mode);
+    flags_of_word(is_signed_word(whole), is_equal(whole, a))
 }
 
-/// FCVT.WU.D.
-pub fn d_to_word_unsigned_flags(a: u64, mode: Rounding) -> Flags
-    ensures { result ≡ word_flags is_unsigned_word mode binary64 (of_bits binary64 a) }
+/// FCVT.WU.
+pub fn to_unsigned_word_flags<P: Pattern>(a: P, mode: Rounding) -> Flags
+    ensures { result ≡ word_flags is_unsigned_word mode P.format (of_bits P.format (P.bits a)) }
 {
-    let x = f64_from_bits_with_nan(a);
-    let whole = rounded_whole_d(x, mode);
-    flags_of_word(is_unsigned_word_d(whole), whole == x)
-}
-
-/// FCVT.W.S.
-pub fn s_to_word_flags(a: u32, mode: Rounding) -> Flags
-    ensures { result ≡ word_flags is_signed_word mode binary32 (of_bits binary32 a) }
-{
-    let x = f32_from_bits_with_nan(a);
-    let whole = rounded_whole_s(x, mode);
-    flags_of_word(is_signed_word_s(whole), whole == x)
-}
-
-/// FCVT.WU.S.
-pub fn s_to_word_unsigned_flags(a: u32, mode: Rounding) -> Flags
-    ensures { result ≡ word_flags is_unsigned_word mode binary32 (of_bits binary32 a) }
-{
-    let x = f32_from_bits_with_nan(a);
-    let whole = rounded_whole_s(x, mode);
-    flags_of_word(is_unsigned_word_s(whole), whole == x)
+    let whole = a.rounded_whole(mode);
+    flags_of_word(is_unsigned_word(whole), is_equal(whole, a))
 }
 
 /// FCVT.S.W.
@@ -61,7 +37,13 @@ pub fn word_to_s_flags(word: i32) -> Flags
         digits: word.unsigned_abs() as u128,
         place: 2148,
     };
-    sum_rounding(exact, ZERO, false, magnitude_s(word_to_s(word)), LIMIT_S)
+    sum_rounding(
+        exact,
+        ZERO,
+        false,
+        magnitude_of(u32::of_word(word)),
+        limit::<u32>(),
+    )
 }
 
 /// FCVT.S.WU.
@@ -76,8 +58,8 @@ pub fn word_unsigned_to_s_flags(word: u32) -> Flags
         exact,
         ZERO,
         false,
-        magnitude_s(word_unsigned_to_s(word)),
-        LIMIT_S,
+        magnitude_of(u32::of_unsigned_word(word)),
+        limit::<u32>(),
     )
 }
 
@@ -85,11 +67,17 @@ pub fn word_unsigned_to_s_flags(word: u32) -> Flags
 pub fn d_to_s_flags(a: u64) -> Flags
     ensures { result ≡ Conversions.narrowing_flags a }
 {
-    if is_signaling_d(a) {
+    if is_signaling(a) {
         return INVALID;
     }
-    match magnitude_d(a) {
-        Some(p) => sum_rounding(p.raised(), ZERO, false, magnitude_s(d_to_s(a)), LIMIT_S),
+    match magnitude_of(a) {
+        Some(p) => sum_rounding(
+            p.raised(),
+            ZERO,
+            false,
+            magnitude_of(d_to_s(a)),
+            limit::<u32>(),
+        ),
         None => NONE,
     }
 }
@@ -99,7 +87,7 @@ pub fn d_to_s_flags(a: u64) -> Flags
 pub fn s_to_d_flags(a: u32) -> Flags
     ensures { result ≡ Conversions.widening_flags a }
 {
-    invalid_if(is_signaling_s(a))
+    invalid_if(is_signaling(a))
 }
 
 fn flags_of_word(is_word: bool, is_whole: bool) -> Flags
@@ -112,26 +100,15 @@ fn flags_of_word(is_word: bool, is_whole: bool) -> Flags
     }
 }
 
-fn is_signed_word_d(x: f64) -> bool
-    ensures { result ≡ is_signed_word x }
+fn is_signed_word<P: Pattern>(a: P) -> bool
+    ensures { result ≡ is_signed_word (of_bits P.format (P.bits a)) }
 {
-    -2147483648.0 <= x && x < 2147483648.0
+    is_at_most(P::of_word(i32::MIN), a) && is_less(a, P::of_unsigned_word(0x8000_0000))
 }
 
-fn is_unsigned_word_d(x: f64) -> bool
-    ensures { result ≡ is_unsigned_word x }
+fn is_unsigned_word<P: Pattern>(a: P) -> bool
+    ensures { result ≡ is_unsigned_word (of_bits P.format (P.bits a)) }
 {
-    -1.0 < x && x < 4294967296.0
-}
-
-fn is_signed_word_s(x: f32) -> bool
-    ensures { result ≡ is_signed_word x }
-{
-    -2147483648.0 <= x && x < 2147483648.0
-}
-
-fn is_unsigned_word_s(x: f32) -> bool
-    ensures { result ≡ is_unsigned_word x }
-{
-    -1.0 < x && x < 4294967296.0
+    let half = P::of_unsigned_word(0x8000_0000);
+    is_less(P::of_word(-1), a) && is_less(a, half.add(half))
 }

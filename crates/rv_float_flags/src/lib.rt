@@ -6,15 +6,14 @@
 //!
 //! What callers may rely on:
 //!
-//! - [`add_flags_d`] to [`negated_multiply_add_flags_d`], and the same of singles, are the flags of these operations to the nearest, ties
-//!   to even.
-//! - [`accrued_add_flags_d`], [`accrued_sub_flags_d`] and [`accrued_mul_flags_d`] are the first three with flags that are there already.
-//! - [`add_unflagged_d`] to [`sqrt_unflagged_d`], and the same of singles, are the values of these operations, where they raise nothing that is
-//!   not there, and a few comparisons find it out.
-//! - [`quiet_flags_d`] are those of FEQ, FMIN and FMAX, [`ordered_flags_d`] those of FLT and FLE.
-//! - [`d_to_word_flags`] and its kin are those of conversions. Sign injection, classes, moves and words to doubles raise nothing.
+//! - [`add_flags`] to [`negated_multiply_add_flags`] are the flags of these operations to the nearest, ties to even.
+//! - [`accrued_add_flags`] to [`accrued_div_flags`] are the first four with flags that are there already.
+//! - [`add_without_new_flags`] to [`sqrt_without_new_flags`] are the values of these operations, where they raise no flags but those that
+//!   are there, and a few comparisons find it out.
+//! - [`quiet_flags`] are those of FEQ, FMIN and FMAX, [`ordered_flags`] those of FLT and FLE.
+//! - [`to_word_flags`] and its kin are those of conversions. Sign injection, classes, moves and words to doubles raise nothing.
 //! - [`Flags`] accrue by `|`: what is set stays. Their word is that of fflags.
-//! - [`magnitude_d`] and [`magnitude_s`] are the digits and the place of a finite value; [`times_power`], [`cut_at`] and [`is_below`] are
+//! - [`magnitude_of`] is the digits and the place of a finite value; [`times_power`], [`cut_at`] and [`is_below`] are
 //!   for numbers of such digits and places.
 //! - [`laws`] has what holds of all results: tininess is a comparison, and a sum that is tiny is exact.
 //!
@@ -25,40 +24,32 @@
 #![tactic(auto)]
 
 mod accrued;
+mod arithmetic;
 mod compare;
 mod convert;
-mod double;
 mod flags;
 pub mod laws;
 mod magnitude;
+mod no_new_flags;
+mod no_new_flags_double;
+mod no_new_flags_single;
 mod rounding;
 mod scaled;
-mod single;
-mod unflagged;
-mod unflagged_single;
 
-pub use accrued::{
-    accrued_add_flags_d, accrued_div_flags_d, accrued_mul_flags_d, accrued_sub_flags_d,
+pub use accrued::{accrued_add_flags, accrued_div_flags, accrued_mul_flags, accrued_sub_flags};
+pub use arithmetic::{
+    add_flags, div_flags, mul_flags, multiply_add_flags, multiply_subtract_flags,
+    negated_multiply_add_flags, negated_multiply_subtract_flags, sqrt_flags, sub_flags,
 };
-pub use compare::{ordered_flags_d, ordered_flags_s, quiet_flags_d, quiet_flags_s};
+pub use compare::{ordered_flags, quiet_flags};
 pub use convert::{
-    d_to_s_flags, d_to_word_flags, d_to_word_unsigned_flags, s_to_d_flags, s_to_word_flags,
-    s_to_word_unsigned_flags, word_to_s_flags, word_unsigned_to_s_flags,
-};
-pub use double::{
-    add_flags_d, div_flags_d, mul_flags_d, multiply_add_flags_d, multiply_subtract_flags_d,
-    negated_multiply_add_flags_d, negated_multiply_subtract_flags_d, sqrt_flags_d, sub_flags_d,
+    d_to_s_flags, s_to_d_flags, to_unsigned_word_flags, to_word_flags, word_to_s_flags,
+    word_unsigned_to_s_flags,
 };
 pub use flags::Flags;
-pub use magnitude::{magnitude_d, magnitude_s};
+pub use magnitude::magnitude_of;
+pub use no_new_flags::{
+    Quick, add_without_new_flags, div_without_new_flags, mul_without_new_flags,
+    sqrt_without_new_flags, sub_without_new_flags,
+};
 pub use scaled::{Scaled, cut_at, is_below, times_power};
-pub use single::{
-    add_flags_s, div_flags_s, mul_flags_s, multiply_add_flags_s, multiply_subtract_flags_s,
-    negated_multiply_add_flags_s, negated_multiply_subtract_flags_s, sqrt_flags_s, sub_flags_s,
-};
-pub use unflagged::{
-    add_unflagged_d, div_unflagged_d, mul_unflagged_d, sqrt_unflagged_d, sub_unflagged_d,
-};
-pub use unflagged_single::{
-    add_unflagged_s, div_unflagged_s, mul_unflagged_s, sqrt_unflagged_s, sub_unflagged_s,
-};

@@ -1,49 +1,30 @@
 //! The magnitudes of finite values, as multiples of 2^-1074, the smallest positive double.
 
 ghost use Rattle.rv_float_flags.specs.Scaled.{IsMagnitudeOf};
-ghost use lib.Ieee.{binary32, binary64, of_bits};
+ghost use lib.Ieee.{of_bits};
 
 use crate::scaled::Scaled;
+use rv_floats::Pattern;
 
-/// The magnitude of a double, if it is finite.
+/// The magnitude of a value, if it is finite. The smallest positive single is 2^925 times that of doubles.
 #[inline(always)]
-pub fn magnitude_d(a: u64) -> Option<Scaled>
-    ensures { IsMagnitudeOf binary64 (of_bits binary64 a) result }
+pub fn magnitude_of<P: Pattern>(a: P) -> Option<Scaled>
+    ensures { IsMagnitudeOf P.format (of_bits P.format (P.bits a)) result }
 {
-    let exponent = a % 0x8000_0000_0000_0000 / 0x10_0000_0000_0000;
-    let digits = a % 0x10_0000_0000_0000;
-    if exponent == 0x7ff {
+    let exponent = a.to_u64() % P::top() / P::hidden();
+    let digits = a.to_u64() % P::hidden();
+    let least = 1074 - P::low();
+    if exponent == P::top() / P::hidden() - 1 {
         None
     } else if exponent == 0 {
         Some(Scaled {
             digits: digits as u128,
-            place: 0,
+            place: least,
         })
     } else {
         Some(Scaled {
-            digits: (0x10_0000_0000_0000 + digits) as u128,
-            place: exponent as u32 - 1,
-        })
-    }
-}
-
-/// The magnitude of a single, if it is finite. The smallest positive one is 2^925 times that of doubles.
-pub fn magnitude_s(a: u32) -> Option<Scaled>
-    ensures { IsMagnitudeOf binary32 (of_bits binary32 a) result }
-{
-    let exponent = a % 0x8000_0000 / 0x80_0000;
-    let digits = a % 0x80_0000;
-    if exponent == 0xff {
-        None
-    } else if exponent == 0 {
-        Some(Scaled {
-            digits: digits as u128,
-            place: 925,
-        })
-    } else {
-        Some(Scaled {
-            digits: (0x80_0000 + digits) as u128,
-            place: exponent + 924,
+            digits: (P::hidden() + digits) as u128,
+            place: exponent as u32 - 1 + least,
         })
     }
 }

@@ -8,18 +8,20 @@ ghost use lib.Ieee.{Format};
 
 use crate::flags::{Flags, overflow_if};
 use crate::scaled::{Scaled, is_below, is_same, is_sum, sum_is_below};
+use rv_floats::Pattern;
 
-/// What is below this is tiny: the smallest normal double less a quarter of the smallest positive one, as a multiple of 2^-2148.
-pub(crate) const LIMIT_D: Scaled = Scaled {
-    digits: 0x3f_ffff_ffff_ffff,
-    place: 1072,
-};
-
-/// The same of singles.
-pub(crate) const LIMIT_S: Scaled = Scaled {
-    digits: 0x1ff_ffff,
-    place: 1997,
-};
+/// What is below this is tiny: the smallest normal value less a quarter of the smallest positive one, as a multiple of 2^-2148.
+#[inline(always)]
+pub(crate) fn limit<P: Pattern>() -> Scaled
+    ensures limit { IsLimit P.format result }
+    ensures narrow { result.digits < 2 ^ 54 }
+    ensures low { result.place < 2 ^ 15 }
+{
+    Scaled {
+        digits: (P::hidden() * 4 - 1) as u128,
+        place: 2146 - P::low(),
+    }
+}
 
 /// The flags where a sum of multiples of 2^-2148, or their difference, has been rounded to `nearest`, or is infinite.
 pub(crate) fn sum_rounding(

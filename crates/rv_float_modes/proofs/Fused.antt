@@ -13,7 +13,7 @@ use Rattle.rv_float_flags.specs.declared.flags.Flags.{Flags}
 use Rattle.rv_float_flags.specs.declared.scaled.Scaled.{Scaled}
 use Rattle.rv_float_flags.proofs.Fractions.{fused_fraction, product_amount, raised_amount}
 use Rattle.rv_float_flags.proofs.Negated.{both_by_add, negated_by_add, same_unlike, subtract_by_add}
-use Rattle.rv_float_flags.proofs.Signs.{of_negated}
+use Rattle.rv_floats.proofs.Signs.{of_negated}
 use Rattle.rv_float_modes.specs.Modes.{rounding_in}
 use Rattle.rv_float_modes.specs.Operations.{either, fused_in, multiply_add_in, multiply_subtract_in, negated_multiply_add_in, negated_multiply_subtract_in, sign_of_sum}
 use Rattle.rv_float_modes.specs.declared.rounded.Rounded.{Rounded}

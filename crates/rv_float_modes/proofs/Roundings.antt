@@ -1,5 +1,5 @@
 -- A rounding, from the pattern without bounds, and operations, from a rounding.
-use Rattle.std.proofs.Common.{◌≡◌, ℕ, ◌+◌, ◌*◌, ◌<◌, ◌^◌, Bool, true, false, ◌&&◌, ◌||◌, if◌then◌else◌, nat_le, nat_lt, sym, ap, ◌∙◌, refl, arith, inl, inr}
+use Rattle.std.proofs.Common.{◌≡◌, ℕ, ◌+◌, ◌-◌, ◌*◌, ◌<◌, ◌^◌, Bool, true, false, ◌&&◌, ◌||◌, if◌then◌else◌, nat_le, nat_lt, sym, ap, ◌∙◌, refl, arith, inl, inr}
 use Rattle.std.proofs.Math.Nat.{eq-zero-or-pos, mul-pos}
 use Rattle.std.proofs.lemmas.Bool.{lt-leb, lt-ltb}
 use Rattle.std.proofs.lemmas.Nat.{pow_pos}
@@ -7,13 +7,14 @@ use Rattle.rv_floats.specs.declared.rounding.Rounding.{Rounding}
 use Rattle.rv_float_flags.specs.Exact.{Ratio}
 use Rattle.rv_float_flags.specs.Flags.{no_flags}
 use Rattle.rv_float_flags.specs.declared.flags.Flags.{Flags}
-use Rattle.rv_float_modes.specs.Enclosed.{IsNumber, IsShape}
+use Rattle.rv_float_modes.specs.Enclosed.{IsFormat, IsNumber, IsShape}
 use Rattle.rv_float_modes.specs.Modes.{bounded, infinity, is_tiny_in, rest, rounding_in, twice, unbounded, with_sign}
 use Rattle.rv_float_modes.specs.Operations.{either}
 use Rattle.rv_float_modes.specs.declared.rounded.Rounded.{Rounded}
 use Rattle.rv_float_modes.specs.declared.rounding.Shape.{Shape}
 use Rattle.rv_float_modes.proofs.Exactly.{zero_rest, zero_unbounded}
-use lib.Ieee.{Format, binary32, binary64, hid}
+use lib.Count.{count_trailing_zeros}
+use lib.Ieee.{Format, binary32, binary64, hid, low, top}
 
 -- ---- the next pattern, or not
 
@@ -90,17 +91,34 @@ zero_rounding mode negative f r digits place bits flags h z w g =
 
 -- ---- operations
 
-pub is_double : IsShape binary64 (record {
-  digits = 53;
-  lowest = 3022;
-  hidden = 4503599627370496;
-  infinity = 9218868437227405312;
-  sign = 9223372036854775808;
-})
-is_double = record { digits = refl; lowest = refl; hidden = refl; infinity = refl; sign = refl }
+-- the numbers of a format, as they follow from the weight of the exponent's field, the sign's and the smallest positive value
+pub shape_of : (f : Format) (s : Shape) → s.digits ≡ count_trailing_zeros 64 (hid f) + 1 → s.lowest ≡ 4096 - low f → s.hidden ≡ hid f
+    → s.infinity ≡ top f - hid f → s.sign ≡ top f → IsShape f s
+unfolding count_trailing_zeros
+shape_of binary32 s digits lowest hidden largest sign =
+    record { digits = digits; lowest = omega (arith, lowest); hidden = hidden; infinity = largest; sign = sign }
+shape_of binary64 s digits lowest hidden largest sign =
+    record { digits = digits; lowest = omega (arith, lowest); hidden = hidden; infinity = largest; sign = sign }
 
-pub is_single : IsShape binary32 (record { digits = 24; lowest = 3947; hidden = 8388608; infinity = 2139095040; sign = 2147483648 })
-is_single = record { digits = refl; lowest = refl; hidden = refl; infinity = refl; sign = refl }
+pub format_of : (f : Format) (s : Shape) → IsShape f s → IsFormat s
+format_of binary32 s is = record {
+  digits = omega (arith, is.digits);
+  lowest = omega (arith, is.lowest);
+  lowest_top = omega (arith, is.lowest);
+  hidden = omega (arith, is.hidden);
+  infinity = omega (arith, is.infinity);
+  infinity_nonzero = omega (arith, is.infinity);
+  sign = omega (arith, is.sign);
+}
+format_of binary64 s is = record {
+  digits = omega (arith, is.digits);
+  lowest = omega (arith, is.lowest);
+  lowest_top = omega (arith, is.lowest);
+  hidden = omega (arith, is.hidden);
+  infinity = omega (arith, is.infinity);
+  infinity_nonzero = omega (arith, is.infinity);
+  sign = omega (arith, is.sign);
+}
 
 pub of_finite : (p q : Bool) (v w : Rounded) (bits : ℕ) (flags : Flags) → p ≡ true → q ≡ true → w ≡ v → w ≡ either (p && q) v bits flags
 of_finite p q v w bits flags e h k = k ∙ sym (ap (λ (z : Bool). either (z && q) v bits flags) e ∙ ap (λ (z : Bool). either z v bits flags) h)

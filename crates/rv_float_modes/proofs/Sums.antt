@@ -21,7 +21,7 @@ use Rattle.rv_float_flags.specs.declared.flags.Flags.{Flags}
 use Rattle.rv_float_flags.specs.declared.scaled.Scaled.{Scaled}
 use Rattle.rv_float_flags.proofs.Fractions.{raised_amount, sum_fraction}
 use Rattle.rv_float_flags.proofs.Negated.{same_unlike, sub_by_add}
-use Rattle.rv_float_flags.proofs.Signs.{of_negated}
+use Rattle.rv_floats.proofs.Signs.{of_negated}
 use Rattle.std.specs.Float.{float_is_finite, is_sign_negative}
 use Rattle.rv_float_modes.proofs.Exactly.{number_of_fraction}
 use lib.Ieee.{Float, Format, nan, inf, fin, add, neg, of_bits, sub, to_bits, unlike}

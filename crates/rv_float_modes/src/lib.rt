@@ -5,7 +5,7 @@
 //!
 //! What callers may rely on:
 //!
-//! - [`add_in_d`] to [`negated_multiply_add_in_d`], and the same of singles, are these operations in a mode, with the flags that they raise.
+//! - [`add_in`] to [`negated_multiply_add_in`] are these operations in a mode, with the flags that they raise.
 //! - [`d_to_s_in`], [`word_to_s_in`] and [`word_unsigned_to_s_in`] are the conversions to singles; those to doubles are exact.
 //! - [`laws`] has what holds of all roundings: the truncated pattern is not above and the next one is, and to the nearest, ties to
 //!   even, this is the library's rounding, with the flags of `rv_float_flags`, and so is each operation.
@@ -16,22 +16,17 @@
 //! Source: The RISC-V Instruction Set Manual, Volume I: Unprivileged ISA, 20191213, chapters 11 and 12; IEEE 754-2008, clauses 4 and 7.
 #![tactic(auto)]
 
+mod arithmetic;
 mod convert;
-mod double;
 mod finite;
 pub mod laws;
 mod magnitude;
 mod rounded;
 mod rounding;
-mod single;
 
+pub use arithmetic::{
+    add_in, div_in, mul_in, multiply_add_in, multiply_subtract_in, negated_multiply_add_in,
+    negated_multiply_subtract_in, sqrt_in, sub_in,
+};
 pub use convert::{d_to_s_in, word_to_s_in, word_unsigned_to_s_in};
-pub use double::{
-    add_in_d, div_in_d, mul_in_d, multiply_add_in_d, multiply_subtract_in_d,
-    negated_multiply_add_in_d, negated_multiply_subtract_in_d, sqrt_in_d, sub_in_d,
-};
 pub use rounded::Rounded;
-pub use single::{
-    add_in_s, div_in_s, mul_in_s, multiply_add_in_s, multiply_subtract_in_s,
-    negated_multiply_add_in_s, negated_multiply_subtract_in_s, sqrt_in_s, sub_in_s,
-};

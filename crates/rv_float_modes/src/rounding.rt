@@ -9,7 +9,7 @@ ghost use lib.Ieee.{Format};
 use crate::magnitude::{Magnitude, exactly};
 use crate::rounded::Rounded;
 use rv_float_flags::Flags;
-use rv_floats::Rounding;
+use rv_floats::{Pattern, Rounding};
 
 /// A format, by its numbers.
 #[derive(Clone, Copy)]
@@ -24,21 +24,20 @@ pub(crate) struct Shape {
     pub(crate) sign: u64,
 }
 
-pub(crate) const DOUBLE: Shape = Shape {
-    digits: 53,
-    lowest: 3022,
-    hidden: 0x10_0000_0000_0000,
-    infinity: 0x7ff0_0000_0000_0000,
-    sign: 0x8000_0000_0000_0000,
-};
-
-pub(crate) const SINGLE: Shape = Shape {
-    digits: 24,
-    lowest: 3947,
-    hidden: 0x80_0000,
-    infinity: 0x7f80_0000,
-    sign: 0x8000_0000,
-};
+/// The format of the patterns.
+#[inline(always)]
+pub(crate) fn shape_of<P: Pattern>() -> Shape
+    ensures shape { IsShape P.format result }
+    ensures format { IsFormat result }
+{
+    Shape {
+        digits: P::hidden().trailing_zeros() + 1,
+        lowest: 4096 - P::low(),
+        hidden: P::hidden(),
+        infinity: P::top() - P::hidden(),
+        sign: P::top(),
+    }
+}
 
 /// A magnitude cut off: a pattern, and what is above its value.
 #[derive(Clone, Copy)]

@@ -5,7 +5,7 @@ use Rattle.std.specs.Float.{trunc, floor, ceil, float_round, round_ties_even}
 use Rattle.rv_floats.specs.declared.rounding.Rounding.{Rounding}
 use Rattle.rv_floats.specs.declared.rounding.Rounding.TheVariants.{NearestEven, TowardZero, Down, Up, NearestAway}
 use Rattle.rv_floats.specs.Nan.{canonical_nan}
-use lib.Ieee.{Float, Format, binary32, to_signed, to_unsigned}
+use lib.Ieee.{Float, Format, binary32, binary64, to_signed, to_unsigned}
 
 -- a value rounded to a whole number in a rounding mode (table 11.1); infinities and NaNs stay
 abbrev pub rounded_whole : Rounding → Format → Float → Float
@@ -30,3 +30,12 @@ boxed a = (2 ^ 32 - 1) * 2 ^ 32 + a
 -- the single of a register: its lower half where the upper bits are all ones, and else the canonical NaN
 abbrev pub unboxed : ℕ → ℕ
 unboxed r = if r / 2 ^ 32 == 2 ^ 32 - 1 then r % 2 ^ 32 else canonical_nan binary32
+
+-- a pattern of a format as a register of 64 bits has it, and the pattern that a register has
+abbrev pub in_register : Format → ℕ → ℕ
+in_register binary32 a = boxed a
+in_register binary64 a = a
+
+abbrev pub of_register : Format → ℕ → ℕ
+of_register binary32 r = unboxed r
+of_register binary64 r = r

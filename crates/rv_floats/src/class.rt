@@ -2,44 +2,44 @@
 
 ghost use Rattle.std.specs.Prelude.{◌≡◌};
 ghost use Rattle.rv_floats.specs.Classes as Classes;
-ghost use lib.Ieee.{binary32, binary64};
+ghost use lib.Ieee.{of_bits};
 
-use std::num::{f32_from_bits_with_nan, f64_from_bits_with_nan};
+use crate::pattern::Pattern;
+use crate::sign::has_sign_bit;
 
-/// Whether the double is a signaling NaN.
+/// Whether it is a signaling NaN.
 #[inline]
-pub fn is_signaling_d(a: u64) -> bool
-    ensures { result ≡ Classes.is_signaling binary64 a }
+pub fn is_signaling<P: Pattern>(a: P) -> bool
+    ensures { result ≡ Classes.is_signaling P.format (P.bits a) }
 {
-    f64_from_bits_with_nan(a).is_nan() && a % 0x10_0000_0000_0000 < 0x8_0000_0000_0000
+    a.is_nan() && a.to_u64() % P::hidden() < P::hidden() / 2
 }
 
-/// FCLASS.D: a mask of one bit.
+/// FCLASS: a mask of one bit.
 #[inline]
-pub fn class_d(a: u64) -> u32
-    ensures { result ≡ Classes.class_mask binary64 a }
+pub fn class_mask<P: Pattern>(a: P) -> u32
+    ensures { result ≡ Classes.class_mask P.format (P.bits a) }
 {
-    let x = f64_from_bits_with_nan(a);
-    if is_signaling_d(a) {
+    if is_signaling(a) {
         0x100
-    } else if x.is_nan() {
+    } else if a.is_nan() {
         0x200
-    } else if 0x8000_0000_0000_0000 <= a {
-        negative_class_d(x)
+    } else if has_sign_bit(a) {
+        negative_class(a)
     } else {
-        positive_class_d(x)
+        positive_class(a)
     }
 }
 
 #[inline]
-fn negative_class_d(x: f64) -> u32
-    ensures { result ≡ Classes.negative_class binary64 x }
+fn negative_class<P: Pattern>(a: P) -> u32
+    ensures { result ≡ Classes.negative_class P.format (of_bits P.format (P.bits a)) }
 {
-    if x.is_infinite() {
+    if a.is_infinite() {
         0x1
-    } else if x.is_normal() {
+    } else if a.is_normal() {
         0x2
-    } else if x.is_subnormal() {
+    } else if a.is_subnormal() {
         0x4
     } else {
         0x8
@@ -47,69 +47,14 @@ fn negative_class_d(x: f64) -> u32
 }
 
 #[inline]
-fn positive_class_d(x: f64) -> u32
-    ensures { result ≡ Classes.positive_class binary64 x }
+fn positive_class<P: Pattern>(a: P) -> u32
+    ensures { result ≡ Classes.positive_class P.format (of_bits P.format (P.bits a)) }
 {
-    if x.is_infinite() {
+    if a.is_infinite() {
         0x80
-    } else if x.is_normal() {
+    } else if a.is_normal() {
         0x40
-    } else if x.is_subnormal() {
-        0x20
-    } else {
-        0x10
-    }
-}
-
-/// Whether the single is a signaling NaN.
-#[inline]
-pub fn is_signaling_s(a: u32) -> bool
-    ensures { result ≡ Classes.is_signaling binary32 a }
-{
-    f32_from_bits_with_nan(a).is_nan() && a % 0x80_0000 < 0x40_0000
-}
-
-/// FCLASS.S: a mask of one bit.
-#[inline]
-pub fn class_s(a: u32) -> u32
-    ensures { result ≡ Classes.class_mask binary32 a }
-{
-    let x = f32_from_bits_with_nan(a);
-    if is_signaling_s(a) {
-        0x100
-    } else if x.is_nan() {
-        0x200
-    } else if 0x8000_0000 <= a {
-        negative_class_s(x)
-    } else {
-        positive_class_s(x)
-    }
-}
-
-#[inline]
-fn negative_class_s(x: f32) -> u32
-    ensures { result ≡ Classes.negative_class binary32 x }
-{
-    if x.is_infinite() {
-        0x1
-    } else if x.is_normal() {
-        0x2
-    } else if x.is_subnormal() {
-        0x4
-    } else {
-        0x8
-    }
-}
-
-#[inline]
-fn positive_class_s(x: f32) -> u32
-    ensures { result ≡ Classes.positive_class binary32 x }
-{
-    if x.is_infinite() {
-        0x80
-    } else if x.is_normal() {
-        0x40
-    } else if x.is_subnormal() {
+    } else if a.is_subnormal() {
         0x20
     } else {
         0x10

@@ -4,13 +4,17 @@
 //! one. So each operation is one line: the pattern of what the standard's operation gives for the patterns' values. Nothing here
 //! allocates, and every pattern has an answer.
 //!
+//! [`Pattern`] is the trait of both types. It has what the host does with a pattern, which `src/double.rt` and `src/single.rt` say for one
+//! format each; all else is written, and proved, once for both.
+//!
 //! What callers may rely on:
 //!
-//! - [`add_d`] to [`negated_multiply_add_d`], and the same of singles, round to the nearest, ties to even; a NaN that comes out is canonical,
-//!   whatever went in.
-//! - [`min_d`], [`max_d`] and the comparisons take -0 and +0 as the manual has them: the former tell them apart, the latter do not.
-//! - [`sign_injected_d`] and its kin, and [`class_d`], are of the pattern, and see a NaN's sign and payload.
-//! - [`d_to_word`] and its kin round as they are told ([`Rounding`]), and stop at the ends of the range.
+//! - [`Pattern::add`] to [`Pattern::multiply_add`], and [`multiply_subtract`] to [`negated_multiply_add`], round to the nearest, ties to
+//!   even; a NaN that comes out is canonical, whatever went in. Those of numbers, as [`Pattern::add_numbers`], do not ask whether an
+//!   operand is a NaN.
+//! - [`minimum`], [`maximum`] and the comparisons take -0 and +0 as the manual has them: the former tell them apart, the latter do not.
+//! - [`sign_injected`] and its kin, and [`class_mask`], are of the pattern, and see a NaN's sign and payload.
+//! - [`to_word`] and [`to_unsigned_word`] round as they are told ([`Rounding`]), and stop at the ends of the range.
 //! - [`boxed`] and [`unboxed`] put a single into a wide register and take it out.
 //! - [`laws`] has what holds of all patterns: a NaN is written as the canonical one, and a boxed single comes out of its box.
 //!
@@ -18,33 +22,21 @@
 //! `lib.Ieee` defines it.
 #![tactic(auto)]
 
+mod arithmetic;
 mod class;
-mod compare_double;
-mod compare_single;
+mod compare;
 mod convert;
 mod double;
 pub mod laws;
+mod pattern;
 mod rounding;
 mod sign;
 mod single;
 
-pub use class::{class_d, class_s, is_signaling_d, is_signaling_s};
-pub use compare_double::{eq_d, is_before_d, le_d, lt_d, max_d, min_d};
-pub use compare_single::{eq_s, is_before_s, le_s, lt_s, max_s, min_s};
-pub use convert::{
-    boxed, d_to_s, d_to_word, d_to_word_unsigned, rounded_whole_d, rounded_whole_s, s_to_d,
-    s_to_word, s_to_word_unsigned, unboxed, word_to_d, word_to_s, word_unsigned_to_d,
-    word_unsigned_to_s,
-};
-pub use double::{
-    add_d, div_d, mul_d, multiply_add_d, multiply_subtract_d, negated_multiply_add_d,
-    negated_multiply_subtract_d, sqrt_d, sub_d,
-};
+pub use arithmetic::{multiply_subtract, negated_multiply_add, negated_multiply_subtract};
+pub use class::{class_mask, is_signaling};
+pub use compare::{is_at_most, is_before, is_equal, is_less, is_negative, maximum, minimum};
+pub use convert::{boxed, d_to_s, s_to_d, to_unsigned_word, to_word, unboxed};
+pub use pattern::Pattern;
 pub use rounding::Rounding;
-pub use sign::{
-    sign_injected_d, sign_injected_s, sign_negated_d, sign_negated_s, sign_xored_d, sign_xored_s,
-};
-pub use single::{
-    add_s, div_s, mul_s, multiply_add_s, multiply_subtract_s, negated_multiply_add_s,
-    negated_multiply_subtract_s, sqrt_s, sub_s,
-};
+pub use sign::{sign_injected, sign_negated, sign_xored};

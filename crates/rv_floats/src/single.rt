@@ -1,100 +1,168 @@
-//! Arithmetic of singles.
+//! Singles, which a register of 64 bits has in its lower half.
 
-ghost use Rattle.std.specs.Prelude.{◌≡◌, to_bits};
-ghost use Rattle.rv_floats.specs.Fused as Fused;
-ghost use lib.Ieee as Ieee;
-ghost use lib.Ieee.{binary32, of_bits};
+ghost use Rattle.std.specs.Prelude.{◌≡◌};
+ghost use Rattle.rv_floats.specs.Conversions.{rounded_whole};
+ghost use lib.Ieee.{binary32};
 
-use std::num::{f32_from_bits_with_nan, f32_to_bits_with_nan};
+use crate::convert::{boxed, unboxed};
+use crate::pattern::Pattern;
+use crate::rounding::Rounding;
+use std::num::{
+    f32_from_bits_with_nan, f32_to_bits_with_nan, nearest_u32_to_f32, saturating_f32_to_i32,
+    saturating_f32_to_u32,
+};
 
-/// FADD.S.
-#[inline]
-pub fn add_s(a: u32, b: u32) -> u32
-    ensures { result ≡ to_bits binary32 (Ieee.add binary32 (of_bits binary32 a) (of_bits binary32 b)) }
-{
-    f32_to_bits_with_nan(f32_from_bits_with_nan(a) + f32_from_bits_with_nan(b))
+impl Pattern for u32 {
+    ghost format = { binary32 };
+
+    ghost bits = { λ a. a };
+
+    fn add(self, other: u32) -> u32 {
+        f32_to_bits_with_nan(f32_from_bits_with_nan(self) + f32_from_bits_with_nan(other))
+    }
+
+    fn sub(self, other: u32) -> u32 {
+        f32_to_bits_with_nan(f32_from_bits_with_nan(self) - f32_from_bits_with_nan(other))
+    }
+
+    fn mul(self, other: u32) -> u32 {
+        f32_to_bits_with_nan(f32_from_bits_with_nan(self) * f32_from_bits_with_nan(other))
+    }
+
+    fn div(self, other: u32) -> u32 {
+        f32_to_bits_with_nan(f32_from_bits_with_nan(self) / f32_from_bits_with_nan(other))
+    }
+
+    fn sqrt(self) -> u32 {
+        f32_to_bits_with_nan(f32_from_bits_with_nan(self).sqrt())
+    }
+
+    fn multiply_add(self, factor: u32, term: u32) -> u32 {
+        let (x, y) = (f32_from_bits_with_nan(self), f32_from_bits_with_nan(factor));
+        f32_to_bits_with_nan(x.mul_add(y, f32_from_bits_with_nan(term)))
+    }
+
+    fn add_numbers(self, other: u32) -> u32 {
+        (f32::from_bits(self) + f32::from_bits(other)).to_bits()
+    }
+
+    fn sub_numbers(self, other: u32) -> u32 {
+        (f32::from_bits(self) - f32::from_bits(other)).to_bits()
+    }
+
+    fn mul_numbers(self, other: u32) -> u32 {
+        (f32::from_bits(self) * f32::from_bits(other)).to_bits()
+    }
+
+    fn div_numbers(self, other: u32) -> u32 {
+        (f32::from_bits(self) / f32::from_bits(other)).to_bits()
+    }
+
+    fn is_number_equal(self, other: u32) -> bool {
+        f32::from_bits(self) == f32::from_bits(other)
+    }
+
+    fn is_number_less(self, other: u32) -> bool {
+        f32::from_bits(self) < f32::from_bits(other)
+    }
+
+    fn is_number_at_most(self, other: u32) -> bool {
+        f32::from_bits(self) <= f32::from_bits(other)
+    }
+
+    fn is_number_negative(self) -> bool {
+        f32::from_bits(self).is_sign_negative()
+    }
+
+    fn is_nan(self) -> bool {
+        f32_from_bits_with_nan(self).is_nan()
+    }
+
+    fn is_finite(self) -> bool {
+        f32_from_bits_with_nan(self).is_finite()
+    }
+
+    fn is_infinite(self) -> bool {
+        f32_from_bits_with_nan(self).is_infinite()
+    }
+
+    fn is_normal(self) -> bool {
+        f32_from_bits_with_nan(self).is_normal()
+    }
+
+    fn is_subnormal(self) -> bool {
+        f32_from_bits_with_nan(self).is_subnormal()
+    }
+
+    fn canonical(self) -> u32 {
+        f32_to_bits_with_nan(f32_from_bits_with_nan(self))
+    }
+
+    // For speed: `nearest_i32_to_f32` is a call.
+    #[inline(always)]
+    fn of_word(word: i32) -> u32 {
+        let size = nearest_u32_to_f32(word.unsigned_abs());
+        if word < 0 {
+            f32_to_bits_with_nan(-size)
+        } else {
+            f32_to_bits_with_nan(size)
+        }
+    }
+
+    #[inline(always)]
+    fn of_unsigned_word(word: u32) -> u32 {
+        f32_to_bits_with_nan(nearest_u32_to_f32(word))
+    }
+
+    fn rounded_whole(self, mode: Rounding) -> u32 {
+        f32_to_bits_with_nan(rounded(f32_from_bits_with_nan(self), mode))
+    }
+
+    fn whole_word(self) -> i32 {
+        saturating_f32_to_i32(f32_from_bits_with_nan(self))
+    }
+
+    fn whole_unsigned_word(self) -> u32 {
+        saturating_f32_to_u32(f32_from_bits_with_nan(self))
+    }
+
+    fn to_u64(self) -> u64 {
+        self as u64
+    }
+
+    fn of_u64(number: u64) -> u32 {
+        number as u32
+    }
+
+    fn top() -> u64 {
+        0x8000_0000
+    }
+
+    fn hidden() -> u64 {
+        0x80_0000
+    }
+
+    fn low() -> u32 {
+        149
+    }
+
+    fn in_register(self) -> u64 {
+        boxed(self)
+    }
+
+    fn of_register(register: u64) -> u32 {
+        unboxed(register)
+    }
 }
 
-/// FSUB.S.
-#[inline]
-pub fn sub_s(a: u32, b: u32) -> u32
-    ensures { result ≡ to_bits binary32 (Ieee.sub binary32 (of_bits binary32 a) (of_bits binary32 b)) }
+fn rounded(x: f32, mode: Rounding) -> f32
+    ensures { result ≡ rounded_whole mode binary32 x }
 {
-    f32_to_bits_with_nan(f32_from_bits_with_nan(a) - f32_from_bits_with_nan(b))
-}
-
-/// FMUL.S.
-#[inline]
-pub fn mul_s(a: u32, b: u32) -> u32
-    ensures { result ≡ to_bits binary32 (Ieee.mul binary32 (of_bits binary32 a) (of_bits binary32 b)) }
-{
-    f32_to_bits_with_nan(f32_from_bits_with_nan(a) * f32_from_bits_with_nan(b))
-}
-
-/// FDIV.S.
-#[inline]
-pub fn div_s(a: u32, b: u32) -> u32
-    ensures { result ≡ to_bits binary32 (Ieee.div binary32 (of_bits binary32 a) (of_bits binary32 b)) }
-{
-    f32_to_bits_with_nan(f32_from_bits_with_nan(a) / f32_from_bits_with_nan(b))
-}
-
-/// FSQRT.S.
-#[inline]
-pub fn sqrt_s(a: u32) -> u32
-    ensures { result ≡ to_bits binary32 (Ieee.sqrt binary32 (of_bits binary32 a)) }
-{
-    f32_to_bits_with_nan(f32_from_bits_with_nan(a).sqrt())
-}
-
-/// FMADD.S: `a * b + c`.
-#[inline]
-pub fn multiply_add_s(a: u32, b: u32, c: u32) -> u32
-    ensures { result ≡ to_bits binary32 (Fused.multiply_add binary32 (of_bits binary32 a) (of_bits binary32 b) (of_bits binary32 c)) }
-{
-    let (x, y, z) = (
-        f32_from_bits_with_nan(a),
-        f32_from_bits_with_nan(b),
-        f32_from_bits_with_nan(c),
-    );
-    f32_to_bits_with_nan(x.mul_add(y, z))
-}
-
-/// FMSUB.S: `a * b - c`.
-#[inline]
-pub fn multiply_subtract_s(a: u32, b: u32, c: u32) -> u32
-    ensures { result ≡ to_bits binary32 (Fused.multiply_subtract binary32 (of_bits binary32 a) (of_bits binary32 b) (of_bits binary32 c)) }
-{
-    let (x, y, z) = (
-        f32_from_bits_with_nan(a),
-        f32_from_bits_with_nan(b),
-        f32_from_bits_with_nan(c),
-    );
-    f32_to_bits_with_nan(x.mul_add(y, -z))
-}
-
-/// FNMSUB.S: `-(a * b) + c`.
-#[inline]
-pub fn negated_multiply_subtract_s(a: u32, b: u32, c: u32) -> u32
-    ensures { result ≡ to_bits binary32 (Fused.negated_multiply_subtract binary32 (of_bits binary32 a) (of_bits binary32 b) (of_bits binary32 c)) }
-{
-    let (x, y, z) = (
-        f32_from_bits_with_nan(a),
-        f32_from_bits_with_nan(b),
-        f32_from_bits_with_nan(c),
-    );
-    f32_to_bits_with_nan((-x).mul_add(y, z))
-}
-
-/// FNMADD.S: `-(a * b) - c`.
-#[inline]
-pub fn negated_multiply_add_s(a: u32, b: u32, c: u32) -> u32
-    ensures { result ≡ to_bits binary32 (Fused.negated_multiply_add binary32 (of_bits binary32 a) (of_bits binary32 b) (of_bits binary32 c)) }
-{
-    let (x, y, z) = (
-        f32_from_bits_with_nan(a),
-        f32_from_bits_with_nan(b),
-        f32_from_bits_with_nan(c),
-    );
-    f32_to_bits_with_nan((-x).mul_add(y, -z))
+    match mode {
+        Rounding::NearestEven => x.round_ties_even(),
+        Rounding::TowardZero => x.trunc(),
+        Rounding::Down => x.floor(),
+        Rounding::Up => x.ceil(),
+        Rounding::NearestAway => x.round(),
+    }
 }

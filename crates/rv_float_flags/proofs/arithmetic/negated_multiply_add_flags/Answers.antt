@@ -1,0 +1,15 @@
+-- The flags are those of the addition with the other signs.
+use Rattle.std.proofs.Common.{ℕ, ap, ◌∙◌}
+use Rattle.rv_floats.specs.Signs.{sign_negated}
+use Rattle.rv_float_flags.specs.Operations.{multiply_add_flags}
+use Rattle.rv_float_flags.proofs.Negated.{both_by_add}
+use Rattle.rv_float_flags.proofs.arithmetic.negated_multiply_add_flags.Goals as goal
+
+pub returns : goal.returns
+returns g c =
+    let f = g.P.Pattern.format in
+    let bits = g.P.Pattern.bits in
+    c.multiply_add_flags.ensures
+    ∙ ap (λ (x : ℕ). multiply_add_flags f x (bits c.args.b) (bits c.sign_negated-2.result)) c.sign_negated.ensures
+    ∙ ap (λ (x : ℕ). multiply_add_flags f (sign_negated f (bits c.args.a) (bits c.args.a)) (bits c.args.b) x) c.sign_negated-2.ensures
+    ∙ both_by_add f (bits c.args.a) (bits c.args.b) (bits c.args.c)

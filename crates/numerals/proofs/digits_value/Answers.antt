@@ -1,3 +1,4 @@
+-- Where some first digits are too much for 64 bits, all of them are; and where none is left, the value is that of all.
 use Rattle.std.proofs.Common.{◌≡◌, ◌∙◌, drop, sym, ap, None, ◌^◌}
 use Rattle.std.proofs.lemmas.List.{drop_all}
 use Rattle.std.specs.Str.Parse.{digits_value, digits_value_after}

@@ -1,3 +1,4 @@
+-- Each request lies inside and has room, and what it lands, if it does, comes behind what was gathered.
 use Rattle.std.proofs.Common.{ℕ, sym, ap, ◌∙◌}
 use Rattle.bsp_requests.specs.Request.{asked}
 use Rattle.bsp_requests.specs.Requests.{Requests}

@@ -1,3 +1,4 @@
+-- What is gathered, and what the requests from this one on land, are all that the node's requests land.
 use Rattle.std.proofs.Common.{◌≡◌, ◌++◌, None}
 use Rattle.bsp_exchange.specs.Exchange.{states}
 use Rattle.bsp_exchange.specs.Faults.{first_outside}

@@ -1,3 +1,4 @@
+-- The bytes that the target has there are as many as the get asks for, so they lie within the caller's memory.
 use Rattle.std.proofs.Common.{ℕ, ◌+◌, ◌-◌, ◌≤◌, List, length, drop, sym, ap, ap₂, ◌∙◌, arith}
 use Rattle.std.proofs.lemmas.List.{length-take}
 use Rattle.node_memory.specs.Bytes.{bytes_at}

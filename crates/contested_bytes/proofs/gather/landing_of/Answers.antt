@@ -1,3 +1,4 @@
+-- A put and a get land what their own functions say of them, and a send lands nothing.
 use Rattle.std.proofs.Common.{false, ◌≡◌, sym, ap, subst, ◌∙◌, Some}
 use Rattle.bsp_requests.specs.Request.{asked}
 use Rattle.bsp_exchange.specs.Exchange.{states}

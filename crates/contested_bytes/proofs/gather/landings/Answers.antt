@@ -1,3 +1,4 @@
+-- Each node's requests lie inside, and what they land comes behind what was gathered.
 use Rattle.std.proofs.Common.{length, sym, refl, ◌∙◌}
 use Rattle.std.proofs.lemmas.Option.{slice_get_read}
 use Rattle.bsp_exchange.specs.Exchange.{states}

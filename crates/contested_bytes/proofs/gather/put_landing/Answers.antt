@@ -1,3 +1,4 @@
+-- The put's bytes lie inside the area, and its landing has them from the area's start and the offset on.
 use Rattle.std.proofs.Common.{ℕ, List, ap, ap₂, ◌∙◌}
 use Rattle.bsp_requests.specs.Put.{Put}
 use Rattle.bsp_requests.specs.Request.{asks_put}

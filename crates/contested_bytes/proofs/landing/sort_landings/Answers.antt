@@ -1,3 +1,4 @@
+-- Sorted by the pair of rank and address, landings come in that order.
 use Rattle.std.proofs.Common.{rules}
 use Rattle.std.proofs.lemmas.List.Sorted.{answers_always}
 use Rattle.bsp_exchange.specs.Landings.{Landing}

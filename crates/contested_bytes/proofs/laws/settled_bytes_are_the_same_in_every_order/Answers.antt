@@ -1,3 +1,4 @@
+-- The last landing on a settled byte brings the same byte in every order, so memories and nodes are the same.
 use Rattle.std.proofs.Common.{◌∙◌, sym}
 use Rattle.std.proofs.lemmas.List.Sorted.{IsPermutation-refl}
 use Rattle.bsp_exchange.specs.Landings.{landings}

@@ -1,3 +1,4 @@
+-- A range more that is added has its bytes among those of the merged ones, which stay contested and apart.
 use Rattle.std.proofs.lemmas.List.{get_or_default}
 use Rattle.contested_bytes.proofs.Merged.{more_bytes, starts_no_later, more_starts, all_bytes}
 use Rattle.contested_bytes.proofs.merge.merge.Goals as goal

@@ -1,3 +1,4 @@
+-- Sorted by the pair of rank and address, ranges start in that order.
 use Rattle.std.proofs.Common.{rules}
 use Rattle.std.proofs.lemmas.List.Sorted.{answers_always}
 use Rattle.contested_bytes.specs.declared.range.ContestedRange.{ContestedRange}

@@ -1,3 +1,4 @@
+-- A range that joins the last one makes that longer, and any other comes behind it with a byte between.
 use Rattle.std.proofs.Common.{◌≡◌, ◌-◌, length, get_or, sym, ap, subst, ◌∙◌, arith}
 use Rattle.std.proofs.lemmas.Bool.{both_ways}
 use Rattle.std.proofs.lemmas.List.{get_or_default}

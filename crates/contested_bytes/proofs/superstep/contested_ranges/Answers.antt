@@ -1,3 +1,4 @@
+-- Sorting and merging change no byte, so the merged ranges have just the contested bytes of the exchange.
 use Rattle.std.proofs.Common.{ℕ, ◌↔◌, List, sym, subst}
 use Rattle.std.specs.Prelude.{All, Contains, IsPermutation}
 use Rattle.std.proofs.lemmas.List.Sorted.{Contains-permutation, IsPermutation-sym, All-permutation}

@@ -1,3 +1,4 @@
+-- At each address that both landings cover a byte is found just where they bring different ones.
 use Rattle.std.proofs.Common.{◌≡◌, ℕ, ◌<◌, ◌≤◌, ◌+◌, ◌⊎◌, ◌↔◌, length, sym, ap, subst, ◌∙◌, arith}
 use Rattle.std.specs.Prelude.{◌≢◌}
 use Rattle.bsp_exchange.specs.Landings.{Landing, landing_byte}

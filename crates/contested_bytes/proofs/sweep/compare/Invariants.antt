@@ -1,3 +1,4 @@
+-- The addresses below this one are compared: the bytes found are those of before, and those in which the two differ below it.
 use Rattle.std.specs.Prelude.{All, Contains, List}
 use Rattle.bsp_exchange.specs.Landings.{Landing}
 use Rattle.contested_bytes.specs.Ranges.{IsContestedRange, EndsWithin}

@@ -1,3 +1,4 @@
+-- A landing is compared with the one that reaches furthest: where any before it brings a different byte, one of these two differs there.
 use Rattle.contested_bytes.proofs.Swept.{order_at, contains_at, found-step, contested-more, furthest-more, next_within, found-whole}
 use Rattle.std.proofs.Common.{arith}
 use Rattle.contested_bytes.proofs.sweep.sweep.Goals as goal

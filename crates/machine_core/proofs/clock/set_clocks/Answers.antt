@@ -1,3 +1,4 @@
+-- One clock more that is set makes the nodes with set clocks one more; past the last place they are all nodes.
 use Rattle.std.proofs.Common.{◌≤◌, ◌++◌, List, length, map, drop, set, arith, refl, ap, ◌∙◌, append-nil}
 use Rattle.std.proofs.lemmas.List.{drop_all, take_all}
 use Rattle.std.proofs.lemmas.Option.{get_or_from_slice_get}

@@ -1,3 +1,4 @@
+-- With no outcome before the exchange, the outcome is the fault of the exchange; and where there is none, its draft closes the superstep.
 use Rattle.std.proofs.Common.{◌≡◌, Some, refl, ap, ◌∙◌, option_map}
 use Rattle.bsp_exchange.specs.Exchange.{states}
 use Rattle.bsp_exchange.specs.Faults.{exchange_fault}

@@ -1,3 +1,4 @@
+-- An outcome before the exchange keeps it from being made, and so does a fault of it; else there is no outcome.
 use Rattle.std.proofs.Common.{◌≡◌, Bool, false, true, List, Option, Some, None, refl, sym, ap, ◌∙◌, option_map}
 use Rattle.std.proofs.lemmas.Bool.{false≢true, true≢false}
 use Rattle.std.specs.Prelude.{IfSome, IsNone, is_some, is_none, not}

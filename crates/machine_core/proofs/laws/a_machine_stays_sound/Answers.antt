@@ -1,3 +1,4 @@
+-- The six parts of the law: soundness holds at the start, and is kept by events, turns, supersteps and the run.
 use Rattle.std.proofs.Common.{◌+◌, ap}
 use Rattle.std.specs.Prelude.{is_some}
 use Rattle.machine_core.specs.Turn.{end_of}

@@ -1,3 +1,4 @@
+-- Events keep the settings and a sound machine sound, and a sound machine without outcome has its clocks.
 use Rattle.std.proofs.Common.{subst}
 use Rattle.std.specs.List.{AllZip}
 use Rattle.machine_core.specs.declared.settings.Settings.{Settings}

@@ -1,3 +1,4 @@
+-- Each node's output comes behind those before it; at a refusal the output is cut at its old length.
 use Rattle.std.proofs.Common.{◌≡◌, ◌++◌, take, length, sym, ap, ◌∙◌, arith, append_assoc, append-nil}
 use Rattle.std.proofs.Math.Seq.{take-append_seam}
 use Rattle.bsp_exchange.specs.Exchange.{states}

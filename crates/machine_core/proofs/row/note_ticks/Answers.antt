@@ -1,3 +1,4 @@
+-- One tick more that is noted is that of the node at the place; past the last place all are noted.
 use Rattle.std.proofs.Common.{ap, ◌∙◌, arith}
 use Rattle.std.specs.Prelude.{slice_set}
 use Rattle.machine_core.proofs.States.{noted-more, noted-all}

@@ -1,3 +1,4 @@
+-- Steps of the node at a place are as many steps of the row at that rank; all other nodes are kept.
 use Rattle.std.proofs.Common.{length}
 use Rattle.std.proofs.lemmas.Result.{on_ok_weaker, on_err_weaker}
 use Rattle.machine_core.proofs.States.{kept-own, states-often, found-new}

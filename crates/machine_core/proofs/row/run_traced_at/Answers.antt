@@ -1,3 +1,4 @@
+-- Steps of the node at a place are as many steps of the row at that rank, and have the addresses of that node's steps.
 use Rattle.std.proofs.Common.{length, sym, ap, ◌∙◌}
 use Rattle.std.proofs.lemmas.Result.{on_ok_weaker, on_err_weaker}
 use Rattle.node_core.specs.Addresses.{next_addresses}

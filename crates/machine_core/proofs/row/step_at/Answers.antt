@@ -1,3 +1,4 @@
+-- A rank that is absent or does not run makes no step; the step of any other is one step of the row at that rank.
 use Rattle.std.proofs.Common.{true, false, sym, ap, ◌∙◌, arith}
 use Rattle.std.proofs.lemmas.Result.{err_from_is_err_and}
 use Rattle.node_core.specs.Node.{is_running}

@@ -1,3 +1,4 @@
+-- One copy more has the state of the node copied; past the last place the row's states are those of all nodes.
 use Rattle.std.proofs.Common.{ap, ◌∙◌, arith}
 use Rattle.std.proofs.lemmas.List.{take_all}
 use Rattle.node_core.specs.Node.{PreparedNode}

@@ -1,3 +1,4 @@
+-- One node more counts into the most ticks so far; past the last node that is the most of all.
 use Rattle.std.proofs.Common.{◌≡◌, ◌+◌, ◌-◌, ◌<◌, max, drop, length, get_or, sym, ap, ◌∙◌, arith}
 use Rattle.machine_core.proofs.States.{get_or_default, ord_max-max, most_from, most_from-more, most_from-all}
 use Rattle.machine_core.proofs.row.work.Goals as goal

@@ -1,3 +1,4 @@
+-- Settings without a fault make a node of rank 0; the only errors left are that a segment lies outside, or want of memory.
 use Rattle.std.proofs.Common.{inl, inr, refl, ap, ap₂, ◌∙◌}
 use Rattle.node_core.specs.Node.{PreparedNode, with_clock, with_unit}
 use Rattle.node_memory.specs.declared.memory.MemoryError.TheVariants as memory_error

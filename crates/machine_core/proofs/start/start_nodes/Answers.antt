@@ -1,3 +1,4 @@
+-- Each node is a share of the first one with its own rank, and these are the nodes of a machine at its start.
 use Rattle.std.proofs.Common.{◌≡◌, [], ◌∷◌, ◌++◌, map, ap, ◌∙◌, arith}
 use Rattle.std.specs.List.{range_with_len}
 use Rattle.node_core.specs.Node.{NodeState, PreparedNode, with_rank}

@@ -1,3 +1,4 @@
+-- A turn that is not enabled changes nothing, and one that is begins as the call below says.
 use Rattle.std.proofs.Common.{sym, ◌∙◌}
 use Rattle.std.proofs.lemmas.Bool.{false≢true}
 use Rattle.machine_core.specs.declared.event.Event.TheVariants.{Turn}

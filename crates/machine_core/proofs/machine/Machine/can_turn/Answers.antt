@@ -1,3 +1,4 @@
+-- The two tests of the code are those by which the definition enables the turn.
 use Rattle.std.proofs.Common.{◌≡◌, Bool, true, false, not, ◌&&◌, Option, Some, None, List, refl, sym, ap, ap₂, ◌∙◌}
 use Rattle.std.specs.Prelude.{is_some, is_none}
 use Rattle.std.proofs.lemmas.Bool.{true≢false}

@@ -1,3 +1,4 @@
+-- Each error is the first fault of settings and image, or want of memory where they have none; the nodes made are those of the start.
 use Rattle.std.proofs.Common.{Err, refl, sym, ap, subst}
 use Rattle.std.proofs.lemmas.Result.{IfOk-from_err}
 use Rattle.cost_ledger.specs.CostRow.{PreparedRows}

@@ -1,3 +1,4 @@
+-- What the steps do to a place of the row is what they do to the machine, which stays sound by them.
 use Rattle.std.proofs.Common.{◌≡◌, length, sym, ap, subst, ◌∙◌, arith}
 use Rattle.std.proofs.lemmas.List.{length-map, with_items_is}
 use Rattle.node_core.specs.Node.{PreparedNode}

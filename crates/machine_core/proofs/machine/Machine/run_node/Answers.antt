@@ -1,3 +1,4 @@
+-- Of a rank past the row there are no steps; any other is a place of the row.
 use Rattle.std.proofs.Common.{◌≡◌, length, sym, ap, ◌∙◌, arith}
 use Rattle.std.proofs.lemmas.List.{length-map}
 use Rattle.node_core.specs.Node.{PreparedNode}

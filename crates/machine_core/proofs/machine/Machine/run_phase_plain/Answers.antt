@@ -1,3 +1,4 @@
+-- Node by node the row comes to the end of its local parts; at a refusal it is on the way there, and the lowest node that runs refused.
 use Rattle.std.proofs.Common.{◌≡◌, ℕ, ◌<◌, ◌≤◌, length, refl, sym, ap, subst, ◌∙◌}
 use Rattle.std.proofs.lemmas.List.{length-map}
 use Rattle.std.proofs.lemmas.Result.{err_from_is_err_and}

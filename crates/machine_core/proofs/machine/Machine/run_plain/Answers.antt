@@ -1,3 +1,4 @@
+-- Each superstep walks on toward the same end and adds a row of costs; a refusal stops on the way, and at the outcome it is the end.
 use Rattle.std.proofs.Common.{◌≡◌, not, refl, sym, ap, subst, ◌∙◌}
 use Rattle.std.specs.Prelude.{is_some}
 use Rattle.std.proofs.lemmas.Result.{IfOk-from_err, err_from_is_err_and}

@@ -1,3 +1,4 @@
+-- Each part of the copy is the same as that of the machine, so it is the same machine, and as sound.
 use Rattle.machine_core.proofs.machine.Machine.try_clone.Goals as goal
 
 pub invariant_of-result : goal.invariant_of-result

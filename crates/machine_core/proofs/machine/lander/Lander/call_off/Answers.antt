@@ -1,3 +1,4 @@
+-- The row is the one handed out and the output is cut at its old length, so the machine is the sound one from before the turn.
 use Rattle.std.proofs.Common.{sym, subst, ap, ◌∙◌}
 use Rattle.bsp_exchange.specs.Exchange.{states}
 use Rattle.machine_core.specs.Lander.{kept}

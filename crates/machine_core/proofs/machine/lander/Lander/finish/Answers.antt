@@ -1,3 +1,4 @@
+-- The costs keep to the ledger's bounds, and with the row landed the machine is the one that the turn leads to, and sound.
 use Rattle.std.proofs.Common.{◌≡◌, ℕ, List, ◌+◌, ◌++◌, [], ◌∷◌, length, map, Option, sym, ap, ap₂, subst, ◌∙◌, arith}
 use mir.Syntax.{w64}
 use mir.Val.{Fits}

@@ -1,3 +1,4 @@
+-- A rank is reserved, its node put in, and its word says whether the node runs: each step is one that the rule allows the keeper.
 use Rattle.std.proofs.Common.{◌≡◌, ◌∷◌, Some, None, sym, ap, ◌∙◌, arith}
 use mathlib.Core.Option.{some}
 use Rattle.atomic_table.specs.Table.{rest}

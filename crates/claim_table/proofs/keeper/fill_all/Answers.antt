@@ -1,3 +1,4 @@
+-- The last of the reversed row is the node of the next rank, which has made no step yet.
 use Rattle.std.proofs.Common.{◌∙◌, sym, ap, arith}
 use Rattle.std.specs.Prelude.{slice_get}
 use Rattle.claim_table.proofs.Keeping.{popped, not_stepped}

@@ -1,3 +1,4 @@
+-- The keeper may seal a table that it has filled.
 use Rattle.std.proofs.Common.{arith}
 use Rattle.claim_table.specs.Start.{start_of}
 use Rattle.claim_table.proofs.Keeping.{seal_allowed}

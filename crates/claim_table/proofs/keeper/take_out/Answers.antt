@@ -1,3 +1,4 @@
+-- The slot of the next rank is full, and what it has comes behind what was taken out before.
 use Rattle.std.proofs.Common.{◌≡◌, ℕ, zero, suc, ◌+◌, ◌<◌, ◌≤◌, [], ◌∷◌, ◌++◌, length, map, take, Bool, true, false, List, Some, sym, ap, subst, ◌∙◌, add-one, arith, get_or-set_same}
 use Rattle.std.specs.Prelude.{slice_index_or, slice_set}
 use Rattle.std.proofs.lemmas.List.{get_or-set_other, map_push, length_push}

@@ -1,3 +1,4 @@
+-- A sealed table has each node at home after some steps of its own, so the row that is taken out is so, node by node.
 use Rattle.std.proofs.Common.{◌≡◌, ℕ, List, sym, ap, subst, arith}
 use Rattle.std.specs.List.{AllZip}
 use Rattle.core.specs.Mem.Slots.{slots_items}

@@ -1,3 +1,4 @@
+-- The first words are those of a table to which no node has come, and once it is filled it has the sizes that are kept of it.
 use Rattle.std.proofs.Common.{◌≡◌, ℕ, ◌+◌, List, replicate, length, None, sym, ap, subst, ◌∙◌, arith}
 use Rattle.std.proofs.lemmas.List.{length-map}
 use Rattle.atomic_table.specs.Table.{opening}

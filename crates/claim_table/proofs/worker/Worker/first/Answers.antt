@@ -1,3 +1,4 @@
+-- The keeper's seat may be split for a worker who is not counted yet.
 use Rattle.std.proofs.Common.{arith}
 use Rattle.claim_table.specs.Start.{start_of}
 use Rattle.claim_table.proofs.Allowed.{may_hire}

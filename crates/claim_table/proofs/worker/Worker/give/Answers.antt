@@ -1,3 +1,4 @@
+-- The node comes back after some steps of its own, with the word that says whether it runs, as the rule allows.
 use Rattle.std.proofs.Common.{◌≡◌, ℕ, List, [], ◌∷◌, Some, arith, ap, ◌∙◌}
 use Rattle.atomic_table.specs.Table.{rest}
 use Rattle.node_core.specs.Node.{local_steps}

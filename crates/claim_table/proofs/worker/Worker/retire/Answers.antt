@@ -1,3 +1,4 @@
+-- A worker who is counted and has no node may leave.
 use Rattle.std.proofs.Common.{arith}
 use Rattle.claim_table.specs.Start.{start_of}
 use Rattle.claim_table.proofs.Allowed.{can_retire}

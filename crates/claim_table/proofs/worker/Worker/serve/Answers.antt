@@ -1,3 +1,4 @@
+-- A run makes some steps of the node, also where it is refused memory, so the node may be given back.
 use Rattle.claim_table.proofs.Serving.{some_steps}
 use Rattle.claim_table.proofs.worker.Worker.serve.Goals as goal
 

@@ -1,3 +1,4 @@
+-- The node of a rank that is at home and runs may be taken, and the slot that is out with the worker has it.
 use Rattle.std.proofs.Common.{◌≡◌, ◌∷◌, Some, arith, refl, ap, ◌∙◌, rules}
 use Rattle.claim_table.specs.ClaimSteps.{ViewAndSlots}
 use Rattle.claim_table.specs.Start.{start_of}

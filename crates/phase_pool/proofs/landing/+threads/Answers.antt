@@ -1,3 +1,4 @@
+-- The last run is made in a thread or here, the others before it; together they are the stage of the whole share, and fit its room.
 use Rattle.std.proofs.Common.{rules, ◌≡◌, ◌++◌, length, sym, ap, ◌∙◌, arith, length-append}
 use Rattle.std.proofs.lemmas.Bool.{false≢true}
 use Rattle.phase_pool.specs.Landings.{IsReadyFor}

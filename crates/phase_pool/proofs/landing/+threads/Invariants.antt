@@ -1,3 +1,4 @@
+-- The calls go round with fewer threads each time: one of the three steps within a round comes before the next.
 use Rattle.std.proofs.Common.{◌+◌, ◌*◌}
 use Rattle.phase_pool.proofs.landing.+threads.Given as goal
 

@@ -1,3 +1,4 @@
+-- All parts land, as `land_all` says of the row and its parts, and none of the parts is left.
 use Rattle.std.proofs.Common.{List, ap, ap₂, ◌∙◌, arith}
 use Rattle.std.proofs.lemmas.List.{with_items_is}
 use Rattle.node_core.specs.Node.{PreparedNode}

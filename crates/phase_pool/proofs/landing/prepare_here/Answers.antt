@@ -1,3 +1,4 @@
+-- Nodes and parts are as they were, and where none was refused, each part can land in its node.
 use Rattle.std.proofs.Common.{refl, sym, ap, ◌∙◌, arith}
 use Rattle.std.proofs.lemmas.List.{with_items_is}
 use Rattle.bsp_exchange.specs.Exchange.{states}

@@ -1,3 +1,4 @@
+-- The calls go round with fewer workers each time: one of the three steps within a round comes before the next.
 use Rattle.std.proofs.Common.{◌+◌, ◌*◌}
 use Rattle.phase_pool.proofs.part.+workers.Given as goal
 

@@ -1,3 +1,4 @@
+-- Each node in turn makes some steps of its own, and nothing but memory is refused.
 use Rattle.std.proofs.Common.{◌+◌, ◌||◌, ap₂, ◌∙◌, arith}
 use Rattle.std.proofs.lemmas.List.{drop-set-lt, length-set}
 use Rattle.phase_pool.proofs.Works.{HaveStepped-next, HaveStepped-all, drop_one_more}

@@ -1,3 +1,4 @@
+-- Steps that are made one after another are one number of steps, and each time some are made of those left.
 use Rattle.std.proofs.Common.{◌+◌, sym, arith}
 use Rattle.node_core.proofs.Steps.{local_steps-zero}
 use Rattle.phase_pool.proofs.Works.{steps_then}

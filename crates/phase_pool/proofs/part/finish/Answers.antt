@@ -1,3 +1,4 @@
+-- Each node in turn comes to the end of its local part, or to a step that may be refused memory.
 use Rattle.std.proofs.Common.{◌+◌, ◌||◌, refl, sym, ap₂, ◌∙◌, arith}
 use Rattle.std.proofs.lemmas.List.Elements.{All-nil}
 use Rattle.std.proofs.lemmas.List.{drop-set-lt, length-set}

@@ -1,3 +1,4 @@
+-- A sound node has fewer steps left than it is given, so it comes to the end of its local part unless memory is refused.
 use Rattle.std.proofs.Common.{sym, ap, ◌∙◌, arith}
 use Rattle.std.proofs.lemmas.Result.{on_ok_weaker}
 use Rattle.node_core.specs.Node.{NodeState, is_running}

@@ -1,3 +1,4 @@
+-- Three pieces of work, one after another, come to steps of each node, and the last of them takes each to its end.
 use Rattle.std.proofs.Common.{inl, inr, sym, ◌∙◌}
 use Rattle.std.proofs.lemmas.Bool.{false≢true}
 use Rattle.bsp_exchange.specs.Exchange.{states}

@@ -1,3 +1,4 @@
+-- Each superstep leads on toward the same end and adds a row of costs; a refusal stops after it, and is answered.
 use Rattle.std.proofs.Common.{◌≡◌, not, [], Err, inl, inr, refl, sym, ap, ◌∙◌, arith, rules}
 use Rattle.std.specs.Prelude.{is_some}
 use Rattle.std.proofs.lemmas.Bool.{false≢true}

@@ -1,3 +1,4 @@
+-- All nodes are prepared before a part lands; then the machine has made its turn, or it is as it was.
 use Rattle.std.proofs.Common.{◌≡◌, ◌<◌, List, inl, inr, length, sym, ap, ap₂, ◌∙◌, arith}
 use Rattle.std.specs.Prelude.{IsFalse}
 use Rattle.std.proofs.lemmas.Bool.{false≢true}

@@ -1,3 +1,4 @@
+-- The lemmas of this crate's proofs: bytes and pages, the table behind a memory, writes, images.
 pub mod Bytes
 pub mod Flat
 pub mod ImageBytes

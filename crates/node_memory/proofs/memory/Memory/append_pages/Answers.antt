@@ -1,3 +1,4 @@
+-- A part more that is appended makes the range so far longer by that part, and the room that was reserved is enough for it.
 use Rattle.std.proofs.Common.{◌≡◌, ℕ, ◌+◌, ◌≤◌, ◌++◌, List, length, refl, ap, ◌∙◌, arith}
 use Rattle.node_memory.specs.Bytes.{bytes_at}
 use Rattle.std.proofs.lemmas.List.{append_assoc}
@@ -7,7 +8,8 @@ use Rattle.node_memory.proofs.memory.Memory.append_pages.Goals as goal
 
 pub loop-done-preserved : goal.loop-done-preserved
 loop-done-preserved g c =
-    let items : c.extend_from_slice.new.self.items ≡ c.loop-done.bytes.items ++ c.window.result.now = c.in_ok-extend_from_slice.ensures.items in
+    let items : c.extend_from_slice.new.self.items ≡ c.loop-done.bytes.items ++ c.window.result.now =
+    c.in_ok-extend_from_slice.ensures.items in
     let fits' = c.requires in
     let within : c.args.addr + c.args.len ≤ length c.args.self.now.bytes = grind (arith, nat_tests) in
     let window_len = length-bytes_at c.args.self.now.bytes (c.args.addr + c.loop-done.done) c.min-part.result (omega arith) in
@@ -17,7 +19,9 @@ loop-done-preserved g c =
     let part = bytes_at c.args.self.now.bytes (c.args.addr + c.loop-done.done) c.min-part.result in
     let grown = c.in_ok-extend_from_slice.ensures.len in
     let room = c.extend_from_slice.ensures.capacity in (
-      items ∙ ap (λ (bs : List ℕ). bs ++ c.window.result.now) c.loop-done.invariant.0 ∙ ap (λ (bs : List ℕ). (old ++ front) ++ bs) c.window.ensures ∙ append_assoc old front part ∙ ap (λ (bs : List ℕ). old ++ bs) piece,
+      items ∙ ap (λ (bs : List ℕ). bs ++ c.window.result.now) c.loop-done.invariant.0
+          ∙ ap (λ (bs : List ℕ). (old ++ front) ++ bs) c.window.ensures ∙ append_assoc old front part
+          ∙ ap (λ (bs : List ℕ). old ++ bs) piece,
       omega arith,
       omega (arith, ap length c.window.ensures, window_len),
     )

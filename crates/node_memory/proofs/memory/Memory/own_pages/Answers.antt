@@ -1,3 +1,4 @@
+-- Page by page the range becomes own, and no other page does; at the end the memory owns all of the range.
 use Rattle.std.proofs.Common.{◌∙◌, arith, rules}
 use Rattle.node_memory.proofs.Table.{table}
 use Rattle.node_memory.proofs.Shown.{fits-shown}
@@ -27,8 +28,11 @@ pub loop-page-preserved : goal.loop-page-preserved
 loop-page-preserved g c =
     let t = table _ _ c.self.view_is c.self.invariant in
     let within = fits-shown t c.args.addr c.args.len c.requires in
-    let pages = c.loop-page.invariant.1.pages in
-    (c.own_page.ensures.bytes ∙ c.loop-page.invariant.0, OwnUpTo-more _ _ _ _ _ c.loop-page.invariant.1 (omega arith) (omega arith) c.in_ok-own_page.ensures.ok)
+    let pages = c.loop-page.invariant.1.pages in (
+      c.own_page.ensures.bytes ∙ c.loop-page.invariant.0,
+      OwnUpTo-more _ _ _ _ _ c.loop-page.invariant.1 (omega arith)
+          (omega arith) c.in_ok-own_page.ensures.ok,
+    )
 
 pub returns : goal.returns
 returns g c = record {

@@ -1,3 +1,4 @@
+-- Page by page the next bytes are written, each part within an own page; all parts together are the range.
 use Rattle.std.proofs.Common.{◌≡◌, ◌+◌, ◌≤◌, length, take, refl, ap, ◌∙◌, arith}
 use Rattle.node_memory.proofs.Table.{table}
 use Rattle.node_memory.proofs.Shown.{paged-shown, owned_place-fits, owned_part-fits}
@@ -9,7 +10,8 @@ use Rattle.std.proofs.Math.Nat.{le-add_right}
 use Rattle.node_memory.proofs.memory.Memory.write_owned_pages.Goals as goal
 
 pub overflow_add-at : goal.overflow_add-at
-overflow_add-at g c = owned_place-fits (table _ _ c.self.view_is c.self.invariant) c.args.addr _ c.loop-done.done c.requires c.loop-done.invariant.2
+overflow_add-at g c =
+    owned_place-fits (table _ _ c.self.view_is c.self.invariant) c.args.addr _ c.loop-done.done c.requires c.loop-done.invariant.2
 
 pub overflow_sub-at : goal.overflow_sub-at
 overflow_sub-at g c = place-mod-le _
@@ -19,7 +21,8 @@ overflow_sub-bytes g c = c.loop-done.invariant.2
 
 pub overflow_add-done : goal.overflow_add-done
 overflow_add-done g c =
-    owned_part-fits (table _ _ c.self.view_is c.self.invariant) c.args.addr _ _ c.requires (step-within _ _ _ _ c.min-len.ensures c.loop-done.invariant.2)
+    owned_part-fits (table _ _ c.self.view_is c.self.invariant) c.args.addr _ _ c.requires
+    (step-within _ _ _ _ c.min-len.ensures c.loop-done.invariant.2)
 
 pub slice_bounds-write_window-count : goal.slice_bounds-write_window-count
 slice_bounds-write_window-count g c = le-add_right _ _
@@ -28,18 +31,21 @@ pub write_window-requires-clause-one_page : goal.write_window-requires-clause-on
 write_window-requires-clause-one_page g c = step-in_page c.args.bytes.now _ _ _ c.min-len.ensures c.loop-done.invariant.2
 
 pub write_window-requires-clause-own : goal.write_window-requires-clause-own
-write_window-requires-clause-own g c = IsOwn-past _ _ c.args.addr _ c.loop-done.done c.requires c.loop-done.invariant.1 c.loop-done-test.true
+write_window-requires-clause-own g c =
+    IsOwn-past _ _ c.args.addr _ c.loop-done.done c.requires c.loop-done.invariant.1 c.loop-done-test.true
 
 pub overflow_add-done-in-loop-done : goal.overflow_add-done-in-loop-done
 overflow_add-done-in-loop-done g c =
-    owned_part-fits (table _ _ c.self.view_is c.self.invariant) c.args.addr _ _ c.requires (step-within _ _ _ _ c.min-len.ensures c.loop-done.invariant.2)
+    owned_part-fits (table _ _ c.self.view_is c.self.invariant) c.args.addr _ _ c.requires
+    (step-within _ _ _ _ c.min-len.ensures c.loop-done.invariant.2)
 
 pub loop-done-smaller : goal.loop-done-smaller
 loop-done-smaller g c = step-less_left _ _ _ _ c.min-len.ensures c.loop-done-test.true
 
 pub returns-clause-bytes : goal.returns-clause-bytes
 returns-clause-bytes g c =
-    c.loop-done.invariant.0 ∙ ap (with_bytes c.args.self.now.bytes c.args.addr) (take_all c.loop-done.done c.args.bytes.now c.loop-done-test.false)
+    c.loop-done.invariant.0 ∙ ap (with_bytes c.args.self.now.bytes c.args.addr)
+    (take_all c.loop-done.done c.args.bytes.now c.loop-done-test.false)
 
 pub returns-clause-same_own : goal.returns-clause-same_own
 returns-clause-same_own g c = c.loop-done.invariant.1
@@ -51,7 +57,8 @@ loop-done-preserved g c =
     let within : c.args.addr + length c.args.bytes.now ≤ length c.args.self.now.bytes = omega (arith, paged, c.requires.within) in
     let h = c.loop-done.invariant in
     let len = c.min-len.result in (
-      write_more c.args.self.now.bytes _ _ c.args.bytes.now _ c.args.addr (c.args.addr + c.loop-done.done) c.loop-done.done len h.0 refl refl c.write_window.ensures.bytes (omega arith) within,
+      write_more c.args.self.now.bytes _ _ c.args.bytes.now _ c.args.addr
+          (c.args.addr + c.loop-done.done) c.loop-done.done len h.0 refl refl c.write_window.ensures.bytes (omega arith) within,
       c.write_window.ensures.same_own ∙ h.1,
       omega arith,
     )
@@ -63,5 +70,6 @@ returns-clause-same_size g c =
     let done = c.loop-done.done in
     let written = take done c.args.bytes.now in
     let len : length written ≡ done = length-take-le done c.args.bytes.now c.loop-done.invariant.2 in
-    let within : c.args.addr + length written ≤ length c.args.self.now.bytes = omega (arith, paged, c.requires.within, len, c.loop-done.invariant.2) in
+    let within : c.args.addr + length written ≤ length c.args.self.now.bytes =
+    omega (arith, paged, c.requires.within, len, c.loop-done.invariant.2) in
     ap length c.loop-done.invariant.0 ∙ length-with_bytes c.args.self.now.bytes c.args.addr written within

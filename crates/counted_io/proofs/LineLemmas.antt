@@ -1,4 +1,4 @@
--- Lemmas on where a line ends.
+-- Where a line ends: at the first line feed of a text, or at its end where it has none.
 use Rattle.std.proofs.Common.{◌≡◌, ◌≢◌, ℕ, ◌+◌, ◌-◌, ◌<◌, ◌≤◌, ◌⊎◌, inl, inr, List, ◌∷◌, ◌++◌, length, drop, get_or, sym, ap, ◌∙◌, arith}
 use Rattle.std.proofs.Common.{subst, take-append-drop, length-drop}
 use Rattle.std.proofs.Common.{Result, Ok, Err}

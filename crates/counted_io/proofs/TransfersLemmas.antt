@@ -1,4 +1,4 @@
--- Lemmas on transfers that go on or stop.
+-- What a transfer has moved that goes on after a short read or write, or stops.
 use Rattle.std.proofs.Common.{◌≡◌, ℕ, ◌+◌, ◌<◌, ◌≤◌, ◌-◌, List, ◌++◌, length, take, drop, sym, ap, ◌∙◌, subst, arith, append_assoc}
 use Rattle.std.proofs.Common.{take-append-drop, length-append, Option}
 use Rattle.std.proofs.lemmas.List.{length-take-le, take_rest}

@@ -30,7 +30,8 @@ returns-in-Err-clause-err g c =
 
 pub returns-clause-ok : goal.returns-clause-ok
 returns-clause-ok g c =
-    c.loop-node.invariant ∙ ap (λ xs. c.args.output.now.items ++ xs) (written-all c.args.nodes.now c.loop-node.node-index c.loop-node-test.false)
+    c.loop-node.invariant
+    ∙ ap (λ xs. c.args.output.now.items ++ xs) (written-all c.args.nodes.now c.loop-node.node-index c.loop-node-test.false)
 
 pub loop-node-init : goal.loop-node-init
 loop-node-init g c = sym (append-nil c.args.output.now.items)

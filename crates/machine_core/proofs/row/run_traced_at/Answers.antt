@@ -18,9 +18,16 @@ returns-clause-steps g c =
     let node = c.index-nodes-rank.result in
     let run = c.run_traced.new.self in
     record {
-      ok = on_ok_weaker c.run_traced.result (states-often input nodes c.args.rank node run c.requires c.index-nodes-rank.is (length c.args.pcs.now)) c.run_traced.ensures.ok;
-      err = on_err_weaker c.run_traced.result (λ made. (made.0, made.1, states-often input nodes c.args.rank node run c.requires c.index-nodes-rank.is made.0 made.2)) c.run_traced.ensures.err;
-      refuses = on_err_weaker c.run_traced.result (λ may. rw (found-new input nodes c.args.rank node run c.requires c.index-nodes-rank.is) may) c.run_traced.ensures.refuses;
+      ok =
+          on_ok_weaker c.run_traced.result
+          (states-often input nodes c.args.rank node run c.requires c.index-nodes-rank.is (length c.args.pcs.now)) c.run_traced.ensures.ok;
+      err =
+          on_err_weaker c.run_traced.result
+          (λ made. (made.0, made.1, states-often input nodes c.args.rank node run c.requires c.index-nodes-rank.is made.0 made.2))
+          c.run_traced.ensures.err;
+      refuses =
+          on_err_weaker c.run_traced.result (λ may. rw (found-new input nodes c.args.rank node run c.requires c.index-nodes-rank.is) may)
+          c.run_traced.ensures.refuses;
       own = kept-own input nodes c.args.rank node run c.requires c.index-nodes-rank.is c.run_traced.ensures.own;
     }
 
@@ -34,6 +41,8 @@ returns-clause-addresses g c =
     if_ok_weaker c.run_traced.result _ _
     (λ made those. record {
       few = those.few;
-      are = those.are ∙ ap (λ (p : PreparedNode). next_addresses input k p.node) (sym c.index-nodes-rank.is) ∙ sym (addresses-found input c.args.rank k (states nodes) node.node found);
+      are =
+          those.are ∙ ap (λ (p : PreparedNode). next_addresses input k p.node) (sym c.index-nodes-rank.is)
+          ∙ sym (addresses-found input c.args.rank k (states nodes) node.node found);
     })
     c.run_traced.ensures.addresses

@@ -11,7 +11,8 @@ returns-clause-done g c = (
   c.clear.ensures.items,
   ap states (with_items_is c.args.share.nodes c.land_all.new.nodes (omega arith))
       ∙ c.land_all.ensures.nodes
-      ∙ ap₂ (λ (parts : List PartState) (nodes : List PreparedNode). landed parts (states nodes)) c.deref_mut-2.ensures.value c.deref_mut.ensures.value,
+      ∙ ap₂ (λ (parts : List PartState) (nodes : List PreparedNode). landed parts (states nodes)) c.deref_mut-2.ensures.value
+      c.deref_mut.ensures.value,
 )
 
 pub land_all-requires : goal.land_all-requires

@@ -11,7 +11,9 @@ returns-clause-done g c =
       refl,
       ap states row ∙ c.prepare_all.ensures.same ∙ ap states c.deref_mut.ensures.value,
       λ complete.
-          let can = rw c.deref.ensures.value at (on_ok_where c.prepare_all.result (sym c.is_ok-complete.ensures.value ∙ complete) c.prepare_all.ensures.ok) in
+          let can =
+          rw c.deref.ensures.value at
+          (on_ok_where c.prepare_all.result (sym c.is_ok-complete.ensures.value ∙ complete) c.prepare_all.ensures.ok) in
           rw row can,
     )
 

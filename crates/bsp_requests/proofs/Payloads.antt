@@ -1,3 +1,4 @@
+-- Payloads of a queue: their bytes fit 64 bits, and are counted still when the first message is taken.
 use Rattle.std.proofs.Common.{◌≡◌, ℕ, ◌+◌, ◌-◌, ◌∙◌, ap, ◌*◌, ◌^◌, ◌<◌, ◌≤◌, List, ◌∷◌, length, drop, arith}
 use Rattle.std.specs.Prelude.{All}
 use Rattle.std.proofs.lemmas.List.{length-drop}
@@ -20,13 +21,15 @@ rest_is_queue messages queue =
     record { few = omega (arith, n, queue.few); short = All-drop IsShort 1 messages queue.short }
 
 -- what is left of a queue when its first message is taken
-pub rest_is_counted : (messages rest : List Message) (first : Message) (n k : ℕ) → messages ≡ first ∷ rest → k ≡ length first.payload → IsCountedQueue messages n → IsCountedQueue rest (n - k)
+pub rest_is_counted : (messages rest : List Message) (first : Message) (n k : ℕ) → messages ≡ first ∷ rest → k ≡ length first.payload
+    → IsCountedQueue messages n → IsCountedQueue rest (n - k)
 rest_is_counted messages rest first n k whole size counted =
     let old : IsCountedQueue (first ∷ rest) n = rw (← whole) counted in
     let more : n ≡ length first.payload + payload_bytes rest = old.sum ∙ sum_by-cons (λ m. length m.payload) first rest in
     record { queue = rest_is_queue (first ∷ rest) old.queue; sum = omega (arith, more, size) }
 
 -- the queue of some messages, whose payloads were summed as `read`
-pub is_counted : (messages items read : List Message) (n : ℕ) → items ≡ messages → read ≡ messages → n ≡ payload_bytes read → length messages < 2 ^ 32 → All IsShort messages → IsCountedQueue items n
+pub is_counted : (messages items read : List Message) (n : ℕ) → items ≡ messages → read ≡ messages → n ≡ payload_bytes read
+    → length messages < 2 ^ 32 → All IsShort messages → IsCountedQueue items n
 is_counted messages items read n same same_read sum few short =
     rw same (record { queue = record { few = few; short = short }; sum = sum ∙ ap payload_bytes same_read })

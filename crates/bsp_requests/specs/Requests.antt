@@ -1,5 +1,6 @@
 -- The requests and the output of one node in one superstep, and their limits.
-use Rattle.std.specs.Prelude.{◌≡◌, ℕ, ◌+◌, ◌^◌, ◌≤◌, ◌↔◌, Bool, ◌||◌, nat_le, nat_lt, List, [], ◌∷◌, ◌++◌, length, sum_by, IsTrue, Result, OnOk, OnErr, IsErrOf}
+use Rattle.std.specs.Prelude.{◌≡◌, ℕ, ◌+◌, ◌^◌, ◌≤◌, ◌↔◌, Bool, ◌||◌, nat_le, nat_lt, List, [], ◌∷◌, ◌++◌, length, sum_by, IsTrue, Result}
+use Rattle.std.specs.Prelude.{OnOk, OnErr, IsErrOf}
 use Rattle.bsp_requests.specs.Request.{Asked, size_of}
 use Rattle.bsp_requests.specs.declared.requests.AddError.{AddError}
 use Rattle.bsp_requests.specs.declared.requests.AddError.TheVariants.{TooMuch}

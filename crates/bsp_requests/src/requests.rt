@@ -2,7 +2,8 @@
 
 ghost use Rattle.std.specs.Prelude.{◌≡◌, ◌≤◌, ◌↔◌, length, map, IsTrue, IsErrOf, IfOk, OnOk, OnErr, option_map, option_copied, slice_get};
 ghost use Rattle.bsp_requests.specs.Request.{asked, asks_put, asks_get, asks_send};
-ghost use Rattle.bsp_requests.specs.Requests.{IsIssued, no_requests, with_output, total_bytes, max_requests, max_bytes, are_too_many, is_full_for};
+ghost use Rattle.bsp_requests.specs.Requests.{IsIssued, no_requests, with_output, total_bytes, max_requests, max_bytes, are_too_many};
+ghost use Rattle.bsp_requests.specs.Requests.{is_full_for};
 ghost use Rattle.bsp_requests.specs.declared.requests.AddError.TheVariants.{NoMemory};
 
 use crate::request::{Get, Outgoing, Put, Request};

@@ -8,11 +8,13 @@ use Rattle.bsp_slots.specs.declared.change.Change.{Change}
 use Rattle.bsp_slots.specs.declared.change.Change.TheVariants.{Push, Pop}
 use Rattle.bsp_slots.specs.Area.{last_position}
 use Rattle.bsp_slots.specs.Change.{changed, is_push, NamesRemoval, NamesRemovals}
-use Rattle.bsp_slots.specs.Registrations.{Registrations, registrations_after, next_list, max_entries, max_pushes, push_count, pushed, popped, IsSound}
+use Rattle.bsp_slots.specs.Registrations.{Registrations, registrations_after, next_list, max_entries, max_pushes, push_count, pushed}
+use Rattle.bsp_slots.specs.Registrations.{popped, IsSound}
 use Rattle.bsp_slots.specs.Slots.{KeepsPace}
 use Rattle.bsp_slots.proofs.Positions.{IsLastEntry-from}
 
-NamesRemovals-push : (entries : List Area) (changes : List Change) (change : Change) → NamesRemovals entries changes → NamesRemoval (registrations_after entries changes) change → NamesRemovals entries (changes ++ change ∷ [])
+NamesRemovals-push : (entries : List Area) (changes : List Change) (change : Change) → NamesRemovals entries changes
+    → NamesRemoval (registrations_after entries changes) change → NamesRemovals entries (changes ++ change ∷ [])
 NamesRemovals-push entries [] change names last = (last, tt)
 NamesRemovals-push entries (c ∷ changes) change names last = (names.0, NamesRemovals-push (changed entries c) changes change names.1 last)
 
@@ -20,7 +22,9 @@ module _ (s : Registrations) where
   pub next_list-more : (change : Change) → registrations_after s.in_effect (s.changes ++ change ∷ []) ≡ changed (next_list s) change
   next_list-more change = fold-append changed s.in_effect s.changes (change ∷ [])
 
-  IsSound-more : (change : Change) → IsSound s → length (changed (next_list s) change) ≤ max_entries → push_count s + cond (is_push change) 1 0 ≤ max_pushes → NamesRemoval (next_list s) change → IsSound (record s { changes = s.changes ++ change ∷ [] })
+  IsSound-more : (change : Change) → IsSound s → length (changed (next_list s) change) ≤ max_entries
+      → push_count s + cond (is_push change) 1 0 ≤ max_pushes → NamesRemoval (next_list s) change
+      → IsSound (record s { changes = s.changes ++ change ∷ [] })
   IsSound-more change sound fits few names = record {
     in_effect_fits = sound.in_effect_fits;
     next_fits = rw (next_list-more change) fits;
@@ -37,14 +41,18 @@ module _ (s : Registrations) where
       let fits = sound.next_fits in
       IsSound-more (Pop addr slot) sound (rw found (omega arith)) (omega (arith, sound.pushes_fit)) found
 
-  pub KeepsPace-pushed : {next next' : List Area} {changes' : List Change} {pushes : ℕ} (area : Area) → KeepsPace s next pushes → next' ≡ next ++ area ∷ [] → changes' ≡ s.changes ++ Push area ∷ [] → length next < max_entries → pushes < max_pushes → KeepsPace (record { in_effect = s.in_effect; changes = changes' }) next' (pushes + 1)
+  pub KeepsPace-pushed : {next next' : List Area} {changes' : List Change} {pushes : ℕ} (area : Area) → KeepsPace s next pushes
+      → next' ≡ next ++ area ∷ [] → changes' ≡ s.changes ++ Push area ∷ [] → length next < max_entries → pushes < max_pushes
+      → KeepsPace (record { in_effect = s.in_effect; changes = changes' }) next' (pushes + 1)
   KeepsPace-pushed {next} {next'} {changes'} {pushes} area pace next_is changes_is fits few = rw changes_is (record {
     next_is = next_is ∙ ap (λ (xs : List Area). xs ++ area ∷ []) pace.next_is ∙ sym (next_list-more (Push area));
     pushes_are = grind (arith, common_steps, pace.pushes_are);
     sound = IsSound-pushed area pace.sound (rw (← pace.next_is) fits) (rw (← pace.pushes_are) few);
   })
 
-  pub KeepsPace-popped : {next next' : List Area} {changes' : List Change} {pushes : ℕ} (addr slot : ℕ) → KeepsPace s next pushes → next' ≡ remove next slot → changes' ≡ s.changes ++ Pop addr slot ∷ [] → last_position next addr ≡ Some slot → KeepsPace (record { in_effect = s.in_effect; changes = changes' }) next' pushes
+  pub KeepsPace-popped : {next next' : List Area} {changes' : List Change} {pushes : ℕ} (addr slot : ℕ) → KeepsPace s next pushes
+      → next' ≡ remove next slot → changes' ≡ s.changes ++ Pop addr slot ∷ [] → last_position next addr ≡ Some slot
+      → KeepsPace (record { in_effect = s.in_effect; changes = changes' }) next' pushes
   KeepsPace-popped {next} {next'} {changes'} {pushes} addr slot pace next_is changes_is found =
       let found' = rw pace.next_is at found in
       let removed : remove (next_list s) slot ≡ changed (next_list s) (Pop addr slot) = rw found' in

@@ -1,5 +1,6 @@
 -- Lists of registered areas, oldest first.
-use Rattle.std.specs.Prelude.{◌≡◌, ◌≢◌, ℕ, suc, ◌+◌, ◌<◌, ◌==◌, if◌then◌else◌, List, [], ◌∷◌, length, remove, HoldsAt, Option, Some, None, option_map}
+use Rattle.std.specs.Prelude.{◌≡◌, ◌≢◌, ℕ, suc, ◌+◌, ◌<◌, ◌==◌, if◌then◌else◌, List, [], ◌∷◌, length, remove, HoldsAt, Option, Some, None}
+use Rattle.std.specs.Prelude.{option_map}
 use Rattle.std.specs.List.{AllWithin}
 use Rattle.std.specs.Option.{option_or, option_map_or}
 use Rattle.bsp_slots.specs.declared.area.Area.{Area}

@@ -4,7 +4,8 @@ ghost use Rattle.std.specs.Prelude.{◌≡◌, ◌≢◌, ℕ, ◌∷◌, ◌++�
 ghost use Rattle.bsp_slots.specs.declared.area.Area.{Area};
 ghost use Rattle.bsp_slots.specs.declared.change.Change.{Change};
 ghost use Rattle.bsp_slots.specs.Area.{last_position, IsLastEntry};
-ghost use Rattle.bsp_slots.specs.Registrations.{Registrations, no_registrations, registrations_after, next_list, is_full, pushed, popped, turned, HasSameShape, IsSound};
+ghost use Rattle.bsp_slots.specs.Registrations.{Registrations, no_registrations, registrations_after, next_list, is_full, pushed, popped};
+ghost use Rattle.bsp_slots.specs.Registrations.{turned, HasSameShape, IsSound};
 
 /// The position that is found is that of the last entry of the address, and where none is found no entry has it.
 pub fn the_last_entry_is_found()

@@ -19,17 +19,18 @@ module _ {X : Type 0} where
   at-there (x ∷ xs) (suc i) within = at-there xs i (omega arith)
 
   -- one element is set
-  pub sum_by-set_at : (f : X → ℕ) (xs : List X) (i : ℕ) (x y : X) → get_elem? xs i ≡ some x → sum_by f (set xs i y) + f x ≡ sum_by f xs + f y
-  sum_by-set_at f [] i x y at = absurd (some-ne-none x (sym at))
-  sum_by-set_at f (z ∷ xs) zero x y at =
-      let new = sum_by-cons f y xs in
-      let old = sum_by-cons f z xs in
-      let same : f z ≡ f x = ap f (some-injective z x at) in
+  pub sum_by-set_at : (count : X → ℕ) (xs : List X) (place : ℕ) (was now : X) → get_elem? xs place ≡ some was
+      → sum_by count (set xs place now) + count was ≡ sum_by count xs + count now
+  sum_by-set_at count [] place was now at = absurd (some-ne-none was (sym at))
+  sum_by-set_at count (head ∷ xs) zero was now at =
+      let new = sum_by-cons count now xs in
+      let old = sum_by-cons count head xs in
+      let same : count head ≡ count was = ap count (some-injective head was at) in
       omega (arith, new, old, same)
-  sum_by-set_at f (z ∷ xs) (suc i) x y at =
-      let new = sum_by-cons f z (set xs i y) in
-      let old = sum_by-cons f z xs in
-      let rest = sum_by-set_at f xs i x y at in
+  sum_by-set_at count (head ∷ xs) (suc place) was now at =
+      let new = sum_by-cons count head (set xs place now) in
+      let old = sum_by-cons count head xs in
+      let rest = sum_by-set_at count xs place was now at in
       omega (arith, new, old, rest)
 
   -- each element adds its part

@@ -1,6 +1,7 @@
 -- The two ends of a claim table: as it opens, the rule holds, and when it is closed behind a keeper that has sealed it, each slot has
 -- its node.
-use Rattle.std.proofs.Common.{◌≡◌, ℕ, zero, suc, ◌+◌, ◌<◌, ◌≤◌, ◌==◌, Bool, true, false, not, ◌&&◌, ◌||◌, List, [], ◌∷◌, ◌++◌, map, length, replicate, Option, Some, None, refl, sym, ap, subst, ◌∙◌, arith}
+use Rattle.std.proofs.Common.{◌≡◌, ℕ, zero, suc, ◌+◌, ◌<◌, ◌≤◌, ◌==◌, Bool, true, false, not, ◌&&◌, ◌||◌, List, [], ◌∷◌, ◌++◌, map, length}
+use Rattle.std.proofs.Common.{replicate, Option, Some, None, refl, sym, ap, subst, ◌∙◌, arith}
 use Rattle.std.specs.Prelude.{count_by, slice_index}
 use Rattle.std.specs.List.{AllZip}
 use Rattle.std.proofs.lemmas.Bool.{false≢true, true≢false}
@@ -12,7 +13,8 @@ use Rattle.atomic_table.specs.Table.{opening, Final, Seen}
 use Rattle.atomic_table.proofs.Lists.{at_map}
 use Rattle.node_core.specs.Node.{NodeState, PreparedNode, is_running, local_steps}
 use Rattle.claim_table.specs.declared.view.View.{View}
-use Rattle.claim_table.specs.Claims.{StartOfPhase, HasStepped, Home, word_of, holders, times_held, total_held, enrolled, IsView, IsClaimTable}
+use Rattle.claim_table.specs.Claims.{StartOfPhase, HasStepped, Home, word_of, holders, times_held, total_held, enrolled, IsView}
+use Rattle.claim_table.specs.Claims.{IsClaimTable}
 use Rattle.claim_table.specs.ClaimSteps.{keeper_view}
 use Rattle.claim_table.proofs.ClaimLists.{at-within, at-there, sum_by-at-le, sum_by-none}
 use Rattle.claim_table.proofs.Keeps.{Claims, one_if}
@@ -48,7 +50,8 @@ one_view v u zero at = (refl, some-injective v u at)
 one_view v u (suc seat) at = absurd (some-ne-none u (sym at))
 
 -- the rule holds of a table as it opens
-pub opening-is : (start : StartOfPhase) (n : ℕ) → length start.row ≡ n → IsClaimTable start (opening (replicate n 3 ++ 0 ∷ []) (replicate n None) (keeper_view 0))
+pub opening-is : (start : StartOfPhase) (n : ℕ) → length start.row ≡ n
+    → IsClaimTable start (opening (replicate n 3 ++ 0 ∷ []) (replicate n None) (keeper_view 0))
 opening-is start n long =
     let homes : length (map some (replicate {A = Option PreparedNode} n None)) ≡ n = homes_long n in
     let words : length {A = ℕ} (replicate n 3 ++ 0 ∷ []) ≡ n + 1 = words_long n in
@@ -64,11 +67,14 @@ opening-is start n long =
       all_reserved = λ over. absurd (false≢true over);
       slots = homes ∙ sym long;
       one_word_more = words ∙ ap (λ (k : ℕ). k + 1) (sym homes);
-      words_tell = λ rank home at. let within = at-within (map some (replicate n None)) rank home at in word-empty n rank (omega (arith, within, homes)) ∙ ap word_of (vacant n rank home at);
+      words_tell = λ rank home at. let within = at-within (map some (replicate n None)) rank home at in
+          word-empty n rank (omega (arith, within, homes)) ∙ ap word_of (vacant n rank home at);
       empty = λ rank home at. ((λ _. omega arith), (λ _. sym (vacant n rank home at)));
-      homes_stepped = λ rank m at. let no = vacant n rank (some (Some m)) at in let no' : None ≡ Some m = some-injective None (Some m) no in absurd cc;
+      homes_stepped = λ rank m at. let no = vacant n rank (some (Some m)) at in
+          let no' : None ≡ Some m = some-injective None (Some m) no in absurd cc;
       out_once = λ rank home at. ap holders (vacant n rank home at);
-      views_fit = λ seat u at. let only = one_view (keeper_view 0) u seat at in subst (λ (q : ℕ). IsView start 0 false q u) (sym only.0) (subst (λ (w : View). IsView start 0 false 0 w) only.1 mine);
+      views_fit = λ seat u at. let only = one_view (keeper_view 0) u seat at in
+          subst (λ (q : ℕ). IsView start 0 false q u) (sym only.0) (subst (λ (w : View). IsView start 0 false 0 w) only.1 mine);
       count = record {
         is_count = ap (λ (k : ℕ). slice_index (replicate n 3 ++ 0 ∷ []) k) homes ∙ word-last n;
         fewer = omega arith;
@@ -77,7 +83,8 @@ opening-is start n long =
     }
 
 -- who is neither a worker nor a keeper that may still fill has nothing out
-holds_none : (enrolled keeps sealed : Bool) → enrolled ≡ false → (keeps ≡ true → sealed ≡ true) → (enrolled || (keeps && not sealed)) ≡ false
+holds_none : (enrolled keeps sealed : Bool) → enrolled ≡ false → (keeps ≡ true → sealed ≡ true)
+    → (enrolled || (keeps && not sealed)) ≡ false
 holds_none true keeps sealed free over = absurd (true≢false free)
 holds_none false false sealed free over = refl
 holds_none false true true free over = refl
@@ -110,10 +117,12 @@ module _ (start : StartOfPhase) (n : ℕ) (id : ℕ) (v : View) (is : v ≡ reco
         let nobody : enrolled s.views ≡ 0 = rule.count.none_enrolled known.0 in
         let one : one_if u.is_enrolled ≤ enrolled s.views = sum_by-at-le (λ (w : View). one_if w.is_enrolled) s.views seat u there in
         let free : u.is_enrolled ≡ false = no_one u.is_enrolled (omega (arith, nobody, one)) in
-        let none : u.outs ≡ [] = fits.none_out (holds_none u.is_enrolled u.is_keeper u.sealed free (λ keeps. (fits.keeper keeps).2 ∙ known.0)) in
+        let none : u.outs ≡ [] =
+        fits.none_out (holds_none u.is_enrolled u.is_keeper u.sealed free (λ keeps. (fits.keeper keeps).2 ∙ known.0)) in
         ap (λ (os : List (ℕ × NodeState)). count_by (λ o. o.0 == r) os) none
 
-    closed_at : (rank : ℕ) → rank < length s.homes → (p : PreparedNode) × (get_elem? s.homes rank ≡ some (some (Some p))) × HasStepped start rank p.node
+    closed_at : (rank : ℕ) → rank < length s.homes → (p : PreparedNode) × (get_elem? s.homes rank ≡ some (some (Some p)))
+        × HasStepped start rank p.node
     closed_at rank within =
         let there = at-there s.homes rank within in
         let out : total_held rank s.views ≡ 0 = sum_by-none (times_held rank) s.views (nothing_out rank) in
@@ -125,17 +134,22 @@ module _ (start : StartOfPhase) (n : ℕ) (id : ℕ) (v : View) (is : v ≡ reco
 
   -- behind a keeper that has sealed the table, each slot has the node of its rank, no or some steps later
   pub closing : (ws : List ℕ) (xs : List (Option PreparedNode)) → Final (Seen (IsClaimTable start) id v) ws xs
-      → (length xs ≡ length start.row) × ((rank : ℕ) → rank < length xs → (p : PreparedNode) × (get_elem? xs rank ≡ some (Some p)) × HasStepped start rank p.node)
+      → (length xs ≡ length start.row)
+      × ((rank : ℕ) → rank < length xs → (p : PreparedNode) × (get_elem? xs rank ≡ some (Some p)) × HasStepped start rank p.node)
   closing ws xs last =
       let s : Claims = last.0 in
       let rule : IsClaimTable start s = last.1.0 in
       let at : get_elem? s.views id ≡ some v = last.1.1 in
-      let long : length s.homes ≡ length xs = last.3 in
-      (sym long ∙ rule.slots, λ rank within. let found = closed_at s rule at rank (omega (arith, within, long)) in (found.0, last.4 rank (Some found.0) found.1, found.2))
+      let long : length s.homes ≡ length xs = last.3 in (
+        sym long ∙ rule.slots,
+        λ rank within. let found = closed_at s rule at rank (omega (arith, within, long)) in
+            (found.0, last.4 rank (Some found.0) found.1, found.2),
+      )
 
 -- node by node, the row at the end is that of the start, no or some steps later
 zipped : (input : List ℕ) (olds news : List PreparedNode) → length news ≡ length olds
-    → ((rank : ℕ) (n : PreparedNode) → get_elem? news rank ≡ some n → HasStepped (record { input = input; row = map (λ (p : PreparedNode). p.node) olds }) rank n.node)
+    → ((rank : ℕ) (n : PreparedNode) → get_elem? news rank ≡ some n
+    → HasStepped (record { input = input; row = map (λ (p : PreparedNode). p.node) olds }) rank n.node)
     → AllZip (λ (o n : PreparedNode). (k : ℕ) × (n.node ≡ local_steps input k o.node)) olds news
 zipped input [] [] long each = tt
 zipped input [] (n ∷ news) long each = absurd (omega arith)
@@ -143,8 +157,11 @@ zipped input (o ∷ olds) [] long each = absurd (omega arith)
 zipped input (o ∷ olds) (n ∷ news) long each = (each 0 n refl, zipped input olds news (omega arith) (λ rank m at. each (suc rank) m at))
 
 -- the same of what was taken out of the slots
-pub rows-zipped : (input : List ℕ) (olds news : List PreparedNode) (xs : List (Option PreparedNode)) → map (λ (p : PreparedNode). Some p) news ≡ xs → length xs ≡ length (map (λ (p : PreparedNode). p.node) olds)
-    → ((rank : ℕ) → rank < length xs → (p : PreparedNode) × (get_elem? xs rank ≡ some (Some p)) × HasStepped (record { input = input; row = map (λ (p : PreparedNode). p.node) olds }) rank p.node)
+pub rows-zipped : (input : List ℕ) (olds news : List PreparedNode) (xs : List (Option PreparedNode))
+    → map (λ (p : PreparedNode). Some p) news ≡ xs → length xs ≡ length (map (λ (p : PreparedNode). p.node) olds)
+    → ((rank : ℕ) → rank < length xs
+    → (p : PreparedNode) × (get_elem? xs rank ≡ some (Some p))
+    × HasStepped (record { input = input; row = map (λ (p : PreparedNode). p.node) olds }) rank p.node)
     → AllZip (λ (o n : PreparedNode). (k : ℕ) × (n.node ≡ local_steps input k o.node)) olds news
 rows-zipped input olds news xs taken long each =
     let news_long : length (map (λ (p : PreparedNode). Some p) news) ≡ length news = length-map news (λ (p : PreparedNode). Some p) in
@@ -153,7 +170,10 @@ rows-zipped input olds news xs taken long each =
     zipped input olds news (omega (arith, news_long, olds_long, same, long))
     (λ rank n at.
     let found = each rank (let within = at-within news rank n at in omega (arith, within, news_long, same)) in
-    let there : get_elem? xs rank ≡ some (Some n) = subst (λ (l : List (Option PreparedNode)). get_elem? l rank ≡ some (Some n)) taken (at_map (λ (p : PreparedNode). Some p) news rank n at) in
+    let there : get_elem? xs rank ≡ some (Some n) =
+    subst (λ (l : List (Option PreparedNode)). get_elem? l rank ≡ some (Some n)) taken
+    (at_map (λ (p : PreparedNode). Some p) news rank n at) in
     let both : Some found.0 ≡ Some n = some-injective (Some found.0) (Some n) (sym found.1 ∙ there) in
     let is : found.0 ≡ n = cc in
-    subst (λ (p : PreparedNode). HasStepped (record { input = input; row = map (λ (p : PreparedNode). p.node) olds }) rank p.node) is found.2)
+    subst (λ (p : PreparedNode). HasStepped (record { input = input; row = map (λ (p : PreparedNode). p.node) olds }) rank p.node) is
+    found.2)

@@ -1,7 +1,8 @@
 -- The table by which threads share out the nodes of a phase: for each rank a word and a slot for its node, and behind them one word
 -- that counts the workers. A thread acts through its seat, whose view is what it knows (own rule; the words are those of
 -- `atomic_table`).
-use Rattle.std.specs.Prelude.{◌≡◌, ◌↔◌, ℕ, ◌+◌, ◌^◌, ◌<◌, ◌≤◌, ◌==◌, Bool, true, false, not, ◌&&◌, ◌||◌, List, [], length, All, sum_by, count_by, slice_get, slice_index, Option, Some, None, IsSomeAnd, if◌then◌else◌}
+use Rattle.std.specs.Prelude.{◌≡◌, ◌↔◌, ℕ, ◌+◌, ◌^◌, ◌<◌, ◌≤◌, ◌==◌, Bool, true, false, not, ◌&&◌, ◌||◌, List, [], length, All, sum_by}
+use Rattle.std.specs.Prelude.{count_by, slice_get, slice_index, Option, Some, None, IsSomeAnd, if◌then◌else◌}
 use mathlib.Core.Option.{none, some}
 use mathlib.Core.Option as maybe
 use lib.ListN.{get_elem?}

@@ -160,7 +160,8 @@ impl<'t, 'p, A: Allocator + Copy> Worker<'t, 'p, A> {
     fn take(&mut self, rank: usize) -> Option<Node<A>>
         requires within { rank < self.old.ranks }
         requires idle { self.old.seat.me ≡ (view_at_work, []) }
-        ensures taken { IfSome result (λ n. (is_running n.node.state ≡ true) × (self.new.seat.me ≡ (after_take rank n.node view_at_work, (rank, None) ∷ []))) }
+        ensures taken { IfSome result (λ n. (is_running n.node.state ≡ true)
+            × (self.new.seat.me ≡ (after_take rank n.node view_at_work, (rank, None) ∷ []))) }
         ensures missed { IfNone result (self.new.seat.me ≡ (view_at_work, [])) }
         ensures same { (self.new.ranks ≡ self.old.ranks) × (self.new.input ≡ self.old.input) }
     {

@@ -9,7 +9,8 @@ use Rattle.contested_bytes.specs.declared.range.ContestedRange.{ContestedRange}
 use Rattle.contested_bytes.specs.Contested.{reaches, Differ}
 use Rattle.contested_bytes.specs.Ranges.{key_of, Has, IsIn, IsContestedRange}
 
-pub reaches-from : (rank addr : ℕ) (l : Landing) → l.rank ≡ rank → l.addr ≤ addr → addr < l.addr + length l.bytes → IsTrue (reaches rank addr l)
+pub reaches-from : (rank addr : ℕ) (l : Landing) → l.rank ≡ rank → l.addr ≤ addr → addr < l.addr + length l.bytes
+    → IsTrue (reaches rank addr l)
 reaches-from rank addr l here from to = grind (arith, nat_tests, here, from, to)
 
 pub reaches-rank : (rank addr : ℕ) (l : Landing) → IsTrue (reaches rank addr l) → l.rank ≡ rank
@@ -33,12 +34,15 @@ IsFoundBelow bound a b old found = (rank addr : ℕ) → IsIn found rank addr �
 pub below-start : (bound : ℕ) (a b : Landing) (old : List ContestedRange) → bound ≤ b.addr → IsFoundBelow bound a b old old
 below-start bound a b old start rank addr = (
   λ here. inl here,
-  λ either. elim either [ inl here ↦ here | inr new ↦ absurd (omega (arith, start, new.below, reaches-start rank addr b new.differ.second)) ],
+  λ either. elim either
+      [ inl here ↦ here | inr new ↦ absurd (omega (arith, start, new.below, reaches-start rank addr b new.differ.second)) ],
 )
 
-pub below-same : (bound : ℕ) (a b : Landing) (old found : List ContestedRange) → landing_byte bound a ≡ landing_byte bound b → IsFoundBelow bound a b old found → IsFoundBelow (bound + 1) a b old found
+pub below-same : (bound : ℕ) (a b : Landing) (old found : List ContestedRange) → landing_byte bound a ≡ landing_byte bound b
+    → IsFoundBelow bound a b old found → IsFoundBelow (bound + 1) a b old found
 below-same bound a b old found same before rank addr = (
-  λ here. elim ((before rank addr).0 here) [ inl was ↦ inl was | inr new ↦ inr (record { differ = new.differ; below = omega (arith, new.below) }) ],
+  λ here. elim ((before rank addr).0 here)
+      [ inl was ↦ inl was | inr new ↦ inr (record { differ = new.differ; below = omega (arith, new.below) }) ],
   λ either. elim either [
     | inl was ↦ (before rank addr).1 (inl was)
     | inr new ↦ elim (cases_lt addr bound) [
@@ -54,7 +58,9 @@ below-same bound a b old found same before rank addr = (
 abbrev pub byte_range : Landing → ℕ → Contender → Contender → ContestedRange
 byte_range b bound p q = record { rank = b.rank; addr = bound; len = 1; first = p; second = q }
 
-differ-here : (bound rank addr : ℕ) (a b : Landing) (p q : Contender) → a.rank ≡ b.rank → a.addr ≤ bound → b.addr ≤ bound → bound < a.addr + length a.bytes → bound < b.addr + length b.bytes → landing_byte bound a ≢ landing_byte bound b → Has (byte_range b bound p q) rank addr → Differ rank addr a b
+differ-here : (bound rank addr : ℕ) (a b : Landing) (p q : Contender) → a.rank ≡ b.rank → a.addr ≤ bound → b.addr ≤ bound
+    → bound < a.addr + length a.bytes → bound < b.addr + length b.bytes → landing_byte bound a ≢ landing_byte bound b
+    → Has (byte_range b bound p q) rank addr → Differ rank addr a b
 differ-here bound rank addr a b p q ranks from_a from_b to_a to_b apart has =
     let at : bound ≡ addr = omega (arith, has.1, has.2) in
     subst (λ n. Differ rank n a b) at (record {
@@ -63,11 +69,18 @@ differ-here bound rank addr a b p q ranks from_a from_b to_a to_b apart has =
       bytes = apart;
     })
 
-pub below-more : (bound : ℕ) (a b : Landing) (p q : Contender) (old found new : List ContestedRange) → a.rank ≡ b.rank → a.addr ≤ bound → b.addr ≤ bound → bound < a.addr + length a.bytes → bound < b.addr + length b.bytes → landing_byte bound a ≢ landing_byte bound b → IsFoundBelow bound a b old found → ((rank addr : ℕ) → IsIn new rank addr ↔ (IsIn found rank addr ⊎ Has (byte_range b bound p q) rank addr)) → IsFoundBelow (bound + 1) a b old new
+pub below-more : (bound : ℕ) (a b : Landing) (p q : Contender) (old found new : List ContestedRange) → a.rank ≡ b.rank → a.addr ≤ bound
+    → b.addr ≤ bound → bound < a.addr + length a.bytes → bound < b.addr + length b.bytes → landing_byte bound a ≢ landing_byte bound b
+    → IsFoundBelow bound a b old found
+    → ((rank addr : ℕ) → IsIn new rank addr ↔ (IsIn found rank addr ⊎ Has (byte_range b bound p q) rank addr))
+    → IsFoundBelow (bound + 1) a b old new
 below-more bound a b p q old found new ranks from_a from_b to_a to_b apart before added rank addr = (
   λ here. elim ((added rank addr).0 here) [
-    | inl there ↦ elim ((before rank addr).0 there) [ inl was ↦ inl was | inr under ↦ inr (record { differ = under.differ; below = omega (arith, under.below) }) ]
-    | inr has ↦ inr (record { differ = differ-here bound rank addr a b p q ranks from_a from_b to_a to_b apart has; below = omega (arith, has.2) })
+    | inl there ↦
+        elim ((before rank addr).0 there)
+        [ inl was ↦ inl was | inr under ↦ inr (record { differ = under.differ; below = omega (arith, under.below) }) ]
+    | inr has ↦
+        inr (record { differ = differ-here bound rank addr a b p q ranks from_a from_b to_a to_b apart has; below = omega (arith, has.2) })
   ],
   λ either. elim either [
     | inl was ↦ (added rank addr).1 (inl ((before rank addr).1 (inl was)))
@@ -78,7 +91,9 @@ below-more bound a b p q old found new ranks from_a from_b to_a to_b apart befor
   ],
 )
 
-pub below-whole : (bound : ℕ) (a b : Landing) (old found : List ContestedRange) → min (a.addr + length a.bytes) (b.addr + length b.bytes) ≤ bound → IsFoundBelow bound a b old found → (rank addr : ℕ) → IsIn found rank addr ↔ (IsIn old rank addr ⊎ Differ rank addr a b)
+pub below-whole : (bound : ℕ) (a b : Landing) (old found : List ContestedRange)
+    → min (a.addr + length a.bytes) (b.addr + length b.bytes) ≤ bound → IsFoundBelow bound a b old found → (rank addr : ℕ)
+    → IsIn found rank addr ↔ (IsIn old rank addr ⊎ Differ rank addr a b)
 below-whole bound a b old found whole before rank addr = (
   λ here. elim ((before rank addr).0 here) [ inl was ↦ inl was | inr under ↦ inr under.differ ],
   λ either. elim either [
@@ -91,14 +106,22 @@ below-whole bound a b old found whole before rank addr = (
 )
 
 -- landings in two memories never differ
-pub in_two_memories : (a b : Landing) (old : List ContestedRange) → a.rank ≢ b.rank → (rank addr : ℕ) → IsIn old rank addr ↔ (IsIn old rank addr ⊎ Differ rank addr a b)
+pub in_two_memories : (a b : Landing) (old : List ContestedRange) → a.rank ≢ b.rank → (rank addr : ℕ)
+    → IsIn old rank addr ↔ (IsIn old rank addr ⊎ Differ rank addr a b)
 in_two_memories a b old apart rank addr = (
   λ here. inl here,
-  λ either. elim either [ inl here ↦ here | inr differ ↦ absurd (apart (reaches-rank rank addr a differ.first ∙ sym (reaches-rank rank addr b differ.second))) ],
+  λ either. elim either [
+    | inl here ↦ here
+    | inr differ ↦ absurd (apart (reaches-rank rank addr a differ.first ∙ sym (reaches-rank rank addr b differ.second)))
+  ],
 )
 
-pub byte-contested : (bound : ℕ) (all : List Landing) (a b : Landing) (p q : Contender) → Contains all a → Contains all b → a.rank ≡ b.rank → a.addr ≤ bound → b.addr ≤ bound → bound < a.addr + length a.bytes → bound < b.addr + length b.bytes → key_of p ≡ a.key → key_of q ≡ b.key → p.byte ≡ landing_byte bound a → q.byte ≡ landing_byte bound b → p.byte ≢ q.byte → IsContestedRange all (byte_range b bound p q)
-byte-contested bound all a b p q first second ranks from_a from_b to_a to_b key_p key_q byte_p byte_q apart = record {
+pub byte-contested : (bound : ℕ) (all : List Landing) (a b : Landing) (one other : Contender) → Contains all a → Contains all b
+    → a.rank ≡ b.rank
+    → a.addr ≤ bound → b.addr ≤ bound → bound < a.addr + length a.bytes → bound < b.addr + length b.bytes → key_of one ≡ a.key
+    → key_of other ≡ b.key → one.byte ≡ landing_byte bound a → other.byte ≡ landing_byte bound b → one.byte ≢ other.byte
+    → IsContestedRange all (byte_range b bound one other)
+byte-contested bound all a b one other first second ranks from_a from_b to_a to_b key_p key_q byte_p byte_q apart = record {
   some = omega arith;
   first = (a, first, sym key_p, reaches-from b.rank bound a ranks from_a to_a, sym byte_p);
   second = (b, second, sym key_q, reaches-from b.rank bound b refl from_b to_b, sym byte_q);

@@ -1,3 +1,4 @@
+-- The lemmas of this crate's proofs: requests and their landings, orders, and ranges that are sorted, found and merged.
 pub mod Added
 pub mod Compared
 pub mod Inside

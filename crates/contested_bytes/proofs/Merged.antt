@@ -1,5 +1,6 @@
 -- Ranges in their order, added one after another.
-use Rattle.std.proofs.Common.{◌≡◌, ℕ, ◌+◌, ◌<◌, ◌≤◌, ◌⊎◌, ◌↔◌, inl, inr, List, [], ◌∷◌, ◌++◌, length, get_or, take, sym, ap, subst, ◌∙◌, arith}
+use Rattle.std.proofs.Common.{◌≡◌, ℕ, ◌+◌, ◌<◌, ◌≤◌, ◌⊎◌, ◌↔◌, inl, inr, List, [], ◌∷◌, ◌++◌, length, get_or, take, sym, ap, subst, ◌∙◌}
+use Rattle.std.proofs.Common.{arith}
 use Rattle.std.specs.Prelude.{All}
 use Rattle.std.proofs.lemmas.List.{take_more, take_all}
 use Rattle.std.proofs.lemmas.List.Elements.{Contains-append_left, Contains-push, Contains-push_cases}
@@ -11,7 +12,8 @@ use Rattle.contested_bytes.specs.Places.{StartsBy, StartInOrder}
 abbrev pub HasSameBytes : List ContestedRange → List ContestedRange → Type 0
 HasSameBytes one other = (rank addr : ℕ) → IsIn one rank addr ↔ IsIn other rank addr
 
-in_one_more : (found : List ContestedRange) (r : ContestedRange) (rank addr : ℕ) → IsIn (found ++ r ∷ []) rank addr ↔ (IsIn found rank addr ⊎ Has r rank addr)
+in_one_more : (found : List ContestedRange) (r : ContestedRange) (rank addr : ℕ)
+    → IsIn (found ++ r ∷ []) rank addr ↔ (IsIn found rank addr ⊎ Has r rank addr)
 in_one_more found r rank addr = (
   λ there. elim (Contains-push_cases found r there.0 there.1) [
     | inl old ↦ inl (there.0, old, there.2)
@@ -23,7 +25,9 @@ in_one_more found r rank addr = (
   ],
 )
 
-pub more_bytes : (found merged new : List ContestedRange) (i : ℕ) (r : ContestedRange) → i < length found → ((d : ContestedRange) → r ≡ get_or found i d) → HasSameBytes merged (take i found) → ((rank addr : ℕ) → IsIn new rank addr ↔ (IsIn merged rank addr ⊎ Has r rank addr)) → HasSameBytes new (take (i + 1) found)
+pub more_bytes : (found merged new : List ContestedRange) (i : ℕ) (r : ContestedRange) → i < length found
+    → ((d : ContestedRange) → r ≡ get_or found i d) → HasSameBytes merged (take i found)
+    → ((rank addr : ℕ) → IsIn new rank addr ↔ (IsIn merged rank addr ⊎ Has r rank addr)) → HasSameBytes new (take (i + 1) found)
 more_bytes found merged new i r within is before added rank addr =
     let whole : take (i + 1) found ≡ take i found ++ r ∷ [] = take_more found i r within ∙ ap (λ c. take i found ++ c ∷ []) (sym (is r)) in
     let more = in_one_more (take i found) r rank addr in
@@ -37,15 +41,20 @@ abbrev pub StartBeforeRest : List ContestedRange → ℕ → List ContestedRange
 StartBeforeRest found i merged =
     (k : ℕ) (d : ContestedRange) → i ≤ k → k < length found → All (StartsBy (get_or found k d).rank (get_or found k d).addr) merged
 
-pub starts_no_later : (found merged : List ContestedRange) (i : ℕ) (r : ContestedRange) → i < length found → ((d : ContestedRange) → r ≡ get_or found i d) → StartBeforeRest found i merged → All (StartsBy r.rank r.addr) merged
+pub starts_no_later : (found merged : List ContestedRange) (i : ℕ) (r : ContestedRange) → i < length found
+    → ((d : ContestedRange) → r ≡ get_or found i d) → StartBeforeRest found i merged → All (StartsBy r.rank r.addr) merged
 starts_no_later found merged i r within is before =
     subst (λ (c : ContestedRange). All (StartsBy c.rank c.addr) merged) (sym (is r)) (before i r (omega arith) within)
 
-pub more_starts : (found merged new : List ContestedRange) (i : ℕ) (r : ContestedRange) → ((d : ContestedRange) → r ≡ get_or found i d) → StartInOrder found → StartBeforeRest found i merged → ((rank addr : ℕ) → All (StartsBy rank addr) merged → StartsBy rank addr r → All (StartsBy rank addr) new) → StartBeforeRest found (i + 1) new
+pub more_starts : (found merged new : List ContestedRange) (i : ℕ) (r : ContestedRange) → ((d : ContestedRange) → r ≡ get_or found i d)
+    → StartInOrder found → StartBeforeRest found i merged
+    → ((rank addr : ℕ) → All (StartsBy rank addr) merged → StartsBy rank addr r → All (StartsBy rank addr) new)
+    → StartBeforeRest found (i + 1) new
 more_starts found merged new i r is order before added k d after within =
     let later = get_or found k d in
     added later.rank later.addr (before k d (omega (arith, after)) within)
     (subst (StartsBy later.rank later.addr) (sym (is d)) (order i k d (omega (arith, after)) within))
 
-pub all_bytes : (found merged : List ContestedRange) (i : ℕ) → length found ≤ i → HasSameBytes merged (take i found) → HasSameBytes merged found
+pub all_bytes : (found merged : List ContestedRange) (i : ℕ) → length found ≤ i → HasSameBytes merged (take i found)
+    → HasSameBytes merged found
 all_bytes found merged i whole before = subst (HasSameBytes merged) (take_all i found whole) before

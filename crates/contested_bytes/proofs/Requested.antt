@@ -1,5 +1,6 @@
 -- Landings gathered request by request.
-use Rattle.std.proofs.Common.{◌≡◌, ℕ, ◌+◌, ◌<◌, ◌≤◌, ◌⊎◌, inl, inr, zero, suc, Bool, true, false, cond, List, [], ◌∷◌, ◌++◌, length, get_or, map, drop, refl, sym, ap, subst, ◌∙◌, arith, append_assoc, Option, Some, None}
+use Rattle.std.proofs.Common.{◌≡◌, ℕ, ◌+◌, ◌<◌, ◌≤◌, ◌⊎◌, inl, inr, zero, suc, Bool, true, false, cond, List, [], ◌∷◌, ◌++◌, length, get_or}
+use Rattle.std.proofs.Common.{map, drop, refl, sym, ap, subst, ◌∙◌, arith, append_assoc, Option, Some, None}
 use Rattle.std.specs.Prelude.{Contains, IsTrue, filter_map, slice_get}
 use Rattle.std.specs.List.{enumerate_from, cons_option}
 use Rattle.std.specs.Option.{option_or}
@@ -27,11 +28,15 @@ cond-none : {X : Type 0} (b : Bool) (x : X) (rest : Option X) → cond b (Some x
 cond-none true x rest is = absurd (none-some x (sym is))
 cond-none false x rest is = refl
 
-pub stays_inside : (nodes : List NodeState) (n : NodeState) (i : ℕ) (r : Asked) → slice_get n.hart.communication.requests.requests i ≡ Some r → first_outside nodes (issued_from n i) ≡ None → leaves_area nodes r ≡ false
+pub stays_inside : (nodes : List NodeState) (n : NodeState) (i : ℕ) (r : Asked)
+    → slice_get n.hart.communication.requests.requests i ≡ Some r → first_outside nodes (issued_from n i) ≡ None
+    → leaves_area nodes r ≡ false
 stays_inside nodes n i r is none =
-    cond-none (leaves_area nodes r) (OutsideArea n.hart.rank i) (first_outside nodes (issued_from n (i + 1))) (sym (next_request nodes n i r is) ∙ none)
+    cond-none (leaves_area nodes r) (OutsideArea n.hart.rank i) (first_outside nodes (issued_from n (i + 1)))
+    (sym (next_request nodes n i r is) ∙ none)
 
-pub rest_inside : (nodes : List NodeState) (n : NodeState) (i : ℕ) (r : Asked) → slice_get n.hart.communication.requests.requests i ≡ Some r → first_outside nodes (issued_from n i) ≡ None → first_outside nodes (issued_from n (i + 1)) ≡ None
+pub rest_inside : (nodes : List NodeState) (n : NodeState) (i : ℕ) (r : Asked) → slice_get n.hart.communication.requests.requests i ≡ Some r
+    → first_outside nodes (issued_from n i) ≡ None → first_outside nodes (issued_from n (i + 1)) ≡ None
 rest_inside nodes n i r is none = sym (keeps_here nodes n i r is (stays_inside nodes n i r is none)) ∙ none
 
 room_of : (nprocs places size : ℕ) (r : Asked) → IsTrue (is_memory_size size) → IsWellAddressed nprocs places size r → HasRoom r
@@ -44,29 +49,40 @@ has_room n i r hart is =
     let requests = n.hart.communication.requests.requests in
     let places = length n.hart.communication.registrations.in_effect in
     let size = length n.hart.memory in
-    let well : IsWellAddressed n.hart.nprocs places size (get_or requests i r) = hart.communication.targets i r (slice_get_within requests i r is) in
+    let well : IsWellAddressed n.hart.nprocs places size (get_or requests i r) =
+    hart.communication.targets i r (slice_get_within requests i r is) in
     room_of n.hart.nprocs places size r hart.memory (rw (← get_or_from_slice_get requests i r r is) well)
 
 -- what is gathered, and what the requests from number i on land
 abbrev pub gathered_from : List NodeState → NodeState → ℕ → List Landing → List Landing
 gathered_from nodes n i all = all ++ landings_of nodes (issued_from n i)
 
-landings-next : (nodes : List NodeState) (n : NodeState) (i : ℕ) (r : Asked) → slice_get n.hart.communication.requests.requests i ≡ Some r → landings_of nodes (issued_from n i) ≡ cons_option (landing_of nodes n.hart.rank i r) (landings_of nodes (issued_from n (i + 1)))
+landings-next : (nodes : List NodeState) (n : NodeState) (i : ℕ) (r : Asked) → slice_get n.hart.communication.requests.requests i ≡ Some r
+    → landings_of nodes (issued_from n i) ≡ cons_option (landing_of nodes n.hart.rank i r) (landings_of nodes (issued_from n (i + 1)))
 landings-next nodes n i r is =
-    ap (λ (rs : List Asked). landings_of nodes (map (issued_as n.hart.rank) (enumerate_from i rs))) (drop_from n.hart.communication.requests.requests i r is)
+    ap (λ (rs : List Asked). landings_of nodes (map (issued_as n.hart.rank) (enumerate_from i rs)))
+    (drop_from n.hart.communication.requests.requests i r is)
 
-pub gathered-none : (nodes : List NodeState) (n : NodeState) (i : ℕ) (r : Asked) (all : List Landing) → slice_get n.hart.communication.requests.requests i ≡ Some r → landing_of nodes n.hart.rank i r ≡ None → gathered_from nodes n (i + 1) all ≡ gathered_from nodes n i all
+pub gathered-none : (nodes : List NodeState) (n : NodeState) (i : ℕ) (r : Asked) (all : List Landing)
+    → slice_get n.hart.communication.requests.requests i ≡ Some r → landing_of nodes n.hart.rank i r ≡ None
+    → gathered_from nodes n (i + 1) all ≡ gathered_from nodes n i all
 gathered-none nodes n i r all is none =
     sym (ap (λ ls. all ++ ls) (landings-next nodes n i r is ∙ ap (λ o. cons_option o (landings_of nodes (issued_from n (i + 1)))) none))
 
-pub gathered-some : (nodes : List NodeState) (n : NodeState) (i : ℕ) (r : Asked) (all : List Landing) (l : Landing) → slice_get n.hart.communication.requests.requests i ≡ Some r → landing_of nodes n.hart.rank i r ≡ Some l → gathered_from nodes n (i + 1) (all ++ l ∷ []) ≡ gathered_from nodes n i all
-gathered-some nodes n i r all l is some =
-    append_assoc all (l ∷ []) (landings_of nodes (issued_from n (i + 1)))
-    ∙ sym (ap (λ ls. all ++ ls) (landings-next nodes n i r is ∙ ap (λ o. cons_option o (landings_of nodes (issued_from n (i + 1)))) some))
+pub gathered-some : (nodes : List NodeState) (node : NodeState) (issue : ℕ) (request : Asked) (all : List Landing) (landing : Landing)
+    → slice_get node.hart.communication.requests.requests issue ≡ Some request
+    → landing_of nodes node.hart.rank issue request ≡ Some landing
+    → gathered_from nodes node (issue + 1) (all ++ landing ∷ []) ≡ gathered_from nodes node issue all
+gathered-some nodes node issue request all landing is some =
+    append_assoc all (landing ∷ []) (landings_of nodes (issued_from node (issue + 1)))
+    ∙ sym (ap (λ ls. all ++ ls)
+    (landings-next nodes node issue request is ∙ ap (λ o. cons_option o (landings_of nodes (issued_from node (issue + 1)))) some))
 
-pub gathered-whole : (nodes : List NodeState) (n : NodeState) (i : ℕ) (all : List Landing) → length n.hart.communication.requests.requests ≤ i → gathered_from nodes n i all ≡ all
+pub gathered-whole : (nodes : List NodeState) (n : NodeState) (i : ℕ) (all : List Landing)
+    → length n.hart.communication.requests.requests ≤ i → gathered_from nodes n i all ≡ all
 gathered-whole nodes n i all past =
-    ap (λ (rs : List Asked). all ++ landings_of nodes (map (issued_as n.hart.rank) (enumerate_from i rs))) (drop_all i n.hart.communication.requests.requests past) ∙ append-nil all
+    ap (λ (rs : List Asked). all ++ landings_of nodes (map (issued_as n.hart.rank) (enumerate_from i rs)))
+    (drop_all i n.hart.communication.requests.requests past) ∙ append-nil all
 
 -- ---- a node that is looked at
 
@@ -82,19 +98,25 @@ or-none_second (Some x) b is = absurd (none-some x (sym is))
 pub none_outside : (nodes : List NodeState) → exchange_fault nodes ≡ None → first_outside nodes (issued nodes) ≡ None
 none_outside nodes none = or-none_second _ _ (or-none_second _ _ none)
 
-pub node_inside : (nodes : List NodeState) (ps : List PreparedNode) (i : ℕ) (p : PreparedNode) → slice_get ps i ≡ Some p → first_outside nodes (issued (drop i (states ps))) ≡ None → first_outside nodes (issued_by p.node) ≡ None
+pub node_inside : (nodes : List NodeState) (ps : List PreparedNode) (i : ℕ) (p : PreparedNode) → slice_get ps i ≡ Some p
+    → first_outside nodes (issued (drop i (states ps))) ≡ None → first_outside nodes (issued_by p.node) ≡ None
 node_inside nodes ps i p is none =
-    or-none_first (first_outside nodes (issued_by p.node)) (first_outside nodes (issued (drop (i + 1) (states ps)))) (sym (next_node nodes ps i p is) ∙ none)
+    or-none_first (first_outside nodes (issued_by p.node)) (first_outside nodes (issued (drop (i + 1) (states ps))))
+    (sym (next_node nodes ps i p is) ∙ none)
 
-pub nodes_inside : (nodes : List NodeState) (ps : List PreparedNode) (i : ℕ) (p : PreparedNode) → slice_get ps i ≡ Some p → first_outside nodes (issued (drop i (states ps))) ≡ None → first_outside nodes (issued (drop (i + 1) (states ps))) ≡ None
+pub nodes_inside : (nodes : List NodeState) (ps : List PreparedNode) (i : ℕ) (p : PreparedNode) → slice_get ps i ≡ Some p
+    → first_outside nodes (issued (drop i (states ps))) ≡ None → first_outside nodes (issued (drop (i + 1) (states ps))) ≡ None
 nodes_inside nodes ps i p is none =
-    or-none_second (first_outside nodes (issued_by p.node)) (first_outside nodes (issued (drop (i + 1) (states ps)))) (sym (next_node nodes ps i p is) ∙ none)
+    or-none_second (first_outside nodes (issued_by p.node)) (first_outside nodes (issued (drop (i + 1) (states ps))))
+    (sym (next_node nodes ps i p is) ∙ none)
 
 -- what is gathered, and what the requests of the nodes from a place on land
 abbrev pub gathered_rest : List NodeState → List PreparedNode → ℕ → List Landing → List Landing
 gathered_rest nodes ps i all = all ++ landings_of nodes (issued (drop i (states ps)))
 
-pub gathered-node : (nodes : List NodeState) (ps : List PreparedNode) (i : ℕ) (p : PreparedNode) (all new : List Landing) → i < length ps → p ≡ get_or ps i p → new ≡ all ++ landings_of nodes (issued_by p.node) → gathered_rest nodes ps (i + 1) new ≡ gathered_rest nodes ps i all
+pub gathered-node : (nodes : List NodeState) (ps : List PreparedNode) (i : ℕ) (p : PreparedNode) (all new : List Landing) → i < length ps
+    → p ≡ get_or ps i p → new ≡ all ++ landings_of nodes (issued_by p.node)
+    → gathered_rest nodes ps (i + 1) new ≡ gathered_rest nodes ps i all
 gathered-node nodes ps i p all new within is added =
     let rest = issued (drop (i + 1) (states ps)) in
     ap (λ ls. ls ++ landings_of nodes rest) added
@@ -102,9 +124,11 @@ gathered-node nodes ps i p all new within is added =
     ∙ ap (λ ls. all ++ ls) (sym (filter_map-append (λ (q : Issued). landing_of nodes q.rank q.issue q.request) (issued_by p.node) rest)
     ∙ sym (ap (λ (ns : List NodeState). landings_of nodes (issued ns)) (drop_from (states ps) i p.node (state_here ps i p within is))))
 
-pub gathered-nodes : (nodes : List NodeState) (ps : List PreparedNode) (i : ℕ) (all : List Landing) → length ps ≤ i → gathered_rest nodes ps i all ≡ all
+pub gathered-nodes : (nodes : List NodeState) (ps : List PreparedNode) (i : ℕ) (all : List Landing) → length ps ≤ i
+    → gathered_rest nodes ps i all ≡ all
 gathered-nodes nodes ps i all past =
-    ap (λ (ns : List NodeState). all ++ landings_of nodes (issued ns)) (drop_all i (states ps) (rw (length-states ps) past)) ∙ append-nil all
+    ap (λ (ns : List NodeState). all ++ landings_of nodes (issued ns)) (drop_all i (states ps) (rw (length-states ps) past))
+    ∙ append-nil all
 
 -- ---- they are the landings of the superstep
 
@@ -122,9 +146,10 @@ contains-split x xs y (suc k, within, is) = inr (k, omega (arith, within), is)
 abbrev pub IsPicked : {X Y : Type 0} → (X → Option Y) → List X → Y → Type 0
 IsPicked {X} f xs y = (x : X) × Contains xs x × (f x ≡ Some y)
 
-picked-head : {X Y : Type 0} (f : X → Option Y) (x : X) (xs : List X) (rest : List Y) (y : Y) (o : Option Y) → f x ≡ o → (Contains rest y → IsPicked f xs y) → Contains (cons_option o rest) y → IsPicked f (x ∷ xs) y
-picked-head f x xs rest y None is later there = let found = later there in (found.0, contains-cons x xs found.0 found.1, found.2)
-picked-head f x xs rest y (Some z) is later there = elim (contains-split z rest y there) [
+picked-head : {X Y : Type 0} (pick : X → Option Y) (x : X) (xs : List X) (rest : List Y) (y : Y) (picked : Option Y) → pick x ≡ picked
+    → (Contains rest y → IsPicked pick xs y) → Contains (cons_option picked rest) y → IsPicked pick (x ∷ xs) y
+picked-head pick x xs rest y None is later there = let found = later there in (found.0, contains-cons x xs found.0 found.1, found.2)
+picked-head pick x xs rest y (Some first) is later there = elim (contains-split first rest y there) [
   | inl same ↦ (x, contains-head x xs, is ∙ ap Some same)
   | inr inside ↦ let found = later inside in (found.0, contains-cons x xs found.0 found.1, found.2)
 ]
@@ -153,17 +178,20 @@ of_put nodes i = landing_of_put nodes i.rank i.issue i.request
 abbrev pub of_any : List NodeState → Issued → Option Landing
 of_any nodes i = landing_of nodes i.rank i.issue i.request
 
-either-kind : (nodes : List NodeState) (caller issue : ℕ) (l : Landing) (r : Asked) → landing_of nodes caller issue r ≡ Some l → (landing_of_get nodes caller issue r ≡ Some l) ⊎ (landing_of_put nodes caller issue r ≡ Some l)
+either-kind : (nodes : List NodeState) (caller issue : ℕ) (l : Landing) (r : Asked) → landing_of nodes caller issue r ≡ Some l
+    → (landing_of_get nodes caller issue r ≡ Some l) ⊎ (landing_of_put nodes caller issue r ≡ Some l)
 either-kind nodes caller issue l (asks_put p) is = inr is
 either-kind nodes caller issue l (asks_get g) is = inl is
 either-kind nodes caller issue l (asks_send m) is = inl is
 
-get-kind : (nodes : List NodeState) (caller issue : ℕ) (l : Landing) (r : Asked) → landing_of_get nodes caller issue r ≡ Some l → landing_of nodes caller issue r ≡ Some l
+get-kind : (nodes : List NodeState) (caller issue : ℕ) (l : Landing) (r : Asked) → landing_of_get nodes caller issue r ≡ Some l
+    → landing_of nodes caller issue r ≡ Some l
 get-kind nodes caller issue l (asks_put p) is = absurd (none-some l is)
 get-kind nodes caller issue l (asks_get g) is = is
 get-kind nodes caller issue l (asks_send m) is = is
 
-put-kind : (nodes : List NodeState) (caller issue : ℕ) (l : Landing) (r : Asked) → landing_of_put nodes caller issue r ≡ Some l → landing_of nodes caller issue r ≡ Some l
+put-kind : (nodes : List NodeState) (caller issue : ℕ) (l : Landing) (r : Asked) → landing_of_put nodes caller issue r ≡ Some l
+    → landing_of nodes caller issue r ≡ Some l
 put-kind nodes caller issue l (asks_put p) is = is
 put-kind nodes caller issue l (asks_get g) is = absurd (none-some l is)
 put-kind nodes caller issue l (asks_send m) is = is

@@ -14,14 +14,16 @@ use Rattle.contested_bytes.specs.Places.{IsNoLater}
 abbrev pub by_place : ℕ × ℕ → ℕ × ℕ → Ordering
 by_place p q = ordering_then (nat_cmp p.0 q.0) (nat_cmp p.1 q.1)
 
-not_less : (a b x y : ℕ) (o p : Ordering) → MatchOrdering o (a < b) (a ≡ b) (b < a) → MatchOrdering p (x < y) (x ≡ y) (y < x) → is_lt (ordering_then o p) ≡ false → IsNoLater b y a x
-not_less a b x y Less p rank addr is = absurd (true≢false is)
+not_less : (a b x y : ℕ) (by_rank by_addr : Ordering) → MatchOrdering by_rank (a < b) (a ≡ b) (b < a)
+    → MatchOrdering by_addr (x < y) (x ≡ y) (y < x) → is_lt (ordering_then by_rank by_addr) ≡ false → IsNoLater b y a x
+not_less a b x y Less by_addr rank addr is = absurd (true≢false is)
 not_less a b x y Equal Less rank addr is = absurd (true≢false is)
 not_less a b x y Equal Equal rank addr is = inr (sym rank, omega (arith, addr))
 not_less a b x y Equal Greater rank addr is = inr (sym rank, omega (arith, addr))
-not_less a b x y Greater p rank addr is = inl rank
+not_less a b x y Greater by_addr rank addr is = inl rank
 
-pub in_order : {X : Type 0} (rank addr : X → ℕ) (xs : List X) → IsSortedByKey (λ x. (rank x, addr x)) by_place xs → AllPairs (λ (x y : X). IsNoLater (rank x) (addr x) (rank y) (addr y)) xs
+pub in_order : {X : Type 0} (rank addr : X → ℕ) (xs : List X) → IsSortedByKey (λ x. (rank x, addr x)) by_place xs
+    → AllPairs (λ (x y : X). IsNoLater (rank x) (addr x) (rank y) (addr y)) xs
 in_order rank addr xs sorted i j d before within =
     let total = then_total (on_total (λ (p : ℕ × ℕ). p.0) nat_cmp_total) (on_total (λ (p : ℕ × ℕ). p.1) nat_cmp_total) in
     let far = sorted_far _ (ranks_by total (λ x. (rank x, addr x))) xs sorted i j d (omega (arith, before)) within in

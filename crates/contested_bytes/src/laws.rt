@@ -7,7 +7,8 @@ ghost use Rattle.bsp_exchange.specs.Exchange.{exchanged};
 ghost use Rattle.bsp_exchange.specs.Landings.{Landing, landing_byte, landings, memory_of};
 ghost use Rattle.bsp_exchange.specs.Parts.{CanExchange};
 ghost use Rattle.contested_bytes.specs.declared.range.ContestedRange.{ContestedRange};
-ghost use Rattle.contested_bytes.specs.Contested.{reaches, IsContested, IsSettled, AreSettled, IsAllowedOrder, memory_in, exchanged_in, MayLie};
+ghost use Rattle.contested_bytes.specs.Contested.{reaches, IsContested, IsSettled, AreSettled, IsAllowedOrder, memory_in, exchanged_in};
+ghost use Rattle.contested_bytes.specs.Contested.{MayLie};
 ghost use Rattle.contested_bytes.specs.Examples.{put_by_0, alike_by_2, other_by_2, behind_by_2, get_by_1};
 ghost use Rattle.contested_bytes.specs.Ranges.{IsContestedRange};
 
@@ -64,8 +65,8 @@ pub fn contested_bytes_are_not()
 {}
 
 /// Small examples. Two puts that overlap in a byte to which both bring a 4 have no contested byte, and neither have two that touch. Where
-/// they bring a 4 and a 9 to it, that byte is contested, and no other. A put and a get's answer are as two puts. BSPlib allows both orders of
-/// two puts: in one of them the 9 lies there afterwards, and in the other the 4.
+/// they bring a 4 and a 9 to it, that byte is contested, and no other. A put and a get's answer are as two puts. BSPlib allows both orders
+/// of two puts: in one of them the 9 lies there afterwards, and in the other the 4.
 pub fn examples()
     ensures alike { AreSettled (put_by_0 ∷ alike_by_2 ∷ []) }
     ensures touching { AreSettled (put_by_0 ∷ behind_by_2 ∷ []) }

@@ -1,3 +1,4 @@
+-- Totals fit 128 bits, grow by the cost of each row, and are at most those of the first version.
 use Rattle.std.proofs.Common.{◌≡◌, ℕ, ◌+◌, ◌*◌, ◌^◌, ◌<◌, ◌≤◌, List, [], ◌∷◌, ◌++◌, length, ap, ◌∙◌, add-zero, arith}
 use Rattle.std.specs.Prelude.{All}
 use Rattle.std.proofs.Math.Nat.{mul-le-mul}
@@ -21,20 +22,27 @@ cost_bound version g l row g_fits l_fits bounded =
     omega arith
 
 -- the total of as many rows as a ledger holds is below 2^128
-pub total_fits : (version : LedgerText) (g l : ℕ) (rows : List CostRow) → g < 2 ^ 32 → l < 2 ^ 32 → length rows ≤ 2 ^ 41 → All IsBounded rows → total_in version g l rows < 2 ^ 128
+pub total_fits : (version : LedgerText) (g l : ℕ) (rows : List CostRow) → g < 2 ^ 32 → l < 2 ^ 32 → length rows ≤ 2 ^ 41
+    → All IsBounded rows → total_in version g l rows < 2 ^ 128
 total_fits version g l rows g_fits l_fits few bounded =
-    let each : All (λ row. cost_of version g l row ≤ 2 ^ 81) rows = λ k d within. cost_bound version g l _ g_fits l_fits (bounded k d within) in
+    let each : All (λ row. cost_of version g l row ≤ 2 ^ 81) rows =
+    λ k d within. cost_bound version g l _ g_fits l_fits (bounded k d within) in
     let bound : total_in version g l rows ≤ length rows * 2 ^ 81 = sum_by-le (cost_of version g l) (2 ^ 81) rows each in
     omega arith
 
 -- the total of one row more
-pub total_more : (version : LedgerText) (g l : ℕ) (rows : List CostRow) (row : CostRow) → total_in version g l (rows ++ row ∷ []) ≡ total_in version g l rows + cost_of version g l row
-total_more version g l rows row = sum_by-append (cost_of version g l) rows (row ∷ []) ∙ ap (λ k. total_in version g l rows + k) (sum_by-cons (cost_of version g l) row [] ∙ add-zero (cost_of version g l row))
+pub total_more : (version : LedgerText) (g l : ℕ) (rows : List CostRow) (row : CostRow)
+    → total_in version g l (rows ++ row ∷ []) ≡ total_in version g l rows + cost_of version g l row
+total_more version g l rows row =
+    sum_by-append (cost_of version g l) rows (row ∷ [])
+    ∙ ap (λ k. total_in version g l rows + k) (sum_by-cons (cost_of version g l) row [] ∙ add-zero (cost_of version g l row))
 
-pub total_with_fits : (version : LedgerText) (g l : ℕ) (rows : List CostRow) (row : CostRow) → g < 2 ^ 32 → l < 2 ^ 32 → length rows < 2 ^ 41 → All IsBounded rows → IsBounded row → total_in version g l rows + cost_of version g l row < 2 ^ 128
+pub total_with_fits : (version : LedgerText) (g l : ℕ) (rows : List CostRow) (row : CostRow) → g < 2 ^ 32 → l < 2 ^ 32
+    → length rows < 2 ^ 41 → All IsBounded rows → IsBounded row → total_in version g l rows + cost_of version g l row < 2 ^ 128
 total_with_fits version g l rows row g_fits l_fits few bounded one =
     rw (← total_more version g l rows row)
-    (total_fits version g l (rows ++ row ∷ []) g_fits l_fits (omega (arith, length_push rows row)) (All-append IsBounded rows (row ∷ []) bounded (All-cons IsBounded row [] one (All-nil IsBounded))))
+    (total_fits version g l (rows ++ row ∷ []) g_fits l_fits (omega (arith, length_push rows row))
+    (All-append IsBounded rows (row ∷ []) bounded (All-cons IsBounded row [] one (All-nil IsBounded))))
 
 -- a row costs no more than in the first version where its h is no more
 cost_at_most : (g l : ℕ) (row : CostRow) → row.h ≤ row.h_all → cost_of V2 g l row ≤ cost_of V1 g l row

@@ -20,7 +20,8 @@ mod lines;
 
 ghost use Rattle.std.specs.Prelude.{◌≡◌, ◌^◌, ◌<◌, ◌≤◌, true, false, [], ◌∷◌, ◌++◌, length, string_bytes, IsTrue, IfOk, OnOk, OnErr};
 ghost use Rattle.cost_ledger.specs.declared.LedgerText.TheVariants.{V1, V2};
-ghost use Rattle.cost_ledger.specs.CostRow.{IsBounded, h_in, cost_of, total_in, ending_text, cost_lines as cost_lines_of, TotalIgnoresOrder, TotalIsAtMostV1};
+ghost use Rattle.cost_ledger.specs.CostRow.{IsBounded, h_in, cost_of, total_in, ending_text, cost_lines as cost_lines_of};
+ghost use Rattle.cost_ledger.specs.CostRow.{TotalIgnoresOrder, TotalIsAtMostV1};
 
 pub use lines::cost_lines;
 use std::alloc::{AllocError, Allocator};

@@ -1,5 +1,6 @@
 -- A reader or a writer whose failures are counted.
-use Rattle.std.specs.Prelude.{ℕ, ◌+◌, ◌-◌, ◌^◌, ◌<◌, ◌≤◌, ◌⊎◌, ◌==◌, ◌&&◌, Bool, true, false, List, length, nat_lt, if◌then◌else◌, Result, Ok, Err}
+use Rattle.std.specs.Prelude.{ℕ, ◌+◌, ◌-◌, ◌^◌, ◌<◌, ◌≤◌, ◌⊎◌, ◌==◌, ◌&&◌, Bool, true, false, List, length, nat_lt, if◌then◌else◌, Result}
+use Rattle.std.specs.Prelude.{Ok, Err}
 
 -- what a contract sees of a `Counted`: the reader or writer inside, and how many of its calls failed
 pub record CountedState (T : Type 0) : Type 0 where

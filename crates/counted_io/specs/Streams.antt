@@ -6,7 +6,8 @@ use Rattle.counted_io.specs.Transfers.{ConsumesAtMost, ConsumesPast, ConsumesWit
 use Rattle.counted_io.specs.declared.ReadError.{ReadError}
 use Rattle.counted_io.specs.declared.ReadError.TheVariants.{TooLong, ReadFault, NoMemory}
 
--- a reader or a writer before and after a call: the known bytes that a reader has left or a writer holds, and how many of its calls had failed
+-- a reader or a writer before and after a call: the known bytes that a reader has left or a writer holds, and how many of its calls had
+-- failed
 pub record Stream : Type 0 where
   pub before : Option (List ℕ)
   pub after : Option (List ℕ)

@@ -1,9 +1,11 @@
 //! The lines of a text that is read as they are wanted.
 
-ghost use Rattle.std.specs.Prelude.{◌≡◌, ◌+◌, ◌<◌, ◌≤◌, ◌⊎◌, ◌∷◌, [], IfNone, IfOk, IfSome, IsOk, OnErr, OnOk, Ok, drop, false, length, slice_index, true, ℕ};
+ghost use Rattle.std.specs.Prelude.{◌≡◌, ◌+◌, ◌<◌, ◌≤◌, ◌⊎◌, ◌∷◌, [], IfNone, IfOk, IfSome, IsOk, OnErr, OnOk, Ok, drop, false, length};
+ghost use Rattle.std.specs.Prelude.{slice_index, true, ℕ};
 ghost use Rattle.std.specs.Io.KnownBytes.{Consumes, IsAtEnd, Keeps};
 ghost use Rattle.counted_io.specs.Counted.{HasRisen};
-ghost use Rattle.counted_io.specs.Lines.{GivesLast, GivesLine, GivesNone, HasFeed, IsFirstFeed, IsOver, LacksFeed, LacksFeedWithin, PassesLimit, ReadsOn};
+ghost use Rattle.counted_io.specs.Lines.{GivesLast, GivesLine, GivesNone, HasFeed, IsFirstFeed, IsOver, LacksFeed, LacksFeedWithin};
+ghost use Rattle.counted_io.specs.Lines.{PassesLimit, ReadsOn};
 
 use crate::{CHUNK, Counted, ReadError, read_retrying};
 use std::alloc::Allocator;

@@ -1,5 +1,6 @@
 -- What a spelling reads as: the image that was spelled, with no fault.
-use Rattle.std.proofs.Common.{◌≡◌, ℕ, zero, suc, ◌+◌, ◌*◌, ◌^◌, ◌<◌, ◌≤◌, true, false, cond, not, ◌&&◌, nat_lt, ◌==◌, List, [], ◌∷◌, ◌++◌, length, map, filter, take, get_or, None, refl, sym, ap, ◌∙◌, arith}
+use Rattle.std.proofs.Common.{◌≡◌, ℕ, zero, suc, ◌+◌, ◌*◌, ◌^◌, ◌<◌, ◌≤◌, true, false, cond, not, ◌&&◌, nat_lt, ◌==◌, List, [], ◌∷◌, ◌++◌}
+use Rattle.std.proofs.Common.{length, map, filter, take, get_or, None, refl, sym, ap, ◌∙◌, arith}
 use Rattle.std.specs.List.{range_with_len}
 use Rattle.std.specs.Int.{w16, w32, to_le_bytes, from_le_bytes}
 use Rattle.std.proofs.lemmas.Bool.Decides.{nat_tests}
@@ -11,9 +12,11 @@ use Rattle.std.proofs.lemmas.Nat.{from_le_bytes-to_le_bytes_2, from_le_bytes-to_
 use Rattle.std.proofs.lemmas.Simd.{map-map}
 use Rattle.node_memory.specs.Bytes.{bytes_at}
 use Rattle.node_memory.specs.Image.{Image, Segment, IsSegment}
-use Rattle.elf_image.specs.Headers.{FileHeader, ProgramHeader, ehdr_size, file_header, program_header, program_header_at, program_headers, is_load}
+use Rattle.elf_image.specs.Headers.{FileHeader, ProgramHeader, ehdr_size, file_header, program_header, program_header_at, program_headers}
+use Rattle.elf_image.specs.Headers.{is_load}
 use Rattle.elf_image.specs.Presents.{segment_of, Presents}
-use Rattle.elf_image.specs.Faults.{first_fault, start_checks, identity_checks, layout_checks, file_header_checks, program_header_checks, filesz_of, entry_checks, table_checks, file_checks, file_fault}
+use Rattle.elf_image.specs.Faults.{first_fault, start_checks, identity_checks, layout_checks, file_header_checks, program_header_checks}
+use Rattle.elf_image.specs.Faults.{filesz_of, entry_checks, table_checks, file_checks, file_fault}
 use Rattle.elf_image.specs.Spelling.{spelled_file_header, spelled_program_header, bytes_offset, spelling_of, IsImage}
 use Rattle.elf_image.proofs.Checks.{none_from_NoneHolds, none-append, none_all}
 use Rattle.elf_image.proofs.Table.{filesz_of_more}
@@ -23,9 +26,24 @@ use Rattle.elf_image.proofs.Pieces.{length-spelling_of, entry_at, segment_at, se
 -- ---- the headers
 
 abbrev pub header_of : ℕ → ℕ → FileHeader
-header_of entry n = record { ei_class = 1; ei_data = 1; ei_version = 1; e_type = 2; e_machine = 243; e_version = 1; e_entry = entry; e_phoff = 52; e_ehsize = 52; e_phentsize = 32; e_phnum = n }
+header_of entry n =
+    record {
+      ei_class = 1;
+      ei_data = 1;
+      ei_version = 1;
+      e_type = 2;
+      e_machine = 243;
+      e_version = 1;
+      e_entry = entry;
+      e_phoff = 52;
+      e_ehsize = 52;
+      e_phentsize = 32;
+      e_phnum = n;
+    }
 
-as_read : (i : Image) → file_header (spelling_of i) ≡ header_of (from_le_bytes w32 (to_le_bytes w32 i.entry)) (from_le_bytes w16 (to_le_bytes w16 (length i.segments)))
+as_read : (i : Image)
+    → file_header (spelling_of i) ≡ header_of (from_le_bytes w32 (to_le_bytes w32 i.entry))
+    (from_le_bytes w16 (to_le_bytes w16 (length i.segments)))
 unfolding spelling_of spelled_file_header file_header
 as_read i = refl
 
@@ -42,14 +60,22 @@ load_header offset s = record { p_type = 1; p_offset = offset; p_vaddr = s.addr;
 abbrev reread : ℕ → ℕ
 reread n = from_le_bytes w32 (to_le_bytes w32 n)
 
-entry_as_read : (offset : ℕ) (s : Segment) → program_header (spelled_program_header offset s) ≡ record { p_type = 1; p_offset = reread offset; p_vaddr = reread s.addr; p_filesz = reread (length s.bytes); p_memsz = reread s.size }
+entry_as_read : (offset : ℕ) (s : Segment)
+    → program_header (spelled_program_header offset s)
+    ≡ record { p_type = 1; p_offset = reread offset; p_vaddr = reread s.addr; p_filesz = reread (length s.bytes); p_memsz = reread s.size }
 unfolding spelled_program_header program_header
 entry_as_read offset s = refl
 
-entry_read : (offset : ℕ) (s : Segment) → offset < 2 ^ 32 → s.addr < 2 ^ 32 → length s.bytes < 2 ^ 32 → s.size < 2 ^ 32 → program_header (spelled_program_header offset s) ≡ load_header offset s
+entry_read : (offset : ℕ) (s : Segment) → offset < 2 ^ 32 → s.addr < 2 ^ 32 → length s.bytes < 2 ^ 32 → s.size < 2 ^ 32
+    → program_header (spelled_program_header offset s) ≡ load_header offset s
 entry_read offset s a b c d =
     entry_as_read offset s
-    ∙ rw (from_le_bytes-to_le_bytes_4 offset a, from_le_bytes-to_le_bytes_4 s.addr b, from_le_bytes-to_le_bytes_4 (length s.bytes) c, from_le_bytes-to_le_bytes_4 s.size d) refl
+    ∙ rw (
+      from_le_bytes-to_le_bytes_4 offset a,
+      from_le_bytes-to_le_bytes_4 s.addr b,
+      from_le_bytes-to_le_bytes_4 (length s.bytes) c,
+      from_le_bytes-to_le_bytes_4 s.size d,
+    ) refl
 
 pub short : (i : Image) → IsImage i → length (spelling_of i) ≤ 2 ^ 25
 short i fits = omega (arith, length-spelling_of i, fits.limits.few, fits.limits.small)
@@ -65,18 +91,21 @@ segment-is : (i : Image) (k : ℕ) → k < length i.segments → segment i k ≡
 segment-is i k h = get_or_default i.segments k no_segment (segment i k) h
 
 -- entry k of the table is the header of segment k
-pub entry-spelling_of : (i : Image) (k : ℕ) → IsImage i → k < length i.segments → program_header_at (spelling_of i) k ≡ load_header (bytes_offset i k) (segment i k)
+pub entry-spelling_of : (i : Image) (k : ℕ) → IsImage i → k < length i.segments
+    → program_header_at (spelling_of i) k ≡ load_header (bytes_offset i k) (segment i k)
 entry-spelling_of i k fits h =
     let s = segment i k in
     let b = spelling_of i in
-    let numbers = All-get_or (λ (s : Segment). (s.addr < 2 ^ 32) × (s.size < 2 ^ 32) × IsSegment s) i.segments k no_segment h fits.segments in
+    let numbers =
+    All-get_or (λ (s : Segment). (s.addr < 2 ^ 32) × (s.size < 2 ^ 32) × IsSegment s) i.segments k no_segment h fits.segments in
     let ends = segment_ends i k s h (segment-is i k h) in
     let len = short i fits in
     ap (λ (h : FileHeader). program_header (bytes_at b (h.e_phoff + k * h.e_phentsize) h.e_phentsize)) (file_header-spelling_of i fits)
     ∙ ap program_header (entry_at i k s h (segment-is i k h))
     ∙ entry_read (bytes_offset i k) s (omega arith) numbers.0 (omega arith) numbers.1
 
-segment-spelling_of : (i : Image) (k : ℕ) → IsImage i → k < length i.segments → segment_of (spelling_of i) (program_header_at (spelling_of i) k) ≡ segment i k
+segment-spelling_of : (i : Image) (k : ℕ) → IsImage i → k < length i.segments
+    → segment_of (spelling_of i) (program_header_at (spelling_of i) k) ≡ segment i k
 segment-spelling_of i k fits h =
     let s = segment i k in
     let whole : List ℕ → Segment = λ bytes. record { addr = s.addr; bytes = bytes; size = s.size } in
@@ -84,7 +113,8 @@ segment-spelling_of i k fits h =
 
 -- ---- the image
 
-filter_all : (f : ℕ → ProgramHeader) (n : ℕ) → ((k : ℕ) → k < n → is_load (f k) ≡ true) → filter is_load (map f (range_with_len 0 n)) ≡ map f (range_with_len 0 n)
+filter_all : (f : ℕ → ProgramHeader) (n : ℕ) → ((k : ℕ) → k < n → is_load (f k) ≡ true)
+    → filter is_load (map f (range_with_len 0 n)) ≡ map f (range_with_len 0 n)
 filter_all f zero all = refl
 filter_all f (suc n) all =
     let len : suc n ≡ n + 1 = omega arith in
@@ -100,7 +130,8 @@ filter_all f (suc n) all =
 load-spelling_of : (i : Image) (k : ℕ) → IsImage i → k < length i.segments → is_load (program_header_at (spelling_of i) k) ≡ true
 load-spelling_of i k fits h = ap is_load (entry-spelling_of i k fits h)
 
-segments-spelling_of : (i : Image) → IsImage i → i.segments ≡ map (segment_of (spelling_of i)) (filter is_load (program_headers (spelling_of i)))
+segments-spelling_of : (i : Image) → IsImage i
+    → i.segments ≡ map (segment_of (spelling_of i)) (filter is_load (program_headers (spelling_of i)))
 unfolding program_headers
 segments-spelling_of i fits =
     let b = spelling_of i in
@@ -147,11 +178,14 @@ header_has_none i fits =
     let b = spelling_of i in
     let h = file_header-spelling_of i fits in
     let identity : first_fault (identity_checks (file_header b)) ≡ None = ap (λ (h : FileHeader). first_fault (identity_checks h)) h in
-    let layout : first_fault (layout_checks (length b) (file_header b)) ≡ None = ap (λ (h : FileHeader). first_fault (layout_checks (length b) h)) h ∙ lays_out i.entry (length i.segments) (length b) fits.limits.few (omega (arith, length-spelling_of i)) in
+    let layout : first_fault (layout_checks (length b) (file_header b)) ≡ None =
+    ap (λ (h : FileHeader). first_fault (layout_checks (length b) h)) h ∙ lays_out i.entry (length i.segments) (length b) fits.limits.few
+    (omega (arith, length-spelling_of i)) in
     none-append (start_checks b) (identity_checks (file_header b) ++ layout_checks (length b) (file_header b)) (starts i fits)
     (none-append (identity_checks (file_header b)) (layout_checks (length b) (file_header b)) identity layout)
 
-filesz-spelling_of : (i : Image) (k : ℕ) → IsImage i → k ≤ length i.segments → filesz_of k (program_headers (spelling_of i)) ≡ sizes_sum (take k i.segments)
+filesz-spelling_of : (i : Image) (k : ℕ) → IsImage i → k ≤ length i.segments
+    → filesz_of k (program_headers (spelling_of i)) ≡ sizes_sum (take k i.segments)
 filesz-spelling_of i zero fits h = refl
 filesz-spelling_of i (suc k) fits h =
     let b = spelling_of i in
@@ -159,13 +193,15 @@ filesz-spelling_of i (suc k) fits h =
     let len : suc k ≡ k + 1 = omega arith in
     let within : k < length i.segments = omega arith in
     let number : (file_header b).e_phnum ≡ length i.segments = ap (λ (h : FileHeader). h.e_phnum) (file_header-spelling_of i fits) in
-    let here : cond (is_load (program_header_at b k)) (program_header_at b k).p_filesz 0 ≡ length s.bytes = ap (λ (p : ProgramHeader). cond (is_load p) p.p_filesz 0) (entry-spelling_of i k fits within) in
+    let here : cond (is_load (program_header_at b k)) (program_header_at b k).p_filesz 0 ≡ length s.bytes =
+    ap (λ (p : ProgramHeader). cond (is_load p) p.p_filesz 0) (entry-spelling_of i k fits within) in
     let before = filesz-spelling_of i k fits (omega arith) in
     let of_headers = filesz_of_more b k (omega arith) in
     let of_segments = bytes_offset-more i k s within (segment-is i k within) in
     rw len (omega (arith, here, before, of_headers, of_segments))
 
-entry_passes : (len so_far offset : ℕ) (s : Segment) → IsSegment s → so_far ≤ 2 ^ 24 → offset + length s.bytes ≤ len → first_fault (program_header_checks len so_far (load_header offset s)) ≡ None
+entry_passes : (len so_far offset : ℕ) (s : Segment) → IsSegment s → so_far ≤ 2 ^ 24 → offset + length s.bytes ≤ len
+    → first_fault (program_header_checks len so_far (load_header offset s)) ≡ None
 entry_passes len so_far offset s valid small within =
     let holds : nat_lt s.size (length s.bytes) ≡ false = grind (arith, nat_tests, valid.holds_bytes) in
     let ends : nat_lt (2 ^ 32) (s.addr + s.size) ≡ false = grind (arith, nat_tests, valid.in_addresses) in
@@ -181,11 +217,14 @@ table_has_none i fits =
     let at : (k : ℕ) → k < (file_header b).e_phnum → first_fault (entry_checks b k) ≡ None = λ k h.
     let within : k < length i.segments = omega arith in
     let s = segment i k in
-    let numbers = All-get_or (λ (s : Segment). (s.addr < 2 ^ 32) × (s.size < 2 ^ 32) × IsSegment s) i.segments k no_segment within fits.segments in
+    let numbers =
+    All-get_or (λ (s : Segment). (s.addr < 2 ^ 32) × (s.size < 2 ^ 32) × IsSegment s) i.segments k no_segment within fits.segments in
     let so_far = filesz-spelling_of i (k + 1) fits (omega arith) in
     let total = sum_by-take-le (λ (t : Segment). length t.bytes) i.segments (k + 1) in
-    ap (λ (p : ProgramHeader). first_fault (program_header_checks (length b) (filesz_of (k + 1) (program_headers b)) p)) (entry-spelling_of i k fits within)
-    ∙ entry_passes (length b) (filesz_of (k + 1) (program_headers b)) (bytes_offset i k) s numbers.2 (omega (arith, so_far, total, fits.limits.small)) (segment_ends i k s within (segment-is i k within))
+    ap (λ (p : ProgramHeader). first_fault (program_header_checks (length b) (filesz_of (k + 1) (program_headers b)) p))
+    (entry-spelling_of i k fits within)
+    ∙ entry_passes (length b) (filesz_of (k + 1) (program_headers b)) (bytes_offset i k) s numbers.2
+    (omega (arith, so_far, total, fits.limits.small)) (segment_ends i k s within (segment-is i k within))
     in
     none_all (entry_checks b) (file_header b).e_phnum at
 

@@ -1,10 +1,14 @@
 -- Why a file is refused: the first of these checks that holds (own order). First those of the file header, then those of
 -- each program header, header by header.
-use Rattle.std.specs.Prelude.{ℕ, ◌+◌, ◌*◌, ◌^◌, ◌==◌, Bool, not, ◌&&◌, ◌||◌, nat_eq, nat_lt, List, [], ◌∷◌, ◌++◌, length, take, filter, sum_by, Option, Some, None, if◌then◌else◌, codes}
+use Rattle.std.specs.Prelude.{ℕ, ◌+◌, ◌*◌, ◌^◌, ◌==◌, Bool, not, ◌&&◌, ◌||◌, nat_eq, nat_lt, List, [], ◌∷◌, ◌++◌, length, take, filter}
+use Rattle.std.specs.Prelude.{sum_by, Option, Some, None, if◌then◌else◌, codes}
 use Rattle.std.specs.List.{flat_map, range_with_len, starts_with}
 use Rattle.elf_image.specs.declared.error.ElfError.{ElfError}
-use Rattle.elf_image.specs.declared.error.ElfError.TheVariants.{NotElf, NotElf32Little, NotExecutable, NotRiscV, BadHeader, Truncated, Dynamic, BadSegment, NoMemory}
-use Rattle.elf_image.specs.Headers.{FileHeader, ProgramHeader, elf_magic, ehdr_size, phdr_size, elfclass32, elfdata2lsb, ev_current, et_exec, em_riscv, pn_xnum, file_header, pt_dynamic, pt_interp, program_header_at, program_headers, is_load}
+use Rattle.elf_image.specs.declared.error.ElfError.TheVariants.{NotElf, NotElf32Little, NotExecutable, NotRiscV, BadHeader, Truncated}
+use Rattle.elf_image.specs.declared.error.ElfError.TheVariants.{Dynamic, BadSegment, NoMemory}
+use Rattle.elf_image.specs.Headers.{FileHeader, ProgramHeader, elf_magic, ehdr_size, phdr_size, elfclass32, elfdata2lsb, ev_current}
+use Rattle.elf_image.specs.Headers.{et_exec, em_riscv, pn_xnum, file_header, pt_dynamic, pt_interp, program_header_at, program_headers}
+use Rattle.elf_image.specs.Headers.{is_load}
 
 -- a test, and what a file is refused for where the test holds
 abbrev pub Check : Type 0

@@ -4,7 +4,8 @@ ghost use Rattle.std.specs.Prelude.{◌≡◌, ◌+◌, ◌<◌, ◌≤◌, ◌^
 ghost use Rattle.std.specs.Result.{result_err};
 ghost use Rattle.node_memory.specs.Bytes.{bytes_at};
 ghost use Rattle.elf_image.specs.Headers.{file_header, program_header_at};
-ghost use Rattle.elf_image.specs.Faults.{first_fault, identity_checks, layout_checks, file_header_checks, program_header_checks, table_checks};
+ghost use Rattle.elf_image.specs.Faults.{first_fault, identity_checks, layout_checks, file_header_checks, program_header_checks};
+ghost use Rattle.elf_image.specs.Faults.{table_checks};
 
 use crate::error::ElfError;
 use crate::headers::{

@@ -12,9 +12,12 @@ pub if_ok_weaker : {T E : Type 0} (r : Result T E) (P Q : T → Type 0) → ((x 
 if_ok_weaker (Ok x) P Q each holds = each x holds
 if_ok_weaker (Err e) P Q each holds = tt
 
-pub addresses-found : (input : List ℕ) (rank k : ℕ) (nodes : List NodeState) (n : NodeState) → slice_get nodes rank ≡ Some n → next_addresses_at input rank k nodes ≡ next_addresses input k n
+pub addresses-found : (input : List ℕ) (rank k : ℕ) (nodes : List NodeState) (n : NodeState) → slice_get nodes rank ≡ Some n
+    → next_addresses_at input rank k nodes ≡ next_addresses input k n
 addresses-found input rank k nodes n found = ap (λ (o : Option NodeState). option_map_or (next_addresses input k) o []) found
 
 -- a rank that is absent makes no step
-pub addresses-absent : (input : List ℕ) (rank k : ℕ) (nodes : List NodeState) → length nodes ≤ rank → next_addresses_at input rank k nodes ≡ []
-addresses-absent input rank k nodes past = ap (λ (o : Option NodeState). option_map_or (next_addresses input k) o []) (slice_get_past nodes rank past)
+pub addresses-absent : (input : List ℕ) (rank k : ℕ) (nodes : List NodeState) → length nodes ≤ rank
+    → next_addresses_at input rank k nodes ≡ []
+addresses-absent input rank k nodes past =
+    ap (λ (o : Option NodeState). option_map_or (next_addresses input k) o []) (slice_get_past nodes rank past)

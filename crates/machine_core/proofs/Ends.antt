@@ -1,5 +1,6 @@
 -- The end of a machine, and that each order of events leads to it.
-use Rattle.std.proofs.Common.{◌≡◌, ℕ, zero, suc, ◌+◌, ◌-◌, ◌*◌, ◌<◌, ◌≤◌, ◌⊎◌, inl, inr, Bool, true, false, ◌||◌, List, [], ◌∷◌, length, map, All, Option, Some, None, refl, sym, ap, ◌∙◌, arith, add-one}
+use Rattle.std.proofs.Common.{◌≡◌, ℕ, zero, suc, ◌+◌, ◌-◌, ◌*◌, ◌<◌, ◌≤◌, ◌⊎◌, inl, inr, Bool, true, false, ◌||◌, List, [], ◌∷◌, length}
+use Rattle.std.proofs.Common.{map, All, Option, Some, None, refl, sym, ap, ◌∙◌, arith, add-one}
 use Rattle.std.specs.Prelude.{if◌then◌else◌, is_some, IsSome, slice_get, sum_by}
 use Rattle.std.specs.Fn.{iterate}
 use Rattle.std.specs.List.{AllZip}
@@ -22,7 +23,8 @@ use Rattle.machine_core.specs.Events.{runs, some_runs, stepped, is_enabled, made
 use Rattle.machine_core.specs.Sound.{IsNodeOf, IsUnderWay, IsSoundMachine}
 use Rattle.machine_core.proofs.Phases.{phase-local_step, map-phase-stopped}
 use Rattle.machine_core.proofs.Rows.{map-stepped, stepped-suc}
-use Rattle.machine_core.proofs.Sound.{IsNode-each, length-nodes, enabled_open, turn_stopped, superstep-over, superstep-open, IsSoundMachine-event, IsSoundMachine-supersteps}
+use Rattle.machine_core.proofs.Sound.{IsNode-each, length-nodes, enabled_open, turn_stopped, superstep-over, superstep-open}
+use Rattle.machine_core.proofs.Sound.{IsSoundMachine-event, IsSoundMachine-supersteps}
 use Rattle.machine_core.proofs.Steps.{after-nil, after-cons, event-enabled, event-disabled}
 
 iterate-first : {X : Type 0} (f : X → X) (n : ℕ) (x : X) → iterate f (n + 1) x ≡ iterate f n (f x)
@@ -59,11 +61,16 @@ module _ (m : MachineState) where
       by (Some outcome) = refl
 
   -- a turn gives the outcome, or counts an exchange
-  turned-cases : IsSome (turned m).outcome ⊎ (((turned m).exchanges ≡ m.exchanges + 1) × ((turned m).nodes ≡ with_clocks m.settings.clock (recorded m).ledger (exchanged m.nodes)))
+  turned-cases : IsSome (turned m).outcome
+      ⊎ (((turned m).exchanges ≡ m.exchanges + 1)
+      × ((turned m).nodes ≡ with_clocks m.settings.clock (recorded m).ledger (exchanged m.nodes)))
   unfolding turned
   turned-cases = by (outcome_of m.nodes)
     where
-      by : (o : Option Outcome) → IsSome (decided o (recorded m)).outcome ⊎ (((decided o (recorded m)).exchanges ≡ m.exchanges + 1) × ((decided o (recorded m)).nodes ≡ with_clocks m.settings.clock (recorded m).ledger (exchanged m.nodes)))
+      by : (o : Option Outcome)
+          → IsSome (decided o (recorded m)).outcome
+          ⊎ (((decided o (recorded m)).exchanges ≡ m.exchanges + 1)
+          × ((decided o (recorded m)).nodes ≡ with_clocks m.settings.clock (recorded m).ledger (exchanged m.nodes)))
       by None = inr (refl, refl)
       by (Some outcome) = inl refl
 
@@ -93,15 +100,19 @@ superstep-cases m = by (is_some m.outcome) refl
     by true is = inl (ap (λ (x : MachineState). is_some x.outcome) (superstep-over m is) ∙ is)
     by false is = rw (superstep-open m is) (elim (turned-cases (with_phases m)) [ inl over ↦ inl over | inr more ↦ inr more.0 ])
 
-supersteps-cases : (k : ℕ) (m : MachineState) → IsSome (iterate superstep k m).outcome ⊎ (m.exchanges + k ≤ (iterate superstep k m).exchanges)
+supersteps-cases : (k : ℕ) (m : MachineState)
+    → IsSome (iterate superstep k m).outcome ⊎ (m.exchanges + k ≤ (iterate superstep k m).exchanges)
 supersteps-cases zero m = inr (omega arith)
 supersteps-cases (suc k) m = elim (superstep-cases m) [
-  | inl over ↦ inl (ap (λ (x : MachineState). is_some x.outcome) (iterate-fixed superstep k (superstep m) (superstep-over (superstep m) over)) ∙ over)
+  | inl over ↦
+      inl (ap (λ (x : MachineState). is_some x.outcome)
+      (iterate-fixed superstep k (superstep m) (superstep-over (superstep m) over)) ∙ over)
   | inr more ↦ elim (supersteps-cases k (superstep m)) [ inl over ↦ inl over | inr enough ↦ inr (omega arith) ]
 ]
 
 -- each exchange cost a node a tick
-exchanges_within : (s : Settings) (exchanges : ℕ) (nodes : List NodeState) (started : List ℕ) → 0 < length nodes → All (IsNodeOf s) nodes → AllZip (IsUnderWay exchanges) nodes started → exchanges ≤ s.limit
+exchanges_within : (s : Settings) (exchanges : ℕ) (nodes : List NodeState) (started : List ℕ) → 0 < length nodes → All (IsNodeOf s) nodes
+    → AllZip (IsUnderWay exchanges) nodes started → exchanges ≤ s.limit
 exchanges_within s exchanges [] started some of under = absurd (omega arith)
 exchanges_within s exchanges (n ∷ rest) [] some of under = absurd under
 exchanges_within s exchanges (n ∷ rest) (t ∷ started) some of under =
@@ -162,7 +173,8 @@ end_of-event m e sound = by (is_enabled m e) e refl
 
 pub end_of-after : (m : MachineState) (events : List Event) → IsSoundMachine m → end_of (after m events) ≡ end_of m
 end_of-after m [] sound = ap end_of (after-nil m)
-end_of-after m (e ∷ events) sound = ap end_of (after-cons m e events) ∙ end_of-after (event m e) events (IsSoundMachine-event m e sound) ∙ end_of-event m e sound
+end_of-after m (e ∷ events) sound =
+    ap end_of (after-cons m e events) ∙ end_of-after (event m e) events (IsSoundMachine-event m e sound) ∙ end_of-event m e sound
 
 -- the ticks that nodes have left
 abbrev ticks_left : List NodeState → ℕ
@@ -171,7 +183,8 @@ ticks_left nodes = sum_by (λ (n : NodeState). n.limit - n.ticks) nodes
 ticks_left-cons : (n : NodeState) (rest : List NodeState) → ticks_left (n ∷ rest) ≡ (n.limit - n.ticks) + ticks_left rest
 ticks_left-cons n rest = sum_by-cons (λ (x : NodeState). x.limit - x.ticks) n rest
 
-ticks_left-begun : (closed : Option ℕ) (all nodes : List NodeState) → ticks_left (map (with_clock closed) (map (exchanged_node all) nodes)) ≡ ticks_left nodes
+ticks_left-begun : (closed : Option ℕ) (all nodes : List NodeState)
+    → ticks_left (map (with_clock closed) (map (exchanged_node all) nodes)) ≡ ticks_left nodes
 ticks_left-begun closed all [] = refl
 ticks_left-begun closed all (n ∷ rest) =
     ticks_left-cons (with_clock closed (exchanged_node all n)) (map (with_clock closed) (map (exchanged_node all) rest))
@@ -179,14 +192,16 @@ ticks_left-begun closed all (n ∷ rest) =
     ∙ sym (ticks_left-cons n rest)
 
 -- a step takes one of them
-ticks_left-step : (input : List ℕ) (n : NodeState) → IsNode n → is_running n.state ≡ true → ((local_step input n).limit - (local_step input n).ticks) + 1 ≡ n.limit - n.ticks
+ticks_left-step : (input : List ℕ) (n : NodeState) → IsNode n → is_running n.state ≡ true
+    → ((local_step input n).limit - (local_step input n).ticks) + 1 ≡ n.limit - n.ticks
 ticks_left-step input n sound running =
     let ticks = local_step-ticks input n running in
     let limit = (IsLater-local_step input n).limit in
     let before = sound.has_ticks_left running in
     rw (ticks, limit) (omega arith)
 
-ticks_left-stepped : (input : List ℕ) (rank : ℕ) (nodes : List NodeState) → All IsNode nodes → option_map_or runs (slice_get nodes rank) false ≡ true → ticks_left (stepped input rank nodes) + 1 ≡ ticks_left nodes
+ticks_left-stepped : (input : List ℕ) (rank : ℕ) (nodes : List NodeState) → All IsNode nodes
+    → option_map_or runs (slice_get nodes rank) false ≡ true → ticks_left (stepped input rank nodes) + 1 ≡ ticks_left nodes
 ticks_left-stepped input rank [] sound running = absurd (false≢true running)
 ticks_left-stepped input zero (n ∷ rest) sound running =
     let here = ticks_left-step input n (All-head IsNode n rest sound) running in
@@ -203,7 +218,9 @@ running_rank : (nodes : List NodeState) → some_runs nodes ≡ true → (rank :
 running_rank [] some = absurd (false≢true some)
 running_rank (n ∷ rest) some = by (is_running n.state) refl (λ there. running_rank rest there) some
   where
-    by : (r : Bool) → is_running n.state ≡ r → (some_runs rest ≡ true → (rank : ℕ) × (option_map_or runs (slice_get rest rank) false ≡ true)) → r || some_runs rest ≡ true → (rank : ℕ) × (option_map_or runs (slice_get (n ∷ rest) rank) false ≡ true)
+    by : (r : Bool) → is_running n.state ≡ r
+        → (some_runs rest ≡ true → (rank : ℕ) × (option_map_or runs (slice_get rest rank) false ≡ true)) → r || some_runs rest ≡ true
+        → (rank : ℕ) × (option_map_or runs (slice_get (n ∷ rest) rank) false ≡ true)
     by true is there some = (0, is)
     by false is there some = let found = there some in (suc found.0, found.1)
 
@@ -219,7 +236,8 @@ CanFinish-event : (most : ℕ) (m : MachineState) (e : Event) → CanFinish most
 CanFinish-event most m e can = (e ∷ can.0, omega (arith, can.1), rw (after-cons m e can.0) can.2)
 
 -- a machine without an outcome has an event that finishes it, or after which less is left
-progress : (m : MachineState) → IsSoundMachine m → is_some m.outcome ≡ false → (e : Event) × (IsSome (event m e).outcome ⊎ (left (event m e) + 1 ≤ left m))
+progress : (m : MachineState) → IsSoundMachine m → is_some m.outcome ≡ false
+    → (e : Event) × (IsSome (event m e).outcome ⊎ (left (event m e) + 1 ≤ left m))
 progress m sound open_yet = by (some_runs m.nodes) refl
   where
     by_turn : is_enabled m Turn ≡ true → IsSome (event m Turn).outcome ⊎ (left (event m Turn) + 1 ≤ left m)
@@ -247,12 +265,15 @@ finish false (suc most) m is sound enough =
     let e = next.0 in
     elim next.1 [
       | inl over ↦ CanFinish-event most m e ([], omega arith, rw (after-nil (event m e)) over)
-      | inr less ↦ CanFinish-event most m e (finish (is_some (event m e).outcome) most (event m e) refl (IsSoundMachine-event m e sound) (omega (arith, less, enough)))
+      | inr less ↦
+          CanFinish-event most m e
+          (finish (is_some (event m e).outcome) most (event m e) refl (IsSoundMachine-event m e sound) (omega (arith, less, enough)))
     ]
 
 pub finish-all : (m : MachineState) → IsSoundMachine m → CanFinish (m.settings.nodes * m.settings.limit + m.settings.limit + 1) m
 finish-all m sound =
     let long = length-nodes m sound in
-    let each : All (λ (n : NodeState). n.limit - n.ticks ≤ m.settings.limit) m.nodes = λ k d within. let limit = (sound.nodes k d within).limit in omega arith in
+    let each : All (λ (n : NodeState). n.limit - n.ticks ≤ m.settings.limit) m.nodes =
+    λ k d within. let limit = (sound.nodes k d within).limit in omega arith in
     let ticks = rw long at (sum_by-le (λ (n : NodeState). n.limit - n.ticks) m.settings.limit m.nodes each) in
     finish (is_some m.outcome) (m.settings.nodes * m.settings.limit + m.settings.limit + 1) m refl sound (omega (arith, ticks))

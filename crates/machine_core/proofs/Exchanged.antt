@@ -1,5 +1,6 @@
 -- What an exchange keeps of nodes.
-use Rattle.std.proofs.Common.{◌≡◌, ℕ, ◌*◌, ◌^◌, ◌<◌, ◌≤◌, Bool, true, false, not, ◌&&◌, List, [], ◌∷◌, length, map, All, Option, Some, None, refl, sym, ap, ap₂, ◌∙◌, arith, length-append}
+use Rattle.std.proofs.Common.{◌≡◌, ℕ, ◌*◌, ◌^◌, ◌<◌, ◌≤◌, Bool, true, false, not, ◌&&◌, List, [], ◌∷◌, length, map, All, Option, Some, None}
+use Rattle.std.proofs.Common.{refl, sym, ap, ap₂, ◌∙◌, arith, length-append}
 use Rattle.std.specs.Prelude.{◌==◌, nat_eq, filter_map, find, if◌then◌else◌, IfSome}
 use Rattle.std.specs.Cmp.Lexicographic.{pointwise}
 use Rattle.std.specs.List.{cons_option, enumerate_from, range_with_len}
@@ -29,10 +30,12 @@ use Rattle.bsp_exchange.specs.Queues.{message_to, queue_after}
 use Rattle.machine_core.proofs.Options.{option_or_none, option_map_none, find_none}
 
 pub length-memory_after : (all : List Landing) (memory : List ℕ) → length (memory_after all memory) ≡ length memory
-length-memory_after all memory = length-map (range_with_len 0 (length memory)) (landed_byte all memory) ∙ length-range_with_len 0 (length memory)
+length-memory_after all memory =
+    length-map (range_with_len 0 (length memory)) (landed_byte all memory) ∙ length-range_with_len 0 (length memory)
 
 -- what is the same of each node after the exchange is the same of all
-pub map-exchanged : {Y : Type 0} (all : List NodeState) (f : NodeState → Y) → ((n : NodeState) → f (exchanged_node all n) ≡ f n) → (nodes : List NodeState) → map f (map (exchanged_node all) nodes) ≡ map f nodes
+pub map-exchanged : {Y : Type 0} (all : List NodeState) (f : NodeState → Y) → ((n : NodeState) → f (exchanged_node all n) ≡ f n)
+    → (nodes : List NodeState) → map f (map (exchanged_node all) nodes) ≡ map f nodes
 map-exchanged all f same [] = refl
 map-exchanged all f same (n ∷ rest) = ap₂ ◌∷◌ (same n) (map-exchanged all f same rest)
 
@@ -49,7 +52,9 @@ abbrev IsModest : Issued → Type 0
 IsModest i = size_of i.request ≤ max_bytes
 
 length-issued_by : (n : NodeState) → length (issued_by n) ≡ length n.hart.communication.requests.requests
-length-issued_by n = length-map (enumerate_from 0 n.hart.communication.requests.requests) (issued_as n.hart.rank) ∙ length-enumerate_from 0 n.hart.communication.requests.requests
+length-issued_by n =
+    length-map (enumerate_from 0 n.hart.communication.requests.requests) (issued_as n.hart.rank)
+    ∙ length-enumerate_from 0 n.hart.communication.requests.requests
 
 IsModest-by : (n : NodeState) → IsSoundNode n → All IsModest (issued_by n)
 IsModest-by n sound =
@@ -61,7 +66,8 @@ IsModest-by n sound =
     let one = get_or-le-sum_by size_of requests k d.1 within' in
     rw here (omega (arith, one, sound.hart.communication.requests.bytes)))
 
-issued-all : (nodes : List NodeState) → All IsSoundNode nodes → (length (issued nodes) ≤ length nodes * max_requests) × All IsModest (issued nodes)
+issued-all : (nodes : List NodeState) → All IsSoundNode nodes
+    → (length (issued nodes) ≤ length nodes * max_requests) × All IsModest (issued nodes)
 issued-all [] sound = (omega arith, All-nil IsModest)
 issued-all (n ∷ rest) sound =
     let here = All-head IsSoundNode n rest sound in
@@ -81,13 +87,17 @@ IsShort-message rank sender (asks_send m) modest = by (m.target == rank)
     by true = record { tag = omega arith; payload = omega arith }
     by false = tt
 
-messages-all : (rank : ℕ) (all : List Issued) → All IsModest all → (length (filter_map (λ i. message_to rank i.rank i.request) all) ≤ length all) × All IsShort (filter_map (λ i. message_to rank i.rank i.request) all)
+messages-all : (rank : ℕ) (all : List Issued) → All IsModest all
+    → (length (filter_map (λ i. message_to rank i.rank i.request) all) ≤ length all)
+    × All IsShort (filter_map (λ i. message_to rank i.rank i.request) all)
 messages-all rank [] modest = (omega arith, All-nil IsShort)
 messages-all rank (i ∷ rest) modest =
     let there = messages-all rank rest (All-tail IsModest i rest modest) in
-    by (message_to rank i.rank i.request) (filter_map (λ i. message_to rank i.rank i.request) rest) (IsShort-message rank i.rank i.request (All-head IsModest i rest modest)) there
+    by (message_to rank i.rank i.request) (filter_map (λ i. message_to rank i.rank i.request) rest)
+    (IsShort-message rank i.rank i.request (All-head IsModest i rest modest)) there
   where
-    by : (o : Option Message) (ms : List Message) → IfSome o IsShort → (length ms ≤ length rest) × All IsShort ms → (length (cons_option o ms) ≤ length (i ∷ rest)) × All IsShort (cons_option o ms)
+    by : (o : Option Message) (ms : List Message) → IfSome o IsShort → (length ms ≤ length rest) × All IsShort ms
+        → (length (cons_option o ms) ≤ length (i ∷ rest)) × All IsShort (cons_option o ms)
     by None ms short there = (omega (arith, there.0), there.1)
     by (Some m) ms short there = (omega (arith, there.0), All-cons IsShort m ms short there.1)
 
@@ -102,7 +112,8 @@ IsNode-exchanged all n sound waits =
       is_fresh = λ none. absurd (omega (arith, none, stepped));
     }
 
-IsCommunication-exchanged : (queue : List Message) (nprocs size : ℕ) (c : Communication) → IsCommunication nprocs size c → length queue < 2 ^ 32 → All IsShort queue → IsCommunication nprocs size (next_communication queue c)
+IsCommunication-exchanged : (queue : List Message) (nprocs size : ℕ) (c : Communication) → IsCommunication nprocs size c
+    → length queue < 2 ^ 32 → All IsShort queue → IsCommunication nprocs size (next_communication queue c)
 IsCommunication-exchanged queue nprocs size c sound few short = record {
   registrations = IsSound-turned c.registrations sound.registrations;
   areas = sound.next_areas;
@@ -115,7 +126,8 @@ IsCommunication-exchanged queue nprocs size c sound few short = record {
   next_tag_size = sound.next_tag_size;
 }
 
-pub IsSoundNode-exchanged : (nodes : List NodeState) → length nodes ≤ max_nodes → All IsSoundNode nodes → (n : NodeState) → IsSoundNode n → n.state ≡ Synced → IsSoundNode (exchanged_node nodes n)
+pub IsSoundNode-exchanged : (nodes : List NodeState) → length nodes ≤ max_nodes → All IsSoundNode nodes → (n : NodeState) → IsSoundNode n
+    → n.state ≡ Synced → IsSoundNode (exchanged_node nodes n)
 IsSoundNode-exchanged nodes few all n sound waits =
     let asked = issued-all nodes all in
     let sent = messages-all n.hart.rank (issued nodes) asked.1 in
@@ -128,7 +140,9 @@ IsSoundNode-exchanged nodes few all n sound waits =
         thirty_two = sound.hart.thirty_two;
         x0 = sound.hart.x0;
         memory = rw size sound.hart.memory;
-        communication = rw size (IsCommunication-exchanged (queue_after nodes n.hart.rank) n.hart.nprocs (length n.hart.memory) n.hart.communication sound.hart.communication (omega (arith, asked.0, sent.0)) sent.1);
+        communication =
+            rw size (IsCommunication-exchanged (queue_after nodes n.hart.rank) n.hart.nprocs
+            (length n.hart.memory) n.hart.communication sound.hart.communication (omega (arith, asked.0, sent.0)) sent.1);
       };
     }
 
@@ -158,28 +172,35 @@ abbrev registrations : NodeState → Registrations
 registrations n = n.hart.communication.registrations
 
 -- the next lists of two nodes that made the same pushes and pops
-next_areas : (a b : NodeState) → IsSoundNode a → IsSoundNode b → not (have_same_shape a b) ≡ false → length (registrations a).in_effect ≡ length (registrations b).in_effect → length (next_list (registrations b)) ≡ length (next_list (registrations a))
+next_areas : (a b : NodeState) → IsSoundNode a → IsSoundNode b → not (have_same_shape a b) ≡ false
+    → length (registrations a).in_effect ≡ length (registrations b).in_effect
+    → length (next_list (registrations b)) ≡ length (next_list (registrations a))
 next_areas a b sound sound' same long =
     let shapes = same_shape (shape (registrations a)) (shape (registrations b)) (not_false (have_same_shape a b) same) in
     sym (length-registrations_after
     (registrations a).in_effect (registrations b).in_effect (registrations a).changes (registrations b).changes
     sound.hart.communication.registrations.names_removals sound'.hart.communication.registrations.names_removals shapes long)
 
-agreed : (first : NodeState) (rest : List NodeState) → exchange_fault (first ∷ rest) ≡ None → All (λ n. not (have_same_shape first n) ≡ false) (first ∷ rest)
+agreed : (first : NodeState) (rest : List NodeState) → exchange_fault (first ∷ rest) ≡ None
+    → All (λ n. not (have_same_shape first n) ≡ false) (first ∷ rest)
 agreed first rest fine =
     let nodes : List NodeState = first ∷ rest in
     let tags = option_or_none _ _ fine in
     let slots = option_or_none _ _ tags.1 in
     let none = option_map_none SlotMismatch (disagreeing have_same_shape nodes) slots.0 in
-    find_none (λ n. not (have_same_shape first n)) nodes (option_map_none (λ (n : NodeState). n.hart.rank) (find (λ n. not (have_same_shape first n)) nodes) none)
+    find_none (λ n. not (have_same_shape first n)) nodes
+    (option_map_none (λ (n : NodeState). n.hart.rank) (find (λ n. not (have_same_shape first n)) nodes) none)
 
-pub areas-exchanged : (nodes : List NodeState) → exchange_fault nodes ≡ None → All IsSoundNode nodes → (count : ℕ) × All (λ n. length n.hart.communication.registrations.in_effect ≡ count) nodes → (count : ℕ) × All (λ n. length n.hart.communication.registrations.in_effect ≡ count) (exchanged nodes)
+pub areas-exchanged : (nodes : List NodeState) → exchange_fault nodes ≡ None → All IsSoundNode nodes
+    → (count : ℕ) × All (λ n. length n.hart.communication.registrations.in_effect ≡ count) nodes
+    → (count : ℕ) × All (λ n. length n.hart.communication.registrations.in_effect ≡ count) (exchanged nodes)
 areas-exchanged [] fine all areas = (0, All-nil _)
 areas-exchanged (first ∷ rest) fine all areas =
     let nodes : List NodeState = first ∷ rest in
     let same = agreed first rest fine in
     let long = areas.1 0 first (omega arith) in (
       length (next_list (registrations first)),
-      All-map (λ (n : NodeState). length (registrations n).in_effect ≡ length (next_list (registrations first))) (exchanged_node nodes) nodes (λ k d within.
+      All-map (λ (n : NodeState). length (registrations n).in_effect ≡ length (next_list (registrations first)))
+          (exchanged_node nodes) nodes (λ k d within.
           next_areas first _ (all 0 first (omega arith)) (all k d within) (same k d within) (long ∙ sym (areas.1 k d within))),
     )

@@ -1,5 +1,6 @@
 -- A machine at its start is sound.
-use Rattle.std.proofs.Common.{◌≡◌, ℕ, zero, suc, ◌+◌, ◌<◌, Bool, true, false, List, [], ◌∷◌, length, map, replicate, get_or, Some, None, refl, ap, arith}
+use Rattle.std.proofs.Common.{◌≡◌, ℕ, zero, suc, ◌+◌, ◌<◌, Bool, true, false, List, [], ◌∷◌, length, map, replicate, get_or, Some, None}
+use Rattle.std.proofs.Common.{refl, ap, arith}
 use Rattle.std.specs.Prelude.{is_some, if◌then◌else◌}
 use Rattle.std.specs.List.{AllZip, range_with_len}
 use Rattle.std.proofs.lemmas.Bool.{false≢true}
@@ -48,7 +49,8 @@ module _ (image : Image) (s : Settings) where
 
   IsUnderWay-start : (from n : ℕ) → AllZip (IsUnderWay 0) (map at_start (range_with_len from n)) (replicate n 0)
   IsUnderWay-start from zero = tt
-  IsUnderWay-start from (suc n) = (record { exchanged = omega arith; kept = omega arith; waited = λ waits. absurd cc }, IsUnderWay-start (from + 1) n)
+  IsUnderWay-start from (suc n) =
+      (record { exchanged = omega arith; kept = omega arith; waited = λ waits. absurd cc }, IsUnderWay-start (from + 1) n)
 
   HasClock-start : (from n : ℕ) → AllZip (HasClock s.clock []) (map at_start (range_with_len from n)) (replicate n 0)
   HasClock-start from zero = tt
@@ -62,10 +64,20 @@ module _ (image : Image) (s : Settings) where
         let long = length-range_with_len 0 s.nodes in
         let below : k < s.nodes = omega arith in
         let here = get_or-range_with_len 0 s.nodes k d below in
-        record { nodes = refl; memory = length-image_bytes image s.memory; limit = refl; unit = has_unit s.float; sound = IsSoundNode-start (get_or (range_with_len 0 s.nodes) k d) range (omega arith) });
+        record {
+          nodes = refl;
+          memory = length-image_bytes image s.memory;
+          limit = refl;
+          unit = has_unit s.float;
+          sound = IsSoundNode-start (get_or (range_with_len 0 s.nodes) k d) range (omega arith);
+        });
     ticks = IsUnderWay-start 0 s.nodes;
     clocks = λ _. HasClock-start 0 s.nodes;
-    areas = (0, All-map (λ (n : NodeState). length n.hart.communication.registrations.in_effect ≡ 0) at_start (range_with_len 0 s.nodes) (λ k d within. refl));
+    areas = (
+      0,
+      All-map (λ (n : NodeState). length n.hart.communication.registrations.in_effect ≡ 0) at_start (range_with_len 0 s.nodes)
+          (λ k d within. refl),
+    );
     outcome = λ over. absurd (false≢true over);
     ledger = refl;
   }

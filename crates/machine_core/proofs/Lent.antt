@@ -22,16 +22,20 @@ first_then zero ranks = map (λ r. suc r) ranks
 first_then (suc k) ranks = zero ∷ first_then k ranks
 
 module _ (input : List ℕ) where
-  row-others : (ranks : List ℕ) (n : NodeState) (rest : List NodeState) → row_after input (map (λ r. suc r) ranks) (n ∷ rest) ≡ n ∷ row_after input ranks rest
+  row-others : (ranks : List ℕ) (n : NodeState) (rest : List NodeState)
+      → row_after input (map (λ r. suc r) ranks) (n ∷ rest) ≡ n ∷ row_after input ranks rest
   unfolding row_after
   row-others [] n rest = refl
   row-others (rank ∷ ranks) n rest =
       ap (row_after input (map (λ r. suc r) ranks)) (stepped-suc input rank n rest) ∙ row-others ranks n (stepped input rank rest)
 
-  row-first : (k : ℕ) (ranks : List ℕ) (n : NodeState) (rest : List NodeState) → row_after input (first_then k ranks) (n ∷ rest) ≡ local_steps input k n ∷ row_after input ranks rest
+  row-first : (k : ℕ) (ranks : List ℕ) (n : NodeState) (rest : List NodeState)
+      → row_after input (first_then k ranks) (n ∷ rest) ≡ local_steps input k n ∷ row_after input ranks rest
   unfolding row_after first_then
-  row-first zero ranks n rest = row-others ranks n rest ∙ ap (λ (x : NodeState). x ∷ row_after input ranks rest) (sym (local_steps-zero input n))
-  row-first (suc k) ranks n rest = row-first k ranks (local_step input n) rest ∙ ap (λ (x : NodeState). x ∷ row_after input ranks rest) (sym (local_steps-suc input k n))
+  row-first zero ranks n rest =
+      row-others ranks n rest ∙ ap (λ (x : NodeState). x ∷ row_after input ranks rest) (sym (local_steps-zero input n))
+  row-first (suc k) ranks n rest =
+      row-first k ranks (local_step input n) rest ∙ ap (λ (x : NodeState). x ∷ row_after input ranks rest) (sym (local_steps-suc input k n))
 
   row-ranks : (old new : List NodeState) → HaveStepped input old new → (ranks : List ℕ) × (row_after input ranks old ≡ new)
   unfolding row_after
@@ -63,13 +67,15 @@ after-steps m (rank ∷ ranks) =
     ∙ ap (λ (x : MachineState). after x (steps_of ranks)) (event-step m rank)
     ∙ after-steps (record m { nodes = stepped m.input rank m.nodes }) ranks
 
-pub row_is_events : (m : MachineState) (nodes : List NodeState) → HaveStepped m.input m.nodes nodes → (events : List Event) × MakeNoTurn m events × (after m events ≡ record m { nodes = nodes })
+pub row_is_events : (m : MachineState) (nodes : List NodeState) → HaveStepped m.input m.nodes nodes
+    → (events : List Event) × MakeNoTurn m events × (after m events ≡ record m { nodes = nodes })
 row_is_events m nodes each =
     let ranks = row-ranks m.input m.nodes nodes each in
     (steps_of ranks.0, no_turn m ranks.0, after-steps m ranks.0 ∙ ap (λ (xs : List NodeState). record m { nodes = xs }) ranks.1)
 
 -- a sound machine whose row comes back after such steps is sound
-pub IsSoundMachine-lent : (m : MachineState) (nodes : List NodeState) → IsSoundMachine m → HaveStepped m.input m.nodes nodes → IsSoundMachine (record m { nodes = nodes })
+pub IsSoundMachine-lent : (m : MachineState) (nodes : List NodeState) → IsSoundMachine m → HaveStepped m.input m.nodes nodes
+    → IsSoundMachine (record m { nodes = nodes })
 IsSoundMachine-lent m nodes sound each =
     let events = row_is_events m nodes each in
     subst IsSoundMachine events.2 (IsSoundMachine-after m events.0 sound)

@@ -15,7 +15,8 @@ use Rattle.machine_core.proofs.Phases.{map-phase-stopped}
 use Rattle.machine_core.proofs.Resume.{phases-after}
 use Rattle.machine_core.proofs.Runs.{steps_of}
 use Rattle.machine_core.proofs.Sound.{enabled_open, IsSoundMachine-after}
-use Rattle.machine_core.proofs.Walks.{IsOnPhase-refl, IsOnPhase-trans, IsOnPhase-steps, enabled-others, stopped-after, none_runs, lowest_running}
+use Rattle.machine_core.proofs.Walks.{IsOnPhase-refl, IsOnPhase-trans, IsOnPhase-steps, enabled-others, stopped-after, none_runs}
+use Rattle.machine_core.proofs.Walks.{lowest_running}
 
 -- the nodes of the ranks below `done` have made their local parts, and the others no step
 pub record IsPhasing (old new : MachineState) (done : ℕ) : Type 0 where
@@ -30,7 +31,9 @@ module _ (old m new : MachineState) (rank : ℕ) (so_far : IsPhasing old m rank)
   pub IsPhasing-more : new ≡ after m (steps_of rank m.settings.limit) → IsPhasing old new (rank + 1)
   IsPhasing-more made =
       let sound = so_far.sound in
-      let on = IsOnPhase-trans old m (after m (steps_of rank m.settings.limit)) so_far.on (IsOnPhase-steps m.settings.limit m rank sound so_far.stopped) in
+      let on =
+      IsOnPhase-trans old m (after m (steps_of rank m.settings.limit)) so_far.on
+      (IsOnPhase-steps m.settings.limit m rank sound so_far.stopped) in
       record {
         sound = rw made (IsSoundMachine-after m (steps_of rank m.settings.limit) sound);
         on = rw made on;
@@ -44,7 +47,8 @@ module _ (old m new : MachineState) (rank : ℕ) (so_far : IsPhasing old m rank)
       }
 
   pub IsOnPhase-part : (k : ℕ) → new ≡ after m (steps_of rank k) → IsOnPhase old new
-  IsOnPhase-part k made = rw made (IsOnPhase-trans old m (after m (steps_of rank k)) so_far.on (IsOnPhase-steps k m rank so_far.sound so_far.stopped))
+  IsOnPhase-part k made =
+      rw made (IsOnPhase-trans old m (after m (steps_of rank k)) so_far.on (IsOnPhase-steps k m rank so_far.sound so_far.stopped))
 
   pub IsSoundMachine-part : (k : ℕ) → new ≡ after m (steps_of rank k) → IsSoundMachine new
   IsSoundMachine-part k made = rw made (IsSoundMachine-after m (steps_of rank k) so_far.sound)
@@ -65,13 +69,15 @@ outcome_from m rank sound may =
     let open_yet = enabled_open m (Step rank) sound (enabled_from m rank may) in
     none_from m.outcome (λ o is. false≢true (sym open_yet ∙ ap is_some is))
 
-pub lowest_from : (m : MachineState) (rank : ℕ) → ((j : ℕ) → j < rank → is_enabled m (Step j) ≡ false) → MayRefuseEvent m (Step rank) → IsSomeAnd (lowest is_running m.nodes) (λ n. MayRefuseStep m.input n)
+pub lowest_from : (m : MachineState) (rank : ℕ) → ((j : ℕ) → j < rank → is_enabled m (Step j) ≡ false) → MayRefuseEvent m (Step rank)
+    → IsSomeAnd (lowest is_running m.nodes) (λ n. MayRefuseStep m.input n)
 lowest_from m rank before may =
     let found = lowest_running m.nodes rank (enabled_from m rank may) before in
     rw found.1 (rw found.2 at may)
 
 -- once each rank is done, the local parts are over
-pub IsPhasing-done : (old m : MachineState) (done : ℕ) → IsSoundMachine old → length m.nodes ≤ done → IsPhasing old m done → m ≡ with_phases old
+pub IsPhasing-done : (old m : MachineState) (done : ℕ) → IsSoundMachine old → length m.nodes ≤ done → IsPhasing old m done
+    → m ≡ with_phases old
 IsPhasing-done old m done sound all phasing =
     let stopped = none_runs m.nodes (λ j below. phasing.stopped j (omega arith)) in
     sym (ap (λ (nodes : List NodeState). record m { nodes = nodes }) (map-phase-stopped m.input m.nodes stopped))

@@ -31,7 +31,8 @@ map-phase-stopped input [] stopped = refl
 map-phase-stopped input (n ∷ rest) stopped =
     let here : is_running n.state ≡ false = grind arith in
     let there : some_runs rest ≡ false = grind arith in
-    ap₂ (λ (x : NodeState) (xs : List NodeState). x ∷ xs) (local_steps-stopped input (n.limit - n.ticks) n here) (map-phase-stopped input rest there)
+    ap₂ (λ (x : NodeState) (xs : List NodeState). x ∷ xs) (local_steps-stopped input (n.limit - n.ticks) n here)
+    (map-phase-stopped input rest there)
 
 -- after its local part no node runs
 pub some_runs-phases : (input : List ℕ) (nodes : List NodeState) → All IsNode nodes → some_runs (map (phase input) nodes) ≡ false
@@ -49,18 +50,26 @@ some_runs-at (n ∷ rest) (suc rank) here = let there = some_runs-at rest rank h
 
 -- what each step keeps of a node, local parts keep of all
 module _ (input : List ℕ) where
-  pub kept_by_steps : (P : NodeState → Type 0) → ((n : NodeState) → P n → P (local_step input n)) → (k : ℕ) (n : NodeState) → P n → P (local_steps input k n)
+  pub kept_by_steps : (P : NodeState → Type 0) → ((n : NodeState) → P n → P (local_step input n)) → (k : ℕ) (n : NodeState) → P n
+      → P (local_steps input k n)
   kept_by_steps P keeps zero n holds = rw (local_steps-zero input n) holds
   kept_by_steps P keeps (suc k) n holds = rw (local_steps-suc input k n) (kept_by_steps P keeps k (local_step input n) (keeps n holds))
 
-  pub All-phases : (P : NodeState → Type 0) → ((n : NodeState) → P n → P (local_step input n)) → (nodes : List NodeState) → All P nodes → All P (map (phase input) nodes)
-  All-phases P keeps nodes all = All-map P (phase input) nodes (All-weaker P (λ n. P (phase input n)) (λ n holds. kept_by_steps P keeps (n.limit - n.ticks) n holds) nodes all)
+  pub All-phases : (P : NodeState → Type 0) → ((n : NodeState) → P n → P (local_step input n)) → (nodes : List NodeState) → All P nodes
+      → All P (map (phase input) nodes)
+  All-phases P keeps nodes all =
+      All-map P (phase input) nodes
+      (All-weaker P (λ n. P (phase input n)) (λ n holds. kept_by_steps P keeps (n.limit - n.ticks) n holds) nodes all)
 
-  pub AllZip-phases : {Y : Type 0} (R : NodeState → Y → Type 0) → ((n : NodeState) (y : Y) → R n y → R (local_step input n) y) → (nodes : List NodeState) (ys : List Y) → AllZip R nodes ys → AllZip R (map (phase input) nodes) ys
+  pub AllZip-phases : {Y : Type 0} (R : NodeState → Y → Type 0) → ((n : NodeState) (y : Y) → R n y → R (local_step input n) y)
+      → (nodes : List NodeState) (ys : List Y) → AllZip R nodes ys → AllZip R (map (phase input) nodes) ys
   AllZip-phases R keeps [] ys all = all
   AllZip-phases R keeps (n ∷ rest) [] all = absurd all
-  AllZip-phases R keeps (n ∷ rest) (y ∷ ys) all = (kept_by_steps (λ x. R x y) (λ x holds. keeps x y holds) (n.limit - n.ticks) n all.0, AllZip-phases R keeps rest ys all.1)
+  AllZip-phases R keeps (n ∷ rest) (y ∷ ys) all =
+      (kept_by_steps (λ x. R x y) (λ x holds. keeps x y holds) (n.limit - n.ticks) n all.0, AllZip-phases R keeps rest ys all.1)
 
-  pub map-phases : {Y : Type 0} (f : NodeState → Y) → ((n : NodeState) → f (local_step input n) ≡ f n) → (nodes : List NodeState) → map f (map (phase input) nodes) ≡ map f nodes
+  pub map-phases : {Y : Type 0} (f : NodeState → Y) → ((n : NodeState) → f (local_step input n) ≡ f n) → (nodes : List NodeState)
+      → map f (map (phase input) nodes) ≡ map f nodes
   map-phases f same [] = refl
-  map-phases f same (n ∷ rest) = ap₂ ◌∷◌ (kept_by_steps (λ x. f x ≡ f n) (λ x holds. same x ∙ holds) (n.limit - n.ticks) n refl) (map-phases f same rest)
+  map-phases f same (n ∷ rest) =
+      ap₂ ◌∷◌ (kept_by_steps (λ x. f x ≡ f n) (λ x holds. same x ∙ holds) (n.limit - n.ticks) n refl) (map-phases f same rest)

@@ -20,16 +20,19 @@ pub phases-sound : (m : MachineState) → IsSoundMachine m → IsSoundMachine (w
 phases-sound m sound = by (is_some m.outcome) refl
   where
     by : (over : Bool) → is_some m.outcome ≡ over → IsSoundMachine (with_phases m)
-    by true is = rw (ap (λ (nodes : List NodeState). record m { nodes = nodes }) (map-phase-stopped m.input m.nodes (sound.outcome is))) sound
+    by true is =
+        rw (ap (λ (nodes : List NodeState). record m { nodes = nodes }) (map-phase-stopped m.input m.nodes (sound.outcome is))) sound
     by false is = IsSoundMachine-phases m sound is
 
 phases-event : (m : MachineState) (e : Event) → IsSoundMachine m → makes_turn m e ≡ false → with_phases (event m e) ≡ with_phases m
 phases-event m (Step rank) sound turns =
     ap with_phases (event-step m rank)
-    ∙ ap (λ (nodes : List NodeState). record m { nodes = nodes }) (map-stepped m.input (phase m.input) IsNode (phase-local_step m.input) rank m.nodes (IsNode-each m sound))
+    ∙ ap (λ (nodes : List NodeState). record m { nodes = nodes })
+    (map-stepped m.input (phase m.input) IsNode (phase-local_step m.input) rank m.nodes (IsNode-each m sound))
 phases-event m Turn sound turns = ap with_phases (event-disabled m Turn turns)
 
-pub phases-after : (m : MachineState) (events : List Event) → IsSoundMachine m → MakeNoTurn m events → with_phases (after m events) ≡ with_phases m
+pub phases-after : (m : MachineState) (events : List Event) → IsSoundMachine m → MakeNoTurn m events
+    → with_phases (after m events) ≡ with_phases m
 phases-after m [] sound none = ap with_phases (after-nil m)
 phases-after m (e ∷ events) sound none =
     ap with_phases (after-cons m e events)

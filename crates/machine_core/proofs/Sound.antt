@@ -1,5 +1,6 @@
 -- What events keep true of a machine.
-use Rattle.std.proofs.Common.{◌≡◌, ℕ, zero, suc, ◌+◌, Bool, true, false, not, ◌&&◌, ◌||◌, List, [], ◌∷◌, length, map, All, Option, Some, None, refl, sym, ap, ◌∙◌, arith, get_or, add-zero}
+use Rattle.std.proofs.Common.{◌≡◌, ℕ, zero, suc, ◌+◌, Bool, true, false, not, ◌&&◌, ◌||◌, List, [], ◌∷◌, length, map, All, Option, Some}
+use Rattle.std.proofs.Common.{None, refl, sym, ap, ◌∙◌, arith, get_or, add-zero}
 use Rattle.std.specs.Prelude.{◌==◌, is_some, option_map, if◌then◌else◌}
 use Rattle.std.specs.Fn.{iterate}
 use Rattle.std.proofs.lemmas.List.{length-map, length_push}
@@ -24,7 +25,8 @@ use Rattle.machine_core.specs.declared.settings.Settings.{Settings}
 use Rattle.cost_ledger.specs.declared.CostRow.{CostRow}
 use Rattle.machine_core.specs.Clock.{HasClock, closed_by, with_clocks}
 use Rattle.machine_core.specs.Machine.{MachineState}
-use Rattle.machine_core.specs.Turn.{was_stopped, has_ended, is_waiting, lowest, stopped_by, outcome_of, outcome_unstopped, cost_row, recorded, decided, turned, with_phases, superstep}
+use Rattle.machine_core.specs.Turn.{was_stopped, has_ended, is_waiting, lowest, stopped_by, outcome_of, outcome_unstopped, cost_row}
+use Rattle.machine_core.specs.Turn.{recorded, decided, turned, with_phases, superstep}
 use Rattle.machine_core.specs.Events.{some_runs, is_enabled, made, event, after}
 use Rattle.machine_core.specs.Sound.{IsNodeOf, IsUnderWay, IsSoundMachine}
 use Rattle.machine_core.proofs.Clocks.{AllZip-clocks, All-clocks, IsNodeOf-clock, HasClock-local_step, map-begun}
@@ -55,7 +57,8 @@ or_false : (a b : Bool) → a || b ≡ false → (a ≡ false) × (b ≡ false)
 or_false true b none = absurd cc
 or_false false b none = (refl, none)
 
-unstopped_none : (ended waiting : Option NodeState) (nodes : List NodeState) → outcome_unstopped ended waiting nodes ≡ None → (ended ≡ None) × (exchange_fault nodes ≡ None)
+unstopped_none : (ended waiting : Option NodeState) (nodes : List NodeState) → outcome_unstopped ended waiting nodes ≡ None
+    → (ended ≡ None) × (exchange_fault nodes ≡ None)
 unstopped_none None waiting nodes none = (refl, option_map_none Refused (exchange_fault nodes) none)
 unstopped_none (Some e) None nodes none = absurd cc
 unstopped_none (Some e) (Some w) nodes none = absurd cc
@@ -65,7 +68,8 @@ record CanExchange (nodes : List NodeState) : Type 0 where
   pub waiting : All (λ n. n.state ≡ Synced) nodes
   pub fault : exchange_fault nodes ≡ None
 
-all_wait : (nodes : List NodeState) → some_runs nodes ≡ false → lowest was_stopped nodes ≡ None → lowest has_ended nodes ≡ None → All (λ n. n.state ≡ Synced) nodes
+all_wait : (nodes : List NodeState) → some_runs nodes ≡ false → lowest was_stopped nodes ≡ None → lowest has_ended nodes ≡ None
+    → All (λ n. n.state ≡ Synced) nodes
 all_wait [] stopped on open_yet = λ k d within. absurd (omega arith)
 all_wait (n ∷ rest) stopped on open_yet =
     let here = or_false (is_running n.state) (some_runs rest) stopped in
@@ -75,7 +79,9 @@ all_wait (n ∷ rest) stopped on open_yet =
 
 CanExchange-from : (nodes : List NodeState) → some_runs nodes ≡ false → outcome_of nodes ≡ None → CanExchange nodes
 CanExchange-from nodes stopped none =
-    let parts = option_or_none (option_map stopped_by (lowest was_stopped nodes)) (outcome_unstopped (lowest has_ended nodes) (lowest is_waiting nodes) nodes) none in
+    let parts =
+    option_or_none (option_map stopped_by (lowest was_stopped nodes))
+    (outcome_unstopped (lowest has_ended nodes) (lowest is_waiting nodes) nodes) none in
     let unstopped = unstopped_none (lowest has_ended nodes) (lowest is_waiting nodes) nodes parts.1 in
     record {
       waiting = all_wait nodes stopped (option_map_none stopped_by (lowest was_stopped nodes) parts.0) unstopped.0;
@@ -95,7 +101,8 @@ IsNodeOf-local_step s input n of = record {
   sound = IsSoundNode-local_step input n of.sound;
 }
 
-IsUnderWay-local_step : (input : List ℕ) (exchanges : ℕ) (n : NodeState) (started : ℕ) → IsUnderWay exchanges n started → IsUnderWay exchanges (local_step input n) started
+IsUnderWay-local_step : (input : List ℕ) (exchanges : ℕ) (n : NodeState) (started : ℕ) → IsUnderWay exchanges n started
+    → IsUnderWay exchanges (local_step input n) started
 IsUnderWay-local_step input exchanges n started under = by (is_running n.state) refl
   where
     by : (r : Bool) → is_running n.state ≡ r → IsUnderWay exchanges (local_step input n) started
@@ -104,12 +111,16 @@ IsUnderWay-local_step input exchanges n started under = by (is_running n.state) 
         record { exchanged = under.exchanged; kept = omega (arith, under.kept); waited = λ _. omega (arith, under.kept) }
     by false is = rw (local_step-stopped input n is) under
 
-in_effect-local_step : (input : List ℕ) (count : ℕ) (n : NodeState) → length n.hart.communication.registrations.in_effect ≡ count → length (local_step input n).hart.communication.registrations.in_effect ≡ count
+in_effect-local_step : (input : List ℕ) (count : ℕ) (n : NodeState) → length n.hart.communication.registrations.in_effect ≡ count
+    → length (local_step input n).hart.communication.registrations.in_effect ≡ count
 in_effect-local_step input count n long = ap length (IsLater-local_step input n).in_effect ∙ long
 
 -- a machine without an outcome whose nodes make steps
 module _ (m : MachineState) where
-  IsSoundMachine-nodes : (nodes : List NodeState) → IsSoundMachine m → is_some m.outcome ≡ false → map (λ n. n.hart.rank) nodes ≡ map (λ n. n.hart.rank) m.nodes → All (IsNodeOf m.settings) nodes → AllZip (IsUnderWay m.exchanges) nodes m.started → (m.outcome ≡ None → AllZip (HasClock m.settings.clock m.ledger) nodes m.started) → HaveAreas nodes → IsSoundMachine (record m { nodes = nodes })
+  IsSoundMachine-nodes : (nodes : List NodeState) → IsSoundMachine m → is_some m.outcome ≡ false
+      → map (λ n. n.hart.rank) nodes ≡ map (λ n. n.hart.rank) m.nodes → All (IsNodeOf m.settings) nodes
+      → AllZip (IsUnderWay m.exchanges) nodes m.started → (m.outcome ≡ None → AllZip (HasClock m.settings.clock m.ledger) nodes m.started)
+      → HaveAreas nodes → IsSoundMachine (record m { nodes = nodes })
   IsSoundMachine-nodes nodes sound open_yet ranks of ticks clocks areas = record {
     settings = sound.settings;
     ranks = ranks ∙ sound.ranks;
@@ -127,7 +138,8 @@ module _ (m : MachineState) where
       (map-stepped m.input (λ n. n.hart.rank) (IsNodeOf m.settings) (λ n _. (IsLater-local_step m.input n).rank) rank m.nodes sound.nodes)
       (All-stepped m.input (IsNodeOf m.settings) (IsNodeOf-local_step m.settings m.input) rank m.nodes sound.nodes)
       (AllZip-stepped m.input (IsUnderWay m.exchanges) (IsUnderWay-local_step m.input m.exchanges) rank m.nodes m.started sound.ticks)
-      (λ none. AllZip-stepped m.input (HasClock m.settings.clock m.ledger) (HasClock-local_step m.settings.clock m.ledger m.input) rank m.nodes m.started (sound.clocks none))
+      (λ none. AllZip-stepped m.input (HasClock m.settings.clock m.ledger)
+      (HasClock-local_step m.settings.clock m.ledger m.input) rank m.nodes m.started (sound.clocks none))
       (sound.areas.0, All-stepped m.input _ (in_effect-local_step m.input sound.areas.0) rank m.nodes sound.areas.1)
 
   pub IsSoundMachine-phases : IsSoundMachine m → is_some m.outcome ≡ false → IsSoundMachine (with_phases m)
@@ -136,10 +148,13 @@ module _ (m : MachineState) where
       (map-phases m.input (λ n. n.hart.rank) (λ n. (IsLater-local_step m.input n).rank) m.nodes)
       (All-phases m.input (IsNodeOf m.settings) (IsNodeOf-local_step m.settings m.input) m.nodes sound.nodes)
       (AllZip-phases m.input (IsUnderWay m.exchanges) (IsUnderWay-local_step m.input m.exchanges) m.nodes m.started sound.ticks)
-      (λ none. AllZip-phases m.input (HasClock m.settings.clock m.ledger) (HasClock-local_step m.settings.clock m.ledger m.input) m.nodes m.started (sound.clocks none))
+      (λ none. AllZip-phases m.input (HasClock m.settings.clock m.ledger)
+      (HasClock-local_step m.settings.clock m.ledger m.input) m.nodes m.started (sound.clocks none))
       (sound.areas.0, All-phases m.input _ (in_effect-local_step m.input sound.areas.0) m.nodes sound.areas.1)
 
-IsUnderWay-exchanged : (all : List NodeState) (exchanges : ℕ) (nodes : List NodeState) (started : List ℕ) → AllZip (IsUnderWay exchanges) nodes started → All (λ n. n.state ≡ Synced) nodes → AllZip (IsUnderWay (exchanges + 1)) (map (exchanged_node all) nodes) (map (λ (n : NodeState). n.ticks) nodes)
+IsUnderWay-exchanged : (all : List NodeState) (exchanges : ℕ) (nodes : List NodeState) (started : List ℕ)
+    → AllZip (IsUnderWay exchanges) nodes started → All (λ n. n.state ≡ Synced) nodes
+    → AllZip (IsUnderWay (exchanges + 1)) (map (exchanged_node all) nodes) (map (λ (n : NodeState). n.ticks) nodes)
 IsUnderWay-exchanged all exchanges [] started under waiting = tt
 IsUnderWay-exchanged all exchanges (n ∷ rest) [] under waiting = absurd under
 IsUnderWay-exchanged all exchanges (n ∷ rest) (t ∷ started) under waiting =
@@ -151,7 +166,8 @@ IsUnderWay-exchanged all exchanges (n ∷ rest) (t ∷ started) under waiting =
     } in
     (first, IsUnderWay-exchanged all exchanges rest started under.1 (λ k d within. waiting (suc k) d (omega arith)))
 
-HasClock-begun : (prices : Option Prices) (rows : List CostRow) (all nodes : List NodeState) → AllZip (HasClock prices rows) (with_clocks prices rows (map (exchanged_node all) nodes)) (map (λ (n : NodeState). n.ticks) nodes)
+HasClock-begun : (prices : Option Prices) (rows : List CostRow) (all nodes : List NodeState)
+    → AllZip (HasClock prices rows) (with_clocks prices rows (map (exchanged_node all) nodes)) (map (λ (n : NodeState). n.ticks) nodes)
 HasClock-begun prices rows all [] = tt
 HasClock-begun prices rows all (n ∷ rest) = (refl, HasClock-begun prices rows all rest)
 
@@ -163,7 +179,8 @@ module _ (m : MachineState) where
   ledger_open : IsSoundMachine m → is_some m.outcome ≡ false → length m.ledger ≡ m.exchanges + 0
   ledger_open sound open_yet = rw open_yet at sound.ledger
 
-  IsSoundMachine-ended : (outcome : Outcome) → IsSoundMachine m → is_some m.outcome ≡ false → some_runs m.nodes ≡ false → IsSoundMachine (decided (Some outcome) (recorded m))
+  IsSoundMachine-ended : (outcome : Outcome) → IsSoundMachine m → is_some m.outcome ≡ false → some_runs m.nodes ≡ false
+      → IsSoundMachine (decided (Some outcome) (recorded m))
   IsSoundMachine-ended outcome sound open_yet stopped = record {
     settings = sound.settings;
     ranks = sound.ranks;
@@ -193,11 +210,21 @@ module _ (m : MachineState) where
         settings = sound.settings;
         ranks = map-begun closed m.nodes (λ n. n.hart.rank) (λ n. refl) (λ n. refl) m.nodes ∙ sound.ranks;
         nodes = All-clocks closed (IsNodeOf m.settings) (IsNodeOf-clock m.settings closed) (exchanged m.nodes) begun;
-        ticks = AllZip-clocks closed (IsUnderWay (m.exchanges + 1)) (λ n t under. record { exchanged = under.exchanged; kept = under.kept; waited = under.waited }) (exchanged m.nodes) _ (IsUnderWay-exchanged m.nodes m.exchanges m.nodes m.started sound.ticks can.waiting);
+        ticks =
+            AllZip-clocks closed (IsUnderWay (m.exchanges + 1))
+            (λ n t under. record { exchanged = under.exchanged; kept = under.kept; waited = under.waited }) (exchanged m.nodes) _
+            (IsUnderWay-exchanged m.nodes m.exchanges m.nodes m.started sound.ticks can.waiting);
         clocks = λ _. HasClock-begun m.settings.clock (recorded m).ledger m.nodes m.nodes;
-        areas = (areas.0, All-clocks closed (λ n. length n.hart.communication.registrations.in_effect ≡ areas.0) (λ n long. long) (exchanged m.nodes) areas.1);
+        areas = (
+          areas.0,
+          All-clocks closed (λ n. length n.hart.communication.registrations.in_effect ≡ areas.0) (λ n long. long)
+              (exchanged m.nodes) areas.1,
+        );
         outcome = λ over. absurd (false≢true (sym open_yet ∙ over));
-        ledger = rw open_yet (length_push m.ledger (cost_row m) ∙ ap (λ k. k + 1) (ledger_open sound open_yet ∙ add-zero m.exchanges) ∙ sym (add-zero (m.exchanges + 1)));
+        ledger =
+            rw open_yet
+            (length_push m.ledger (cost_row m) ∙ ap (λ k. k + 1) (ledger_open sound open_yet ∙ add-zero m.exchanges)
+            ∙ sym (add-zero (m.exchanges + 1)));
       }
 
   pub IsSoundMachine-turned : IsSoundMachine m → is_some m.outcome ≡ false → some_runs m.nodes ≡ false → IsSoundMachine (turned m)
@@ -220,7 +247,8 @@ AreAtSync-waiting m sound waiting =
     }
 
 -- nodes that neither run, nor were stopped, nor ended are at sync
-pub AreAtSync-from : (m : MachineState) → IsSoundMachine m → some_runs m.nodes ≡ false → lowest was_stopped m.nodes ≡ None → lowest has_ended m.nodes ≡ None → AreAtSync m.nodes
+pub AreAtSync-from : (m : MachineState) → IsSoundMachine m → some_runs m.nodes ≡ false → lowest was_stopped m.nodes ≡ None
+    → lowest has_ended m.nodes ≡ None → AreAtSync m.nodes
 AreAtSync-from m sound stopped on open_yet = AreAtSync-waiting m sound (all_wait m.nodes stopped on open_yet)
 
 -- an event that is enabled finds no outcome
@@ -269,11 +297,15 @@ module _ (m : MachineState) where
     where
       by : (over : Bool) → is_some m.outcome ≡ over → IsSoundMachine (superstep m)
       by true is = rw (superstep-over is) sound
-      by false is = rw (superstep-open is) (IsSoundMachine-turned (with_phases m) (IsSoundMachine-phases m sound is) is (some_runs-phases m.input m.nodes (IsNode-each sound)))
+      by false is =
+          rw (superstep-open is)
+          (IsSoundMachine-turned (with_phases m) (IsSoundMachine-phases m sound is) is
+          (some_runs-phases m.input m.nodes (IsNode-each sound)))
 
 pub IsSoundMachine-after : (m : MachineState) (events : List Event) → IsSoundMachine m → IsSoundMachine (after m events)
 IsSoundMachine-after m [] sound = rw (after-nil m) sound
-IsSoundMachine-after m (e ∷ events) sound = rw (after-cons m e events) (IsSoundMachine-after (event m e) events (IsSoundMachine-event m e sound))
+IsSoundMachine-after m (e ∷ events) sound =
+    rw (after-cons m e events) (IsSoundMachine-after (event m e) events (IsSoundMachine-event m e sound))
 
 pub IsSoundMachine-supersteps : (k : ℕ) (m : MachineState) → IsSoundMachine m → IsSoundMachine (iterate superstep k m)
 IsSoundMachine-supersteps zero m sound = sound

@@ -1,5 +1,6 @@
 -- Settings without a fault, and the nodes that they ask for.
-use Rattle.std.proofs.Common.{◌≡◌, ℕ, ◌+◌, ◌<◌, ◌≤◌, false, List, [], ◌∷◌, ◌++◌, length, map, replicate, get_or, None, refl, sym, ap, ap₂, ◌∙◌, arith}
+use Rattle.std.proofs.Common.{◌≡◌, ℕ, ◌+◌, ◌<◌, ◌≤◌, false, List, [], ◌∷◌, ◌++◌, length, map, replicate, get_or, None, refl, sym, ap, ap₂}
+use Rattle.std.proofs.Common.{◌∙◌, arith}
 use Rattle.std.specs.List.{range_with_len}
 use Rattle.std.proofs.lemmas.List.{length-map, map-append}
 use Rattle.std.proofs.lemmas.List.FromFn.{length-map-range_with_len, get_or-map-range_with_len, map-range_with_len_more}
@@ -38,28 +39,52 @@ length-first image s ps k are =
     sym (length-map ps (λ (p : PreparedNode). p.node)) ∙ ap length are ∙ length-map-range_with_len (node_at_start image s) 0 k
 
 -- of these, the node of rank 0
-pub first_of : (image : Image) (s : Settings) (ps : List PreparedNode) (k : ℕ) (p : PreparedNode) → 0 < k → AreFirst image s ps k → 0 < length ps → p ≡ get_or ps 0 p → p.node ≡ node_at_start image s 0
+pub first_of : (image : Image) (s : Settings) (ps : List PreparedNode) (k : ℕ) (p : PreparedNode) → 0 < k → AreFirst image s ps k
+    → 0 < length ps → p ≡ get_or ps 0 p → p.node ≡ node_at_start image s 0
 first_of image s ps k p some are within is =
     sym (get_or_from_slice_get (states ps) 0 p.node p.node (state_at_place ps 0 p within is))
     ∙ ap (λ (ns : List NodeState). get_or ns 0 p.node) are
     ∙ get_or-map-range_with_len (node_at_start image s) 0 k 0 0 p.node some refl
 
 -- one more
-pub first_more : (image : Image) (s : Settings) (ps qs : List PreparedNode) (k : ℕ) (p : PreparedNode) → AreFirst image s ps k → qs ≡ ps ++ p ∷ [] → p.node ≡ node_at_start image s k → AreFirst image s qs (k + 1)
+pub first_more : (image : Image) (s : Settings) (ps qs : List PreparedNode) (k : ℕ) (p : PreparedNode) → AreFirst image s ps k
+    → qs ≡ ps ++ p ∷ [] → p.node ≡ node_at_start image s k → AreFirst image s qs (k + 1)
 first_more image s ps qs k p are more is =
     ap states more
     ∙ map-append (λ (q : PreparedNode). q.node) ps (p ∷ [])
     ∙ ap₂ (λ (ns : List NodeState) (n : NodeState). ns ++ n ∷ []) are is
     ∙ sym (map-range_with_len_more (node_at_start image s) 0 k k (omega arith))
 
-pub machine_fault-none : (image : Image) (s : Settings) → settings_fault s ≡ None → is_segment_outside image s.memory ≡ false → machine_fault image s ≡ None
+pub machine_fault-none : (image : Image) (s : Settings) → settings_fault s ≡ None → is_segment_outside image s.memory ≡ false
+    → machine_fault image s ≡ None
 machine_fault-none image s good fits = rw (good, fits) refl
 
 abbrev parts : Settings → List ℕ → List NodeState → List ℕ → List ℕ → List CostRow → MachineState
-parts s input nodes started output ledger = record { settings = s; input = input; nodes = nodes; started = started; output = output; ledger = ledger; exchanges = 0; outcome = None }
+parts s input nodes started output ledger =
+    record {
+      settings = s;
+      input = input;
+      nodes = nodes;
+      started = started;
+      output = output;
+      ledger = ledger;
+      exchanges = 0;
+      outcome = None;
+    }
 
 -- a machine made of these parts is a fresh one
-pub fresh-parts : (image : Image) (s : Settings) (input input' : List ℕ) (ps : List PreparedNode) (started output : List ℕ) (ledger : List CostRow) → states ps ≡ start_nodes image s → started ≡ replicate s.nodes 0 → input' ≡ input → output ≡ [] → ledger ≡ [] → record { settings = s; input = input'; nodes = states ps; started = started; output = output; ledger = ledger; exchanges = 0; outcome = None } ≡ fresh image input s
+pub fresh-parts : (image : Image) (s : Settings) (input input' : List ℕ) (ps : List PreparedNode) (started output : List ℕ)
+    (ledger : List CostRow) → states ps ≡ start_nodes image s → started ≡ replicate s.nodes 0 → input' ≡ input → output ≡ [] → ledger ≡ []
+    → record {
+      settings = s;
+      input = input';
+      nodes = states ps;
+      started = started;
+      output = output;
+      ledger = ledger;
+      exchanges = 0;
+      outcome = None;
+    } ≡ fresh image input s
 fresh-parts image s input input' ps started output ledger ps_is started_is input_is output_is ledger_is =
     ap₂ (λ (ns : List NodeState) (ts : List ℕ). parts s input' ns ts output ledger) ps_is started_is
     ∙ ap₂ (λ (is os : List ℕ). parts s is (start_nodes image s) (replicate s.nodes 0) os ledger) input_is output_is

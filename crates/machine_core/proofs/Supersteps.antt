@@ -1,5 +1,6 @@
 -- Supersteps along the walk.
-use Rattle.std.proofs.Common.{◌≡◌, ℕ, zero, suc, ◌+◌, ◌-◌, ◌<◌, ◌≤◌, true, false, cond, List, [], ◌∷◌, length, Option, Some, None, refl, sym, ap, ◌∙◌, arith, add-one}
+use Rattle.std.proofs.Common.{◌≡◌, ℕ, zero, suc, ◌+◌, ◌-◌, ◌<◌, ◌≤◌, true, false, cond, List, [], ◌∷◌, length, Option, Some, None, refl}
+use Rattle.std.proofs.Common.{sym, ap, ◌∙◌, arith, add-one}
 use Rattle.std.specs.Prelude.{is_some, if◌then◌else◌}
 use Rattle.std.specs.Option.{option_map_or}
 use Rattle.std.proofs.lemmas.List.{length_push}
@@ -58,8 +59,10 @@ module _ (m : MachineState) (sound : IsSoundMachine m) (open_yet : is_some m.out
   -- and then the turn
   next_event-turn : next_event (with_phases m) ≡ Some Turn
   next_event-turn =
-      ap (λ b. if b then None else Some (option_map_or (λ (n : NodeState). Step n.hart.rank) (lowest is_running (with_phases m).nodes) Turn)) open_yet
-      ∙ ap (λ (o : Option NodeState). Some (option_map_or (λ (n : NodeState). Step n.hart.rank) o Turn)) (none_is_lowest (with_phases m).nodes (phases-stopped m sound))
+      ap (λ b. if b then None else Some
+      (option_map_or (λ (n : NodeState). Step n.hart.rank) (lowest is_running (with_phases m).nodes) Turn)) open_yet
+      ∙ ap (λ (o : Option NodeState). Some (option_map_or (λ (n : NodeState). Step n.hart.rank) o Turn))
+      (none_is_lowest (with_phases m).nodes (phases-stopped m sound))
 
   pub superstep-made : (new : MachineState) → new ≡ event (with_phases m) Turn → new ≡ superstep m
   superstep-made new made = made ∙ event-enabled (with_phases m) Turn turn-enabled ∙ sym (superstep-open m open_yet)
@@ -81,9 +84,11 @@ module _ (m : MachineState) (sound : IsSoundMachine m) (open_yet : is_some m.out
       omega (arith, rows, exchanges-le-limit m sound)
 
   -- fewer rows are left to be written
-  pub rows_left : (new : MachineState) → new ≡ superstep m → new.settings.limit + 1 - length new.ledger < m.settings.limit + 1 - length m.ledger
+  pub rows_left : (new : MachineState) → new ≡ superstep m
+      → new.settings.limit + 1 - length new.ledger < m.settings.limit + 1 - length m.ledger
   rows_left new made =
-      let limit : new.settings.limit ≡ m.settings.limit = ap (λ (x : MachineState). x.settings.limit) made ∙ ap (λ (s : Settings). s.limit) (settings-superstep m) in
+      let limit : new.settings.limit ≡ m.settings.limit =
+      ap (λ (x : MachineState). x.settings.limit) made ∙ ap (λ (s : Settings). s.limit) (settings-superstep m) in
       let rows : length new.ledger ≡ length m.ledger + 1 = ap (λ (x : MachineState). length x.ledger) made ∙ rows-superstep in
       omega (arith, limit, rows, rows-open)
 
@@ -94,7 +99,8 @@ IsWalked old new = (k : ℕ) × (new ≡ walked k old)
 pub IsWalked-on : (old m new : MachineState) → IsWalked old m → IsOnPhase m new → IsWalked old new
 IsWalked-on old m new so_far on = (so_far.0 + on.made, on.is ∙ ap (walked on.made) so_far.1 ∙ walked-add so_far.0 on.made old)
 
-pub IsWalked-superstep : (old m new : MachineState) → IsSoundMachine m → is_some m.outcome ≡ false → IsWalked old m → new ≡ event (with_phases m) Turn → IsWalked old new
+pub IsWalked-superstep : (old m new : MachineState) → IsSoundMachine m → is_some m.outcome ≡ false → IsWalked old m
+    → new ≡ event (with_phases m) Turn → IsWalked old new
 IsWalked-superstep old m new sound open_yet so_far made =
     let phases = IsWalked-on old m (with_phases m) so_far (IsOnPhase-phases m sound) in
     let turn = walked-some 0 (with_phases m) Turn (next_event-turn m sound open_yet) ∙ walked-zero (event (with_phases m) Turn) in

@@ -1,5 +1,6 @@
 -- The walk, event by event.
-use Rattle.std.proofs.Common.{◌≡◌, ◌≢◌, ℕ, zero, suc, ◌+◌, ◌<◌, Bool, true, false, cond, List, [], ◌∷◌, length, Option, Some, None, option_map, refl, sym, ap, ◌∙◌, arith, zero-add, suc-add}
+use Rattle.std.proofs.Common.{◌≡◌, ◌≢◌, ℕ, zero, suc, ◌+◌, ◌<◌, Bool, true, false, cond, List, [], ◌∷◌, length, Option, Some, None}
+use Rattle.std.proofs.Common.{option_map, refl, sym, ap, ◌∙◌, arith, zero-add, suc-add}
 use Rattle.std.specs.Prelude.{slice_get, IsSome, if◌then◌else◌}
 use Rattle.std.specs.List.{range_with_len}
 use Rattle.std.specs.Option.{option_map_or}
@@ -54,17 +55,20 @@ pub walked-add : (j k : ℕ) (m : MachineState) → walked k (walked j m) ≡ wa
 walked-add zero k m = ap (walked k) (walked-zero m) ∙ ap (λ n. walked n m) (sym (zero-add k))
 walked-add (suc j) k m = by (λ x. walked-add j k x) (next_event m) refl
   where
-    by : ((x : MachineState) → walked k (walked j x) ≡ walked (j + k) x) → (o : Option Event) → next_event m ≡ o → walked k (walked (suc j) m) ≡ walked (suc j + k) m
+    by : ((x : MachineState) → walked k (walked j x) ≡ walked (j + k) x) → (o : Option Event) → next_event m ≡ o
+        → walked k (walked (suc j) m) ≡ walked (suc j + k) m
     by fewer None is = ap (walked k) (walked-none (suc j) m is) ∙ walked-none k m is ∙ sym (walked-none (suc j + k) m is)
     by fewer (Some e) is =
         ap (walked k) (walked-some j m e is) ∙ fewer (event m e)
         ∙ sym (walked-some (j + k) m e is) ∙ ap (λ n. walked n m) (sym (suc-add j k))
 
-MakeNoTurn-walk-add : (j k : ℕ) (m : MachineState) → MakeNoTurn m (walk j m) → MakeNoTurn (walked j m) (walk k (walked j m)) → MakeNoTurn m (walk (j + k) m)
+MakeNoTurn-walk-add : (j k : ℕ) (m : MachineState) → MakeNoTurn m (walk j m) → MakeNoTurn (walked j m) (walk k (walked j m))
+    → MakeNoTurn m (walk (j + k) m)
 MakeNoTurn-walk-add zero k m first next = rw (zero-add k) (rw (walked-zero m) at next)
 MakeNoTurn-walk-add (suc j) k m first next = by (λ x here there. MakeNoTurn-walk-add j k x here there) (next_event m) refl
   where
-    by : ((x : MachineState) → MakeNoTurn x (walk j x) → MakeNoTurn (walked j x) (walk k (walked j x)) → MakeNoTurn x (walk (j + k) x)) → (o : Option Event) → next_event m ≡ o → MakeNoTurn m (walk (suc j + k) m)
+    by : ((x : MachineState) → MakeNoTurn x (walk j x) → MakeNoTurn (walked j x) (walk k (walked j x)) → MakeNoTurn x (walk (j + k) x))
+        → (o : Option Event) → next_event m ≡ o → MakeNoTurn m (walk (suc j + k) m)
     by fewer None is = rw (walk-none (suc j + k) m is) tt
     by fewer (Some e) is =
         let here : MakeNoTurn m (e ∷ walk j (event m e)) = rw (walk-some j m e is) at first in
@@ -86,7 +90,8 @@ abbrev runs_at : List NodeState → ℕ → Bool
 runs_at nodes rank = option_map_or runs (slice_get nodes rank) false
 
 -- the first that runs is the lowest
-pub lowest_running : (nodes : List NodeState) (rank : ℕ) → runs_at nodes rank ≡ true → ((j : ℕ) → j < rank → runs_at nodes j ≡ false) → (n : NodeState) × (lowest is_running nodes ≡ Some n) × (slice_get nodes rank ≡ Some n)
+pub lowest_running : (nodes : List NodeState) (rank : ℕ) → runs_at nodes rank ≡ true → ((j : ℕ) → j < rank → runs_at nodes j ≡ false)
+    → (n : NodeState) × (lowest is_running nodes ≡ Some n) × (slice_get nodes rank ≡ Some n)
 lowest_running [] rank here before = absurd (false≢true here)
 lowest_running (n ∷ rest) zero here before = (n, ap (λ b. cond b (Some n) (lowest is_running rest)) here, refl)
 lowest_running (n ∷ rest) (suc rank) here before =
@@ -113,12 +118,15 @@ module _ (m : MachineState) where
       let long = length-nodes m sound in
       let all = range_with_len 0 m.settings.nodes in
       let here : slice_get all rank ≡ Some n.hart.rank =
-      ap (λ (xs : List ℕ). slice_get xs rank) (sym sound.ranks) ∙ slice_get-map (λ (x : NodeState). x.hart.rank) m.nodes rank ∙ ap (option_map (λ (x : NodeState). x.hart.rank)) found in
+      ap (λ (xs : List ℕ). slice_get xs rank) (sym sound.ranks) ∙ slice_get-map (λ (x : NodeState). x.hart.rank) m.nodes rank
+      ∙ ap (option_map (λ (x : NodeState). x.hart.rank)) found in
       let below : rank < m.settings.nodes = omega arith in
       let there = slice_get-get_or all rank 0 (rw (length-range_with_len 0 m.settings.nodes) below) in
-      same_Some n.hart.rank rank (sym here ∙ there ∙ ap (λ k. Some k) (get_or-range_with_len 0 m.settings.nodes rank 0 below ∙ zero-add rank))
+      same_Some n.hart.rank rank
+      (sym here ∙ there ∙ ap (λ k. Some k) (get_or-range_with_len 0 m.settings.nodes rank 0 below ∙ zero-add rank))
 
-  pub next_event-step : (rank : ℕ) → IsSoundMachine m → is_enabled m (Step rank) ≡ true → ((j : ℕ) → j < rank → is_enabled m (Step j) ≡ false) → next_event m ≡ Some (Step rank)
+  pub next_event-step : (rank : ℕ) → IsSoundMachine m → is_enabled m (Step rank) ≡ true
+      → ((j : ℕ) → j < rank → is_enabled m (Step j) ≡ false) → next_event m ≡ Some (Step rank)
   next_event-step rank sound enabled before =
       let found = lowest_running m.nodes rank enabled before in
       let open_yet = enabled_open m (Step rank) sound enabled in
@@ -126,7 +134,8 @@ module _ (m : MachineState) where
       ∙ ap (λ (o : Option NodeState). Some (option_map_or (λ (n : NodeState). Step n.hart.rank) o Turn)) found.1
       ∙ ap (λ r. Some (Step r)) (rank-at rank found.0 sound found.2)
 
-  IsOnPhase-event : (rank : ℕ) → IsSoundMachine m → is_enabled m (Step rank) ≡ true → ((j : ℕ) → j < rank → is_enabled m (Step j) ≡ false) → IsOnPhase m (event m (Step rank))
+  IsOnPhase-event : (rank : ℕ) → IsSoundMachine m → is_enabled m (Step rank) ≡ true → ((j : ℕ) → j < rank → is_enabled m (Step j) ≡ false)
+      → IsOnPhase m (event m (Step rank))
   IsOnPhase-event rank sound enabled before =
       let next = next_event-step rank sound enabled before in
       record {
@@ -141,24 +150,32 @@ module _ (m : MachineState) where
       ap (λ (x : MachineState). is_enabled x (Step j)) (event-step m rank)
       ∙ ap (λ (o : Option NodeState). option_map_or runs o false) (slice_get-stepped_other m.input j rank m.nodes other)
 
-pub enabled-others : (k : ℕ) (m : MachineState) (rank j : ℕ) → rank ≢ j → is_enabled (after m (steps_of rank k)) (Step j) ≡ is_enabled m (Step j)
+pub enabled-others : (k : ℕ) (m : MachineState) (rank j : ℕ) → rank ≢ j
+    → is_enabled (after m (steps_of rank k)) (Step j) ≡ is_enabled m (Step j)
 enabled-others zero m rank j other = ap (λ (x : MachineState). is_enabled x (Step j)) (after-nil m)
 enabled-others (suc k) m rank j other =
     ap (λ (x : MachineState). is_enabled x (Step j)) (after-cons m (Step rank) (steps_of rank k))
     ∙ enabled-others k (event m (Step rank)) rank j other ∙ enabled-other m rank j other
 
 -- steps of the lowest rank that runs are the first events of the walk
-pub IsOnPhase-steps : (k : ℕ) (m : MachineState) (rank : ℕ) → IsSoundMachine m → ((j : ℕ) → j < rank → is_enabled m (Step j) ≡ false) → IsOnPhase m (after m (steps_of rank k))
+pub IsOnPhase-steps : (k : ℕ) (m : MachineState) (rank : ℕ) → IsSoundMachine m → ((j : ℕ) → j < rank → is_enabled m (Step j) ≡ false)
+    → IsOnPhase m (after m (steps_of rank k))
 IsOnPhase-steps zero m rank sound before = IsOnPhase-refl m (after m []) (after-nil m)
-IsOnPhase-steps (suc k) m rank sound before = by (λ x sound' before'. IsOnPhase-steps k x rank sound' before') (is_enabled m (Step rank)) refl
+IsOnPhase-steps (suc k) m rank sound before =
+    by (λ x sound' before'. IsOnPhase-steps k x rank sound' before') (is_enabled m (Step rank)) refl
   where
-    by : ((x : MachineState) → IsSoundMachine x → ((j : ℕ) → j < rank → is_enabled x (Step j) ≡ false) → IsOnPhase x (after x (steps_of rank k))) → (enabled : Bool) → is_enabled m (Step rank) ≡ enabled → IsOnPhase m (after m (steps_of rank (suc k)))
+    by : ((x : MachineState) → IsSoundMachine x → ((j : ℕ) → j < rank → is_enabled x (Step j) ≡ false)
+        → IsOnPhase x (after x (steps_of rank k))) → (enabled : Bool) → is_enabled m (Step rank) ≡ enabled
+        → IsOnPhase m (after m (steps_of rank (suc k)))
     by fewer false is =
         rw (after-cons m (Step rank) (steps_of rank k), event-disabled m (Step rank) is) (fewer m sound before)
     by fewer true is =
         let n = event m (Step rank) in
-        let rest = fewer n (IsSoundMachine-event m (Step rank) sound) (λ j below. enabled-other m rank j (λ same. omega (arith, same, below)) ∙ before j below) in
-        rw (after-cons m (Step rank) (steps_of rank k)) (IsOnPhase-trans m n (after n (steps_of rank k)) (IsOnPhase-event m rank sound is before) rest)
+        let rest =
+        fewer n (IsSoundMachine-event m (Step rank) sound)
+        (λ j below. enabled-other m rank j (λ same. omega (arith, same, below)) ∙ before j below) in
+        rw (after-cons m (Step rank) (steps_of rank k))
+        (IsOnPhase-trans m n (after n (steps_of rank k)) (IsOnPhase-event m rank sound is before) rest)
 
 node-of : (m : MachineState) (rank : ℕ) (n : NodeState) → IsSoundMachine m → slice_get m.nodes rank ≡ Some n → IsNodeOf m.settings n
 node-of m rank n sound found =
@@ -167,7 +184,8 @@ node-of m rank n sound found =
     rw is at (sound.nodes rank n within)
 
 -- after as many steps as a node may make, it does not run
-pub stopped-after : (m : MachineState) (rank : ℕ) → IsSoundMachine m → is_enabled (after m (steps_of rank m.settings.limit)) (Step rank) ≡ false
+pub stopped-after : (m : MachineState) (rank : ℕ) → IsSoundMachine m
+    → is_enabled (after m (steps_of rank m.settings.limit)) (Step rank) ≡ false
 stopped-after m rank sound =
     ap (λ (x : MachineState). is_enabled x (Step rank)) (after-often m.settings.limit m rank) ∙ by (slice_get m.nodes rank) refl
   where

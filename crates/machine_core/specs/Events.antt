@@ -1,6 +1,7 @@
 -- What happens in a machine, one event after another, in any order (own rule; BSP, Valiant 1990, leaves open how the nodes' local
 -- work is interleaved).
-use Rattle.std.specs.Prelude.{◌≡◌, ℕ, ◌<◌, ◌≤◌, ◌==◌, Bool, true, false, not, ◌&&◌, List, [], ◌∷◌, fold, replicate, slice_get, slice_set, is_none, IsSomeAnd, Result, OnOk, OnErr, IfOk, if◌then◌else◌}
+use Rattle.std.specs.Prelude.{◌≡◌, ℕ, ◌<◌, ◌≤◌, ◌==◌, Bool, true, false, not, ◌&&◌, List, [], ◌∷◌, fold, replicate, slice_get, slice_set}
+use Rattle.std.specs.Prelude.{is_none, IsSomeAnd, Result, OnOk, OnErr, IfOk, if◌then◌else◌}
 use Rattle.std.specs.declared.alloc.AllocError.{AllocError}
 use Rattle.std.specs.Fn.{iterate}
 use Rattle.std.specs.List.{AllZip, list_any}
@@ -71,7 +72,8 @@ abbrev pub MayRefuseEvent : MachineState → Event → Type 0
 MayRefuseEvent m (Step rank) = IsSomeAnd (slice_get m.nodes rank) (λ n. MayRefuseStep m.input n)
 MayRefuseEvent m Turn = is_enabled m Turn ≡ true
 
--- an event was to be made, with whether it was enabled: it was made, where it is enabled, or it was refused memory. Else nothing has changed
+-- an event was to be made, with whether it was enabled: it was made, where it is enabled, or it was refused memory. Else nothing has
+-- changed
 pub record IsAnswered (e : Event) (old new : MachineState) (answer : Result Bool AllocError) : Type 0 where
   pub ok : OnOk answer (new ≡ event old e)
   pub enabled : IfOk answer (λ made. made ≡ is_enabled old e)

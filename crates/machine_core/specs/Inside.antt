@@ -36,7 +36,8 @@ lender_view m = record {
 
 -- so many steps of the node at a place of a row were to be made at most, as long as it runs: they are; or memory is refused in one of
 -- them, which could be made next, and those before it are made. Each node keeps the pages that are its own
-pub record AreRowSteps {T : Type 0} (input : List ℕ) (place most : ℕ) (old new : List PreparedNode) (answer : Result T AllocError) : Type 0 where
+pub record AreRowSteps {T : Type 0} (input : List ℕ) (place most : ℕ) (old new : List PreparedNode)
+    (answer : Result T AllocError) : Type 0 where
   pub ok : OnOk answer (states new ≡ stepped_often input place most (states old))
   pub err : OnErr answer ((k : ℕ) × (k < most) × (states new ≡ stepped_often input place k (states old)))
   pub refuses : OnErr answer (IsSomeAnd (slice_get (states new) place) (λ n. MayRefuseStep input n))

@@ -1,7 +1,8 @@
 -- The superstep and what it costs (BSP, Valiant 1990: the local work of every node, and then one exchange, an h-relation; BSPlib,
 -- Hill and others 1998: `bsp_sync`). How a machine ends, in which order that is found out, and that w counts ticks and h bytes, are
 -- own rules.
-use Rattle.std.specs.Prelude.{◌≡◌, ℕ, ◌+◌, ◌-◌, max, Bool, true, false, List, [], ◌∷◌, ◌++◌, map, flat_map, find, zip, if◌then◌else◌, Option, Some, None, IsSome, is_some, is_none, option_map}
+use Rattle.std.specs.Prelude.{◌≡◌, ℕ, ◌+◌, ◌-◌, max, Bool, true, false, List, [], ◌∷◌, ◌++◌, map, flat_map, find, zip, if◌then◌else◌}
+use Rattle.std.specs.Prelude.{Option, Some, None, IsSome, is_some, is_none, option_map}
 use Rattle.std.specs.Fn.{iterate}
 use Rattle.std.specs.List.{fold}
 use Rattle.std.specs.Option.{option_or}

@@ -4,7 +4,8 @@ ghost use Rattle.std.specs.Prelude.{false, ◌≡◌, ◌++◌, None, Some, find
 ghost use Rattle.node_core.specs.Node.{PreparedNode};
 ghost use Rattle.bsp_exchange.specs.Exchange.{AreAtSync, states};
 ghost use Rattle.machine_core.specs.Closing.{Closes};
-ghost use Rattle.machine_core.specs.Turn.{was_stopped as was_stopped_of, has_ended as has_ended_of, is_waiting as is_waiting_of, lowest, makes_exchange as makes_exchange_of, outcome_of, written};
+ghost use Rattle.machine_core.specs.Turn.{was_stopped as was_stopped_of, has_ended as has_ended_of, is_waiting as is_waiting_of, lowest};
+ghost use Rattle.machine_core.specs.Turn.{makes_exchange as makes_exchange_of, outcome_of, written};
 
 use crate::outcome::Outcome;
 use crate::row;

@@ -17,8 +17,8 @@ ghost use Rattle.machine_core.specs.Walk.{walked, IsOnPhase};
 ghost use Rattle.machine_core.specs.Sound.{AreInRange, IsSoundMachine};
 
 /// A machine whose settings are in range is sound at its start, and events, turns and supersteps keep it so: each node at the place
-/// of its rank, and sound itself; equally many areas in effect at each; ticks that fit the exchanges; an outcome only where no node runs; a row of costs for each
-/// superstep that is over.
+/// of its rank, and sound itself; equally many areas in effect at each; ticks that fit the exchanges; an outcome only where no node runs;
+/// a row of costs for each superstep that is over.
 pub fn a_machine_stays_sound()
     ensures start { (image : Image) (input : List ℕ) (settings : Settings)
         → AreInRange settings → IsSoundMachine (fresh image input settings) }
@@ -99,8 +99,8 @@ pub fn every_machine_ends()
         × IsSome (after m events).outcome }
 {}
 
-/// Whatever events were made, before the outcome each clock counts on from what the ledger's rows cost at the prices of the settings, and from
-/// the ticks that its own node had made when the superstep began. Without prices there are no clocks.
+/// Whatever events were made, before the outcome each clock counts on from what the ledger's rows cost at the prices of the settings, and
+/// from the ticks that its own node had made when the superstep began. Without prices there are no clocks.
 pub fn clocks_count_on_from_what_is_over()
     ensures { (image : Image) (input : List ℕ) (settings : Settings) (events : List Event) → AreInRange settings
         → let m = after (fresh image input settings) events in

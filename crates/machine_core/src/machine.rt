@@ -1,6 +1,7 @@
 //! The machine itself: its events, its runs, and what can be read of it.
 
-ghost use Rattle.std.specs.Prelude.{◌≡◌, ◌<◌, ℕ, None, IfOk, OnOk, OnErr, IsSome, IsSomeAnd, length, map, slice_get, option_copied, option_map, true};
+ghost use Rattle.std.specs.Prelude.{◌≡◌, ◌<◌, ℕ, None, IfOk, OnOk, OnErr, IsSome, IsSomeAnd, length, map, slice_get, option_copied};
+ghost use Rattle.std.specs.Prelude.{option_map, true};
 ghost use Rattle.node_core.specs.Node.{PreparedNode, MayRefuseStep, is_running};
 ghost use Rattle.bsp_exchange.specs.Exchange.{states};
 ghost use Rattle.machine_core.specs.declared.event.Event.TheVariants.{Step as step_of, Turn as the_turn};

@@ -9,26 +9,30 @@ use Rattle.std.specs.Str.Parse.{digits_value_after}
 use Rattle.numerals.specs.Numbers.{below}
 
 -- digits that follow a number make it no less
-digits_value_after-grows : (r v : ℕ) (ds : List ℕ) → 0 < r → v ≤ digits_value_after r v ds
-digits_value_after-grows r v [] positive = omega arith
-digits_value_after-grows r v (d ∷ ds) positive =
-    let longer : v * 1 ≤ v * r = mul-le-mul_left v (omega arith) in
-    let grown = digits_value_after-grows r (v * r + digit_value d) ds positive in
+digits_value_after-grows : (radix value : ℕ) (digits : List ℕ) → 0 < radix → value ≤ digits_value_after radix value digits
+digits_value_after-grows radix value [] positive = omega arith
+digits_value_after-grows radix value (d ∷ digits) positive =
+    let longer : value * 1 ≤ value * radix = mul-le-mul_left value (omega arith) in
+    let grown = digits_value_after-grows radix (value * radix + digit_value d) digits positive in
     omega (arith, longer, grown)
 
 -- one digit on
-pub digits_value_after-more : (r v i : ℕ) (ds : List ℕ) → i < length ds → digits_value_after r (v * r + digit_value (get_or ds i 0)) (drop (i + 1) ds) ≡ digits_value_after r v (drop i ds)
-digits_value_after-more r v i ds within = sym (at_drop_more (digits_value_after r v) ds i 0 within)
+pub digits_value_after-more : (radix value place : ℕ) (digits : List ℕ) → place < length digits
+    → digits_value_after radix (value * radix + digit_value (get_or digits place 0)) (drop (place + 1) digits)
+    ≡ digits_value_after radix value (drop place digits)
+digits_value_after-more radix value place digits within = sym (at_drop_more (digits_value_after radix value) digits place 0 within)
 
-below-none : (b m n : ℕ) → m ≤ n → below b m ≡ None → below b n ≡ None
-below-none b m n grows none = grind (arith, common_steps)
+below-none : (bound m n : ℕ) → m ≤ n → below bound m ≡ None → below bound n ≡ None
+below-none bound m n grows none = grind (arith, common_steps)
 
 -- where some first digits are too much, so are all of them
-pub too_much : (r v i b : ℕ) (ds : List ℕ) → 0 < r → i < length ds → below b (v * r + digit_value (get_or ds i 0)) ≡ None
-    → below b (digits_value_after r v (drop i ds)) ≡ None
-too_much r v i b ds positive within none =
-    rw (sym (digits_value_after-more r v i ds within))
-    (below-none b _ _ (digits_value_after-grows r (v * r + digit_value (get_or ds i 0)) (drop (i + 1) ds) positive) none)
+pub too_much : (radix value place bound : ℕ) (digits : List ℕ) → 0 < radix → place < length digits
+    → below bound (value * radix + digit_value (get_or digits place 0)) ≡ None
+    → below bound (digits_value_after radix value (drop place digits)) ≡ None
+too_much radix value place bound digits positive within none =
+    rw (sym (digits_value_after-more radix value place digits within))
+    (below-none bound _ _
+    (digits_value_after-grows radix (value * radix + digit_value (get_or digits place 0)) (drop (place + 1) digits) positive) none)
 
 -- a number that 64 bits hold, and one that they do not, in 32 bits
 pub narrower : (o : Option ℕ) (n : ℕ) → option_and_then (below (2 ^ 64)) o ≡ Some n → option_and_then (below (2 ^ 32)) o ≡ below (2 ^ 32) n
@@ -39,8 +43,8 @@ pub narrower_none : (o : Option ℕ) → option_and_then (below (2 ^ 64)) o ≡ 
 narrower_none None h = refl
 narrower_none (Some m) h = grind (arith, common_steps)
 
-pub below-some : (b n : ℕ) → n < b → below b n ≡ Some n
-below-some b n less = grind (arith, common_steps)
+pub below-some : (bound n : ℕ) → n < bound → below bound n ≡ Some n
+below-some bound n less = grind (arith, common_steps)
 
-pub below-none_past : (b n : ℕ) → (n < b → ⊥) → below b n ≡ None
-below-none_past b n past = grind (arith, common_steps)
+pub below-none_past : (bound n : ℕ) → (n < bound → ⊥) → below bound n ≡ None
+below-none_past bound n past = grind (arith, common_steps)

@@ -1,3 +1,4 @@
+-- The lemmas of this crate's proofs: refusals, runs of a row, landings, phases, work on nodes.
 pub mod Refusals
 pub mod Runs
 pub mod Landings

@@ -29,7 +29,9 @@ none_runs (n ∷ rest) stopped =
     grind arith
 
 -- a machine whose row was worked on, `lender` being the machine meanwhile
-module _ (m lender new : MachineState) (input : List ℕ) (old row : List NodeState) (lacks_memory : Bool) (lent : lender ≡ m) (same : old ≡ m.nodes) (read : input ≡ lender.input) (back : new ≡ record lender { nodes = row }) (worked : IsWorked input old row lacks_memory) where
+module _ (m lender new : MachineState) (input : List ℕ) (old row : List NodeState) (lacks_memory : Bool) (lent : lender ≡ m)
+    (same : old ≡ m.nodes) (read : input ≡ lender.input) (back : new ≡ record lender { nodes = row })
+    (worked : IsWorked input old row lacks_memory) where
   inputs : input ≡ m.input
   inputs = read ∙ ap (λ (x : MachineState). x.input) lent
 
@@ -38,7 +40,9 @@ module _ (m lender new : MachineState) (input : List ℕ) (old row : List NodeSt
 
   pub worked_events : LeadsWithoutTurn m new
   worked_events =
-      let each : HaveStepped m.input m.nodes row = subst (λ (i : List ℕ). HaveStepped i m.nodes row) inputs (subst (λ (ns : List NodeState). HaveStepped input ns row) same worked.stepped) in
+      let each : HaveStepped m.input m.nodes row =
+      subst (λ (i : List ℕ). HaveStepped i m.nodes row) inputs
+      (subst (λ (ns : List NodeState). HaveStepped input ns row) same worked.stepped) in
       let events = row_is_events m row each in
       (events.0, events.1, backs ∙ sym events.2)
 
@@ -47,7 +51,8 @@ module _ (m lender new : MachineState) (input : List ℕ) (old row : List NodeSt
   worked_phases sound fine =
       let reached = worked_events in
       let none : some_runs new.nodes ≡ false = ap (λ (x : MachineState). some_runs x.nodes) backs ∙ none_runs row (worked.ok fine) in
-      let there : with_phases new ≡ new = ap (λ (ns : List NodeState). record new { nodes = ns }) (map-phase-stopped new.input new.nodes none) in
+      let there : with_phases new ≡ new =
+      ap (λ (ns : List NodeState). record new { nodes = ns }) (map-phase-stopped new.input new.nodes none) in
       sym there ∙ ap with_phases reached.2 ∙ phases-after m reached.0 sound reached.1
 
   pub worked_come : HaveCome new.input new.nodes
@@ -72,12 +77,14 @@ no_events m = ([], tt, sym (after-nil m))
 
 -- after the outcome no node has a local part left
 pub phases_over : (m : MachineState) → IsSoundMachine m → IsSome m.outcome → m ≡ with_phases m
-phases_over m sound over = sym (ap (λ (ns : List NodeState). record m { nodes = ns }) (map-phase-stopped m.input m.nodes (sound.outcome over)))
+phases_over m sound over =
+    sym (ap (λ (ns : List NodeState). record m { nodes = ns }) (map-phase-stopped m.input m.nodes (sound.outcome over)))
 
 after-append : (m : MachineState) (first second : List Event) → after m (first ++ second) ≡ after (after m first) second
 after-append m [] second = ap (λ (x : MachineState). after x second) (sym (after-nil m))
 after-append m (e ∷ first) second =
-    after-cons m e (first ++ second) ∙ after-append (event m e) first second ∙ ap (λ (x : MachineState). after x second) (sym (after-cons m e first))
+    after-cons m e (first ++ second) ∙ after-append (event m e) first second
+    ∙ ap (λ (x : MachineState). after x second) (sym (after-cons m e first))
 
 pub LeadsTo-on : (old m new : MachineState) → LeadsTo old m → LeadsWithoutTurn m new → LeadsTo old new
 LeadsTo-on old m new first second =
@@ -99,7 +106,8 @@ LeadsWithoutTurn-outcome old new reached =
 pub LeadsTo-length : (old new : MachineState) → LeadsTo old new → length new.nodes ≡ length old.nodes
 LeadsTo-length old new so_far =
     let onward = onward_after old so_far.0 in
-    ap (λ (x : MachineState). length x.nodes) so_far.1 ∙ sym (length_all_zip (λ (o n : NodeState). o.ticks ≤ n.ticks) old.nodes (after old so_far.0).nodes onward.ticks)
+    ap (λ (x : MachineState). length x.nodes) so_far.1
+    ∙ sym (length_all_zip (λ (o n : NodeState). o.ticks ≤ n.ticks) old.nodes (after old so_far.0).nodes onward.ticks)
 
 -- local parts that are made whole are some events
 pub phases_reached : (m : MachineState) → IsSoundMachine m → LeadsWithoutTurn m (with_phases m)

@@ -16,7 +16,8 @@ others_have_one each others some =
 
 pub enough_for_others : (nodes runs : ℕ) → 1 < runs → runs ≤ nodes → runs - 1 ≤ nodes - nodes / runs
 enough_for_others nodes runs some enough =
-    let whole : nodes / runs * runs + nodes % runs ≡ nodes = ap (λ n. n + nodes % runs) (mul_comm (nodes / runs) runs) ∙ div-add-mod nodes runs in
+    let whole : nodes / runs * runs + nodes % runs ≡ nodes =
+    ap (λ n. n + nodes % runs) (mul_comm (nodes / runs) runs) ∙ div-add-mod nodes runs in
     let each : 0 < nodes / runs = each_has_some (nodes / runs) runs nodes (lt-div-mul-add (omega arith)) enough in
     let all : 1 + (runs - 1) ≡ runs = omega (arith, some) in
     let left = rw all at (others_have_one (nodes / runs) (runs - 1) each) in

@@ -24,12 +24,14 @@ IsReadyFor Land parts nodes = AllZip CanLand parts nodes
 -- what it leaves: the nodes' states and the parts as they were, and where it is complete, each part can land; or the nodes in which the
 -- parts have landed, and none of these
 abbrev pub IsDone : Stage → List PartState → List PreparedNode → List PartState → List PreparedNode → Bool → Type 0
-IsDone Prepare parts nodes parts' nodes' complete = (parts' ≡ parts) × (states nodes' ≡ states nodes) × (IsTrue complete → AllZip CanLand parts' nodes')
+IsDone Prepare parts nodes parts' nodes' complete =
+    (parts' ≡ parts) × (states nodes' ≡ states nodes) × (IsTrue complete → AllZip CanLand parts' nodes')
 IsDone Land parts nodes parts' nodes' complete = (parts' ≡ []) × HaveLanded parts nodes nodes'
 
 -- the nodes of a stage before the last of so many runs, and those of that run: no run before it is without a node, all are ready for the
 -- stage, and the last nodes and parts find room behind those before them
-pub record AreApart (stage : Stage) (runs node_room part_room : ℕ) (parts : List PartState) (nodes : List PreparedNode) (last_parts : List PartState) (last_nodes : List PreparedNode) : Type 0 where
+pub record AreApart (stage : Stage) (runs node_room part_room : ℕ) (parts : List PartState) (nodes : List PreparedNode)
+    (last_parts : List PartState) (last_nodes : List PreparedNode) : Type 0 where
   pub some : 1 < runs
   pub enough : runs - 1 ≤ length nodes
   pub nodes_fit : length nodes + length last_nodes ≤ node_room

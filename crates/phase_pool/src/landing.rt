@@ -100,7 +100,8 @@ fn make_beside<R: Threads + Wait + Sync, A: Allocator + Copy + Send + Sync>(
     here: Share<A>,
     last: Share<A>,
 ) -> Done<A>
-    requires { AreApart stage threads (vec_capacity here.nodes) (vec_capacity here.parts) here.parts.items here.nodes.items last.parts.items last.nodes.items }
+    requires { AreApart stage threads (vec_capacity here.nodes) (vec_capacity here.parts)
+        here.parts.items here.nodes.items last.parts.items last.nodes.items }
     ensures done { IsDone stage (here.parts.items ++ last.parts.items) (here.nodes.items ++ last.nodes.items)
         result.share.parts.items result.share.nodes.items result.complete }
     ensures node_room { vec_capacity here.nodes ≤ vec_capacity result.share.nodes }
@@ -111,7 +112,8 @@ fn make_beside<R: Threads + Wait + Sync, A: Allocator + Copy + Send + Sync>(
         rt,
         |scope| -> Done<A>
             requires { IsSync R.row × IsSend A.row × IsSync A.row × Frees A.Allocator A.dealloc_token
-                × AreApart stage threads (vec_capacity here.nodes) (vec_capacity here.parts) here.parts.items here.nodes.items last.parts.items last.nodes.items }
+                × AreApart stage threads (vec_capacity here.nodes) (vec_capacity here.parts)
+                here.parts.items here.nodes.items last.parts.items last.nodes.items }
             ensures { IsDone stage (here.parts.items ++ last.parts.items) (here.nodes.items ++ last.nodes.items)
                 result.share.parts.items result.share.nodes.items result.complete
                 × (vec_capacity here.nodes ≤ vec_capacity result.share.nodes)
@@ -269,7 +271,8 @@ fn make_here<A: Allocator + Copy>(stage: Stage, share: Share<A>) -> Done<A>
 /// Prepares each node for the part at its place, up to the first that is refused memory.
 fn prepare_here<A: Allocator + Copy>(share: Share<A>) -> Done<A>
     requires { IsReadyFor Stage.Prepare share.parts.items share.nodes.items }
-    ensures done { IsDone Stage.Prepare share.parts.items share.nodes.items result.share.parts.items result.share.nodes.items result.complete }
+    ensures done { IsDone Stage.Prepare share.parts.items share.nodes.items
+        result.share.parts.items result.share.nodes.items result.complete }
     ensures thread { IsFalse result.refused.thread }
     ensures memory { IsFalse result.refused.memory }
     ensures node_room { vec_capacity result.share.nodes ≡ vec_capacity share.nodes }

@@ -4,9 +4,9 @@
 //! parts of the superstep. [`run_phase`] does so for one superstep, and [`run`] up to the machine's outcome. The machine lends its row
 //! of nodes meanwhile, and the nodes come to a table (`claim_table`), from which each worker takes one that runs, makes a slice of its
 //! steps and gives it back. When no worker is left, this thread takes the row out of the table and finishes each node that still
-//! runs. In a turn the nodes are prepared for the parts of the exchange, and these land, in as many threads, each of which has a run of the row.
-//! [`run_phase_sparing`] and [`run_sparing`] are the same for those who want no thread where its start would cost more than the work
-//! that it does.
+//! runs. In a turn the nodes are prepared for the parts of the exchange, and these land, in as many threads, each of which has a run of
+//! the row. [`run_phase_sparing`] and [`run_sparing`] are the same for those who want no thread where its start would cost more than the
+//! work that it does.
 //!
 //! What callers may rely on:
 //!

@@ -20,8 +20,8 @@ use std::thread::Threads;
 /// The most steps that a node may make, whatever its limit.
 const MOST_STEPS: u64 = 1 << 40;
 
-/// After how many steps of a node the bytes that it has asked for are first looked at, where its share is small; after these, each time that
-/// its steps have doubled. Where it is large, that is after each call.
+/// After how many steps of a node the bytes that it has asked for are first looked at, where its share is small; after these, each time
+/// that its steps have doubled. Where it is large, that is after each call.
 const FIRST_LOOK: u64 = 256;
 
 /// From how many steps on a share is large: some more do not matter then, and none of them is counted by itself.
@@ -185,7 +185,8 @@ fn begin<A: Allocator + Copy>(
     Worked { nodes, refused }
 }
 
-/// Makes about a share of a node's steps. How many bytes it has asked for is looked at now and then, so that it ends near those of the share.
+/// Makes about a share of a node's steps. How many bytes it has asked for is looked at now and then, so that it ends near those of the
+/// share.
 ///
 /// # Errors
 /// Where memory is refused in a step. The steps before it are made.

@@ -237,7 +237,8 @@ fn make_local_parts<R: Threads + Wait + Sync, A: Allocator + Copy + Send + Sync,
         machine,
         team,
         |machine: Machine<A>, team: &Team<'_, G>| -> (Machine<A>, Refused)
-            requires { IsSync R.row × IsSync G.row × IsSend A.row × IsSync A.row × Frees A.Allocator A.dealloc_token × (0 < team.now.slice) }
+            requires { IsSync R.row × IsSync G.row × IsSend A.row × IsSync A.row × Frees A.Allocator A.dealloc_token
+                × (0 < team.now.slice) }
             ensures { IsPhaseMade team.now.workers machine result.0 result.1 }
         { work_on_machine(rt, team, machine) },
     )
@@ -316,7 +317,8 @@ fn turn_machine<R: Threads + Wait + Sync, A: Allocator + Copy + Send + Sync, G: 
     }
 }
 
-/// In how many threads nodes are prepared for these parts, and then the parts land: as many as there are workers and parts, or one, where the bytes do not pay for others.
+/// In how many threads nodes are prepared for these parts, and then the parts land: as many as there are workers and parts, or one, where
+/// the bytes do not pay for others.
 fn landing_threads<A: Allocator + Copy, G>(team: &Team<'_, G>, parts: &[Part<A>]) -> usize
     ensures workers { result ≤ team.now.workers }
     ensures parts { result ≤ length parts.now }

@@ -7,7 +7,9 @@ use Rattle.std.specs.Option.{option_map_or}
 use Rattle.rv_tables.specs.declared.code.Code.{Code}
 use Rattle.rv_tables.specs.declared.code.Code.TheVariants.{Half, Word}
 use Rattle.rv_float_tables.specs.declared.instr.FloatInstr.{FloatInstr}
-use Rattle.rv_float_tables.specs.declared.instr.FloatInstr.TheVariants.{Load, Store, Fused, Arithmetic, SquareRoot, Sign, MinMax, Compare, Class, ToWord, FromWord, ToFormat, MoveToInteger, MoveFromInteger, Csr, CsrImmediate}
+use Rattle.rv_float_tables.specs.declared.instr.FloatInstr.TheVariants.{Load, Store, Fused, Arithmetic, SquareRoot, Sign, MinMax, Compare}
+use Rattle.rv_float_tables.specs.declared.instr.FloatInstr.TheVariants.{Class, ToWord, FromWord, ToFormat, MoveToInteger, MoveFromInteger}
+use Rattle.rv_float_tables.specs.declared.instr.FloatInstr.TheVariants.{Csr, CsrImmediate}
 use Rattle.rv_float_tables.specs.declared.instr.Format.{Format}
 use Rattle.rv_float_tables.specs.declared.instr.Format.TheVariants.{Single, Double}
 use Rattle.rv_float_tables.specs.declared.instr.RoundingField.{RoundingField}

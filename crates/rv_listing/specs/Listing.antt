@@ -20,8 +20,10 @@ byte_data byte = codes ".byte 0x" ++ two_digits byte
 
 -- a line: its address, the code or the byte there, and in one column for all of them the code's statement, or the byte as data
 abbrev pub text_with : (AnyCode → ℕ → List ℕ) → Line → List ℕ
-text_with statement (Code addr (Half half)) = eight_digits addr ++ codes ": " ++ four_digits half ++ codes "      " ++ statement (Half half) addr
-text_with statement (Code addr (Word word)) = eight_digits addr ++ codes ": " ++ eight_digits word ++ codes "  " ++ statement (Word word) addr
+text_with statement (Code addr (Half half)) =
+    eight_digits addr ++ codes ": " ++ four_digits half ++ codes "      " ++ statement (Half half) addr
+text_with statement (Code addr (Word word)) =
+    eight_digits addr ++ codes ": " ++ eight_digits word ++ codes "  " ++ statement (Word word) addr
 text_with statement (Byte addr byte) = eight_digits addr ++ codes ": " ++ two_digits byte ++ codes "        " ++ byte_data byte
 
 abbrev pub text_of : Line → List ℕ
@@ -44,7 +46,8 @@ byte_lines addr bytes at = map (byte_line addr bytes) (range_with_len at (length
 abbrev pub lines_from : ℕ → ℕ → List ℕ → ℕ → List Line
 lines_from zero addr bytes at = byte_lines addr bytes at
 lines_from (suc n) addr bytes at =
-    option_map_or (λ code. Code (addr + at) code ∷ lines_from n addr bytes (at + length_of code)) (code_at bytes at) (byte_lines addr bytes at)
+    option_map_or (λ code. Code (addr + at) code ∷ lines_from n addr bytes (at + length_of code)) (code_at bytes at)
+    (byte_lines addr bytes at)
 
 -- the lines of bytes from an address on. There are fewer codes than bytes
 unfoldable pub listing_lines : ℕ → List ℕ → List Line

@@ -118,7 +118,9 @@ can : CanExchange two_puts.nodes
 can = subst CanExchange phased (can_exchange_next two_puts is_sound made)
 
 lies_after : (byte : ℕ) → MayLie two_puts.nodes 1 16 byte → MayLieAfter 1 two_puts 1 16 byte
-lies_after byte lies = may_lie_after 0 two_puts two_puts 1 16 byte refl refl made (subst (λ (nodes : List NodeState). MayLie nodes 1 16 byte) (sym phased) lies)
+lies_after byte lies =
+    may_lie_after 0 two_puts two_puts 1 16 byte refl refl made
+    (subst (λ (nodes : List NodeState). MayLie nodes 1 16 byte) (sym phased) lies)
 
 pub one_lies : MayLieAfter 1 two_puts 1 16 4
 one_lies = lies_after 4 (may_lie two_puts.nodes first 1 16 can first_lands refl)

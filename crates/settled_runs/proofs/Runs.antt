@@ -13,21 +13,29 @@ use Rattle.machine_core.specs.Machine.{MachineState}
 use Rattle.machine_core.specs.Turn.{outcome_of, decided, recorded, turned, with_phases, superstep, end_of}
 use Rattle.settled_runs.specs.Orders.{decided_in, turned_in, superstep_in, next_landings, RunsTo, IsSettledSuperstep, IsSettledRun}
 
-decided-same : (order : List Landing) (m : MachineState) (o : Option Outcome) → IsAllowedOrder (landings m.nodes) order → (is_none o ≡ true → AreSettled (landings m.nodes)) → decided_in order o m ≡ decided o m
+decided-same : (order : List Landing) (m : MachineState) (o : Option Outcome) → IsAllowedOrder (landings m.nodes) order
+    → (is_none o ≡ true → AreSettled (landings m.nodes)) → decided_in order o m ≡ decided o m
 decided-same order m (Some end) allowed settled = refl
 decided-same order m None allowed settled =
-    ap (λ (nodes : List NodeState). record m { nodes = with_clocks m.settings.clock m.ledger nodes; started = map (λ (n : NodeState). n.ticks) m.nodes; exchanges = m.exchanges + 1 })
+    ap (λ (nodes : List NodeState). record m {
+      nodes = with_clocks m.settings.clock m.ledger nodes;
+      started = map (λ (n : NodeState). n.ticks) m.nodes;
+      exchanges = m.exchanges + 1;
+    })
     (settled_row m.nodes order (landings m.nodes) (settled refl) allowed (IsPermutation-refl (landings m.nodes)))
 
-turned-same : (order : List Landing) (m : MachineState) → IsAllowedOrder (landings m.nodes) order → (is_none (outcome_of m.nodes) ≡ true → AreSettled (landings m.nodes)) → turned_in order m ≡ turned m
+turned-same : (order : List Landing) (m : MachineState) → IsAllowedOrder (landings m.nodes) order
+    → (is_none (outcome_of m.nodes) ≡ true → AreSettled (landings m.nodes)) → turned_in order m ≡ turned m
 unfolding turned
 turned-same order m allowed settled = decided-same order (recorded m) (outcome_of m.nodes) allowed settled
 
-superstep-at : (order : List Landing) (m : MachineState) (over : Bool) → is_some m.outcome ≡ over → IsAllowedOrder (next_landings m) order → IsSettledSuperstep m → cond over m (turned_in order (with_phases m)) ≡ cond over m (turned (with_phases m))
+superstep-at : (order : List Landing) (m : MachineState) (over : Bool) → is_some m.outcome ≡ over → IsAllowedOrder (next_landings m) order
+    → IsSettledSuperstep m → cond over m (turned_in order (with_phases m)) ≡ cond over m (turned (with_phases m))
 superstep-at order m true is allowed settled = refl
 superstep-at order m false is allowed settled = turned-same order (with_phases m) allowed (settled is)
 
-superstep-same : (order : List Landing) (m : MachineState) → IsAllowedOrder (next_landings m) order → IsSettledSuperstep m → superstep_in order m ≡ superstep m
+superstep-same : (order : List Landing) (m : MachineState) → IsAllowedOrder (next_landings m) order → IsSettledSuperstep m
+    → superstep_in order m ≡ superstep m
 unfolding superstep
 superstep-same order m allowed settled = superstep-at order m (is_some m.outcome) refl allowed settled
 
@@ -56,5 +64,9 @@ own-superstep m = ap (λ (next : MachineState). cond (is_some m.outcome) m next)
 
 pub run-allowed : (k : ℕ) (m : MachineState) → RunsTo k m (iterate superstep k m)
 run-allowed zero m = refl
-run-allowed (suc k) m =
-    (next_landings m, IsPermutation-refl (next_landings m), subst (λ (s : MachineState). RunsTo k s (iterate superstep k (superstep m))) (sym (own-superstep m)) (run-allowed k (superstep m)))
+run-allowed (suc k) m = (
+  next_landings m,
+  IsPermutation-refl (next_landings m),
+  subst (λ (s : MachineState). RunsTo k s (iterate superstep k (superstep m)))
+      (sym (own-superstep m)) (run-allowed k (superstep m)),
+)

@@ -2,7 +2,8 @@
 //!
 //! BSPlib (Hill and others, 1998) does not define in which order puts and gets land if they overlap; a machine has one order of its own.
 //! The crate is [`laws`] alone: every choice of orders has come to the same machine after each superstep just if none has a contested byte.
-//! All else that BSPlib leaves open is as in the machine's own runs: the order of messages in a queue, and when unbuffered calls take effect.
+//! All else that BSPlib leaves open is as in the machine's own runs: the order of messages in a queue, and when unbuffered calls take
+//! effect.
 #![tactic(auto)]
 
 pub mod laws;

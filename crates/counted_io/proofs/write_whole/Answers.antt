@@ -21,4 +21,6 @@ pub returns-in_err-count-clause-err : goal.returns-in_err-count-clause-err
 returns-in_err-count-clause-err g c =
     let (done, split, appended) = c.loop-rest.invariant.written in
     let returned = err_from_is_err_and c.from_residual.result c.from_residual.ensures.1 in
-    rw returned.1 (AppendsPrefix-stopped _ _ _ done c.loop-rest.rest.now split (search rules) (Appends-kept _ _ _ done appended c.in_err-count.ensures.bytes))
+    rw returned.1
+    (AppendsPrefix-stopped _ _ _ done c.loop-rest.rest.now split (search rules)
+    (Appends-kept _ _ _ done appended c.in_err-count.ensures.bytes))

@@ -1,3 +1,4 @@
+-- The digits read so far have a value of 64 bits, and the digits that are left carry it on to the value of all.
 use Rattle.std.proofs.Common.{◌≡◌, ◌<◌, ◌^◌, drop}
 use Rattle.std.specs.Str.Parse.{digits_value, digits_value_after}
 use Rattle.numerals.proofs.digits_value.Given as goal

@@ -11,7 +11,8 @@ returns-in_err-u64_of c =
 pub returns-in-Ok : goal.returns-in-Ok
 returns-in-Ok c =
     let fits = c.in-Ok.ensures {u = tt} in
-    ap Some fits.1 ∙ sym (narrower (number_value c.args.word.now) c.in_ok-u64_of.field-0 (sym c.u64_of.ensures ∙ c.in_ok-u64_of.was {u = tt})
+    ap Some fits.1
+    ∙ sym (narrower (number_value c.args.word.now) c.in_ok-u64_of.field-0 (sym c.u64_of.ensures ∙ c.in_ok-u64_of.was {u = tt})
     ∙ below-some (2 ^ 32) c.in_ok-u64_of.field-0 fits.0)
 
 pub returns-in-Err : goal.returns-in-Err

@@ -1,3 +1,4 @@
+-- The clones so far are the messages that were passed, behind what was there before.
 use Rattle.std.proofs.Common.{◌≡◌, ◌++◌, take}
 use Rattle.bsp_requests.proofs.inbox.append_clones.Given as goal
 

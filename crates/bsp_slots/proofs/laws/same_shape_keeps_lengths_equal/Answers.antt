@@ -1,3 +1,4 @@
+-- Two lists of one length stay so where the same sequence of pushes and pops is replayed over both.
 use Rattle.bsp_slots.proofs.Shapes.{length-registrations_after}
 use Rattle.bsp_slots.proofs.laws.same_shape_keeps_lengths_equal.Goals as goal
 

@@ -1,3 +1,4 @@
+-- A push within the limits keeps registrations sound, and so does a pop of a registered address.
 use Rattle.std.proofs.Common.{arith}
 use Rattle.std.proofs.lemmas.Bool.Decides.{nat_tests}
 use Rattle.bsp_slots.proofs.Soundness.{IsSound-pushed, IsSound-popped}

@@ -1,3 +1,4 @@
+-- The nodes from this rank on are still in the row, the last one first, and those before it have come to the table.
 use Rattle.std.proofs.Common.{◌≡◌, ◌+◌, [], drop}
 use Rattle.std.specs.Prelude.{reverse, vec_len, vec_capacity}
 use Rattle.claim_table.specs.ClaimSteps.{keeper_view}

@@ -1,3 +1,4 @@
+-- The table is still open, and the keeper knows that all nodes have come.
 use Rattle.std.proofs.Common.{◌≡◌, []}
 use Rattle.claim_table.specs.ClaimSteps.{keeper_view}
 use Rattle.claim_table.proofs.keeper.seal.Given as goal

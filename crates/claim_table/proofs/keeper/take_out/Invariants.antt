@@ -1,3 +1,4 @@
+-- What lay in the slots before this rank is in the row, and the slots from it on are still full.
 use Rattle.std.proofs.Common.{◌≡◌, ℕ, ◌<◌, ◌≤◌, true, false, length, map, take, Some}
 use Rattle.std.specs.Prelude.{vec_capacity, slice_index_or}
 use Rattle.core.specs.Mem.Slots.{slots_items, slots_len, slots_filled}

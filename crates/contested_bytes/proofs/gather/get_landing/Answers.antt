@@ -1,3 +1,4 @@
+-- The bytes that the target has there are as many as the get asks for, so they lie within the caller's memory.
 use Rattle.std.proofs.Common.{ℕ, ◌+◌, ◌-◌, ◌≤◌, List, length, drop, sym, ap, ap₂, ◌∙◌, arith}
 use Rattle.std.proofs.lemmas.List.{length-take}
 use Rattle.node_memory.specs.Bytes.{bytes_at}
@@ -12,7 +13,8 @@ pub start_of-from-requires : goal.start_of-from-requires
 start_of-from-requires g c = record { inside = c.requires.inside }
 
 pub bounds-nodes-get : goal.bounds-nodes-get
-bounds-nodes-get g c = node_there c.args.nodes.now c.args.get.now.target c.args.get.now.slot c.args.get.now.offset c.args.get.now.len c.requires.inside
+bounds-nodes-get g c =
+    node_there c.args.nodes.now c.args.get.now.target c.args.get.now.slot c.args.get.now.offset c.args.get.now.len c.requires.inside
 
 pub invariant_of-result : goal.invariant_of-result
 invariant_of-result g c =
@@ -25,7 +27,14 @@ returns g c =
     let nodes = c.args.nodes.now in
     ap (λ (bs : List ℕ). record { rank = c.args.caller; addr = get.dst; bytes = bs; key = get_key c.args.caller c.args.issue })
     (c.in-Ok.ensures.ok
-    ∙ ap₂ (λ (m : List ℕ) (a : ℕ). bytes_at m a get.len) (c.memory-memory.ensures.value ∙ sym (memory_at nodes get.target c.index-nodes-get.result (node_there c.args.nodes.now c.args.get.now.target c.args.get.now.slot c.args.get.now.offset c.args.get.now.len c.requires.inside) c.index-nodes-get.is)) c.start_of-from.ensures.value)
+    ∙ ap₂ (λ (m : List ℕ) (a : ℕ). bytes_at m a get.len)
+    (c.memory-memory.ensures.value
+    ∙ sym (memory_at nodes get.target c.index-nodes-get.result
+    (node_there c.args.nodes.now c.args.get.now.target c.args.get.now.slot c.args.get.now.offset c.args.get.now.len c.requires.inside)
+    c.index-nodes-get.is)) c.start_of-from.ensures.value)
 
 pub offset_bounds-nodes-get : goal.offset_bounds-nodes-get
-offset_bounds-nodes-get g c = let there = node_there c.args.nodes.now c.args.get.now.target c.args.get.now.slot c.args.get.now.offset c.args.get.now.len c.requires.inside in omega (arith, there)
+offset_bounds-nodes-get g c =
+    let get = c.args.get.now in
+    let there = node_there c.args.nodes.now get.target get.slot get.offset get.len c.requires.inside in
+    omega (arith, there)

@@ -1,3 +1,4 @@
+-- What is gathered, and what the nodes from this one on land, are the landings of all.
 use Rattle.std.proofs.Common.{◌≡◌, drop, None}
 use Rattle.bsp_exchange.specs.Exchange.{states}
 use Rattle.bsp_exchange.specs.Faults.{first_outside}

@@ -1,3 +1,4 @@
+-- The put's bytes lie inside the area, and its landing has them from the area's start and the offset on.
 use Rattle.std.proofs.Common.{ℕ, List, ap, ap₂, ◌∙◌}
 use Rattle.bsp_requests.specs.Put.{Put}
 use Rattle.bsp_requests.specs.Request.{asks_put}
@@ -20,5 +21,6 @@ pub returns : goal.returns
 returns g c =
     let nodes = states c.args.nodes.now in
     let put = c.put.inside in
-    ap₂ (λ (a : ℕ) (bs : List ℕ). record { rank = put.target; addr = a; bytes = bs; key = put_key c.args.caller c.args.issue }) c.start_of-addr.ensures.value c.in_ok-bytes.ensures.ok
+    ap₂ (λ (a : ℕ) (bs : List ℕ). record { rank = put.target; addr = a; bytes = bs; key = put_key c.args.caller c.args.issue })
+    c.start_of-addr.ensures.value c.in_ok-bytes.ensures.ok
     ∙ ap (put_landing nodes c.args.caller c.args.issue) c.put.view_is

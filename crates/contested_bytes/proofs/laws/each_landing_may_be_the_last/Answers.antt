@@ -1,3 +1,4 @@
+-- The order in which this landing comes last is allowed, and leaves its byte there.
 use Rattle.contested_bytes.proofs.Inside.{may_lie, named_may_lie}
 use Rattle.contested_bytes.proofs.Orders.{last_byte}
 use Rattle.contested_bytes.proofs.laws.each_landing_may_be_the_last.Goals as goal

@@ -1,3 +1,4 @@
+-- Of two landings only these two can differ, and so only at the addresses that both cover; and two landings may change places.
 use Rattle.std.proofs.Common.{◌≡◌, ℕ, ◌⊎◌, inl, inr, zero, suc, [], ◌∷◌, refl, sym, ap, subst, ◌∙◌, arith}
 use Rattle.std.specs.Prelude.{Contains}
 use Rattle.std.proofs.lemmas.List.Sorted.{IsPermutation-refl, IsPermutation-to_front}
@@ -18,12 +19,17 @@ both : (x y : Landing) (rank addr : ℕ) → IsContested (x ∷ y ∷ []) rank a
 both x y rank addr c =
     elim (one-of x y c.0 c.2) [
       | inl first ↦ elim (one-of x y c.1 c.3) [
-        | inl second ↦ absurd (differ-itself rank addr x (subst (Differ rank addr x) (sym second) (subst (λ a. Differ rank addr a c.1) (sym first) c.4)))
+        | inl second ↦
+            absurd (differ-itself rank addr x
+            (subst (Differ rank addr x) (sym second) (subst (λ a. Differ rank addr a c.1) (sym first) c.4)))
         | inr second ↦ subst (Differ rank addr x) (sym second) (subst (λ a. Differ rank addr a c.1) (sym first) c.4)
       ]
       | inr first ↦ elim (one-of x y c.1 c.3) [
-        | inl second ↦ differ-sym rank addr y x (subst (Differ rank addr y) (sym second) (subst (λ a. Differ rank addr a c.1) (sym first) c.4))
-        | inr second ↦ absurd (differ-itself rank addr y (subst (Differ rank addr y) (sym second) (subst (λ a. Differ rank addr a c.1) (sym first) c.4)))
+        | inl second ↦
+            differ-sym rank addr y x (subst (Differ rank addr y) (sym second) (subst (λ a. Differ rank addr a c.1) (sym first) c.4))
+        | inr second ↦
+            absurd (differ-itself rank addr y
+            (subst (Differ rank addr y) (sym second) (subst (λ a. Differ rank addr a c.1) (sym first) c.4)))
       ]
     ]
 
@@ -39,18 +45,33 @@ returns-clause-touching c = λ rank addr contested.
     omega (arith, reaches-end rank addr put_by_0 differ.first, reaches-start rank addr behind_by_2 differ.second)
 
 different-at : IsContested (put_by_0 ∷ other_by_2 ∷ []) 1 19
-different-at = (put_by_0, other_by_2, (0, omega arith, refl), (1, omega arith, refl), record { first = refl; second = refl; bytes = λ same. omega (arith, same) })
+different-at = (
+  put_by_0,
+  other_by_2,
+  (0, omega arith, refl),
+  (1, omega arith, refl),
+  record { first = refl; second = refl; bytes = λ same. omega (arith, same) },
+)
 
 pub returns-clause-different : goal.returns-clause-different
 returns-clause-different c = λ rank addr. (
   λ contested.
-      let differ = both put_by_0 other_by_2 rank addr contested in
-      (sym (reaches-rank rank addr put_by_0 differ.first), omega (arith, reaches-end rank addr put_by_0 differ.first, reaches-start rank addr other_by_2 differ.second)),
-  λ at. subst (λ r. IsContested (put_by_0 ∷ other_by_2 ∷ []) r addr) (sym at.0) (subst (IsContested (put_by_0 ∷ other_by_2 ∷ []) 1) (sym at.1) different-at),
+      let differ = both put_by_0 other_by_2 rank addr contested in (
+        sym (reaches-rank rank addr put_by_0 differ.first),
+        omega (arith, reaches-end rank addr put_by_0 differ.first, reaches-start rank addr other_by_2 differ.second),
+      ),
+  λ at. subst (λ r. IsContested (put_by_0 ∷ other_by_2 ∷ []) r addr) (sym at.0)
+      (subst (IsContested (put_by_0 ∷ other_by_2 ∷ []) 1) (sym at.1) different-at),
 )
 
 pub returns-clause-put_and_get : goal.returns-clause-put_and_get
-returns-clause-put_and_get c = (put_by_0, get_by_1, (0, omega arith, refl), (1, omega arith, refl), record { first = refl; second = refl; bytes = λ same. omega (arith, same) })
+returns-clause-put_and_get c = (
+  put_by_0,
+  get_by_1,
+  (0, omega arith, refl),
+  (1, omega arith, refl),
+  record { first = refl; second = refl; bytes = λ same. omega (arith, same) },
+)
 
 -- the other order of two
 swapped : (x y : Landing) → IsAllowedOrder (x ∷ y ∷ []) (y ∷ x ∷ [])

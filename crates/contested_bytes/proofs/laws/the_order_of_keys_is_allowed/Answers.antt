@@ -1,3 +1,4 @@
+-- The order of keys is one of all orders, and the exchange in it is that of the definition.
 use Rattle.std.proofs.lemmas.List.Sorted.{IsPermutation-refl}
 use Rattle.bsp_exchange.specs.Landings.{landings}
 use Rattle.contested_bytes.proofs.Orders.{own_order}

@@ -1,3 +1,4 @@
+-- The ranges before this one are merged: the merged ones have their bytes, are apart, and begin no later than the rest.
 use Rattle.std.proofs.Common.{List, take}
 use Rattle.std.specs.Prelude.{All}
 use Rattle.bsp_exchange.specs.Landings.{Landing}

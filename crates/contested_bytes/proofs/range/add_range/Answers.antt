@@ -1,3 +1,4 @@
+-- A range that joins the last one makes that longer, and any other comes behind it with a byte between.
 use Rattle.std.proofs.Common.{◌≡◌, ◌-◌, length, get_or, sym, ap, subst, ◌∙◌, arith}
 use Rattle.std.proofs.lemmas.Bool.{both_ways}
 use Rattle.std.proofs.lemmas.List.{get_or_default}
@@ -11,19 +12,23 @@ use Rattle.contested_bytes.proofs.range.add_range.Goals as goal
 
 pub returns-then-joins-clause-bytes : goal.returns-then-joins-clause-bytes
 returns-then-joins-clause-bytes g c =
-    bytes-grown c.args.found.now.items (c.len-count.result - 1) c.index-then-joins.result.now c.with.result c.args.range (omega (arith, c.len-count.ensures, c.if-count-gt0.true)) c.index-then-joins.ensures c.with.ensures.bytes
+    bytes-grown c.args.found.now.items (c.len-count.result - 1) c.index-then-joins.result.now c.with.result c.args.range
+    (omega (arith, c.len-count.ensures, c.if-count-gt0.true)) c.index-then-joins.ensures c.with.ensures.bytes
 
 pub returns-then-joins-clause-contested : goal.returns-then-joins-clause-contested
 returns-then-joins-clause-contested g c = λ all old new.
-    contested-grown all c.args.found.now.items (c.len-count.result - 1) c.index-then-joins.result.now c.with.result (omega (arith, c.len-count.ensures, c.if-count-gt0.true)) c.index-then-joins.ensures c.with.ensures.same c.with.ensures.more old
+    contested-grown all c.args.found.now.items (c.len-count.result - 1) c.index-then-joins.result.now c.with.result
+    (omega (arith, c.len-count.ensures, c.if-count-gt0.true)) c.index-then-joins.ensures c.with.ensures.same c.with.ensures.more old
 
 pub returns-then-joins-clause-apart : goal.returns-then-joins-clause-apart
 returns-then-joins-clause-apart g c = λ apart starts.
-    apart-grown c.args.found.now.items (c.len-count.result - 1) c.index-then-joins.result.now c.with.result (omega (arith, c.len-count.ensures, c.if-count-gt0.true)) c.index-then-joins.ensures
+    apart-grown c.args.found.now.items (c.len-count.result - 1) c.index-then-joins.result.now c.with.result
+    (omega (arith, c.len-count.ensures, c.if-count-gt0.true)) c.index-then-joins.ensures
     (ap (λ (r : ContestedRange). r.rank) c.with.ensures.same) (ap (λ (r : ContestedRange). r.addr) c.with.ensures.same) apart
 
 pub returns-clause-contested : goal.returns-clause-contested
-returns-clause-contested g c = λ all old new. rw c.in_ok-push.ensures.items (All-push (IsContestedRange all) c.args.found.now.items c.args.range old new)
+returns-clause-contested g c =
+    λ all old new. rw c.in_ok-push.ensures.items (All-push (IsContestedRange all) c.args.found.now.items c.args.range old new)
 
 pub returns-clause-apart : goal.returns-clause-apart
 returns-clause-apart g c = λ apart starts.

@@ -1,3 +1,4 @@
+-- The landings before this one are compared, all their contested bytes are found, and `furthest` is the one that reaches furthest.
 use Rattle.std.proofs.Common.{◌<◌}
 use Rattle.std.specs.Prelude.{All}
 use Rattle.contested_bytes.specs.Ranges.{IsContestedRange, EndsWithin}

@@ -15,7 +15,8 @@ pub returns-in-Some-clause-bytes : goal.returns-in-Some-clause-bytes
 returns-in-Some-clause-bytes g c = c.loop-at.invariant.bytes
 
 pub returns-in-Some-clause-waiting : goal.returns-in-Some-clause-waiting
-returns-in-Some-clause-waiting g c = λ at behind within is. let same = c.loop-at.invariant.untouched at behind within is in (refl, same.0, same.1)
+returns-in-Some-clause-waiting g c = λ at behind within is. let same = c.loop-at.invariant.untouched at behind within is in
+    (refl, same.0, same.1)
 
 pub returns-in-Some-clause-too_long : goal.returns-in-Some-clause-too_long
 returns-in-Some-clause-too_long g c = λ returned. absurd (found-no_err _ _ returned)
@@ -49,7 +50,8 @@ pub returns-then-ended-clause-bytes : goal.returns-then-ended-clause-bytes
 returns-then-ended-clause-bytes g c = c.loop-at.invariant.bytes
 
 pub returns-then-ended-clause-waiting : goal.returns-then-ended-clause-waiting
-returns-then-ended-clause-waiting g c = λ at behind within is. let same = c.loop-at.invariant.untouched at behind within is in (refl, same.0, same.1)
+returns-then-ended-clause-waiting g c = λ at behind within is. let same = c.loop-at.invariant.untouched at behind within is in
+    (refl, same.0, same.1)
 
 pub returns-then-ended-clause-too_long : goal.returns-then-ended-clause-too_long
 returns-then-ended-clause-too_long g c = λ returned. absurd (found-no_err _ _ returned)
@@ -100,7 +102,8 @@ pub returns-then-not-branch-clause-no_memory : goal.returns-then-not-branch-clau
 returns-then-not-branch-clause-no_memory g c = λ returned. absurd (found-no_err _ _ returned)
 
 pub returns-in_err-read_more-clause-grows : goal.returns-in_err-read_more-clause-grows
-returns-in_err-read_more-clause-grows g c = subst (λ t. length c.args.text.now.items ≤ length t) (sym c.in_err-read_more.ensures.err) c.loop-at.invariant.grown
+returns-in_err-read_more-clause-grows g c =
+    subst (λ t. length c.args.text.now.items ≤ length t) (sym c.in_err-read_more.ensures.err) c.loop-at.invariant.grown
 
 pub returns-in_err-read_more-clause-found : goal.returns-in_err-read_more-clause-found
 returns-in_err-read_more-clause-found g c = IfOk-from_err _ _ c.from_residual.ensures.0
@@ -144,4 +147,5 @@ returns-in_err-read_more-clause-err g c =
     let kept : c.read_more.new.text.items ≡ text = c.in_err-read_more.ensures.err in
     let behind : LacksFeedWithin text c.loop-at.searched (length text) =
     subst (λ t. LacksFeedWithin t c.loop-at.searched (length t)) c.as_slice.ensures.value c.in_default.ensures.absent in
-    rw exit.1 (subst (λ t. LacksFeedWithin t c.args.given (length t)) (sym kept) (LacksFeed-joined text c.args.given c.loop-at.searched (length text) c.loop-at.invariant.absent behind))
+    rw exit.1 (subst (λ t. LacksFeedWithin t c.args.given (length t)) (sym kept)
+    (LacksFeed-joined text c.args.given c.loop-at.searched (length text) c.loop-at.invariant.absent behind))

@@ -11,7 +11,8 @@ invariant-loop-at g l = record {
   grown : length l.initial.text.items ≤ length l.text.items;
   absent : LacksFeedWithin l.text.items l.fn.given l.searched;
   bytes : ReadsOn (g.R.Read.remaining l.initial.from.inner) (g.R.Read.remaining l.from.inner) l.initial.text.items l.text.items;
-  untouched : (at : ℕ) → l.fn.given ≤ at → at < length l.initial.text.items → slice_index l.initial.text.items at ≡ 10 → (l.from ≡ l.initial.from) × (l.text.items ≡ l.initial.text.items);
+  untouched : (at : ℕ) → l.fn.given ≤ at → at < length l.initial.text.items → slice_index l.initial.text.items at ≡ 10
+      → (l.from ≡ l.initial.from) × (l.text.items ≡ l.initial.text.items);
   over : l.fn.ended ≡ true → (l.from ≡ l.initial.from) × (l.text.items ≡ l.initial.text.items);
   failures : l.initial.from.failures ≤ l.from.failures;
 }

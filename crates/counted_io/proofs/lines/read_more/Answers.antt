@@ -1,3 +1,4 @@
+-- Each exit tells what the one read did; memory was made for all that it may give, so appending that is never refused.
 use Rattle.std.proofs.Common.{◌≡◌, ◌-◌, ◌<◌, ◌≤◌, ◌∙◌, Err, refl, ap, length, arith, rules}
 use Rattle.std.proofs.lemmas.Result.{err_from_is_err_and}
 use Rattle.counted_io.proofs.ReadMore.{at_fault, at_no_memory, at_ok, never_refused, some_room}
@@ -20,13 +21,15 @@ pub returns-in_err-extend_from_slice : goal.returns-in_err-extend_from_slice
 returns-in_err-extend_from_slice g c =
     let size : length c.read_retrying.new.chunk ≡ c.clamp.result = search rules in
     absurd (never_refused c.args.most c.len.result c.min.result c.clamp.result c.in_ok-count.count c.read_retrying.new.chunk _ _ _
-    c.in_ok-reserve.ensures.ok c.in_err-extend_from_slice.ensures.full c.min.ensures c.clamp.ensures c.in_ok-count.ensures.bound.0 size c.if-count-room.false)
+    c.in_ok-reserve.ensures.ok c.in_err-extend_from_slice.ensures.full c.min.ensures c.clamp.ensures c.in_ok-count.ensures.bound.0 size
+    c.if-count-room.false)
 
 pub returns : goal.returns
 returns g c =
     let fits : c.in_ok-count.count ≤ c.args.most - length c.args.text.now.items = omega arith in
     let size : length c.read_retrying.new.chunk ≡ c.clamp.result = search rules in
-    let any : 0 < length c.read_retrying.new.chunk = some_room c.args.most c.len.result c.clamp.result c.read_retrying.new.chunk c.clamp.ensures size in
+    let any : 0 < length c.read_retrying.new.chunk =
+    some_room c.args.most c.len.result c.clamp.result c.read_retrying.new.chunk c.clamp.ensures size in
     at_ok g.R.Read.remaining c.args.from.now c.read_retrying.new.from c.args.text.now.items c.extend_from_slice.new.self.items c.args.most
     c.in_ok-count.count c.read_retrying.new.chunk _ c.reserve.new.self.items c.in_ok-count.ensures.bound.0 any c.in_ok-count.ensures.bytes.0
     c.in_ok-count.ensures.bytes.1 c.in_ok-reserve.ensures.items c.in_ok-extend_from_slice.ensures.items c.requires

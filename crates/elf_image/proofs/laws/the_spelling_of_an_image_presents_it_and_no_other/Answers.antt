@@ -1,3 +1,4 @@
+-- The four parts of the law, as `Readback` has them.
 use Rattle.elf_image.proofs.Readback.{no_fault, short, presents, no_other}
 use Rattle.elf_image.proofs.laws.the_spelling_of_an_image_presents_it_and_no_other.Goals as goal
 

@@ -1,3 +1,4 @@
+-- The segments so far are those of the PT_LOAD headers among the entries so far.
 use Rattle.std.proofs.Common.{◌≡◌, map, take, filter}
 use Rattle.elf_image.specs.Headers.{program_headers, is_load}
 use Rattle.elf_image.specs.Presents.{segment_of}

@@ -1,7 +1,9 @@
+-- The fault of the header, or else that of the table, is the file's; and memory is asked for only where it has none.
 use Rattle.std.proofs.Common.{List, ℕ, Err, refl, ap, ◌∙◌}
 use Rattle.std.proofs.lemmas.Result.{err_from_is_err_and}
 use Rattle.elf_image.specs.Faults.{first_fault, table_checks}
-use Rattle.elf_image.proofs.Loads.{fault_of_header, fault_after_header, TellsFault-at_fault, TellsFault-at_memory, TellsFault-at_ok, IfErr-from_TellsFault}
+use Rattle.elf_image.proofs.Loads.{fault_of_header, fault_after_header, TellsFault-at_fault, TellsFault-at_memory, TellsFault-at_ok}
+use Rattle.elf_image.proofs.Loads.{IfErr-from_TellsFault}
 use Rattle.elf_image.proofs.loader.load.Goals as goal
 
 pub returns-in_err-file-clause-fault : goal.returns-in_err-file-clause-fault
@@ -41,7 +43,9 @@ pub returns-in_err-file-clause-err : goal.returns-in_err-file-clause-err
 returns-in_err-file-clause-err g c = IfErr-from_TellsFault c.args.bytes.now c.from_residual.result (returns-in_err-file-clause-fault g c)
 
 pub returns-in_err-check_table-clause-err : goal.returns-in_err-check_table-clause-err
-returns-in_err-check_table-clause-err g c = IfErr-from_TellsFault c.args.bytes.now c.from_residual-in_err-check_table.result (returns-in_err-check_table-clause-fault g c)
+returns-in_err-check_table-clause-err g c =
+    IfErr-from_TellsFault c.args.bytes.now c.from_residual-in_err-check_table.result (returns-in_err-check_table-clause-fault g c)
 
 pub returns-in_err-image-clause-err : goal.returns-in_err-image-clause-err
-returns-in_err-image-clause-err g c = IfErr-from_TellsFault c.args.bytes.now c.from_residual-in_err-image.result (returns-in_err-image-clause-fault g c)
+returns-in_err-image-clause-err g c =
+    IfErr-from_TellsFault c.args.bytes.now c.from_residual-in_err-image.result (returns-in_err-image-clause-fault g c)

@@ -1,3 +1,4 @@
+-- All of the bytes are one segment at address 0, or there are none and no segment either; both are within the limits.
 use Rattle.std.proofs.Common.{◌≡◌, ap, ◌∙◌}
 use Rattle.elf_image.specs.Presents.{raw_image}
 use Rattle.elf_image.proofs.Loads.{raw_some, raw_none, raw_is, raw_limits, raw_segment, raw_size}
@@ -17,7 +18,8 @@ invariant_of-result g c =
           raw_some _ _ _ _ _ _ c.is_empty.ensures w.if-not-is_empty.true (w.from_vec.ensures ∙ w.in_ok-from_slice.ensures.items)
           c.new-segments.ensures.items w.in_ok-push.ensures.items (c.from_vec-2.ensures ∙ ap (λ v. v.items) w.segments-is)
       | else-not-is_empty w ↦
-          raw_none _ _ _ c.is_empty.ensures w.if-not-is_empty.false (c.from_vec-2.ensures ∙ ap (λ v. v.items) w.segments-is ∙ c.new-segments.ensures.items)
+          raw_none _ _ _ c.is_empty.ensures w.if-not-is_empty.false
+          (c.from_vec-2.ensures ∙ ap (λ v. v.items) w.segments-is ∙ c.new-segments.ensures.items)
     ] in
     raw_limits _ _ c.requires segments
 
@@ -28,6 +30,7 @@ returns g c =
           raw_some _ _ _ _ _ _ c.is_empty.ensures w.if-not-is_empty.true (w.from_vec.ensures ∙ w.in_ok-from_slice.ensures.items)
           c.new-segments.ensures.items w.in_ok-push.ensures.items (c.from_vec-2.ensures ∙ ap (λ v. v.items) w.segments-is)
       | else-not-is_empty w ↦
-          raw_none _ _ _ c.is_empty.ensures w.if-not-is_empty.false (c.from_vec-2.ensures ∙ ap (λ v. v.items) w.segments-is ∙ c.new-segments.ensures.items)
+          raw_none _ _ _ c.is_empty.ensures w.if-not-is_empty.false
+          (c.from_vec-2.ensures ∙ ap (λ v. v.items) w.segments-is ∙ c.new-segments.ensures.items)
     ] in
     raw_is _ _ segments

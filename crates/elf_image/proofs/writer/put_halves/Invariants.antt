@@ -1,3 +1,4 @@
+-- The numbers so far are written, two bytes each.
 use Rattle.std.proofs.Common.{◌≡◌, ◌++◌, take}
 use Rattle.std.specs.List.{flat_map}
 use Rattle.elf_image.specs.Spelling.{half}

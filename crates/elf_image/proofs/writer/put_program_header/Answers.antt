@@ -1,3 +1,4 @@
+-- The eight words that are appended are the program header, as its unfolded definition has them.
 use Rattle.std.proofs.Common.{rules}
 use Rattle.elf_image.specs.Spelling.{spelled_program_header}
 use Rattle.elf_image.proofs.writer.put_program_header.Goals as goal

@@ -1,3 +1,4 @@
+-- The headers so far are written, and the next segment's bytes have their offset; then the bytes of the segments so far follow.
 use Rattle.std.proofs.Common.{◌≡◌, ◌++◌, length, take}
 use Rattle.std.specs.List.{flat_map, enumerate_from}
 use Rattle.node_memory.specs.Image.{Segment}

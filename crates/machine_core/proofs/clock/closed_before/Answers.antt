@@ -1,3 +1,4 @@
+-- The first clock of the row is that of the node at place 0, and a row without nodes has none.
 use Rattle.std.proofs.Common.{Option, sym, ap, ◌∙◌}
 use Rattle.std.specs.Option.{option_map_or}
 use Rattle.node_core.specs.declared.clock.Clock.{Clock}

@@ -1,3 +1,4 @@
+-- One clock more that is set makes the nodes with set clocks one more; past the last place they are all nodes.
 use Rattle.std.proofs.Common.{◌≤◌, ◌++◌, List, length, map, drop, set, arith, refl, ap, ◌∙◌, append-nil}
 use Rattle.std.proofs.lemmas.List.{drop_all, take_all}
 use Rattle.std.proofs.lemmas.Option.{get_or_from_slice_get}
@@ -18,7 +19,8 @@ loop-rank-preserved g c =
     let change = clock_set c.args.closed in
     let (p, is) = some_at nodes i (omega (arith, c.loop-rank-test.true)) in
     let here = ap (λ (ns : List PreparedNode). slice_get ns i) c.loop-rank.invariant ∙ next_unchanged change i nodes ∙ is in
-    ap (set c.loop-rank.nodes i) (c.set_clock.ensures ∙ ap change (get_or_from_slice_get c.loop-rank.nodes i p c.index-nodes-rank.result here))
+    ap (set c.loop-rank.nodes i)
+    (c.set_clock.ensures ∙ ap change (get_or_from_slice_get c.loop-rank.nodes i p c.index-nodes-rank.result here))
     ∙ ap (λ (ns : List PreparedNode). set ns i (change p)) c.loop-rank.invariant
     ∙ one_more_changed change i nodes p is
 

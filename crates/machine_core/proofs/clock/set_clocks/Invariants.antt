@@ -1,3 +1,4 @@
+-- The clocks of the nodes before this rank are set, and the nodes from it on are as they were.
 use Rattle.std.proofs.Common.{◌≡◌, ◌++◌, map, take, drop}
 use Rattle.machine_core.proofs.Clocks.{clock_set}
 use Rattle.machine_core.proofs.clock.set_clocks.Given as goal

@@ -1,3 +1,4 @@
+-- An output that is cut at its old length again is the old one, since it grew at its end.
 use Rattle.std.proofs.Common.{take, ap, ◌∙◌}
 use Rattle.machine_core.proofs.Turns.{cut}
 use Rattle.machine_core.proofs.closing.begin.Goals as goal

@@ -1,3 +1,4 @@
+-- The lowest stopped node makes the outcome, or else the lowest that ended, beside the lowest that waits; without these there is none.
 use Rattle.std.proofs.Common.{ℕ, Some, None, sym, ap₂, ◌∙◌}
 use Rattle.std.proofs.lemmas.Bool.{true≢false}
 use Rattle.node_core.specs.declared.state.State.{State}

@@ -1,8 +1,10 @@
+-- The six parts of the law: soundness holds at the start, and is kept by events, turns, supersteps and the run.
 use Rattle.std.proofs.Common.{◌+◌, ap}
 use Rattle.std.specs.Prelude.{is_some}
 use Rattle.machine_core.specs.Turn.{end_of}
 use Rattle.machine_core.proofs.Fresh.{IsSoundMachine-fresh}
-use Rattle.machine_core.proofs.Sound.{IsSoundMachine-event, IsSoundMachine-after, IsSoundMachine-turned, IsSoundMachine-superstep, IsSoundMachine-supersteps}
+use Rattle.machine_core.proofs.Sound.{IsSoundMachine-event, IsSoundMachine-after, IsSoundMachine-turned, IsSoundMachine-superstep}
+use Rattle.machine_core.proofs.Sound.{IsSoundMachine-supersteps}
 use Rattle.machine_core.proofs.laws.a_machine_stays_sound.Goals as goal
 
 pub returns-clause-start : goal.returns-clause-start

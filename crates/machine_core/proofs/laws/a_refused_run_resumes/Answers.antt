@@ -1,3 +1,4 @@
+-- The events of the walk lead on; and what holds of any events, of their end and their phases, holds of these.
 use Rattle.std.proofs.Common.{refl, ap, ◌∙◌}
 use Rattle.machine_core.specs.Turn.{with_phases}
 use Rattle.machine_core.specs.Walk.{walk}

@@ -1,3 +1,4 @@
+-- The three bounds of a sound machine: on its exchanges, its rows and the cost of the superstep.
 use Rattle.machine_core.proofs.Costs.{IsBounded-cost_row}
 use Rattle.machine_core.proofs.Ends.{exchanges-le-limit, length-ledger}
 use Rattle.machine_core.proofs.laws.costs_are_bounded.Goals as goal

@@ -1,3 +1,4 @@
+-- The run superstep by superstep has an outcome, and a list of events has it too.
 use Rattle.machine_core.proofs.Ends.{end_of-over, finish-all}
 use Rattle.machine_core.proofs.laws.every_machine_ends.Goals as goal
 

@@ -1,3 +1,4 @@
+-- Events keep the end that a machine has, and one that has its outcome is at its end.
 use Rattle.std.proofs.Common.{◌∙◌, sym}
 use Rattle.machine_core.specs.Events.{after}
 use Rattle.machine_core.proofs.Ends.{end_of-after, end_of-there}

@@ -1,3 +1,4 @@
+-- No cost row is above the first version, so no row of a ledger is, and no total of such rows.
 use Rattle.std.proofs.Common.{◌+◌}
 use Rattle.std.proofs.lemmas.List.Elements.{All-nil}
 use Rattle.cost_ledger.proofs.Totals.{total_is_at_most_v1}

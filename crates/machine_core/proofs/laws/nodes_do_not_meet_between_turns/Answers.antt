@@ -1,3 +1,4 @@
+-- The three parts of the law: each node makes its own steps, all else is kept, and any steps are those of some events.
 use Rattle.machine_core.proofs.Lent.{row_is_events}
 use Rattle.machine_core.proofs.Steps.{slice_get-after, after-others}
 use Rattle.machine_core.proofs.laws.nodes_do_not_meet_between_turns.Goals as goal

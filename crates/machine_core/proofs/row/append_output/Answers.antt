@@ -1,3 +1,4 @@
+-- Each node's output comes behind those before it; at a refusal the output is cut at its old length.
 use Rattle.std.proofs.Common.{◌≡◌, ◌++◌, take, length, sym, ap, ◌∙◌, arith, append_assoc, append-nil}
 use Rattle.std.proofs.Math.Seq.{take-append_seam}
 use Rattle.bsp_exchange.specs.Exchange.{states}
@@ -29,7 +30,8 @@ returns-in-Err-clause-err g c =
 
 pub returns-clause-ok : goal.returns-clause-ok
 returns-clause-ok g c =
-    c.loop-node.invariant ∙ ap (λ xs. c.args.output.now.items ++ xs) (written-all c.args.nodes.now c.loop-node.node-index c.loop-node-test.false)
+    c.loop-node.invariant
+    ∙ ap (λ xs. c.args.output.now.items ++ xs) (written-all c.args.nodes.now c.loop-node.node-index c.loop-node-test.false)
 
 pub loop-node-init : goal.loop-node-init
 loop-node-init g c = sym (append-nil c.args.output.now.items)

@@ -1,3 +1,4 @@
+-- The output has what the nodes so far wrote behind what it had.
 use Rattle.std.proofs.Common.{◌≡◌, ◌++◌, take}
 use Rattle.bsp_exchange.specs.Exchange.{states}
 use Rattle.machine_core.specs.Turn.{written}

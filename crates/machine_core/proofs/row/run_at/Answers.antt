@@ -1,3 +1,4 @@
+-- Steps of the node at a place are as many steps of the row at that rank; all other nodes are kept.
 use Rattle.std.proofs.Common.{length}
 use Rattle.std.proofs.lemmas.Result.{on_ok_weaker, on_err_weaker}
 use Rattle.machine_core.proofs.States.{kept-own, states-often, found-new}
@@ -14,9 +15,16 @@ returns g c =
     let node = c.index-nodes-rank.result in
     let run = c.run.new.self in
     record {
-      ok = on_ok_weaker c.run.result (states-often input nodes c.args.rank node run c.requires c.index-nodes-rank.is c.args.most) c.run.ensures.ok;
-      err = on_err_weaker c.run.result (λ made. (made.0, made.1, states-often input nodes c.args.rank node run c.requires c.index-nodes-rank.is made.0 made.2)) c.run.ensures.err;
-      refuses = on_err_weaker c.run.result (λ may. rw (found-new input nodes c.args.rank node run c.requires c.index-nodes-rank.is) may) c.run.ensures.refuses;
+      ok =
+          on_ok_weaker c.run.result (states-often input nodes c.args.rank node run c.requires c.index-nodes-rank.is c.args.most)
+          c.run.ensures.ok;
+      err =
+          on_err_weaker c.run.result
+          (λ made. (made.0, made.1, states-often input nodes c.args.rank node run c.requires c.index-nodes-rank.is made.0 made.2))
+          c.run.ensures.err;
+      refuses =
+          on_err_weaker c.run.result (λ may. rw (found-new input nodes c.args.rank node run c.requires c.index-nodes-rank.is) may)
+          c.run.ensures.refuses;
       own = kept-own input nodes c.args.rank node run c.requires c.index-nodes-rank.is c.run.ensures.own;
     }
 

@@ -1,3 +1,4 @@
+-- Steps of the node at a place are as many steps of the row at that rank, and have the addresses of that node's steps.
 use Rattle.std.proofs.Common.{length, sym, ap, ◌∙◌}
 use Rattle.std.proofs.lemmas.Result.{on_ok_weaker, on_err_weaker}
 use Rattle.node_core.specs.Addresses.{next_addresses}
@@ -17,9 +18,16 @@ returns-clause-steps g c =
     let node = c.index-nodes-rank.result in
     let run = c.run_traced.new.self in
     record {
-      ok = on_ok_weaker c.run_traced.result (states-often input nodes c.args.rank node run c.requires c.index-nodes-rank.is (length c.args.pcs.now)) c.run_traced.ensures.ok;
-      err = on_err_weaker c.run_traced.result (λ made. (made.0, made.1, states-often input nodes c.args.rank node run c.requires c.index-nodes-rank.is made.0 made.2)) c.run_traced.ensures.err;
-      refuses = on_err_weaker c.run_traced.result (λ may. rw (found-new input nodes c.args.rank node run c.requires c.index-nodes-rank.is) may) c.run_traced.ensures.refuses;
+      ok =
+          on_ok_weaker c.run_traced.result
+          (states-often input nodes c.args.rank node run c.requires c.index-nodes-rank.is (length c.args.pcs.now)) c.run_traced.ensures.ok;
+      err =
+          on_err_weaker c.run_traced.result
+          (λ made. (made.0, made.1, states-often input nodes c.args.rank node run c.requires c.index-nodes-rank.is made.0 made.2))
+          c.run_traced.ensures.err;
+      refuses =
+          on_err_weaker c.run_traced.result (λ may. rw (found-new input nodes c.args.rank node run c.requires c.index-nodes-rank.is) may)
+          c.run_traced.ensures.refuses;
       own = kept-own input nodes c.args.rank node run c.requires c.index-nodes-rank.is c.run_traced.ensures.own;
     }
 
@@ -33,6 +41,8 @@ returns-clause-addresses g c =
     if_ok_weaker c.run_traced.result _ _
     (λ made those. record {
       few = those.few;
-      are = those.are ∙ ap (λ (p : PreparedNode). next_addresses input k p.node) (sym c.index-nodes-rank.is) ∙ sym (addresses-found input c.args.rank k (states nodes) node.node found);
+      are =
+          those.are ∙ ap (λ (p : PreparedNode). next_addresses input k p.node) (sym c.index-nodes-rank.is)
+          ∙ sym (addresses-found input c.args.rank k (states nodes) node.node found);
     })
     c.run_traced.ensures.addresses

@@ -1,3 +1,4 @@
+-- A search for a running node finds one where the states of the row have one.
 use Rattle.std.proofs.Common.{◌∙◌, rules, tests}
 use Rattle.std.proofs.lemmas.Iterator.{YieldsList-from_slice}
 use Rattle.std.proofs.lemmas.Iterator.Search.{any_from_yields_List}

@@ -1,3 +1,4 @@
+-- A rank that is absent or does not run makes no step; the step of any other is one step of the row at that rank.
 use Rattle.std.proofs.Common.{true, false, sym, ap, ◌∙◌, arith}
 use Rattle.std.proofs.lemmas.Result.{err_from_is_err_and}
 use Rattle.node_core.specs.Node.{is_running}
@@ -9,19 +10,32 @@ use Rattle.machine_core.proofs.row.step_at.Goals as goal
 pub returns-then-rank-nodes-clause-step : goal.returns-then-rank-nodes-clause-step
 returns-then-rank-nodes-clause-step g c =
     let past = runs-past c.args.nodes.now c.args.rank c.if-rank-nodes.true in
-    record { ok = sym (stepped-disabled c.args.input.now c.args.rank _ past); err = tt; refuses = tt; own = EachKeepsOwn-same c.args.nodes.now }
+    record {
+      ok = sym (stepped-disabled c.args.input.now c.args.rank _ past);
+      err = tt;
+      refuses = tt;
+      own = EachKeepsOwn-same c.args.nodes.now;
+    }
 
 pub returns-then-rank-nodes-clause-made : goal.returns-then-rank-nodes-clause-made
 returns-then-rank-nodes-clause-made g c = sym (runs-past c.args.nodes.now c.args.rank c.if-rank-nodes.true)
 
 pub returns-then-not-is_running-clause-step : goal.returns-then-not-is_running-clause-step
 returns-then-not-is_running-clause-step g c =
-    let stopped = runs-found c.args.nodes.now c.args.rank c.index-nodes-rank.result false (omega arith) c.index-nodes-rank.is (ap is_running (sym c.state.ensures) ∙ sym c.is_running.ensures ∙ c.if-not-is_running.true) in
-    record { ok = sym (stepped-disabled c.args.input.now c.args.rank _ stopped); err = tt; refuses = tt; own = EachKeepsOwn-same c.args.nodes.now }
+    let stopped =
+    runs-found c.args.nodes.now c.args.rank c.index-nodes-rank.result false (omega arith) c.index-nodes-rank.is
+    (ap is_running (sym c.state.ensures) ∙ sym c.is_running.ensures ∙ c.if-not-is_running.true) in
+    record {
+      ok = sym (stepped-disabled c.args.input.now c.args.rank _ stopped);
+      err = tt;
+      refuses = tt;
+      own = EachKeepsOwn-same c.args.nodes.now;
+    }
 
 pub returns-then-not-is_running-clause-made : goal.returns-then-not-is_running-clause-made
 returns-then-not-is_running-clause-made g c =
-    sym (runs-found c.args.nodes.now c.args.rank c.index-nodes-rank.result false (omega arith) c.index-nodes-rank.is (ap is_running (sym c.state.ensures) ∙ sym c.is_running.ensures ∙ c.if-not-is_running.true))
+    sym (runs-found c.args.nodes.now c.args.rank c.index-nodes-rank.result false (omega arith) c.index-nodes-rank.is
+    (ap is_running (sym c.state.ensures) ∙ sym c.is_running.ensures ∙ c.if-not-is_running.true))
 
 pub returns-in_err-step-clause-step : goal.returns-in_err-step-clause-step
 returns-in_err-step-clause-step g c =
@@ -52,7 +66,8 @@ returns-clause-step g c =
 
 pub returns-clause-made : goal.returns-clause-made
 returns-clause-made g c =
-    sym (runs-found c.args.nodes.now c.args.rank c.index-nodes-rank.result true (omega arith) c.index-nodes-rank.is (ap is_running (sym c.state.ensures) ∙ sym c.is_running.ensures ∙ c.if-not-is_running.false))
+    sym (runs-found c.args.nodes.now c.args.rank c.index-nodes-rank.result true (omega arith) c.index-nodes-rank.is
+    (ap is_running (sym c.state.ensures) ∙ sym c.is_running.ensures ∙ c.if-not-is_running.false))
 
 pub bounds-nodes-rank : goal.bounds-nodes-rank
 bounds-nodes-rank g c = c.if-rank-nodes.false

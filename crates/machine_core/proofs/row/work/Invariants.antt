@@ -1,3 +1,4 @@
+-- The most so far, carried over the nodes that are left, is the most of all.
 use Rattle.std.proofs.Common.{◌≡◌, drop}
 use Rattle.machine_core.proofs.States.{most_from}
 use Rattle.machine_core.proofs.row.work.Given as goal

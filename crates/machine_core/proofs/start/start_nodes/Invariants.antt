@@ -1,3 +1,4 @@
+-- The nodes of the ranks below this one are there, the first among them.
 use Rattle.std.proofs.Common.{◌≤◌}
 use Rattle.machine_core.proofs.Starts.{AreFirst}
 use Rattle.machine_core.proofs.start.start_nodes.Given as goal

@@ -1,3 +1,4 @@
+-- The last run is made in a thread or here, the others before it; together they are the stage of the whole share, and fit its room.
 use Rattle.std.proofs.Common.{rules, ◌≡◌, ◌++◌, length, sym, ap, ◌∙◌, arith, length-append}
 use Rattle.std.proofs.lemmas.Bool.{false≢true}
 use Rattle.phase_pool.specs.Landings.{IsReadyFor}
@@ -10,13 +11,39 @@ make_beside-scope-put_together-requires g t c =
     let last = c.captures.last in
     let made = rw (c.in-Ok.ensures.ok, c.of.ensures) at c.join.ensures in
     let before = c.make_in_threads-first in
-    let first = IsDone-nodes c.captures.stage here.parts.items here.nodes.items before.result.share.parts.items before.result.share.nodes.items before.result.complete before.ensures.done in
-    let second = IsDone-nodes c.captures.stage last.parts.items last.nodes.items c.join.result.share.parts.items c.join.result.share.nodes.items c.join.result.complete made in
-    let first_parts = IsDone-parts c.captures.stage here.parts.items here.nodes.items before.result.share.parts.items before.result.share.nodes.items before.result.complete before.ensures.done in
-    let second_parts = IsDone-parts c.captures.stage last.parts.items last.nodes.items c.join.result.share.parts.items c.join.result.share.nodes.items c.join.result.complete made in
+    let first =
+    IsDone-nodes c.captures.stage here.parts.items here.nodes.items before.result.share.parts.items before.result.share.nodes.items
+    before.result.complete before.ensures.done in
+    let second =
+    IsDone-nodes c.captures.stage last.parts.items last.nodes.items c.join.result.share.parts.items c.join.result.share.nodes.items
+    c.join.result.complete made in
+    let first_parts =
+    IsDone-parts c.captures.stage here.parts.items here.nodes.items before.result.share.parts.items before.result.share.nodes.items
+    before.result.complete before.ensures.done in
+    let second_parts =
+    IsDone-parts c.captures.stage last.parts.items last.nodes.items c.join.result.share.parts.items c.join.result.share.nodes.items
+    c.join.result.complete made in
     record {
-      nodes = omega (arith, first, second, c.requires.4.nodes_fit, before.ensures.node_room, before.result.share.nodes.ok.0, c.join.result.share.nodes.ok.0);
-      parts = omega (arith, first_parts, second_parts, c.requires.4.parts_fit, before.ensures.part_room, before.result.share.parts.ok.0, c.join.result.share.parts.ok.0);
+      nodes =
+          omega (
+            arith,
+            first,
+            second,
+            c.requires.4.nodes_fit,
+            before.ensures.node_room,
+            before.result.share.nodes.ok.0,
+            c.join.result.share.nodes.ok.0,
+          );
+      parts =
+          omega (
+            arith,
+            first_parts,
+            second_parts,
+            c.requires.4.parts_fit,
+            before.ensures.part_room,
+            before.result.share.parts.ok.0,
+            c.join.result.share.parts.ok.0,
+          );
     }
 
 pub make_beside-scope-put_together-whole-requires :
@@ -26,13 +53,39 @@ make_beside-scope-put_together-whole-requires g t c =
     let last = c.captures.last in
     let made = rw c.in-Err.ensures.err at c.other.ensures in
     let before = c.make_in_threads-first-in-Err in
-    let first = IsDone-nodes c.captures.stage here.parts.items here.nodes.items before.result.share.parts.items before.result.share.nodes.items before.result.complete before.ensures.done in
-    let second = IsDone-nodes c.captures.stage last.parts.items last.nodes.items c.other.result.share.parts.items c.other.result.share.nodes.items c.other.result.complete made in
-    let first_parts = IsDone-parts c.captures.stage here.parts.items here.nodes.items before.result.share.parts.items before.result.share.nodes.items before.result.complete before.ensures.done in
-    let second_parts = IsDone-parts c.captures.stage last.parts.items last.nodes.items c.other.result.share.parts.items c.other.result.share.nodes.items c.other.result.complete made in
+    let first =
+    IsDone-nodes c.captures.stage here.parts.items here.nodes.items before.result.share.parts.items before.result.share.nodes.items
+    before.result.complete before.ensures.done in
+    let second =
+    IsDone-nodes c.captures.stage last.parts.items last.nodes.items c.other.result.share.parts.items c.other.result.share.nodes.items
+    c.other.result.complete made in
+    let first_parts =
+    IsDone-parts c.captures.stage here.parts.items here.nodes.items before.result.share.parts.items before.result.share.nodes.items
+    before.result.complete before.ensures.done in
+    let second_parts =
+    IsDone-parts c.captures.stage last.parts.items last.nodes.items c.other.result.share.parts.items c.other.result.share.nodes.items
+    c.other.result.complete made in
     record {
-      nodes = omega (arith, first, second, c.requires.4.nodes_fit, before.ensures.node_room, before.result.share.nodes.ok.0, c.other.result.share.nodes.ok.0);
-      parts = omega (arith, first_parts, second_parts, c.requires.4.parts_fit, before.ensures.part_room, before.result.share.parts.ok.0, c.other.result.share.parts.ok.0);
+      nodes =
+          omega (
+            arith,
+            first,
+            second,
+            c.requires.4.nodes_fit,
+            before.ensures.node_room,
+            before.result.share.nodes.ok.0,
+            c.other.result.share.nodes.ok.0,
+          );
+      parts =
+          omega (
+            arith,
+            first_parts,
+            second_parts,
+            c.requires.4.parts_fit,
+            before.ensures.part_room,
+            before.result.share.parts.ok.0,
+            c.other.result.share.parts.ok.0,
+          );
     }
 
 pub make_beside-scope-returns-in-Ok : goal.make_beside-scope-returns-in-Ok
@@ -73,7 +126,23 @@ pub fn::make_beside::scope+FnOnce::call_once-scope-requires :
 fn::make_beside::scope+FnOnce::call_once-scope-requires g t c κs within = search rules
 
 pub make_beside-scoped-requires : goal.make_beside-scoped-requires
-make_beside-scoped-requires g t c = record { at = λ a. (search rules, ((λ x m. m), ((λ x m. m), ((search rules, search rules, search rules, search rules, c.requires), (search rules, search rules, search rules, search rules))))) }
+make_beside-scoped-requires g t c =
+    record {
+      at =
+          λ a. (
+            search rules,
+            (
+              (λ x m. m),
+              (
+                (λ x m. m),
+                (
+                  (search rules, search rules, search rules, search rules, c.requires),
+                  (search rules, search rules, search rules, search rules),
+                ),
+              ),
+            ),
+          );
+    }
 
 pub make_in_threads-start_of_last_run-start-requires-clause-enough :
     goal.make_in_threads-start_of_last_run-start-requires-clause-enough
@@ -98,7 +167,8 @@ make_in_threads-make_beside-requires-after_bounds g t c κs within =
     let all_nodes = length-append here.nodes.items last.nodes.items in
     let all_parts = length-append here.parts.items last.parts.items in
     let same : length here.parts.items ≡ length here.nodes.items = split.end.1 ∙ sym split.end.0 in
-    let ready : IsReadyFor stage (here.parts.items ++ last.parts.items) (here.nodes.items ++ last.nodes.items) = rw (split.parts, split.nodes) c.requires.ready in
+    let ready : IsReadyFor stage (here.parts.items ++ last.parts.items) (here.nodes.items ++ last.nodes.items) =
+    rw (split.parts, split.nodes) c.requires.ready in
     record {
       some = omega (arith, c.if-threads-lt2.false);
       enough = omega (arith, c.start_of_last_run-start.ensures.others, split.end.0);

@@ -1,3 +1,4 @@
+-- The calls come to an end: of the three steps of a round each counts less than the one before, and the next round has a thread less.
 use Rattle.std.proofs.Common.{◌+◌, ◌*◌}
 use Rattle.phase_pool.proofs.landing.+threads.Given as goal
 

@@ -1,3 +1,4 @@
+-- Only what was refused is added to.
 use Rattle.std.proofs.Common.{refl}
 use Rattle.phase_pool.proofs.landing.in_spite_of.Goals as goal
 

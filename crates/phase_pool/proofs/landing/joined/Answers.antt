@@ -1,3 +1,4 @@
+-- There is room for the second elements, so to append them succeeds.
 use Rattle.std.proofs.Common.{not, sym, ap, ◌∙◌}
 use Rattle.std.proofs.lemmas.Bool.{false≢true}
 use Rattle.phase_pool.proofs.landing.joined.Goals as goal

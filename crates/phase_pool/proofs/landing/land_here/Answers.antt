@@ -1,3 +1,4 @@
+-- All parts land, as `land_all` says of the row and its parts, and none of the parts is left.
 use Rattle.std.proofs.Common.{List, ap, ap₂, ◌∙◌, arith}
 use Rattle.std.proofs.lemmas.List.{with_items_is}
 use Rattle.node_core.specs.Node.{PreparedNode}
@@ -10,7 +11,8 @@ returns-clause-done g c = (
   c.clear.ensures.items,
   ap states (with_items_is c.args.share.nodes c.land_all.new.nodes (omega arith))
       ∙ c.land_all.ensures.nodes
-      ∙ ap₂ (λ (parts : List PartState) (nodes : List PreparedNode). landed parts (states nodes)) c.deref_mut-2.ensures.value c.deref_mut.ensures.value,
+      ∙ ap₂ (λ (parts : List PartState) (nodes : List PreparedNode). landed parts (states nodes)) c.deref_mut-2.ensures.value
+      c.deref_mut.ensures.value,
 )
 
 pub land_all-requires : goal.land_all-requires

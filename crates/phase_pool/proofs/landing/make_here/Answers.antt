@@ -1,3 +1,4 @@
+-- Each stage is what its own function makes.
 use Rattle.phase_pool.proofs.landing.make_here.Goals as goal
 
 pub returns-in-Prepare-clause-done : goal.returns-in-Prepare-clause-done

@@ -1,3 +1,4 @@
+-- Nodes and parts are as they were, and where none was refused, each part can land in its node.
 use Rattle.std.proofs.Common.{refl, sym, ap, ◌∙◌, arith}
 use Rattle.std.proofs.lemmas.List.{with_items_is}
 use Rattle.bsp_exchange.specs.Exchange.{states}
@@ -10,7 +11,9 @@ returns-clause-done g c =
       refl,
       ap states row ∙ c.prepare_all.ensures.same ∙ ap states c.deref_mut.ensures.value,
       λ complete.
-          let can = rw c.deref.ensures.value at (on_ok_where c.prepare_all.result (sym c.is_ok-complete.ensures.value ∙ complete) c.prepare_all.ensures.ok) in
+          let can =
+          rw c.deref.ensures.value at
+          (on_ok_where c.prepare_all.result (sym c.is_ok-complete.ensures.value ∙ complete) c.prepare_all.ensures.ok) in
           rw row can,
     )
 

@@ -1,3 +1,4 @@
+-- The second nodes and parts come behind the first, which have room for them; both have to be complete.
 use Rattle.std.proofs.Common.{◌&&◌, Bool, sym, ap, ◌∙◌}
 use Rattle.phase_pool.proofs.landing.put_together.Goals.{then-complete, else-complete}
 use Rattle.phase_pool.proofs.landing.put_together.Goals as goal

@@ -1,3 +1,4 @@
+-- What stands before the place and what stands from it on make the whole, which is joined again where there is no room.
 use Rattle.std.proofs.Common.{◌++◌, refl, ap₂, ◌∙◌, arith}
 use Rattle.std.proofs.lemmas.List.{take-append-drop}
 use Rattle.phase_pool.proofs.landing.split.Goals as goal

@@ -1,3 +1,4 @@
+-- Each run before the last has a node at least.
 use Rattle.phase_pool.proofs.Runs.{enough_for_others}
 use Rattle.phase_pool.proofs.landing.start_of_last_run.Goals as goal
 

@@ -1,3 +1,4 @@
+-- Events keep the end of a sound machine, and those without a turn keep the end of its local parts.
 use Rattle.std.proofs.Common.{ap, ◌∙◌}
 use Rattle.machine_core.specs.Turn.{with_phases, end_of}
 use Rattle.machine_core.proofs.Ends.{end_of-after}

@@ -1,3 +1,4 @@
+-- The node has made some steps of its own; what is left is no more than its share, and falls each time.
 use Rattle.std.proofs.Common.{◌≡◌, ℕ, ◌≤◌}
 use Rattle.node_core.specs.Node.{local_steps}
 use Rattle.phase_pool.proofs.part.begin_node.Given as goal

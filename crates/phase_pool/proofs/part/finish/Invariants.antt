@@ -1,3 +1,4 @@
+-- The nodes before this place have been worked on, and the others are as they were.
 use Rattle.std.proofs.Common.{◌≡◌, length, take, drop}
 use Rattle.std.specs.Prelude.{IsFalse}
 use Rattle.bsp_exchange.specs.Exchange.{states}

@@ -1,3 +1,4 @@
+-- A sound node has no more steps left than it is given, so it comes to the end of its local part unless memory is refused.
 use Rattle.std.proofs.Common.{sym, ap, ◌∙◌, arith}
 use Rattle.std.proofs.lemmas.Result.{on_ok_weaker}
 use Rattle.node_core.specs.Node.{NodeState, is_running}
@@ -16,10 +17,13 @@ pub returns-clause-ok : goal.returns-clause-ok
 returns-clause-ok g c =
     let sound = c.ticks.ensures.sound in
     let n = c.args.node.now.node in
-    on_ok_weaker c.run.result (λ made. ap (λ (m : NodeState). is_running m.state) made ∙ local_steps-end c.args.input.now _ n sound (omega (arith, sound.limited))) c.run.ensures.ok
+    on_ok_weaker c.run.result
+    (λ made. ap (λ (m : NodeState). is_running m.state) made ∙ local_steps-end c.args.input.now _ n sound (omega (arith, sound.limited)))
+    c.run.ensures.ok
 
 pub returns-clause-stepped : goal.returns-clause-stepped
-returns-clause-stepped g c = some_steps c.args.input.now _ c.args.node.now.node c.run.new.self.node c.run.result c.run.ensures.ok c.run.ensures.err
+returns-clause-stepped g c =
+    some_steps c.args.input.now _ c.args.node.now.node c.run.new.self.node c.run.result c.run.ensures.ok c.run.ensures.err
 
 pub returns-clause-come : goal.returns-clause-come
 returns-clause-come g c =

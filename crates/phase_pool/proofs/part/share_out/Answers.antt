@@ -1,3 +1,4 @@
+-- The table gives each node back after some steps of its own; without a table the nodes are as they were.
 use Rattle.std.proofs.Common.{◌∙◌}
 use Rattle.std.proofs.lemmas.Bool.{false≢true}
 use Rattle.bsp_exchange.specs.Exchange.{states}

@@ -1,3 +1,4 @@
+-- Numbers out of range and an outcome leave the machine as it is; else its local parts are made, as far as nothing was refused.
 use Rattle.std.proofs.Common.{sym, ap, ◌∙◌, rules}
 use Rattle.std.specs.Prelude.{is_some}
 use Rattle.std.proofs.lemmas.Result.{err_from_is_err_and}

@@ -1,3 +1,4 @@
+-- Each superstep leads on toward the same end and adds a row of costs; a refusal ends the run after it, and is answered.
 use Rattle.std.proofs.Common.{◌≡◌, not, [], Err, inl, inr, refl, sym, ap, ◌∙◌, arith, rules}
 use Rattle.std.specs.Prelude.{is_some}
 use Rattle.std.proofs.lemmas.Bool.{false≢true}
@@ -17,28 +18,38 @@ use Rattle.phase_pool.proofs.Refusals.{none_of, one_of, is_so, is_not}
 use Rattle.phase_pool.proofs.pool.run_with.Goals as goal
 
 pub loop-landings-init : goal.loop-landings-init
-loop-landings-init g c = record { so_far = ([], sym (after-nil c.args.machine.now)); same_end = refl; over = λ over. refl; no_worker = λ refused. absurd cc }
+loop-landings-init g c =
+    record { so_far = ([], sym (after-nil c.args.machine.now)); same_end = refl; over = λ over. refl; no_worker = λ refused. absurd cc }
 
 pub loop-landings-smaller : goal.loop-landings-smaller
 loop-landings-smaller g c =
     let m = c.loop-landings.machine in
-    let phases : c.make_local_parts-parts.new.machine ≡ with_phases m = c.make_local_parts-parts.ensures.ok (none_of _ _ (sym c.and.ensures.memory ∙ (c.in_ok-answer.ensures.ok.0 refl).1)).1 in
+    let phases : c.make_local_parts-parts.new.machine ≡ with_phases m =
+    c.make_local_parts-parts.ensures.ok (none_of _ _ (sym c.and.ensures.memory ∙ (c.in_ok-answer.ensures.ok.0 refl).1)).1 in
     let open_yet = ap is_some (sym c.outcome.ensures.value) ∙ c.is_none.ensures ∙ ap not c.loop-landings-test.true in
-    let turned : c.make_turn-turned.new.machine ≡ event (with_phases m) Turn = c.make_turn-turned.ensures.ok (is_so _ c.if-not-turned.false) ∙ ap (λ (x : MachineState). event x Turn) phases in
-    rows_left m c.outcome.ensures.sound open_yet c.make_turn-turned.new.machine (superstep-made m c.outcome.ensures.sound open_yet c.make_turn-turned.new.machine turned)
+    let turned : c.make_turn-turned.new.machine ≡ event (with_phases m) Turn =
+    c.make_turn-turned.ensures.ok (is_so _ c.if-not-turned.false) ∙ ap (λ (x : MachineState). event x Turn) phases in
+    rows_left m c.outcome.ensures.sound open_yet c.make_turn-turned.new.machine
+    (superstep-made m c.outcome.ensures.sound open_yet c.make_turn-turned.new.machine turned)
 
 pub loop-landings-preserved : goal.loop-landings-preserved
 loop-landings-preserved g c =
     let m = c.loop-landings.machine in
-    let phases : c.make_local_parts-parts.new.machine ≡ with_phases m = c.make_local_parts-parts.ensures.ok (none_of _ _ (sym c.and.ensures.memory ∙ (c.in_ok-answer.ensures.ok.0 refl).1)).1 in
+    let phases : c.make_local_parts-parts.new.machine ≡ with_phases m =
+    c.make_local_parts-parts.ensures.ok (none_of _ _ (sym c.and.ensures.memory ∙ (c.in_ok-answer.ensures.ok.0 refl).1)).1 in
     let so_far = c.loop-landings.invariant in
     let sound = c.outcome.ensures.sound in
     let open_yet = ap is_some (sym c.outcome.ensures.value) ∙ c.is_none.ensures ∙ ap not c.loop-landings-test.true in
-    let turned : c.make_turn-turned.new.machine ≡ event (with_phases m) Turn = c.make_turn-turned.ensures.ok (is_so _ c.if-not-turned.false) ∙ ap (λ (x : MachineState). event x Turn) phases in
-    let before = LeadsTo-on c.args.machine.now m c.make_local_parts-parts.new.machine so_far.so_far c.make_local_parts-parts.ensures.stepped in
+    let turned : c.make_turn-turned.new.machine ≡ event (with_phases m) Turn =
+    c.make_turn-turned.ensures.ok (is_so _ c.if-not-turned.false) ∙ ap (λ (x : MachineState). event x Turn) phases in
+    let before =
+    LeadsTo-on c.args.machine.now m c.make_local_parts-parts.new.machine so_far.so_far c.make_local_parts-parts.ensures.stepped in
     record {
-      so_far = LeadsTo-turn c.args.machine.now c.make_local_parts-parts.new.machine c.make_turn-turned.new.machine before (c.make_turn-turned.ensures.ok (is_so _ c.if-not-turned.false));
-      same_end = ap end_of (superstep-made m sound open_yet c.make_turn-turned.new.machine turned) ∙ end_of-superstep m sound ∙ so_far.same_end;
+      so_far =
+          LeadsTo-turn c.args.machine.now c.make_local_parts-parts.new.machine c.make_turn-turned.new.machine before
+          (c.make_turn-turned.ensures.ok (is_so _ c.if-not-turned.false));
+      same_end =
+          ap end_of (superstep-made m sound open_yet c.make_turn-turned.new.machine turned) ∙ end_of-superstep m sound ∙ so_far.same_end;
       over = λ over. absurd (false≢true (sym open_yet ∙ ap (λ (x : MachineState). is_some x.outcome) (so_far.over over) ∙ over));
       no_worker = λ refused.
           let wanted = c.make_turn-turned.ensures.no_worker refused in
@@ -79,16 +90,23 @@ returns-in_err-answer g c =
       };
       ok = search rules;
       ended = search rules;
-      err = rw p.1 (LeadsTo-on c.args.machine.now c.loop-landings.machine c.make_local_parts-parts.new.machine c.loop-landings.invariant.so_far c.make_local_parts-parts.ensures.stepped);
+      err =
+          rw p.1 (LeadsTo-on c.args.machine.now c.loop-landings.machine c.make_local_parts-parts.new.machine
+          c.loop-landings.invariant.so_far
+          c.make_local_parts-parts.ensures.stepped);
       over = search rules;
       stopped = search rules;
       going = λ within.
-          rw p.1 (LeadsWithoutTurn-outcome c.loop-landings.machine c.make_local_parts-parts.new.machine c.make_local_parts-parts.ensures.stepped ∙ none_from c.loop-landings.machine.outcome (λ x is. false≢true (sym open_yet ∙ ap is_some is)));
+          rw p.1 (LeadsWithoutTurn-outcome c.loop-landings.machine c.make_local_parts-parts.new.machine
+          c.make_local_parts-parts.ensures.stepped
+          ∙ none_from c.loop-landings.machine.outcome (λ x is. false≢true (sym open_yet ∙ ap is_some is)));
     }
 
 pub returns-then-not-turned : goal.returns-then-not-turned
 returns-then-not-turned g c =
-    let phases = LeadsTo-on c.args.machine.now c.loop-landings.machine c.make_local_parts-parts.new.machine c.loop-landings.invariant.so_far c.make_local_parts-parts.ensures.stepped in
+    let phases =
+    LeadsTo-on c.args.machine.now c.loop-landings.machine c.make_local_parts-parts.new.machine c.loop-landings.invariant.so_far
+    c.make_local_parts-parts.ensures.stepped in
     let same = LeadsTo-length c.args.machine.now c.make_local_parts-parts.new.machine phases in
     let off = c.make_turn-turned.ensures.err (is_not _ c.if-not-turned.true) in
     record {

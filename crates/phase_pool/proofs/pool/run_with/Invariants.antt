@@ -1,3 +1,4 @@
+-- Events lead to the machine, which has the end that it had at first; each superstep adds a row, of at most `limit` + 1.
 use Rattle.std.proofs.Common.{◌≡◌, ◌+◌, ◌-◌, ◌<◌, length}
 use Rattle.std.specs.Prelude.{IsTrue, IsSome}
 use Rattle.machine_core.specs.Turn.{end_of}

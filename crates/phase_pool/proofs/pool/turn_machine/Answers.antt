@@ -1,3 +1,4 @@
+-- All nodes are prepared before a part lands; then the machine has made its turn, or it is as it was.
 use Rattle.std.proofs.Common.{◌≡◌, ◌<◌, List, inl, inr, length, sym, ap, ap₂, ◌∙◌, arith}
 use Rattle.std.specs.Prelude.{IsFalse}
 use Rattle.std.proofs.lemmas.Bool.{false≢true}
@@ -33,7 +34,9 @@ make_in_threads-landed-requires-clause-enough g c κs within several =
     let parts = c.in-Landing.field-0.parts in
     let prepared = c.make_in_threads-prepared.result in
     let long = ready_as_many Prepare parts.items row.items c.in-Landing.ensures.ready in
-    let same = IsDone-nodes Prepare parts.items row.items prepared.share.parts.items prepared.share.nodes.items prepared.complete c.make_in_threads-prepared.ensures.done in
+    let same =
+    IsDone-nodes Prepare parts.items row.items prepared.share.parts.items prepared.share.nodes.items prepared.complete
+    c.make_in_threads-prepared.ensures.done in
     let read = ap length c.deref.ensures.value in
     omega (arith, c.landing_threads-threads.ensures.parts, read, long, same, prepared.share.nodes.ok.0)
 
@@ -55,14 +58,18 @@ returns-else-not-prepared g c =
       err = λ not_made. absurd cc;
       going = λ made refused. c.finish.ensures.going;
       no_worker = λ refused.
-          let several : 1 < c.landing_threads-threads.result = elim (one_of _ _ (sym c.and.ensures.thread ∙ sym (ap (λ (r : Refused). r.thread) c.made-turned.ensures.refused) ∙ refused)) [
+          let several : 1 < c.landing_threads-threads.result =
+          elim (one_of _ _ (sym c.and.ensures.thread ∙ sym (ap (λ (r : Refused). r.thread) c.made-turned.ensures.refused) ∙ refused)) [
             | inl first ↦ c.make_in_threads-prepared.ensures.no_worker first
             | inr second ↦ c.make_in_threads-landed.ensures.no_worker second
           ] in
           let long = ready_as_many Prepare parts.items row.items handed.ready in
-          let nodes : length row.items ≡ length c.args.machine.nodes = sym (length-map row.items (λ (p : PreparedNode). p.node)) ∙ ap (λ (ns : List NodeState). length ns) handed.row in
-          let read = ap length c.deref.ensures.value in
-          (omega (arith, several, c.landing_threads-threads.ensures.workers), omega (arith, several, c.landing_threads-threads.ensures.parts, read, long, nodes));
+          let nodes : length row.items ≡ length c.args.machine.nodes =
+          sym (length-map row.items (λ (p : PreparedNode). p.node)) ∙ ap (λ (ns : List NodeState). length ns) handed.row in
+          let read = ap length c.deref.ensures.value in (
+            omega (arith, several, c.landing_threads-threads.ensures.workers),
+            omega (arith, several, c.landing_threads-threads.ensures.parts, read, long, nodes),
+          );
     }
 
 pub returns-then-not-prepared : goal.returns-then-not-prepared
@@ -78,9 +85,12 @@ returns-then-not-prepared g c =
       no_worker = λ refused.
           let several : 1 < c.landing_threads-threads.result = c.make_in_threads-prepared.ensures.no_worker (sym turned.thread ∙ refused) in
           let long = ready_as_many Prepare parts.items row.items handed.ready in
-          let nodes : length row.items ≡ length c.args.machine.nodes = sym (length-map row.items (λ (p : PreparedNode). p.node)) ∙ ap (λ (ns : List NodeState). length ns) handed.row in
-          let read = ap length c.deref.ensures.value in
-          (omega (arith, several, c.landing_threads-threads.ensures.workers), omega (arith, several, c.landing_threads-threads.ensures.parts, read, long, nodes));
+          let nodes : length row.items ≡ length c.args.machine.nodes =
+          sym (length-map row.items (λ (p : PreparedNode). p.node)) ∙ ap (λ (ns : List NodeState). length ns) handed.row in
+          let read = ap length c.deref.ensures.value in (
+            omega (arith, several, c.landing_threads-threads.ensures.workers),
+            omega (arith, several, c.landing_threads-threads.ensures.parts, read, long, nodes),
+          );
     }
 
 pub returns-in-Ok : goal.returns-in-Ok

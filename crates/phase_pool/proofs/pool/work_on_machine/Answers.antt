@@ -1,3 +1,4 @@
+-- What the work makes of the row that was lent, it makes of the machine that takes it back.
 use Rattle.std.proofs.Common.{◌≡◌, ℕ, List, length, sym, ap, subst, ◌∙◌, arith}
 use Rattle.std.proofs.lemmas.List.{length-map}
 use Rattle.node_core.specs.Node.{NodeState, PreparedNode}
@@ -18,11 +19,18 @@ returns g c =
     let lent = c.lend-lender.ensures in
     let work = c.work_on-worked.ensures.work in
     record {
-      ok = worked_phases m lender c.take_back.result input (states old.items) row lacks_memory lent.rest lent.row c.input.ensures c.take_back.ensures work c.settings-settings.ensures.sound;
-      stepped = worked_events m lender c.take_back.result input (states old.items) row lacks_memory lent.rest lent.row c.input.ensures c.take_back.ensures work;
-      come = worked_come m lender c.take_back.result input (states old.items) row lacks_memory lent.rest lent.row c.input.ensures c.take_back.ensures work;
+      ok =
+          worked_phases m lender c.take_back.result input (states old.items) row lacks_memory lent.rest lent.row c.input.ensures
+          c.take_back.ensures work c.settings-settings.ensures.sound;
+      stepped =
+          worked_events m lender c.take_back.result input (states old.items) row lacks_memory lent.rest lent.row c.input.ensures
+          c.take_back.ensures work;
+      come =
+          worked_come m lender c.take_back.result input (states old.items) row lacks_memory lent.rest lent.row c.input.ensures
+          c.take_back.ensures work;
       no_worker = λ refused.
-          let nodes : length old.items ≡ length m.nodes = sym (length-map old.items (λ (p : PreparedNode). p.node)) ∙ ap (λ (ns : List NodeState). length ns) lent.row in
+          let nodes : length old.items ≡ length m.nodes =
+          sym (length-map old.items (λ (p : PreparedNode). p.node)) ∙ ap (λ (ns : List NodeState). length ns) lent.row in
           let several = c.work_on-worked.ensures.no_worker refused in
           (omega (arith, several, c.min-workers.ensures), omega (arith, several, c.min-workers.ensures, c.len.ensures, old.ok.0, nodes));
     }

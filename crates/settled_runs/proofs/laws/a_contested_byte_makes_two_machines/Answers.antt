@@ -1,3 +1,4 @@
+-- The three parts of the law: the byte lies in a memory, may be one of two bytes, and so makes two machines.
 use Rattle.settled_runs.proofs.Contested.{inside, two_bytes, two_machines}
 use Rattle.settled_runs.proofs.laws.a_contested_byte_makes_two_machines.Goals as goal
 

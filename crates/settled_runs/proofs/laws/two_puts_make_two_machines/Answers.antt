@@ -1,3 +1,4 @@
+-- The machine of the example is sound, its byte is contested, and each of the two puts may come last.
 use Rattle.settled_runs.proofs.Example.{is_contested, is_sound, one_lies, other_lies}
 use Rattle.settled_runs.proofs.laws.two_puts_make_two_machines.Goals as goal
 

@@ -1,3 +1,4 @@
+-- The sixteen bytes that are copied begin with the bytes held: their first `len` are those of the room, since `len` is at most 16.
 use Rattle.std.proofs.Common.{ℕ, take, sym, ap, ◌∙◌, arith}
 use Rattle.std.proofs.lemmas.List.{take-take}
 use Rattle.shared_bytes.specs.Held.{held_bytes}

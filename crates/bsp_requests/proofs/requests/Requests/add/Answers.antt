@@ -1,3 +1,4 @@
+-- A full node refuses the request as too much, and the sum of bytes stays counted; written out, to refuse a wrong body without a search.
 use Rattle.std.proofs.Common.{rules}
 use Rattle.bsp_requests.proofs.requests.Requests.add.Goals as goal
 

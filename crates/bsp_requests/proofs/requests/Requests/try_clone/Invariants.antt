@@ -1,3 +1,4 @@
+-- The copies so far ask what the requests that were passed ask.
 use Rattle.std.proofs.Common.{◌≡◌, map, take}
 use Rattle.bsp_requests.specs.Request.{asked}
 use Rattle.bsp_requests.proofs.requests.Requests.try_clone.Given as goal

@@ -1,3 +1,4 @@
+-- The second list without the entry that was found is the next list after the pop.
 use Rattle.std.proofs.Common.{◌≡◌, Some, arith, rules}
 use Rattle.std.proofs.lemmas.Bool.{false≢true}
 use Rattle.bsp_slots.specs.Area.{last_position}
@@ -15,6 +16,8 @@ remove-requires g c =
 
 pub invariant_of-self-2 : goal.invariant_of-self-2
 invariant_of-self-2 g c = record {
-  pace = KeepsPace-popped (slots_view c.self.inside).registrations c.args.addr c.in-Some.slot c.self.invariant.pace (search rules) (search rules) (search rules);
+  pace =
+      KeepsPace-popped (slots_view c.self.inside).registrations c.args.addr c.in-Some.slot c.self.invariant.pace (search rules)
+      (search rules) (search rules);
   room = λ ready. absurd (false≢true ready);
 }

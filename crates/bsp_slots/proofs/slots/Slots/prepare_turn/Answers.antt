@@ -1,3 +1,4 @@
+-- Only that room is made has changed; written out, so that a wrong body is refused without another search.
 use Rattle.std.proofs.Common.{rules}
 use Rattle.bsp_slots.proofs.slots.Slots.prepare_turn.Goals as goal
 

@@ -1,3 +1,4 @@
+-- The worker is not counted yet.
 use Rattle.std.proofs.Common.{◌≡◌, []}
 use Rattle.claim_table.specs.ClaimSteps.{view_away}
 use Rattle.claim_table.proofs.worker.Worker.enrol.Given as goal

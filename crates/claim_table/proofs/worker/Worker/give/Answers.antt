@@ -1,3 +1,4 @@
+-- The node comes back after some steps of its own, with the word that says whether it runs, as the rule allows.
 use Rattle.std.proofs.Common.{◌≡◌, ℕ, List, [], ◌∷◌, Some, arith, ap, ◌∙◌}
 use Rattle.atomic_table.specs.Table.{rest}
 use Rattle.node_core.specs.Node.{local_steps}
@@ -17,5 +18,6 @@ store-requires g c =
     let later = out.2.1 ∙ ap (λ (i : List ℕ). local_steps i out.2.0 out.0) this.reads in (
       c.exchange.ensures.0 ∙ this.seated,
       omega (arith, this.sized.0, c.requires.within),
-      can_return (start_of this.shared.now.key) this.shared.now.table_id.slots seat.id seat.me c.args.rank c.word_at_home-word.result out.2.0 node out.0 view_at_work [] (omega (arith, this.sized.1, c.requires.within)) later c.word_at_home-word.ensures me,
+      can_return (start_of this.shared.now.key) this.shared.now.table_id.slots seat.id seat.me c.args.rank c.word_at_home-word.result
+          out.2.0 node out.0 view_at_work [] (omega (arith, this.sized.1, c.requires.within)) later c.word_at_home-word.ensures me,
     )

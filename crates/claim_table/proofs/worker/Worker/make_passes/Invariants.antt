@@ -1,3 +1,4 @@
+-- Between passes the worker has no node; each pass takes some of the allowance.
 use Rattle.std.proofs.Common.{◌≡◌, []}
 use Rattle.claim_table.specs.ClaimSteps.{view_at_work}
 use Rattle.claim_table.proofs.worker.Worker.make_passes.Given as goal

@@ -1,3 +1,4 @@
+-- Between ranks the worker has no node, and the pass took no more of them than it may.
 use Rattle.std.proofs.Common.{◌≡◌, ◌≤◌, []}
 use Rattle.claim_table.specs.ClaimSteps.{view_at_work}
 use Rattle.claim_table.proofs.worker.Worker.pass.Given as goal

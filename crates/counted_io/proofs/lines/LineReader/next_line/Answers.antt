@@ -50,7 +50,9 @@ returns-clause-never_falls g c = c.find_line_feed.ensures.never_falls
 
 pub returns-clause-bytes : goal.returns-clause-bytes
 returns-clause-bytes g c =
-    subst (λ read. ReadsOn (g.R.Read.remaining c.args.from.now.inner) (g.R.Read.remaining c.find_line_feed.new.from.inner) read c.find_line_feed.new.text.items) (ap (λ s. s.read) c.self.view_is) c.in_ok-found.ensures.bytes
+    subst (λ read. ReadsOn (g.R.Read.remaining c.args.from.now.inner)
+    (g.R.Read.remaining c.find_line_feed.new.from.inner) read c.find_line_feed.new.text.items)
+    (ap (λ s. s.read) c.self.view_is) c.in_ok-found.ensures.bytes
 
 pub returns-clause-too_long : goal.returns-clause-too_long
 returns-clause-too_long g c = λ returned. absurd (found-no_err _ _ returned)
@@ -80,9 +82,15 @@ returns-clause-line g c = λ is_line.
           let after : w.len-in-None.result ≡ length text = omega arith in
           let some : nat_lt c.self.inside.given c.match-found.end.1 ≡ true = cc in
           inr (
-            gives_last _ _ c.self.inside.given given absent.0 (ap (λ e. slice_range text c.self.inside.given e.0) w.end-is ∙ ap (slice_range text c.self.inside.given) end)
+            gives_last _ _ c.self.inside.given given absent.0
+                (ap (λ e. slice_range text c.self.inside.given e.0) w.end-is ∙ ap (slice_range text c.self.inside.given) end)
                 (ap (λ e. e.1) w.end-is ∙ after) (ltb-true _ _ some),
-            record { ended = ap (λ e. e.2) w.end-is; at_end = subst (λ (s : LineReaderState). (s.ended ≡ true) ⊎ IsAtEnd (g.R.Read.remaining c.find_line_feed.new.from.inner)) c.self.view_is absent.1 },
+            record {
+              ended = ap (λ e. e.2) w.end-is;
+              at_end =
+                  subst (λ (s : LineReaderState). (s.ended ≡ true) ⊎ IsAtEnd (g.R.Read.remaining c.find_line_feed.new.from.inner))
+                  c.self.view_is absent.1;
+            },
           )
     ]
 
@@ -92,7 +100,8 @@ returns-clause-waiting g c = λ feed.
     let unread = c.in_ok-found.ensures.waiting at behind within is in
     elim c.match-found.branch [
       | in-Some w ↦
-          let first : IsFirstFeed c.find_line_feed.new.text.items c.self.inside.given w.in-Some.at = rw w.in-Some.is at c.in_ok-found.ensures.found in
+          let first : IsFirstFeed c.find_line_feed.new.text.items c.self.inside.given w.in-Some.at =
+          rw w.in-Some.is at c.in_ok-found.ensures.found in
           let begun : c.self.inside.given ≤ w.in-Some.at = first.from in
           let after : c.match-found.end.1 ≡ w.in-Some.at + 1 = ap (λ e. e.1) w.end-is in
           (ap Ok (lt-ltb _ _ (omega arith)), unread.1, unread.2 ∙ ap (λ s. s.read) c.self.view_is)

@@ -1,3 +1,4 @@
+-- `so_far` is the bytes that the entries so far load, at most 2^32 for each, and none of these entries has a fault.
 use Rattle.std.proofs.Common.{◌≡◌, ◌≤◌, ◌*◌, ◌^◌, None}
 use Rattle.std.specs.List.{flat_map, range_with_len}
 use Rattle.elf_image.specs.Headers.{program_headers}

@@ -1,3 +1,4 @@
+-- A file whose header has no fault is as long as a header.
 use Rattle.elf_image.proofs.Table.{HasTable-from_none}
 use Rattle.elf_image.proofs.file.ElfFile.header.Goals as goal
 

@@ -1,3 +1,4 @@
+-- Part by part, the fault that is answered is the first of the file header, since all parts before it have none.
 use Rattle.std.proofs.Common.{sym, ◌∙◌, arith}
 use Rattle.std.proofs.lemmas.Bool.Decides.{nat_tests}
 use Rattle.std.proofs.lemmas.Result.{err_from_is_err_and}
@@ -26,14 +27,17 @@ returns-in_err-check_layout-clause-fault c =
     let p = err_from_is_err_and exit.result exit.ensures.1 in
     let same = sym c.starts_with.ensures.value ∙ c.if-not-starts_with.false in
     rw (p.1, p.2)
-    (by_layout c.args.bytes.now c.new-header.result _ same (omega arith) c.new-header.ensures c.in_ok-check_identity.ensures c.in_err-check_layout.ensures)
+    (by_layout c.args.bytes.now c.new-header.result _ same
+    (omega arith) c.new-header.ensures c.in_ok-check_identity.ensures c.in_err-check_layout.ensures)
 
 pub invariant_of-result : goal.invariant_of-result
 invariant_of-result c =
     let same = sym c.starts_with.ensures.value ∙ c.if-not-starts_with.false in
-    sym (by_layout c.args.bytes.now c.new-header.result _ same (omega arith) c.new-header.ensures c.in_ok-check_identity.ensures c.in_ok-check_layout.ensures)
+    sym (by_layout c.args.bytes.now c.new-header.result _ same
+    (omega arith) c.new-header.ensures c.in_ok-check_identity.ensures c.in_ok-check_layout.ensures)
 
 pub returns-clause-fault : goal.returns-clause-fault
 returns-clause-fault c =
     let same = sym c.starts_with.ensures.value ∙ c.if-not-starts_with.false in
-    by_layout c.args.bytes.now c.new-header.result _ same (omega arith) c.new-header.ensures c.in_ok-check_identity.ensures c.in_ok-check_layout.ensures
+    by_layout c.args.bytes.now c.new-header.result _ same
+    (omega arith) c.new-header.ensures c.in_ok-check_identity.ensures c.in_ok-check_layout.ensures

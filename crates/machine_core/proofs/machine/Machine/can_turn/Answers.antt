@@ -1,3 +1,4 @@
+-- The two tests of the code are those by which the definition enables the turn.
 use Rattle.std.proofs.Common.{◌≡◌, Bool, true, false, not, ◌&&◌, Option, Some, None, List, refl, sym, ap, ap₂, ◌∙◌}
 use Rattle.std.specs.Prelude.{is_some, is_none}
 use Rattle.std.proofs.lemmas.Bool.{true≢false}
@@ -15,7 +16,8 @@ none_where (Some x) true is = absurd (true≢false is)
 none_where (Some x) false is = refl
 
 -- the turn is enabled where there is no outcome and no node runs
-enabled_where : (m : MachineState) (still busy : Bool) → is_some m.outcome ≡ not still → busy ≡ some_runs m.nodes → (still && not busy) ≡ is_enabled m Turn
+enabled_where : (m : MachineState) (still busy : Bool) → is_some m.outcome ≡ not still → busy ≡ some_runs m.nodes
+    → (still && not busy) ≡ is_enabled m Turn
 enabled_where m still busy is same = ap₂ (λ (a b : Bool). a && not b) (none_where m.outcome still is) same
 
 pub returns-then-is_none : goal.returns-then-is_none
@@ -23,7 +25,8 @@ returns-then-is_none g c =
     let m = c.args.self.now in
     enabled_where m true c.some_runs.result
     (ap (λ (x : MachineState). is_some x.outcome) (sym c.self.view_is) ∙ c.is_none.ensures ∙ ap not c.if-is_none.true)
-    (c.some_runs.ensures ∙ ap (λ (ps : List PreparedNode). some_runs (states ps)) c.deref.ensures.value ∙ ap (λ (x : MachineState). some_runs x.nodes) c.self.view_is)
+    (c.some_runs.ensures ∙ ap (λ (ps : List PreparedNode). some_runs (states ps)) c.deref.ensures.value
+    ∙ ap (λ (x : MachineState). some_runs x.nodes) c.self.view_is)
 
 pub returns-else-is_none : goal.returns-else-is_none
 returns-else-is_none g c =

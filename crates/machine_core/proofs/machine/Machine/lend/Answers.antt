@@ -1,3 +1,4 @@
+-- What is left of the machine is as sound as it was, since its row is kept as a snapshot.
 use Rattle.std.proofs.Common.{rules}
 use Rattle.machine_core.proofs.machine.Machine.lend.Goals as goal
 

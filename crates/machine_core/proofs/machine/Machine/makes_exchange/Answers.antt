@@ -1,3 +1,4 @@
+-- Whether its row makes the exchange is asked of the nodes as contracts see them.
 use Rattle.std.proofs.Common.{List, ap, ◌∙◌}
 use Rattle.bsp_exchange.specs.Exchange.{states}
 use Rattle.node_core.specs.Node.{PreparedNode}

@@ -1,3 +1,4 @@
+-- The node lent, if the rank has one, is the state at that place of the machine.
 use Rattle.std.proofs.Common.{List, ap, sym, ◌∙◌, option_map}
 use Rattle.std.specs.Prelude.{slice_get}
 use Rattle.std.proofs.lemmas.Option.{slice_get-map}

@@ -1,3 +1,4 @@
+-- The row lent has the nodes of the machine as contracts see it.
 use Rattle.std.proofs.Common.{ap, ◌∙◌}
 use Rattle.bsp_exchange.specs.Exchange.{states}
 use Rattle.machine_core.specs.Machine.{MachineState}

@@ -1,3 +1,4 @@
+-- What the steps do to a place of the row is what they do to the machine, which stays sound by them.
 use Rattle.std.proofs.Common.{◌≡◌, length, sym, ap, subst, ◌∙◌, arith}
 use Rattle.std.proofs.lemmas.List.{length-map, with_items_is}
 use Rattle.node_core.specs.Node.{PreparedNode}
@@ -11,7 +12,8 @@ use Rattle.machine_core.proofs.machine.Machine.run_at.Goals as goal
 pub run_at-requires : goal.run_at-requires
 run_at-requires g c =
     let long : length c.args.self.now.nodes ≡ length c.deref_mut.result.now =
-    ap (λ (m : MachineState). length m.nodes) (sym c.self.view_is) ∙ length-map c.self.inside.nodes.items (λ (p : PreparedNode). p.node) ∙ sym (ap length c.deref_mut.ensures.value) in
+    ap (λ (m : MachineState). length m.nodes) (sym c.self.view_is) ∙ length-map c.self.inside.nodes.items (λ (p : PreparedNode). p.node)
+    ∙ sym (ap length c.deref_mut.ensures.value) in
     rw (← long) c.requires
 
 pub invariant_of-self : goal.invariant_of-self

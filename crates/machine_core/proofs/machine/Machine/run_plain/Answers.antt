@@ -1,3 +1,4 @@
+-- Each superstep walks on toward the same end and adds a row of costs; a refusal stops on the way, and at the outcome it is the end.
 use Rattle.std.proofs.Common.{◌≡◌, not, refl, sym, ap, subst, ◌∙◌}
 use Rattle.std.specs.Prelude.{is_some}
 use Rattle.std.proofs.lemmas.Result.{IfOk-from_err, err_from_is_err_and}
@@ -17,14 +18,16 @@ loop-self-init g c = record { so_far = (0, sym (walked-zero c.args.self.now)); s
 pub returns-in_err-run_phase_plain-clause-err : goal.returns-in_err-run_phase_plain-clause-err
 returns-in_err-run_phase_plain-clause-err g c =
     let p = err_from_is_err_and c.from_residual.result c.from_residual.ensures.1 in
-    rw p.1 (IsWalked-on c.args.self.now c.loop-self.self c.run_phase_plain.new.self c.loop-self.invariant.so_far c.in_err-run_phase_plain.ensures.err)
+    rw p.1 (IsWalked-on c.args.self.now c.loop-self.self c.run_phase_plain.new.self c.loop-self.invariant.so_far
+    c.in_err-run_phase_plain.ensures.err)
 
 pub loop-self-smaller : goal.loop-self-smaller
 loop-self-smaller g c =
     let m = c.loop-self.self in
     let sound = subst IsSoundMachine c.self.view_is c.self.invariant in
     let open_yet = ap (λ (x : MachineState). is_some x.outcome) (sym c.self.view_is) ∙ c.is_none.ensures ∙ ap not c.loop-self-test.true in
-    let turned : c.turn.new.self ≡ event (with_phases m) Turn = c.in_ok-turn.ensures.ok ∙ ap (λ (x : MachineState). event x Turn) c.in_ok-run_phase_plain.ensures.ok in
+    let turned : c.turn.new.self ≡ event (with_phases m) Turn =
+    c.in_ok-turn.ensures.ok ∙ ap (λ (x : MachineState). event x Turn) c.in_ok-run_phase_plain.ensures.ok in
     rows_left m sound open_yet c.turn.new.self (superstep-made m sound open_yet c.turn.new.self turned)
 
 pub loop-self-preserved : goal.loop-self-preserved
@@ -32,10 +35,12 @@ loop-self-preserved g c =
     let m = c.loop-self.self in
     let sound = subst IsSoundMachine c.self.view_is c.self.invariant in
     let open_yet = ap (λ (x : MachineState). is_some x.outcome) (sym c.self.view_is) ∙ c.is_none.ensures ∙ ap not c.loop-self-test.true in
-    let turned : c.turn.new.self ≡ event (with_phases m) Turn = c.in_ok-turn.ensures.ok ∙ ap (λ (x : MachineState). event x Turn) c.in_ok-run_phase_plain.ensures.ok in
+    let turned : c.turn.new.self ≡ event (with_phases m) Turn =
+    c.in_ok-turn.ensures.ok ∙ ap (λ (x : MachineState). event x Turn) c.in_ok-run_phase_plain.ensures.ok in
     record {
       so_far = IsWalked-superstep c.args.self.now m c.turn.new.self sound open_yet c.loop-self.invariant.so_far turned;
-      same_end = ap end_of (superstep-made m sound open_yet c.turn.new.self turned) ∙ end_of-superstep m sound ∙ c.loop-self.invariant.same_end;
+      same_end =
+          ap end_of (superstep-made m sound open_yet c.turn.new.self turned) ∙ end_of-superstep m sound ∙ c.loop-self.invariant.same_end;
     }
 
 pub returns-in_err-turn-clause-err : goal.returns-in_err-turn-clause-err

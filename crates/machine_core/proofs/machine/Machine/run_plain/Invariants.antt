@@ -1,3 +1,4 @@
+-- The machine is on its walk, with the end that it had at first; each superstep adds a row, of which there are at most `limit` + 1.
 use Rattle.std.proofs.Common.{◌≡◌, ◌+◌, ◌-◌, length}
 use Rattle.machine_core.specs.Turn.{end_of}
 use Rattle.machine_core.proofs.Supersteps.{IsWalked}

@@ -1,3 +1,4 @@
+-- What the steps do to a place of the row is what they do to the machine, which stays sound; the addresses are those of its node.
 use Rattle.std.proofs.Common.{◌≡◌, ℕ, List, length, sym, ap, ap₂, ◌∙◌, arith}
 use Rattle.std.proofs.lemmas.List.{length-map, with_items_is}
 use Rattle.node_core.specs.Node.{NodeState, PreparedNode}
@@ -12,7 +13,8 @@ use Rattle.machine_core.proofs.machine.Machine.run_traced_at.Goals as goal
 pub run_traced_at-requires : goal.run_traced_at-requires
 run_traced_at-requires g c =
     let long : length c.args.self.now.nodes ≡ length c.deref_mut.result.now =
-    ap (λ (m : MachineState). length m.nodes) (sym c.self.view_is) ∙ length-map c.self.inside.nodes.items (λ (p : PreparedNode). p.node) ∙ sym (ap length c.deref_mut.ensures.value) in
+    ap (λ (m : MachineState). length m.nodes) (sym c.self.view_is) ∙ length-map c.self.inside.nodes.items (λ (p : PreparedNode). p.node)
+    ∙ sym (ap length c.deref_mut.ensures.value) in
     rw (← long) c.requires
 
 pub invariant_of-self : goal.invariant_of-self
@@ -37,7 +39,8 @@ returns-clause-addresses g c =
     (λ made those. record {
       few = those.few;
       are = those.are
-          ∙ ap₂ (λ (i : List ℕ) (xs : List NodeState). next_addresses_at i rank k xs) c.as_slice.ensures (ap states c.deref_mut.ensures.value)
+          ∙ ap₂ (λ (i : List ℕ) (xs : List NodeState). next_addresses_at i rank k xs) c.as_slice.ensures
+          (ap states c.deref_mut.ensures.value)
           ∙ ap (λ (m : MachineState). next_addresses_at m.input rank k m.nodes) c.self.view_is;
     })
     c.run_traced_at.ensures.addresses

@@ -1,3 +1,4 @@
+-- The ticks lent are those of the machine as contracts see it.
 use Rattle.std.proofs.Common.{ap, ◌∙◌}
 use Rattle.machine_core.specs.Machine.{MachineState}
 use Rattle.machine_core.proofs.machine.Machine.started.Goals as goal

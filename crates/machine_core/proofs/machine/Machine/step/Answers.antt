@@ -1,3 +1,4 @@
+-- A step at a place of the row is the event of that rank, and keeps the machine sound.
 use Rattle.std.proofs.Common.{ap, arith}
 use Rattle.std.proofs.lemmas.List.{with_items_is}
 use Rattle.bsp_exchange.specs.Exchange.{states}

@@ -1,3 +1,4 @@
+-- The parts land in nodes that were prepared for them, and so it is the turn; or the turn is called off, and nothing has changed.
 use Rattle.std.proofs.Common.{List, sym, ap, ap₂, ◌∙◌, arith}
 use Rattle.std.specs.Vec.{with_items}
 use Rattle.std.proofs.lemmas.List.{with_items_is}

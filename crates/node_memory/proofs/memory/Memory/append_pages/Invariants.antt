@@ -1,3 +1,4 @@
+-- What was appended is the range's first `done` bytes, and there is room for those that are left.
 use Rattle.std.proofs.Common.{◌≡◌, ◌+◌, ◌-◌, ◌≤◌, ◌++◌, vec_len, vec_capacity}
 use Rattle.node_memory.specs.Bytes.{bytes_at}
 use Rattle.node_memory.proofs.memory.Memory.append_pages.Given as goal

@@ -1,3 +1,4 @@
+-- The byte at an address is that at its place in its page, and the table has the page.
 use Rattle.std.proofs.Common.{◌/◌, ◌%◌, ◌<◌, length, get_or, ap, ◌∙◌, arith}
 use Rattle.node_memory.proofs.Shown.{size-shown, byte-shown}
 use Rattle.node_memory.proofs.Table.{table}

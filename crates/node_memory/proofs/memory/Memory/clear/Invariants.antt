@@ -1,3 +1,4 @@
+-- The range is zeros up to the page, shared pages are zeros still, and there are as many pages as before.
 use Rattle.std.proofs.Common.{◌≡◌, length, replicate}
 use Rattle.node_memory.specs.Bytes.{with_bytes}
 use Rattle.node_memory.specs.Pages.{SharesZeros}

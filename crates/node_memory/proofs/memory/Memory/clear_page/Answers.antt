@@ -1,3 +1,4 @@
+-- The page of zeros in a page's place is zeros written there; it is shared from then on.
 use Rattle.std.proofs.Common.{false, length, refl, ap, ◌∙◌, ℕ}
 use Rattle.std.proofs.lemmas.List.{length-replicate}
 use Rattle.node_memory.proofs.Shown.{page-shown, flags-set}

@@ -1,3 +1,4 @@
+-- Zeros are written, or the page of zeros is put in the place of a whole page; shared pages are zeros after both.
 use Rattle.std.proofs.Common.{◌≡◌, ◌+◌, ◌*◌, ◌/◌, ◌≤◌, length, take, replicate, sym, ap, ◌∙◌, arith}
 use Rattle.std.proofs.lemmas.List.{take-replicate}
 use Rattle.node_memory.specs.Bytes.{with_bytes}

@@ -1,3 +1,4 @@
+-- The table's pages, of 4,096 bytes each, make the size that the range is compared with.
 use Rattle.std.proofs.Common.{◌≡◌, ◌*◌, length, ap, ◌∙◌, arith}
 use Rattle.node_memory.specs.Bytes.{fits}
 use Rattle.node_memory.proofs.Shown.{size-shown}

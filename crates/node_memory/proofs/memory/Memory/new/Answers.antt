@@ -1,3 +1,4 @@
+-- Segment by segment the memory comes to have the image's bytes; shared at the end, it has them and no page of its own.
 use Rattle.std.proofs.Common.{◌≡◌, ℕ, ◌*◌, ◌/◌, length, replicate, sym, ap, ◌∙◌, List, rules}
 use Rattle.node_memory.specs.Image.{Image, image_bytes}
 use Rattle.node_memory.specs.Pages.{PagedMemory, none_own}

@@ -1,3 +1,4 @@
+-- The memory has the bytes of an image of the segments laid so far, and its shared pages are zeros.
 use Rattle.std.proofs.Common.{◌≡◌, take}
 use Rattle.node_memory.specs.Image.{image_bytes}
 use Rattle.node_memory.specs.Pages.{SharesZeros}

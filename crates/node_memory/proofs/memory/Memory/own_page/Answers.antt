@@ -1,3 +1,4 @@
+-- A copy in the place of a shared page changes no byte and one flag; a page that is own already has that flag.
 use Rattle.std.proofs.Common.{true, refl, sym, ap, ◌∙◌, Some}
 use Rattle.node_memory.proofs.Shown.{page-shown, copy-shown, flag-is, flags-set, flags-same}
 use Rattle.node_memory.proofs.Table.{table, IsTable-same}

@@ -1,3 +1,4 @@
+-- The first page of the range that is not own tells that the range is not; where none is found, all its pages are own.
 use Rattle.std.proofs.Common.{◌≡◌, ◌<◌, true, false, length, sym, ap, ◌∙◌, arith, Some}
 use Rattle.std.specs.Prelude.{slice_get}
 use Rattle.std.proofs.lemmas.Bool.{false≢true}

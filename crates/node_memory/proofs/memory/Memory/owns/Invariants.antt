@@ -1,3 +1,4 @@
+-- The pages from the range's first up to this one are own.
 use Rattle.std.proofs.Common.{◌/◌}
 use Rattle.node_memory.proofs.Owned.{OwnUpTo}
 use Rattle.node_memory.proofs.memory.Memory.owns.Given as goal

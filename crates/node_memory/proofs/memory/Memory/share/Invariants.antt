@@ -1,3 +1,4 @@
+-- The pages made so far are shared, and show the bytes of the pages that were passed.
 use Rattle.std.proofs.Common.{take}
 use Rattle.std.specs.List.{flat_map}
 use Rattle.node_memory.specs.Table.{page_bytes, is_own}

@@ -1,3 +1,4 @@
+-- The table's pages, of 4,096 bytes each, have all bytes of the memory.
 use Rattle.std.proofs.Common.{◌≡◌, ◌*◌, length, ap, ◌∙◌, arith}
 use Rattle.node_memory.proofs.Shown.{size-shown}
 use Rattle.node_memory.proofs.Table.{table}

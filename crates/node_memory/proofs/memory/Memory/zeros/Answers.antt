@@ -1,3 +1,4 @@
+-- One page of zeros more makes the zeros longer by 4,096.
 use Rattle.std.proofs.Common.{◌≡◌, ℕ, length, replicate, ap, ◌∙◌}
 use Rattle.node_memory.specs.Table.{page_bytes}
 use Rattle.std.proofs.lemmas.List.{length-replicate}

@@ -1,3 +1,4 @@
+-- The pages made so far are shared, and show nothing but zeros.
 use Rattle.std.proofs.Common.{◌≡◌, ◌*◌, replicate}
 use Rattle.node_memory.specs.Table.{page_bytes, is_own}
 use Rattle.node_memory.proofs.Shown.{AllShared}

@@ -1,3 +1,4 @@
+-- A new page that copies an own one is shared; written out, so that a wrong body is refused without another search.
 use Rattle.std.proofs.Common.{rules}
 use Rattle.node_memory.proofs.page.Page.share.Goals as goal
 

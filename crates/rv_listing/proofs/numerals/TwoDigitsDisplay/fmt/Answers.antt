@@ -1,3 +1,4 @@
+-- A number padded with zeros to two digits is the byte in two digits.
 use Rattle.std.proofs.Common.{arith}
 use Rattle.rv_listing.proofs.Hexadecimal.{padded_is_hexadecimal_in}
 use Rattle.rv_listing.proofs.numerals.TwoDigitsDisplay.fmt.Goals as goal

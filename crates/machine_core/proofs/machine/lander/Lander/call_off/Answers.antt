@@ -1,3 +1,4 @@
+-- The row is the one handed out and the output is cut at its old length, so the machine is the sound one from before the turn.
 use Rattle.std.proofs.Common.{sym, subst, ap, ◌∙◌}
 use Rattle.bsp_exchange.specs.Exchange.{states}
 use Rattle.machine_core.specs.Lander.{kept}
@@ -11,11 +12,14 @@ invariant_of-result g c =
     let b = c.self.inside.before.value in
     let inv = c.self.invariant in
     let back = c.requires ∙ ap (λ (x : MachineState). x.nodes) (sym c.self.view_is) in
-    subst IsSoundMachine (sym (called_off b (kept c.self.inside) (states c.args.row.items) c.truncate.new.self.items c.self.inside.output_before inv.0 inv.2 back c.truncate.ensures.items)) inv.0.sound
+    subst IsSoundMachine
+    (sym (called_off b (kept c.self.inside) (states c.args.row.items) c.truncate.new.self.items c.self.inside.output_before inv.0 inv.2
+    back c.truncate.ensures.items)) inv.0.sound
 
 pub returns : goal.returns
 returns g c =
     let b = c.self.inside.before.value in
     let inv = c.self.invariant in
     let back = c.requires ∙ ap (λ (x : MachineState). x.nodes) (sym c.self.view_is) in
-    called_off b (kept c.self.inside) (states c.args.row.items) c.truncate.new.self.items c.self.inside.output_before inv.0 inv.2 back c.truncate.ensures.items ∙ c.self.view_is
+    called_off b (kept c.self.inside) (states c.args.row.items) c.truncate.new.self.items c.self.inside.output_before inv.0 inv.2 back
+    c.truncate.ensures.items ∙ c.self.view_is

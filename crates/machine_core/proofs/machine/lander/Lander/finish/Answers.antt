@@ -1,3 +1,4 @@
+-- The costs keep to the ledger's bounds, and with the row landed the machine is the one that the turn leads to, and sound.
 use Rattle.std.proofs.Common.{◌≡◌, ℕ, List, ◌+◌, ◌++◌, [], ◌∷◌, length, map, Option, sym, ap, ap₂, subst, ◌∙◌, arith}
 use mir.Syntax.{w64}
 use mir.Val.{Fits}
@@ -17,7 +18,8 @@ use Rattle.machine_core.specs.Sound.{IsSoundMachine}
 use Rattle.machine_core.specs.Turn.{turned}
 use Rattle.machine_core.proofs.Clocks.{as_many_nodes}
 use Rattle.machine_core.proofs.Steps.{event-enabled}
-use Rattle.machine_core.proofs.Turns.{turned-exchanged, closed-known, no_outcome, bounds, rows-lt, exchanges-fit, length-started, IsSoundMachine-turn}
+use Rattle.machine_core.proofs.Turns.{turned-exchanged, closed-known, no_outcome, bounds, rows-lt, exchanges-fit, length-started}
+use Rattle.machine_core.proofs.Turns.{IsSoundMachine-turn}
 use Rattle.machine_core.proofs.machine.lander.Lander.finish.Goals as goal
 
 pub add_prepared-requires-clause-work : goal.add_prepared-requires-clause-work
@@ -50,8 +52,10 @@ pub note_ticks-requires : goal.note_ticks-requires
 note_ticks-requires g c =
     let b = c.self.inside.before.value in
     let waits = c.self.invariant.0 in
-    let back : states c.args.row.items ≡ exchanged b.nodes = c.requires ∙ ap (λ (x : MachineState). row_landed x.nodes) (sym c.self.view_is) ∙ landed_whole b.nodes waits.exchanges in
-    let long : length c.args.row.items ≡ length b.nodes = sym (length-map c.args.row.items (λ (p : PreparedNode). p.node)) ∙ ap length back ∙ length-map b.nodes (exchanged_node b.nodes) in
+    let back : states c.args.row.items ≡ exchanged b.nodes =
+    c.requires ∙ ap (λ (x : MachineState). row_landed x.nodes) (sym c.self.view_is) ∙ landed_whole b.nodes waits.exchanges in
+    let long : length c.args.row.items ≡ length b.nodes =
+    sym (length-map c.args.row.items (λ (p : PreparedNode). p.node)) ∙ ap length back ∙ length-map b.nodes (exchanged_node b.nodes) in
     ap length c.deref_mut.ensures.value
     ∙ ap (λ (x : MachineState). length x.started) waits.recorded
     ∙ length-started b waits.sound
@@ -68,24 +72,50 @@ pub invariant_of-result : goal.invariant_of-result
 invariant_of-result g c =
     let b = c.self.inside.before.value in
     let waits = c.self.invariant.0 in
-    let back : states c.args.row.items ≡ exchanged b.nodes = c.requires ∙ ap (λ (x : MachineState). row_landed x.nodes) (sym c.self.view_is) ∙ landed_whole b.nodes waits.exchanges in
-    let long : length c.args.row.items ≡ length c.set_clocks.new.nodes = as_many_nodes c.args.row.items c.set_clocks.new.nodes c.closed_with-closed.result (c.set_clocks.ensures ∙ ap (λ (ps : List PreparedNode). map (with_clock c.closed_with-closed.result) (states ps)) c.deref_mut-2.ensures.value) in
-    let closed = c.closed_with-closed.ensures ∙ ap₂ (λ (x : MachineState) (r : CostRow). closed_by x.settings.clock (x.ledger ++ r ∷ [])) waits.recorded waits.costs in
-    let nodes = ap states (with_items_is c.args.row c.set_clocks.new.nodes (omega (arith, long, c.args.row.ok.0))) ∙ c.set_clocks.ensures ∙ ap (λ (ps : List PreparedNode). map (with_clock c.closed_with-closed.result) (states ps)) c.deref_mut-2.ensures.value ∙ ap₂ (λ (k : Option ℕ) (ns : List NodeState). map (with_clock k) ns) closed back in
-    let started = with_items_is c.self.inside.started c.note_ticks.new.started (omega arith) ∙ c.note_ticks.ensures ∙ ap (λ (ps : List PreparedNode). map (λ (n : NodeState). n.ticks) (states ps)) c.deref-2.ensures.value ∙ ap (λ (ns : List NodeState). map (λ (n : NodeState). n.ticks) ns) back in
-    let ledger = ap (λ (x : PreparedRows). x.rows) c.add_prepared.ensures ∙ ap (λ (r : CostRow). c.self.inside.ledger.rows ++ r ∷ []) waits.costs in
-    subst IsSoundMachine (sym (turned-exchanged b (kept c.self.inside) _ _ c.add_prepared.new.self.rows waits.none waits.recorded nodes started ledger)) (IsSoundMachine-turn b waits.sound waits.enabled)
+    let back : states c.args.row.items ≡ exchanged b.nodes =
+    c.requires ∙ ap (λ (x : MachineState). row_landed x.nodes) (sym c.self.view_is) ∙ landed_whole b.nodes waits.exchanges in
+    let long : length c.args.row.items ≡ length c.set_clocks.new.nodes =
+    as_many_nodes c.args.row.items c.set_clocks.new.nodes c.closed_with-closed.result
+    (c.set_clocks.ensures
+    ∙ ap (λ (ps : List PreparedNode). map (with_clock c.closed_with-closed.result) (states ps)) c.deref_mut-2.ensures.value) in
+    let closed =
+    c.closed_with-closed.ensures
+    ∙ ap₂ (λ (x : MachineState) (r : CostRow). closed_by x.settings.clock (x.ledger ++ r ∷ [])) waits.recorded waits.costs in
+    let nodes = ap states (with_items_is c.args.row c.set_clocks.new.nodes (omega (arith, long, c.args.row.ok.0))) ∙ c.set_clocks.ensures
+    ∙ ap (λ (ps : List PreparedNode). map (with_clock c.closed_with-closed.result) (states ps)) c.deref_mut-2.ensures.value
+    ∙ ap₂ (λ (k : Option ℕ) (ns : List NodeState). map (with_clock k) ns) closed back in
+    let started =
+    with_items_is c.self.inside.started c.note_ticks.new.started (omega arith) ∙ c.note_ticks.ensures
+    ∙ ap (λ (ps : List PreparedNode). map (λ (n : NodeState). n.ticks) (states ps)) c.deref-2.ensures.value
+    ∙ ap (λ (ns : List NodeState). map (λ (n : NodeState). n.ticks) ns) back in
+    let ledger =
+    ap (λ (x : PreparedRows). x.rows) c.add_prepared.ensures ∙ ap (λ (r : CostRow). c.self.inside.ledger.rows ++ r ∷ []) waits.costs in
+    subst IsSoundMachine
+    (sym (turned-exchanged b (kept c.self.inside) _ _ c.add_prepared.new.self.rows waits.none waits.recorded nodes started ledger))
+    (IsSoundMachine-turn b waits.sound waits.enabled)
 
 pub returns-clause-turned : goal.returns-clause-turned
 returns-clause-turned g c =
     let b = c.self.inside.before.value in
     let waits = c.self.invariant.0 in
-    let back : states c.args.row.items ≡ exchanged b.nodes = c.requires ∙ ap (λ (x : MachineState). row_landed x.nodes) (sym c.self.view_is) ∙ landed_whole b.nodes waits.exchanges in
-    let long : length c.args.row.items ≡ length c.set_clocks.new.nodes = as_many_nodes c.args.row.items c.set_clocks.new.nodes c.closed_with-closed.result (c.set_clocks.ensures ∙ ap (λ (ps : List PreparedNode). map (with_clock c.closed_with-closed.result) (states ps)) c.deref_mut-2.ensures.value) in
-    let closed = c.closed_with-closed.ensures ∙ ap₂ (λ (x : MachineState) (r : CostRow). closed_by x.settings.clock (x.ledger ++ r ∷ [])) waits.recorded waits.costs in
-    let nodes = ap states (with_items_is c.args.row c.set_clocks.new.nodes (omega (arith, long, c.args.row.ok.0))) ∙ c.set_clocks.ensures ∙ ap (λ (ps : List PreparedNode). map (with_clock c.closed_with-closed.result) (states ps)) c.deref_mut-2.ensures.value ∙ ap₂ (λ (k : Option ℕ) (ns : List NodeState). map (with_clock k) ns) closed back in
-    let started = with_items_is c.self.inside.started c.note_ticks.new.started (omega arith) ∙ c.note_ticks.ensures ∙ ap (λ (ps : List PreparedNode). map (λ (n : NodeState). n.ticks) (states ps)) c.deref-2.ensures.value ∙ ap (λ (ns : List NodeState). map (λ (n : NodeState). n.ticks) ns) back in
-    let ledger = ap (λ (x : PreparedRows). x.rows) c.add_prepared.ensures ∙ ap (λ (r : CostRow). c.self.inside.ledger.rows ++ r ∷ []) waits.costs in
+    let back : states c.args.row.items ≡ exchanged b.nodes =
+    c.requires ∙ ap (λ (x : MachineState). row_landed x.nodes) (sym c.self.view_is) ∙ landed_whole b.nodes waits.exchanges in
+    let long : length c.args.row.items ≡ length c.set_clocks.new.nodes =
+    as_many_nodes c.args.row.items c.set_clocks.new.nodes c.closed_with-closed.result
+    (c.set_clocks.ensures
+    ∙ ap (λ (ps : List PreparedNode). map (with_clock c.closed_with-closed.result) (states ps)) c.deref_mut-2.ensures.value) in
+    let closed =
+    c.closed_with-closed.ensures
+    ∙ ap₂ (λ (x : MachineState) (r : CostRow). closed_by x.settings.clock (x.ledger ++ r ∷ [])) waits.recorded waits.costs in
+    let nodes = ap states (with_items_is c.args.row c.set_clocks.new.nodes (omega (arith, long, c.args.row.ok.0))) ∙ c.set_clocks.ensures
+    ∙ ap (λ (ps : List PreparedNode). map (with_clock c.closed_with-closed.result) (states ps)) c.deref_mut-2.ensures.value
+    ∙ ap₂ (λ (k : Option ℕ) (ns : List NodeState). map (with_clock k) ns) closed back in
+    let started =
+    with_items_is c.self.inside.started c.note_ticks.new.started (omega arith) ∙ c.note_ticks.ensures
+    ∙ ap (λ (ps : List PreparedNode). map (λ (n : NodeState). n.ticks) (states ps)) c.deref-2.ensures.value
+    ∙ ap (λ (ns : List NodeState). map (λ (n : NodeState). n.ticks) ns) back in
+    let ledger =
+    ap (λ (x : PreparedRows). x.rows) c.add_prepared.ensures ∙ ap (λ (r : CostRow). c.self.inside.ledger.rows ++ r ∷ []) waits.costs in
     turned-exchanged b (kept c.self.inside) _ _ c.add_prepared.new.self.rows waits.none waits.recorded nodes started ledger
     ∙ ap turned c.self.view_is
     ∙ sym (event-enabled c.args.self Turn (ap (λ (x : MachineState). is_enabled x Turn) (sym c.self.view_is) ∙ waits.enabled))
@@ -94,8 +124,10 @@ pub closed_with-closed-requires-clause-closed : goal.closed_with-closed-requires
 closed_with-closed-requires-clause-closed g c =
     let b = c.self.inside.before.value in
     let waits = c.self.invariant.0 in
-    let back : states c.args.row.items ≡ exchanged b.nodes = c.requires ∙ ap (λ (x : MachineState). row_landed x.nodes) (sym c.self.view_is) ∙ landed_whole b.nodes waits.exchanges in
-    closed-known b (kept c.self.inside) (states c.deref.result.now) waits.sound (no_outcome b waits.sound waits.enabled) waits.recorded (ap states c.deref.ensures.value ∙ back)
+    let back : states c.args.row.items ≡ exchanged b.nodes =
+    c.requires ∙ ap (λ (x : MachineState). row_landed x.nodes) (sym c.self.view_is) ∙ landed_whole b.nodes waits.exchanges in
+    closed-known b (kept c.self.inside) (states c.deref.result.now) waits.sound (no_outcome b waits.sound waits.enabled) waits.recorded
+    (ap states c.deref.ensures.value ∙ back)
 
 pub closed_with-closed-requires-clause-bounded : goal.closed_with-closed-requires-clause-bounded
 closed_with-closed-requires-clause-bounded g c =

@@ -1,3 +1,4 @@
+-- A machine whose nodes made some steps of their own is sound, and has only the row changed.
 use Rattle.std.proofs.Common.{sym, subst, ap}
 use Rattle.bsp_exchange.specs.Exchange.{states}
 use Rattle.machine_core.specs.Events.{HaveStepped}

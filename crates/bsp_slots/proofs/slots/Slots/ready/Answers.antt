@@ -1,5 +1,0 @@
-use Rattle.std.proofs.Common.{rules}
-use Rattle.bsp_slots.proofs.slots.Slots.ready.Goals as goal
-
-pub returns : goal.returns
-returns g c = search rules

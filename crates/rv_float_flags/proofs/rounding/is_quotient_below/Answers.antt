@@ -6,4 +6,5 @@ use Rattle.rv_float_flags.proofs.rounding.is_quotient_below.Goals as goal
 pub returns : goal.returns
 returns c =
     c.is_below.ensures
-    ∙ ap (λ (x : ℕ). nat_lt (amount c.args.dividend) x) (sym (bound_at c.args.limit.digits c.args.limit.place c.args.y.digits c.args.y.place))
+    ∙ ap (λ (x : ℕ). nat_lt (amount c.args.dividend) x)
+    (sym (bound_at c.args.limit.digits c.args.limit.place c.args.y.digits c.args.y.place))

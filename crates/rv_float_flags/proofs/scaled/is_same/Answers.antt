@@ -6,4 +6,5 @@ pub returns-then-a-b : goal.returns-then-a-b
 returns-then-a-b c = c.is_shifted.ensures ∙ eq_scaled c.args.a.digits c.args.b.digits c.args.a.place c.args.b.place (omega arith)
 
 pub returns-else-a-b : goal.returns-else-a-b
-returns-else-a-b c = c.is_shifted-else-a-b.ensures ∙ eq_scaled_turned c.args.a.digits c.args.b.digits c.args.a.place c.args.b.place (omega arith)
+returns-else-a-b c =
+    c.is_shifted-else-a-b.ensures ∙ eq_scaled_turned c.args.a.digits c.args.b.digits c.args.a.place c.args.b.place (omega arith)

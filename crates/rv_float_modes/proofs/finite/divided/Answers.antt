@@ -13,4 +13,5 @@ returns-clause-wide c =
 pub returns-clause-quotient : goal.returns-clause-quotient
 returns-clause-quotient c r f =
     let e = c.exactly-dividend.ensures in
-    divided_encloses r c.args.p.digits c.args.p.place c.args.q.digits c.args.q.place c.exactly-dividend.result f c.requires.nonzero e.value (omega (arith, e.high, c.requires.q_low))
+    divided_encloses r c.args.p.digits c.args.p.place c.args.q.digits c.args.q.place c.exactly-dividend.result f c.requires.nonzero e.value
+    (omega (arith, e.high, c.requires.q_low))

@@ -6,5 +6,7 @@ use Rattle.rv_tables.proofs.words.j_word.Goals as goal
 pub returns : goal.returns
 returns c = record {
   encodable = search rules;
-  word = IsOnlyWord-j c.args.value c.args.rd c.j_bits.result _ c.args.imm c.requires (omega arith) (c.j_bits.ensures.offset ∙ to_z-of_z _ _ c.ranges.imm) c.j_bits.ensures.alone (omega arith);
+  word =
+      IsOnlyWord-j c.args.value c.args.rd c.j_bits.result _ c.args.imm c.requires (omega arith)
+      (c.j_bits.ensures.offset ∙ to_z-of_z _ _ c.ranges.imm) c.j_bits.ensures.alone (omega arith);
 }

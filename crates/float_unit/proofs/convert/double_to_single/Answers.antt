@@ -1,3 +1,4 @@
+-- In the modes other than to the nearest, ties to even, the single made of a double has a pattern below 2^32.
 use Rattle.std.proofs.Common.{◌^◌, ◌<◌, subst, sym}
 use Rattle.rv_float_modes.specs.declared.rounded.Rounded.{Rounded}
 use Rattle.rv_float_modes.proofs.Narrow.{narrowed_narrow}

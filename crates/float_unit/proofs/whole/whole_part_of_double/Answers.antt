@@ -1,3 +1,4 @@
+-- The whole part is 0 below exponent 1023; from there on it is the digits shifted right, which fit 32 bits.
 use Rattle.std.proofs.Common.{◌+◌, ◌%◌, arith}
 use Rattle.rv_float_flags.specs.Scaled.{exponent}
 use Rattle.float_unit.proofs.Patterns.{double_below_one, double_cut, double_none, double_rest, double_narrow, double_narrower, shifted}

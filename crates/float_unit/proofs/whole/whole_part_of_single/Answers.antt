@@ -1,3 +1,4 @@
+-- The whole part is 0 below exponent 127; from there on it is the digits shifted right.
 use Rattle.std.proofs.Common.{arith}
 use Rattle.float_unit.proofs.Patterns.{single_below_one, single_cut, single_none, single_rest}
 use Rattle.float_unit.proofs.whole.whole_part_of_single.Goals as goal

@@ -1,3 +1,4 @@
+-- A double in range, whole or with NX set, becomes the word of its whole part and sign, and raises no new flag.
 use Rattle.std.proofs.Common.{Bool, ◌||◌, sym, ap, ◌∙◌, arith, inl, inr}
 use Rattle.std.proofs.lemmas.Bool.{and_parts, or_cases}
 use Rattle.std.specs.Float.{is_sign_negative}

@@ -1,3 +1,4 @@
+-- The product of the limit's and the divisor's digits, at the sum of their places, is the product of the two numbers.
 use Rattle.std.proofs.Common.{ℕ, ap, sym, ◌∙◌, nat_lt}
 use Rattle.rv_float_flags.specs.Scaled.{amount}
 use Rattle.rv_float_flags.proofs.Roundings.{bound_at}

@@ -1,3 +1,4 @@
+-- A sum is inexact if it is not its rounded magnitude.
 use Rattle.std.proofs.Common.{subst, not, ap, ◌∙◌}
 use Rattle.std.specs.declared.option.Option.{Option}
 use Rattle.rv_float_flags.specs.Exact.{combined, rounded}

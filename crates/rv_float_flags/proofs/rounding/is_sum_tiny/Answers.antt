@@ -1,3 +1,4 @@
+-- An inexact sum is tiny if it is below the limit, which it is not if both terms are multiples of the format's smallest value.
 use Rattle.std.proofs.Common.{Bool, ◌≡◌, ◌+◌, ◌-◌, ◌*◌, ◌^◌, ◌&&◌, ℕ, ap, sym, ◌∙◌, arith, nat_lt}
 use Rattle.std.proofs.Math.Nat.{mul-one}
 use Rattle.std.proofs.lemmas.Bool.{le-ltb}

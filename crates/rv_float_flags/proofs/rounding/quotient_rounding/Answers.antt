@@ -1,3 +1,4 @@
+-- A quotient underflows if it is inexact and below the limit, and overflows if no finite magnitude is nearest.
 use Rattle.std.proofs.Common.{Bool, ◌≡◌, ◌*◌, ◌+◌, ◌^◌, ◌&&◌, ap, sym, ◌∙◌}
 use Rattle.rv_float_flags.specs.Exact.{is_inexact, is_tiny}
 use Rattle.rv_float_flags.specs.Scaled.{amount}

@@ -1,3 +1,4 @@
+-- The sum or difference of two numbers at the same place is that of their digits, at this place.
 use Rattle.std.proofs.Common.{Bool, ◌≡◌, ◌*◌, ◌^◌, ℕ, ap, sym, ◌∙◌, nat_eq}
 use Rattle.rv_float_flags.specs.Exact.{combined}
 use Rattle.rv_float_flags.proofs.Numbers.{combined_times}

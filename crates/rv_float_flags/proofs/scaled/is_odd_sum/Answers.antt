@@ -1,3 +1,4 @@
+-- If the higher term is below 2^120 at the lower place, the terms are aligned; otherwise their sum is odd and too long for `c`.
 use Rattle.std.proofs.Common.{◌≡◌, ◌*◌, ◌-◌, ◌^◌, ℕ, ap, sym, ◌∙◌, nat_eq}
 use Rattle.std.proofs.lemmas.Bool.{ne_eqb}
 use Rattle.rv_float_flags.specs.Exact.{combined}

@@ -1,3 +1,4 @@
+-- If the higher term is below 2^120 at the lower place, its digits there are the term, and the terms are aligned.
 use Rattle.std.proofs.Common.{◌≡◌, ◌*◌, ◌-◌, ◌^◌, ℕ, ap, ◌∙◌, nat_eq}
 use Rattle.rv_float_flags.specs.Exact.{combined}
 use Rattle.rv_float_flags.proofs.Numbers.{power_split}

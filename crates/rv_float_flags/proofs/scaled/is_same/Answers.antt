@@ -1,3 +1,4 @@
+-- Two numbers are the same if the digits at the lower place are those at the higher place, shifted by the difference.
 use Rattle.std.proofs.Common.{◌∙◌, arith}
 use Rattle.rv_float_flags.proofs.Numbers.{eq_scaled, eq_scaled_turned}
 use Rattle.rv_float_flags.proofs.scaled.is_same.Goals as goal

@@ -1,3 +1,4 @@
+-- In each branch, the digits at the limit's place, and the rest below it, decide whether the sum or difference is below the limit.
 use Rattle.std.proofs.Common.{◌≡◌, ◌-◌, ◌*◌, ◌^◌, ℕ, ap, sym, ◌∙◌, arith}
 use Rattle.std.proofs.lemmas.Bool.{lt-ltb, ltb-false, ltb-true}
 use Rattle.std.proofs.lemmas.Nat.{pow_pos}

@@ -1,3 +1,4 @@
+-- If the higher term's digits fit at the lower place, their sum or difference with the lower ones is the exact number.
 use Rattle.rv_float_modes.proofs.Sums.{near}
 use Rattle.rv_float_modes.proofs.finite.aligned_sum.Goals as goal
 

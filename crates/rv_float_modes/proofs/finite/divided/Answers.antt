@@ -1,3 +1,4 @@
+-- A dividend of 127 bits gives a quotient with enough digits, which encloses the exact one.
 use Rattle.std.proofs.Common.{arith}
 use Rattle.rv_float_modes.proofs.Quotients.{divided_encloses, quotient_narrow, quotient_wide}
 use Rattle.rv_float_modes.proofs.finite.divided.Goals as goal

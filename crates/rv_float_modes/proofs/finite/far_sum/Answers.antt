@@ -1,3 +1,4 @@
+-- The higher term, shifted to fill 120 bits, and what the lower one has at its place make a sum that encloses the exact one.
 use Rattle.std.proofs.Common.{◌+◌, ◌*◌, ◌-◌, ◌^◌, ◌<◌, ℕ, ap, sym, ◌∙◌, subst, arith}
 use Rattle.rv_float_flags.specs.Scaled.{amount}
 use Rattle.rv_float_modes.specs.Enclosed.{Encloses}

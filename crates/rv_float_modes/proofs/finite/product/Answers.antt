@@ -1,3 +1,4 @@
+-- The product of the digits, at the sum of the places, is the exact product.
 use Rattle.std.proofs.Common.{refl}
 use Rattle.rv_float_flags.specs.Exact.{exact_product}
 use Rattle.rv_float_flags.proofs.Fractions.{product_amount, product_fraction}

@@ -1,3 +1,4 @@
+-- A dividend of 0 gives the number 0; of any other the quotient by `divided` encloses the exact one.
 use Rattle.std.proofs.Common.{ℕ, ◌+◌, ◌*◌, ◌^◌, ◌∙◌, ap}
 use Rattle.std.proofs.Math.Nat.{zero-mul}
 use Rattle.rv_float_flags.specs.Exact.{exact_quotient}

@@ -1,3 +1,4 @@
+-- The digits are shifted to an even place, and their whole root has enough digits and encloses the exact root.
 use Rattle.std.proofs.Common.{◌+◌, ◌-◌, ◌*◌, ◌/◌, ◌%◌, ◌^◌, ◌≤◌, ◌<◌, ℕ, not, nat_eq, sym, subst}
 use Rattle.rv_float_modes.specs.Enclosed.{Encloses}
 use Rattle.rv_float_modes.specs.Operations.{exact_root}

@@ -1,3 +1,4 @@
+-- To the nearest, ties to even, each operation is the library's, by its own lemma of `Agreeing.antt`.
 use Rattle.rv_float_modes.proofs.Agreeing.{add_agrees, div_agrees, mul_agrees, multiply_add_agrees, multiply_subtract_agrees}
 use Rattle.rv_float_modes.proofs.Agreeing.{narrowed_agrees, negated_multiply_add_agrees, negated_multiply_subtract_agrees, root_agrees}
 use Rattle.rv_float_modes.proofs.Agreeing.{sub_agrees, word_agrees}

@@ -1,3 +1,4 @@
+-- The cut overflows nowhere, has a pattern below 2^64 - 1, and is the truncated pattern with its half and the rest.
 use Rattle.std.proofs.Common.{◌/◌, ◌^◌, arith}
 use Rattle.rv_float_modes.proofs.Cuts.{above_place, cut_is, few_dropped, kept_small, pattern_narrow}
 use Rattle.rv_float_modes.proofs.rounding.cut_off.Goals as goal

@@ -1,3 +1,4 @@
+-- The pattern of the magnitude, and that of twice the magnitude for tininess, give the result and the flags of the definition.
 use Rattle.std.proofs.Common.{refl}
 use Rattle.rv_float_modes.specs.Modes.{twice}
 use Rattle.rv_float_modes.proofs.Exactly.{twice_encloses}

@@ -1,3 +1,4 @@
+-- The number 0 is rounded to a zero without flags, and any other as the magnitude by `exactly`.
 use Rattle.rv_float_modes.proofs.Exactly.{encloses}
 use Rattle.rv_float_modes.proofs.Roundings.{zero_rounding}
 use Rattle.rv_float_modes.proofs.rounding.rounded_number.Goals as goal

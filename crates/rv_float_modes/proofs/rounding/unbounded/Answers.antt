@@ -1,3 +1,4 @@
+-- The pattern is the truncated one, or the next one if the mode goes up; it is inexact if there is a rest.
 use Rattle.std.proofs.Common.{◌%◌, nat_eq, ◌∙◌}
 use Rattle.rv_float_modes.specs.Modes.{goes_up, rest, step, truncated}
 use Rattle.rv_float_modes.proofs.Roundings.{goes, stops}

@@ -1,3 +1,4 @@
+-- The row's value, the register and the offset's bits make the only word of a J-type row with these operands.
 use Rattle.std.proofs.Common.{◌∙◌, arith, rules}
 use Rattle.std.proofs.lemmas.Int.{to_z-of_z}
 use Rattle.rv_tables.proofs.JumpWord.{IsOnlyWord-j}

@@ -36,7 +36,8 @@ form_of_row : (o : Option Encoding) → option_map (λ e. form_of (e.read 0)) o 
 form_of_row None = refl
 form_of_row (Some e) = refl
 
-among_rows : (name : List ℕ) → find (λ f. bytes_eq (rule_of f).mnemonic name) (map (λ e. form_of (e.read 0)) encodings) ≡ option_map form_of (instruction_named name)
+among_rows : (name : List ℕ)
+    → find (λ f. bytes_eq (rule_of f).mnemonic name) (map (λ e. form_of (e.read 0)) encodings) ≡ option_map form_of (instruction_named name)
 unfolding instruction_named row_named
 among_rows name =
     let by_name = λ (e : Encoding). bytes_eq (mnemonic_of (e.read 0)) name in
@@ -46,13 +47,16 @@ among_rows name =
     ∙ ap (option_map (λ e. form_of (e.read 0))) same
     ∙ form_of_row (find by_name encodings)
 
-pub integer_form_parts : (name : List ℕ) → integer_form_named name ≡ option_or (option_map form_of (instruction_named name)) (own_form_named name)
+pub integer_form_parts : (name : List ℕ)
+    → integer_form_named name ≡ option_or (option_map form_of (instruction_named name)) (own_form_named name)
 unfolding integer_form_named own_form_named forms
 integer_form_parts name =
     find-append (λ f. bytes_eq (rule_of f).mnemonic name) (map (λ e. form_of (e.read 0)) encodings) own_forms
     ∙ ap (λ o. option_or o (find (λ f. bytes_eq (rule_of f).mnemonic name) own_forms)) (among_rows name)
 
-pub own_form_named-table : (names : List (List ℕ × Form)) → names ≡ map (λ f. ((rule_of f).mnemonic, f)) own_forms → (name : List ℕ) → named_by names name ≡ own_form_named name
+pub own_form_named-table : (names : List (List ℕ × Form)) → names ≡ map (λ f. ((rule_of f).mnemonic, f)) own_forms → (name : List ℕ)
+    → named_by names name ≡ own_form_named name
 unfolding own_form_named
 own_form_named-table names same name =
-    rw same (named_by-entries (λ f. (rule_of f).mnemonic) (λ f. f) own_forms name ∙ option_map_id (find (λ f. bytes_eq (rule_of f).mnemonic name) own_forms))
+    rw same (named_by-entries (λ f. (rule_of f).mnemonic) (λ f. f) own_forms name
+    ∙ option_map_id (find (λ f. bytes_eq (rule_of f).mnemonic name) own_forms))

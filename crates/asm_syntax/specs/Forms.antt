@@ -8,18 +8,27 @@ use Rattle.rv_tables.specs.declared.instr.Instr.{Instr}
 use Rattle.rv_tables.specs.declared.instr.Instr.TheVariants.{R, I, Shift, Load, Store, Branch, Upper, Jal, Jalr, Plain}
 use Rattle.rv_tables.specs.declared.instr.IOp.TheVariants.{Addi}
 use Rattle.rv_tables.specs.declared.instr.BranchOp.TheVariants.{Beq, Bne}
-use Rattle.rv_tables.specs.Mnemonics.{r_mnemonic, i_mnemonic, shift_mnemonic, load_mnemonic, store_mnemonic, branch_mnemonic, upper_mnemonic, plain_mnemonic, mnemonic_of}
+use Rattle.rv_tables.specs.Mnemonics.{r_mnemonic, i_mnemonic, shift_mnemonic, load_mnemonic, store_mnemonic, branch_mnemonic}
+use Rattle.rv_tables.specs.Mnemonics.{upper_mnemonic, plain_mnemonic, mnemonic_of}
 use Rattle.rv_tables.specs.Rows.{encodings}
 use Rattle.asm_syntax.specs.declared.form.Form.{Form}
-use Rattle.asm_syntax.specs.declared.form.Form.TheVariants.{Arithmetic, WithImmediate, ShiftByAmount, LoadFrom, StoreTo, BranchTo, UpperImmediate, JumpAndLink, JumpAndLinkRegister, NoOperands, WordData, HalfData, ByteData, TextData, ZeroData, AlignData, EntryPoint, Nop, Move, LoadImmediate, LoadAddress, Jump, JumpRegister, Return, Call, BranchIfZero, BranchIfNotZero, Float}
+use Rattle.asm_syntax.specs.declared.form.Form.TheVariants.{Arithmetic, WithImmediate, ShiftByAmount, LoadFrom, StoreTo, BranchTo}
+use Rattle.asm_syntax.specs.declared.form.Form.TheVariants.{UpperImmediate, JumpAndLink, JumpAndLinkRegister, NoOperands, WordData}
+use Rattle.asm_syntax.specs.declared.form.Form.TheVariants.{HalfData, ByteData, TextData, ZeroData, AlignData, EntryPoint, Nop, Move}
+use Rattle.asm_syntax.specs.declared.form.Form.TheVariants.{LoadImmediate, LoadAddress, Jump, JumpRegister, Return, Call, BranchIfZero}
+use Rattle.asm_syntax.specs.declared.form.Form.TheVariants.{BranchIfNotZero, Float}
 use Rattle.asm_syntax.specs.declared.error.LineError.{LineError}
 use Rattle.asm_syntax.specs.Faults.{if_ok}
 use Rattle.asm_syntax.specs.FloatForms.{float_form_named, float_mnemonic}
 use Rattle.asm_syntax.specs.FloatOperands.{float_operation}
 use Rattle.asm_syntax.specs.Ranges.{up_to, signed, unsigned}
-use Rattle.asm_syntax.specs.Shapes.{no_operands, a_register, two_registers, three_registers, a_number, register_and_number, registers_and_number, register_and_address, a_target, register_and_target, registers_and_target, targets, numbers, a_text}
+use Rattle.asm_syntax.specs.Shapes.{no_operands, a_register, two_registers, three_registers, a_number, register_and_number}
+use Rattle.asm_syntax.specs.Shapes.{registers_and_number, register_and_address, a_target, register_and_target, registers_and_target}
+use Rattle.asm_syntax.specs.Shapes.{targets, numbers, a_text}
 use Rattle.asm_syntax.specs.Tokens.{Token}
-use Rattle.asm_syntax.specs.Statements.{Statement, instruction, float_instruction, branch, jump_and_link, load_immediate, load_address, words, halves, bytes, ascii, space, align, entry, word_range, half_range, byte_range, most_space, most_align}
+use Rattle.asm_syntax.specs.Statements.{Statement, instruction, float_instruction, branch, jump_and_link, load_immediate, load_address}
+use Rattle.asm_syntax.specs.Statements.{words, halves, bytes, ascii, space, align, entry, word_range, half_range, byte_range, most_space}
+use Rattle.asm_syntax.specs.Statements.{most_align}
 
 -- a rule of the language: a mnemonic, and what the operands behind it say, or their fault
 pub record Rule : Type 0 where

@@ -21,13 +21,19 @@ chosen f a b false p q l m = sym (to_bits-of_bits f a p (subst (λ (n : Bool). T
 pub least : (f : Format) (a b c : ℕ) (s : Bool) → a < 2 * top f → b < 2 * top f → a % top f ≤ ones f * hid f → b % top f ≤ ones f * hid f
     → s ≡ is_before (of_bits f b) (of_bits f a) → c ≡ (if s then b else a) → c ≡ to_bits f (minimum (of_bits f a) (of_bits f b))
 least f a b c s p q l m is of = of ∙ chosen f a b s p q l m ∙ sym (
-    ap (λ (n : Bool). to_bits f (if n then of_bits f b else if is_nan (of_bits f b) then of_bits f a else if is_before (of_bits f b) (of_bits f a) then of_bits f b else of_bits f a)) (number f a l)
-    ∙ ap (λ (n : Bool). to_bits f (if n then of_bits f a else if is_before (of_bits f b) (of_bits f a) then of_bits f b else of_bits f a)) (number f b m)
+    ap (λ (n : Bool). to_bits f
+    (if n then of_bits f b else if is_nan (of_bits f b) then of_bits f a else if is_before (of_bits f b) (of_bits f a) then of_bits f b
+    else of_bits f a)) (number f a l)
+    ∙ ap (λ (n : Bool). to_bits f (if n then of_bits f a else if is_before (of_bits f b) (of_bits f a) then of_bits f b else of_bits f a))
+    (number f b m)
     ∙ ap (λ (n : Bool). to_bits f (if n then of_bits f b else of_bits f a)) (sym is))
 
 pub greatest : (f : Format) (a b c : ℕ) (s : Bool) → a < 2 * top f → b < 2 * top f → a % top f ≤ ones f * hid f → b % top f ≤ ones f * hid f
     → s ≡ is_before (of_bits f a) (of_bits f b) → c ≡ (if s then b else a) → c ≡ to_bits f (maximum (of_bits f a) (of_bits f b))
 greatest f a b c s p q l m is of = of ∙ chosen f a b s p q l m ∙ sym (
-    ap (λ (n : Bool). to_bits f (if n then of_bits f b else if is_nan (of_bits f b) then of_bits f a else if is_before (of_bits f a) (of_bits f b) then of_bits f b else of_bits f a)) (number f a l)
-    ∙ ap (λ (n : Bool). to_bits f (if n then of_bits f a else if is_before (of_bits f a) (of_bits f b) then of_bits f b else of_bits f a)) (number f b m)
+    ap (λ (n : Bool). to_bits f
+    (if n then of_bits f b else if is_nan (of_bits f b) then of_bits f a else if is_before (of_bits f a) (of_bits f b) then of_bits f b
+    else of_bits f a)) (number f a l)
+    ∙ ap (λ (n : Bool). to_bits f (if n then of_bits f a else if is_before (of_bits f a) (of_bits f b) then of_bits f b else of_bits f a))
+    (number f b m)
     ∙ ap (λ (n : Bool). to_bits f (if n then of_bits f b else of_bits f a)) (sym is))

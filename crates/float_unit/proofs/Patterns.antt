@@ -1,6 +1,8 @@
 -- Whole parts and signs of the values of patterns.
-use Rattle.std.proofs.Common.{◌≡◌, ℕ, zero, suc, ◌+◌, ◌-◌, ◌*◌, ◌/◌, ◌%◌, ◌^◌, ◌<◌, ◌≤◌, Bool, true, false, cond, nat_eq, sym, ap, ◌∙◌, refl, arith}
-use Rattle.std.proofs.Math.Nat.{div-add-mod', div-div-eq-div-mul, div-lt_iff_lt-mul, eq_of_mul-eq-mul_right, lt_of_mul-lt-mul_right, mul-div_cancel, mul-le-mul_right, mul-lt-mul_of_pos_right, zero-mul}
+use Rattle.std.proofs.Common.{◌≡◌, ℕ, zero, suc, ◌+◌, ◌-◌, ◌*◌, ◌/◌, ◌%◌, ◌^◌, ◌<◌, ◌≤◌, Bool, true, false, cond, nat_eq, sym, ap, ◌∙◌}
+use Rattle.std.proofs.Common.{refl, arith}
+use Rattle.std.proofs.Math.Nat.{div-add-mod', div-div-eq-div-mul, div-lt_iff_lt-mul, eq_of_mul-eq-mul_right, lt_of_mul-lt-mul_right}
+use Rattle.std.proofs.Math.Nat.{mul-div_cancel, mul-le-mul_right, mul-lt-mul_of_pos_right, zero-mul}
 use Rattle.std.proofs.Math.Pow.{pow_mono}
 use Rattle.std.proofs.lemmas.Bool.{eqb-true, le-ltb, lt-leb, lt-ltb, ltb-true, true≢false}
 use Rattle.std.proofs.lemmas.Nat.{mod_below, pow-add, pow_pos}
@@ -78,7 +80,8 @@ cut_units x d k finite h =
     let b : q * 2 ^ k * den x + r * den x ≡ num x * 2 ^ k = omega (arith, h, ap (λ (z : ℕ). z * den x) e) in
     record {
       finite = finite;
-      least = let c : q * den x * 2 ^ k < (num x + 1) * 2 ^ k = omega (arith, b, P) in let i : q * den x < num x + 1 = lt_of_mul-lt-mul_right (2 ^ k) c in omega (arith, i);
+      least = let c : q * den x * 2 ^ k < (num x + 1) * 2 ^ k = omega (arith, b, P) in
+          let i : q * den x < num x + 1 = lt_of_mul-lt-mul_right (2 ^ k) c in omega (arith, i);
       most = let c : num x * 2 ^ k < (q + 1) * den x * 2 ^ k = omega (arith, b, a) in lt_of_mul-lt-mul_right (2 ^ k) c;
     }
 
@@ -101,7 +104,8 @@ double_units a l h =
     in
     (m.finite, units binary64 (of_bits binary64 a) p (1075 - exponent a) m (omega (arith, e, h)))
 
-pub double_cut : (a : ℕ) → 1023 ≤ exponent a → exponent a < 1075 → IsCut (of_bits binary64 a) ((4503599627370496 + a % 4503599627370496) / 2 ^ (1075 - exponent a))
+pub double_cut : (a : ℕ) → 1023 ≤ exponent a → exponent a < 1075
+    → IsCut (of_bits binary64 a) ((4503599627370496 + a % 4503599627370496) / 2 ^ (1075 - exponent a))
 double_cut a l h = let u = double_units a l h in cut_units (of_bits binary64 a) _ (1075 - exponent a) u.0 u.1
 
 pub double_whole : (a : ℕ) → 1023 ≤ exponent a → exponent a < 1075 → (4503599627370496 + a % 4503599627370496) % 2 ^ (1075 - exponent a) ≡ 0
@@ -115,7 +119,8 @@ double_below_one a l =
 
 none_of : (f : Format) (x : Float) (p : Scaled) → IsMagnitude f x p → p.digits ≡ 0 → 0 * den x ≡ num x
 none_of f x p m z =
-    let a : amount p * den x ≡ 0 = ap (λ (i : ℕ). i * 2 ^ p.place * den x) z ∙ ap (λ (i : ℕ). i * den x) (zero-mul (2 ^ p.place)) ∙ zero-mul (den x) in
+    let a : amount p * den x ≡ 0 =
+    ap (λ (i : ℕ). i * 2 ^ p.place * den x) z ∙ ap (λ (i : ℕ). i * den x) (zero-mul (2 ^ p.place)) ∙ zero-mul (den x) in
     eq_of_mul-eq-mul_right (2 ^ 1074) (pow_pos 1074) _ _ (omega (arith, m.value, a))
 
 pub double_zero : (a : ℕ) → a % 9223372036854775808 ≡ 0 → 0 * den (of_bits binary64 a) ≡ num (of_bits binary64 a)
@@ -134,7 +139,8 @@ single_units a l h =
     in
     (m.finite, units binary32 (of_bits binary32 a) p (150 - single_exponent a) m (omega (arith, e, h)))
 
-pub single_cut : (a : ℕ) → 127 ≤ single_exponent a → single_exponent a < 151 → IsCut (of_bits binary32 a) ((8388608 + a % 8388608) / 2 ^ (150 - single_exponent a))
+pub single_cut : (a : ℕ) → 127 ≤ single_exponent a → single_exponent a < 151
+    → IsCut (of_bits binary32 a) ((8388608 + a % 8388608) / 2 ^ (150 - single_exponent a))
 single_cut a l h = let u = single_units a l h in cut_units (of_bits binary32 a) _ (150 - single_exponent a) u.0 u.1
 
 pub single_whole : (a : ℕ) → 127 ≤ single_exponent a → single_exponent a < 151 → (8388608 + a % 8388608) % 2 ^ (150 - single_exponent a) ≡ 0
@@ -162,12 +168,14 @@ pub double_narrow : (a : ℕ) → exponent a < 1055 → (4503599627370496 + a % 
 double_narrow a h = below_power (4503599627370496 + a % 4503599627370496) (1075 - exponent a) 21 4294967296 (omega (arith, h)) (omega arith)
 
 pub double_narrower : (a : ℕ) → exponent a < 1054 → (4503599627370496 + a % 4503599627370496) / 2 ^ (1075 - exponent a) < 2147483648
-double_narrower a h = below_power (4503599627370496 + a % 4503599627370496) (1075 - exponent a) 22 2147483648 (omega (arith, h)) (omega arith)
+double_narrower a h =
+    below_power (4503599627370496 + a % 4503599627370496) (1075 - exponent a) 22 2147483648 (omega (arith, h)) (omega arith)
 
 pub double_none : (a : ℕ) → exponent a < 1023 → is_whole_double a ≡ true → 0 * den (of_bits binary64 a) ≡ num (of_bits binary64 a)
 double_none a l h =
     let e : nat_eq (a % 9223372036854775808) 0 ≡ true =
-    sym (ap (λ (b : Bool). cond b (nat_eq (a % 9223372036854775808) 0) (nat_eq ((4503599627370496 + a % 4503599627370496) % 2 ^ (1075 - exponent a)) 0)) (lt-ltb (exponent a) 1023 l)) ∙ h
+    sym (ap (λ (b : Bool). cond b (nat_eq (a % 9223372036854775808) 0)
+    (nat_eq ((4503599627370496 + a % 4503599627370496) % 2 ^ (1075 - exponent a)) 0)) (lt-ltb (exponent a) 1023 l)) ∙ h
     in
     double_zero a (eqb-true _ _ e)
 
@@ -175,14 +183,16 @@ pub double_rest : (a : ℕ) → 1023 ≤ exponent a → exponent a < 1055 → is
     → (4503599627370496 + a % 4503599627370496) / 2 ^ (1075 - exponent a) * den (of_bits binary64 a) ≡ num (of_bits binary64 a)
 double_rest a g l h =
     let e : nat_eq ((4503599627370496 + a % 4503599627370496) % 2 ^ (1075 - exponent a)) 0 ≡ true =
-    sym (ap (λ (b : Bool). cond b (nat_eq (a % 9223372036854775808) 0) (nat_eq ((4503599627370496 + a % 4503599627370496) % 2 ^ (1075 - exponent a)) 0)) (le-ltb (exponent a) 1023 g)) ∙ h
+    sym (ap (λ (b : Bool). cond b (nat_eq (a % 9223372036854775808) 0)
+    (nat_eq ((4503599627370496 + a % 4503599627370496) % 2 ^ (1075 - exponent a)) 0)) (le-ltb (exponent a) 1023 g)) ∙ h
     in
     double_whole a g (omega (arith, l)) (eqb-true _ _ e)
 
 pub single_none : (a : ℕ) → single_exponent a < 127 → is_whole_single a ≡ true → 0 * den (of_bits binary32 a) ≡ num (of_bits binary32 a)
 single_none a l h =
     let e : nat_eq (a % 2147483648) 0 ≡ true =
-    sym (ap (λ (b : Bool). cond b (nat_eq (a % 2147483648) 0) (nat_eq ((8388608 + a % 8388608) % 2 ^ (150 - single_exponent a)) 0)) (lt-ltb (single_exponent a) 127 l)) ∙ h
+    sym (ap (λ (b : Bool). cond b (nat_eq (a % 2147483648) 0) (nat_eq ((8388608 + a % 8388608) % 2 ^ (150 - single_exponent a)) 0))
+    (lt-ltb (single_exponent a) 127 l)) ∙ h
     in
     single_zero a (eqb-true _ _ e)
 
@@ -190,7 +200,8 @@ pub single_rest : (a : ℕ) → 127 ≤ single_exponent a → single_exponent a 
     → (8388608 + a % 8388608) / 2 ^ (150 - single_exponent a) * den (of_bits binary32 a) ≡ num (of_bits binary32 a)
 single_rest a g l h =
     let e : nat_eq ((8388608 + a % 8388608) % 2 ^ (150 - single_exponent a)) 0 ≡ true =
-    sym (ap (λ (b : Bool). cond b (nat_eq (a % 2147483648) 0) (nat_eq ((8388608 + a % 8388608) % 2 ^ (150 - single_exponent a)) 0)) (le-ltb (single_exponent a) 127 g)) ∙ h
+    sym (ap (λ (b : Bool). cond b (nat_eq (a % 2147483648) 0) (nat_eq ((8388608 + a % 8388608) % 2 ^ (150 - single_exponent a)) 0))
+    (le-ltb (single_exponent a) 127 g)) ∙ h
     in
     single_whole a g l (eqb-true _ _ e)
 
@@ -198,19 +209,23 @@ single_rest a g l h =
 positive : (f : Format) (a : ℕ) → is_sign_negative (of_bits f a) ≡ leb (top f) a → a < top f → is_sign_negative (of_bits f a) ≡ true → ⊥
 positive f a s l h = true≢false (sym h ∙ s ∙ lt-leb (top f) a l)
 
-pub double_is_of : (kind : WordKind) (a n : ℕ) → is_double_in_range kind a ≡ true → IsCut (of_bits binary64 a) n → (exponent a < 1054 → n < 2147483648) → n < 4294967296 → (exponent a < 1023 → n ≡ 0)
+pub double_is_of : (kind : WordKind) (a n : ℕ) → is_double_in_range kind a ≡ true → IsCut (of_bits binary64 a) n
+    → (exponent a < 1054 → n < 2147483648) → n < 4294967296 → (exponent a < 1023 → n ≡ 0)
     → IsOf kind (is_sign_negative (of_bits binary64 a)) n
 double_is_of Signed a n h cut below all small = let l = ltb-true _ _ h in below (omega (arith, l))
 double_is_of Unsigned a n h cut below all small =
     let l : a < 4751297606875873280 = ltb-true a 4751297606875873280 h in
     (all, λ s. absurd (positive binary64 a (sign_is binary64 a cut.finite) (let k : a < 9223372036854775808 = omega (arith, l) in k) s))
 
-pub single_is_of : (kind : WordKind) (a n : ℕ) → is_single_in_range kind a ≡ true → IsCut (of_bits binary32 a) n → n < 16777216 → (single_exponent a < 127 → n ≡ 0)
+pub single_is_of : (kind : WordKind) (a n : ℕ) → is_single_in_range kind a ≡ true → IsCut (of_bits binary32 a) n → n < 16777216
+    → (single_exponent a < 127 → n ≡ 0)
     → IsOf kind (is_sign_negative (of_bits binary32 a)) n
 single_is_of Signed a n h cut below small = omega (arith, below)
 single_is_of Unsigned a n h cut below small =
-    let l : a < 1266679808 = ltb-true a 1266679808 h in
-    (omega (arith, below), λ s. absurd (positive binary32 a (sign_is binary32 a cut.finite) (let k : a < 2147483648 = omega (arith, l) in k) s))
+    let l : a < 1266679808 = ltb-true a 1266679808 h in (
+      omega (arith, below),
+      λ s. absurd (positive binary32 a (sign_is binary32 a cut.finite) (let k : a < 2147483648 = omega (arith, l) in k) s),
+    )
 
 -- digits at the upper end of a word, which are shifted by as much more
 pub shifted : (d e : ℕ) → e ≤ 1075 → d * 2048 / 2 ^ (1086 - e) ≡ d / 2 ^ (1075 - e)

@@ -1,5 +1,6 @@
 -- Conversions to words toward zero: the whole part, where a word has that.
-use Rattle.std.proofs.Common.{◌≡◌, ℕ, zero, suc, ◌+◌, ◌-◌, ◌*◌, ◌/◌, ◌%◌, ◌^◌, ◌<◌, ◌≤◌, Bool, true, false, cond, not, ◌&&◌, ◌||◌, sym, ap, ◌∙◌, subst, refl, arith, min}
+use Rattle.std.proofs.Common.{◌≡◌, ℕ, zero, suc, ◌+◌, ◌-◌, ◌*◌, ◌/◌, ◌%◌, ◌^◌, ◌<◌, ◌≤◌, Bool, true, false, cond, not, ◌&&◌, ◌||◌, sym, ap}
+use Rattle.std.proofs.Common.{◌∙◌, subst, refl, arith, min}
 use Rattle.std.proofs.Math.Nat.{div-lt_iff_lt-mul, le-div_iff_mul-le, mul-le-mul_right}
 use Rattle.std.proofs.lemmas.Bool.{eq-eqb, lt-ltb, true≢false}
 use Rattle.std.specs.Float.{float_is_finite, is_sign_negative, round_with, trunc}
@@ -37,7 +38,8 @@ trunc_is f (fin false m e) n h = ap (λ (k : ℕ). round f false k 1) (floor_is 
 trunc_is f (fin true m e) n h = ap (λ (k : ℕ). round f true k 1) (floor_is _ _ n (down_pos e) h.least h.most)
 
 trunc_value : (f : Format) (x : Float) (n : ℕ) → IsCut x n → n ≤ 2 ^ prec f → HasValue (trunc f x) (is_sign_negative x) n 1
-trunc_value f x n h l = subst (λ (y : Float). HasValue y (is_sign_negative x) n 1) (sym (trunc_is f x n h)) (round_whole f (is_sign_negative x) n l)
+trunc_value f x n h l =
+    subst (λ (y : Float). HasValue y (is_sign_negative x) n 1) (sym (trunc_is f x n h)) (round_whole f (is_sign_negative x) n l)
 
 -- ---- a whole number as a word
 
@@ -101,11 +103,13 @@ is_signed (inf t) s n h l = absurd h
 is_signed (fin true m e) s n h l =
     let d : 0 < down e = down_pos e in
     let k : (n + 1) * down e ≤ 2 ^ 31 * down e = mul-le-mul_right (down e) (omega (arith, l)) in
-    both _ _ (first _ _ (lt-ltb (m * up e * 1) (1 * 2 ^ 31 * down e) (omega (arith, h.1, d, k)))) (lt-ltb 0 (m * up e * 1 + 1 * 2 ^ 31 * down e) (omega (arith, d)))
+    both _ _ (first _ _ (lt-ltb (m * up e * 1) (1 * 2 ^ 31 * down e) (omega (arith, h.1, d, k))))
+    (lt-ltb 0 (m * up e * 1 + 1 * 2 ^ 31 * down e) (omega (arith, d)))
 is_signed (fin false m e) s n h l =
     let d : 0 < down e = down_pos e in
     let k : (n + 1) * down e ≤ 2 ^ 31 * down e = mul-le-mul_right (down e) (omega (arith, l)) in
-    both _ _ (first _ _ (lt-ltb 0 (1 * 2 ^ 31 * down e + m * up e * 1) (omega (arith, d)))) (lt-ltb (m * up e * 1) (1 * 2 ^ 31 * down e) (omega (arith, h.1, d, k)))
+    both _ _ (first _ _ (lt-ltb 0 (1 * 2 ^ 31 * down e + m * up e * 1) (omega (arith, d))))
+    (lt-ltb (m * up e * 1) (1 * 2 ^ 31 * down e) (omega (arith, h.1, d, k)))
 
 is_unsigned : (y : Float) (s : Bool) (n : ℕ) → HasValue y s n 1 → n < 2 ^ 32 → (s ≡ true → n ≡ 0) → is_unsigned_word y ≡ true
 unfolding lt
@@ -114,11 +118,13 @@ is_unsigned (inf t) s n h l z = absurd h
 is_unsigned (fin true m e) s n h l z =
     let d : 0 < down e = down_pos e in
     let none : n * down e ≡ 0 * down e = ap (λ (k : ℕ). k * down e) (z (sym h.0)) in
-    both _ _ (lt-ltb (m * up e * 1) (1 * 1 * down e) (omega (arith, h.1, d, none))) (lt-ltb 0 (m * up e * 1 + 1 * 2 ^ 32 * down e) (omega (arith, d)))
+    both _ _ (lt-ltb (m * up e * 1) (1 * 1 * down e) (omega (arith, h.1, d, none)))
+    (lt-ltb 0 (m * up e * 1 + 1 * 2 ^ 32 * down e) (omega (arith, d)))
 is_unsigned (fin false m e) s n h l z =
     let d : 0 < down e = down_pos e in
     let k : (n + 1) * down e ≤ 2 ^ 32 * down e = mul-le-mul_right (down e) (omega (arith, l)) in
-    both _ _ (lt-ltb 0 (1 * 1 * down e + m * up e * 1) (omega (arith, d))) (lt-ltb (m * up e * 1) (1 * 2 ^ 32 * down e) (omega (arith, h.1, d, k)))
+    both _ _ (lt-ltb 0 (1 * 1 * down e + m * up e * 1) (omega (arith, d)))
+    (lt-ltb (m * up e * 1) (1 * 2 ^ 32 * down e) (omega (arith, h.1, d, k)))
 
 same_sign : (s : Bool) → beq s s ≡ true
 same_sign true = refl
@@ -139,7 +145,8 @@ same_value (fin t m i) (fin s l j) n h k e =
 
 -- ---- the conversions
 
-pub word_is : (kind : WordKind) (f : Format) (a n : ℕ) → IsCut (of_bits f a) n → n ≤ 2 ^ prec f → IsOf kind (is_sign_negative (of_bits f a)) n
+pub word_is : (kind : WordKind) (f : Format) (a n : ℕ) → IsCut (of_bits f a) n → n ≤ 2 ^ prec f
+    → IsOf kind (is_sign_negative (of_bits f a)) n
     → word kind TowardZero f a ≡ pattern (is_sign_negative (of_bits f a)) n
 word_is Signed f a n h l k =
     let x = of_bits f a in
@@ -154,10 +161,12 @@ raises : (kind : WordKind) (f : Format) (a n : ℕ) → IsCut (of_bits f a) n �
     → flags_of_word kind TowardZero f a ≡ inexact_if (not (eq (trunc f (of_bits f a)) (of_bits f a)))
 raises Signed f a n h l k =
     let x = of_bits f a in
-    ap (λ (b : Bool). cond b (inexact_if (not (eq (trunc f x) x))) invalid) (is_signed (trunc f x) (is_sign_negative x) n (trunc_value f x n h l) k)
+    ap (λ (b : Bool). cond b (inexact_if (not (eq (trunc f x) x))) invalid)
+    (is_signed (trunc f x) (is_sign_negative x) n (trunc_value f x n h l) k)
 raises Unsigned f a n h l k =
     let x = of_bits f a in
-    ap (λ (b : Bool). cond b (inexact_if (not (eq (trunc f x) x))) invalid) (is_unsigned (trunc f x) (is_sign_negative x) n (trunc_value f x n h l) k.0 k.1)
+    ap (λ (b : Bool). cond b (inexact_if (not (eq (trunc f x) x))) invalid)
+    (is_unsigned (trunc f x) (is_sign_negative x) n (trunc_value f x n h l) k.0 k.1)
 
 there : (g : Flags) (b : Bool) → g.nx ≡ true → accrued g (inexact_if b) ≡ g
 there g b h = sym (raised_beside g false false false b h refl refl) ∙ nothing g
@@ -167,7 +176,9 @@ pub raised_there : (kind : WordKind) (f : Format) (a n : ℕ) (g : Flags) → Is
 raised_there kind f a n g h l k nx = ap (accrued g) (raises kind f a n h l k) ∙ there g _ nx
 
 pub raised_none : (kind : WordKind) (f : Format) (a n : ℕ) (g : Flags) → IsCut (of_bits f a) n → n ≤ 2 ^ prec f
-    → IsOf kind (is_sign_negative (of_bits f a)) n → n * den (of_bits f a) ≡ num (of_bits f a) → accrued g (flags_of_word kind TowardZero f a) ≡ g
+    → IsOf kind (is_sign_negative (of_bits f a)) n → n * den (of_bits f a) ≡ num (of_bits f a)
+    → accrued g (flags_of_word kind TowardZero f a) ≡ g
 raised_none kind f a n g h l k whole =
     let x = of_bits f a in
-    ap (accrued g) (raises kind f a n h l k ∙ ap (λ (b : Bool). inexact_if (not b)) (same_value (trunc f x) x n (trunc_value f x n h l) h.finite whole)) ∙ nothing g
+    ap (accrued g) (raises kind f a n h l k
+    ∙ ap (λ (b : Bool). inexact_if (not b)) (same_value (trunc f x) x n (trunc_value f x n h l) h.finite whole)) ∙ nothing g

@@ -13,9 +13,12 @@ use Rattle.rv_floats.specs.Signs.{sign_injected, sign_negated, sign_xored}
 use Rattle.rv_float_flags.specs.declared.flags.Flags.{Flags}
 use Rattle.rv_float_flags.specs.Conversions.{exact_word, is_signed_word, is_unsigned_word, narrowing_flags, widening_flags, word_flags}
 use Rattle.rv_float_flags.specs.Flags.{no_flags, rounding_flags}
-use Rattle.rv_float_flags.specs.Operations.{add_flags, sub_flags, mul_flags, div_flags, sqrt_flags, multiply_add_flags, multiply_subtract_flags, negated_multiply_subtract_flags, negated_multiply_add_flags, quiet_flags, ordered_flags}
+use Rattle.rv_float_flags.specs.Operations.{add_flags, sub_flags, mul_flags, div_flags, sqrt_flags, multiply_add_flags}
+use Rattle.rv_float_flags.specs.Operations.{multiply_subtract_flags, negated_multiply_subtract_flags, negated_multiply_add_flags}
+use Rattle.rv_float_flags.specs.Operations.{quiet_flags, ordered_flags}
 use Rattle.rv_float_modes.specs.declared.rounded.Rounded.{Rounded}
-use Rattle.rv_float_modes.specs.Operations.{add_in, sub_in, mul_in, div_in, sqrt_in, multiply_add_in, multiply_subtract_in, negated_multiply_subtract_in, negated_multiply_add_in, narrowed_in, word_in}
+use Rattle.rv_float_modes.specs.Operations.{add_in, sub_in, mul_in, div_in, sqrt_in, multiply_add_in, multiply_subtract_in}
+use Rattle.rv_float_modes.specs.Operations.{negated_multiply_subtract_in, negated_multiply_add_in, narrowed_in, word_in}
 use Rattle.rv_float_tables.specs.declared.instr.Format as format
 use Rattle.rv_float_tables.specs.declared.instr.Format.TheVariants.{Single, Double}
 use Rattle.rv_float_tables.specs.declared.instr.ArithmeticOp.{ArithmeticOp}

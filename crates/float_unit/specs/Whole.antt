@@ -14,7 +14,8 @@ pub record IsCut (x : Float) (n : ℕ) : Type 0 where
 abbrev pub pattern : Bool → ℕ → ℕ
 pattern s n = if s then (2 ^ 32 - n) % 2 ^ 32 else n
 
--- the pattern of a double of middling size as a single, to the nearest, ties to even: 29 places are dropped, and the exponent counts from 896 less
+-- the pattern of a double of middling size as a single, to the nearest, ties to even: 29 places are dropped,
+-- and the exponent counts from 896 less
 abbrev pub narrowed_double : ℕ → ℕ
 narrowed_double a =
     let m = a % 2 ^ 63 in

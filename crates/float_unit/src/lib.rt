@@ -10,7 +10,8 @@
 //!   give and raise is what `rv_floats`, `rv_float_flags` and `rv_float_modes` say.
 //! - Singles stand in a register in a box of ones. One that does not is the canonical NaN to each operation, but not to moves and stores.
 //! - Flags are sticky, and only a write of a CSR clears them.
-//! - What may have to be rounded is rounded in the mode of the instruction, or in that of `frm` where it asks for that, in each of the five.
+//! - What may have to be rounded is rounded in the mode of the instruction, or in that of `frm` where it asks for that,
+//!   in each of the five.
 //!   To the nearest, ties to even, results and flags are found by arithmetic of the host's, and in the other modes by `rv_float_modes`.
 //!   Where the mode in `frm` is asked for and is none, an instruction is illegal, also one that is always exact, and changes nothing.
 //!

@@ -1,5 +1,6 @@
 -- Which pages are own, as a list of flags.
-use Rattle.std.proofs.Common.{◌≡◌, ℕ, ◌+◌, ◌-◌, ◌*◌, ◌/◌, ◌%◌, ◌<◌, ◌≤◌, ◌⊎◌, ◌≢◌, ⊎_elim, inl, inr, Bool, true, false, List, [], ◌∷◌, length, set, refl, sym, ◌∙◌, arith, zero, suc, Some, Ok, Err}
+use Rattle.std.proofs.Common.{◌≡◌, ℕ, ◌+◌, ◌-◌, ◌*◌, ◌/◌, ◌%◌, ◌<◌, ◌≤◌, ◌⊎◌, ◌≢◌, ⊎_elim, inl, inr, Bool, true, false, List, [], ◌∷◌}
+use Rattle.std.proofs.Common.{length, set, refl, sym, ◌∙◌, arith, zero, suc, Some, Ok, Err}
 use Rattle.std.specs.Prelude.{slice_get, OnErr}
 use Rattle.std.specs.Result.{IsErrAnd}
 use Rattle.std.specs.declared.result.Result.{Result}
@@ -41,7 +42,8 @@ pub OwnUpTo-none : (own : List Bool) (first : ℕ) → OwnUpTo own own first fir
 OwnUpTo-none own first = record { pages = refl; now_own = λ k a b. absurd (omega arith); others = λ k h. refl }
 
 -- a page that is own anyway
-pub OwnUpTo-read : (own : List Bool) (first page : ℕ) → OwnUpTo own own first page → first ≤ page → IsOwn own page → OwnUpTo own own first (page + 1)
+pub OwnUpTo-read : (own : List Bool) (first page : ℕ) → OwnUpTo own own first page → first ≤ page → IsOwn own page
+    → OwnUpTo own own first (page + 1)
 OwnUpTo-read own first page h le is =
     record {
       pages = refl;
@@ -52,7 +54,8 @@ OwnUpTo-read own first page h le is =
 other_page : (first page k : ℕ) → first ≤ page → (k < first) ⊎ (page + 1 ≤ k) → k ≢ page
 other_page first page k le out = ⊎_elim (λ (b : k < first). omega arith) (λ (p : page + 1 ≤ k). omega arith) out
 
-pub OwnUpTo-more : (old before after : List Bool) (first page : ℕ) → OwnUpTo old before first page → first ≤ page → page < length before → after ≡ set before page true → OwnUpTo old after first (page + 1)
+pub OwnUpTo-more : (old before after : List Bool) (first page : ℕ) → OwnUpTo old before first page → first ≤ page → page < length before
+    → after ≡ set before page true → OwnUpTo old after first (page + 1)
 OwnUpTo-more old before after first page h le in' is =
     record {
       pages = rw is (length-set before page true ∙ h.pages);
@@ -60,17 +63,21 @@ OwnUpTo-more old before after first page h le in' is =
           (λ (e : k ≡ page). rw e (slice_get-set_same before page true in'))
           (λ (n : k ≢ page). slice_get-set_other before page k true n ∙ h.now_own k a (omega arith))
           (cases_eq k page));
-      others = λ k out. rw is (slice_get-set_other before page k true (other_page first page k le out) ∙ h.others k (⊎_elim (λ (b : k < first). inl b) (λ (p : page + 1 ≤ k). inr (omega arith)) out));
+      others =
+          λ k out. rw is (slice_get-set_other before page k true (other_page first page k le out)
+          ∙ h.others k (⊎_elim (λ (b : k < first). inl b) (λ (p : page + 1 ≤ k). inr (omega arith)) out));
     }
 
-pub Owns-from_up_to : (old new : List Bool) (addr len page : ℕ) → OwnUpTo old new (addr / 4096) page → page ≡ (addr + len - 1) / 4096 + 1 → 0 < len → addr + len ≤ length old * 4096 → Owns new addr len
+pub Owns-from_up_to : (old new : List Bool) (addr len page : ℕ) → OwnUpTo old new (addr / 4096) page → page ≡ (addr + len - 1) / 4096 + 1
+    → 0 < len → addr + len ≤ length old * 4096 → Owns new addr len
 Owns-from_up_to old new addr len page h end some within =
     record {
       within = rw h.pages within;
       pages = λ k has. h.now_own k (let e = has.ends_after_begin in omega arith) (let b = has.begins_before_end in omega arith);
     }
 
-pub OwnsMore-from_up_to : (old new : List Bool) (addr len page : ℕ) → OwnUpTo old new (addr / 4096) page → page ≤ (addr + len - 1) / 4096 + 1 → 0 < len → OwnsMore addr len old new
+pub OwnsMore-from_up_to : (old new : List Bool) (addr len page : ℕ) → OwnUpTo old new (addr / 4096) page
+    → page ≤ (addr + len - 1) / 4096 + 1 → 0 < len → OwnsMore addr len old new
 OwnsMore-from_up_to old new addr len page h end some =
     record {
       keeps = record {
@@ -92,20 +99,24 @@ OwnsMore-from_up_to old new addr len page h end some =
           (cases_lt k (addr / 4096));
     }
 
-pub same_own-from_up_to : (old new : List Bool) (addr len page : ℕ) → OwnUpTo old new (addr / 4096) page → page ≤ (addr + len - 1) / 4096 + 1 → 0 < len → Owns old addr len → new ≡ old
+pub same_own-from_up_to : (old new : List Bool) (addr len page : ℕ) → OwnUpTo old new (addr / 4096) page
+    → page ≤ (addr + len - 1) / 4096 + 1 → 0 < len → Owns old addr len → new ≡ old
 same_own-from_up_to old new addr len page h end some owns =
     same_from_slice_get new old (λ k. ⊎_elim
     (λ (below : k < addr / 4096). h.others k (inl below))
     (λ (above : addr / 4096 ≤ k). ⊎_elim
-    (λ (in' : k < page). h.now_own k above in' ∙ sym (owns.pages k (record { some = some; begins_before_end = omega arith; ends_after_begin = omega arith })))
+    (λ (in' : k < page). h.now_own k above in'
+    ∙ sym (owns.pages k (record { some = some; begins_before_end = omega arith; ends_after_begin = omega arith })))
     (λ (past : page ≤ k). h.others k (inr past))
     (cases_lt k page))
     (cases_lt k (addr / 4096)))
 
 -- a page of the range that is not own shows that the range is not
-pub not_Owns-from_up_to : (old now : List Bool) (addr len page : ℕ) → OwnUpTo old now (addr / 4096) page → addr / 4096 ≤ page → page < (addr + len - 1) / 4096 + 1 → 0 < len → slice_get now page ≡ Some false → Owns old addr len → ⊥
+pub not_Owns-from_up_to : (old now : List Bool) (addr len page : ℕ) → OwnUpTo old now (addr / 4096) page → addr / 4096 ≤ page
+    → page < (addr + len - 1) / 4096 + 1 → 0 < len → slice_get now page ≡ Some false → Owns old addr len → ⊥
 not_Owns-from_up_to old now addr len page h from end some shared owns =
-    let own : slice_get old page ≡ Some true = owns.pages page (record { some = some; begins_before_end = omega arith; ends_after_begin = omega arith }) in
+    let own : slice_get old page ≡ Some true =
+    owns.pages page (record { some = some; begins_before_end = omega arith; ends_after_begin = omega arith }) in
     let same = h.others page (inr (omega arith)) in
     cc
 
@@ -128,17 +139,27 @@ OwnsMore-same addr len old new e = rw e (record { keeps = record { pages = refl;
 pub Owns-empty : (own : List Bool) (addr len : ℕ) → len ≡ 0 → addr + len ≤ length own * 4096 → Owns own addr len
 Owns-empty own addr len none within = record { within = within; pages = λ k has. absurd (let s = has.some in omega arith) }
 
-pub Owns-none : (own now : List Bool) (size addr len : ℕ) → length own * 4096 ≡ size → length now ≡ length own → addr + len ≤ size → len ≤ 0 → Owns now addr len
+pub Owns-none : (own now : List Bool) (size addr len : ℕ) → length own * 4096 ≡ size → length now ≡ length own → addr + len ≤ size → len ≤ 0
+    → Owns now addr len
 Owns-none own now size addr len paged same within none = Owns-empty now addr len (omega arith) (rw (same, paged) within)
 
 -- part of an owned range
 pub Owns-part : (own : List Bool) (addr len at n : ℕ) → Owns own addr len → addr ≤ at → at + n ≤ addr + len → Owns own at n
 Owns-part own addr len at n h from to =
-    record { within = let w = h.within in omega arith; pages = λ k has. h.pages k (record { some = let s = has.some in omega arith; begins_before_end = let b = has.begins_before_end in omega arith; ends_after_begin = let e = has.ends_after_begin in omega arith }) }
+    record {
+      within = let w = h.within in omega arith;
+      pages =
+          λ k has. h.pages k (record {
+            some = let s = has.some in omega arith;
+            begins_before_end = let b = has.begins_before_end in omega arith;
+            ends_after_begin = let e = has.ends_after_begin in omega arith;
+          });
+    }
 
 -- the page of a byte of an owned range
 pub IsOwn-at : (own : List Bool) (addr len at : ℕ) → Owns own addr len → addr ≤ at → at < addr + len → IsOwn own (at / 4096)
-IsOwn-at own addr len at h from to = h.pages (at / 4096) (record { some = omega arith; begins_before_end = omega arith; ends_after_begin = omega arith })
+IsOwn-at own addr len at h from to =
+    h.pages (at / 4096) (record { some = omega arith; begins_before_end = omega arith; ends_after_begin = omega arith })
 
 pub IsOwn-past : (own now : List Bool) (addr len done : ℕ) → Owns own addr len → now ≡ own → done < len → IsOwn now ((addr + done) / 4096)
 IsOwn-past own now addr len done owns same lt = rw same (IsOwn-at own addr len (addr + done) owns (omega arith) (omega arith))

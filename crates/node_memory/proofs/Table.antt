@@ -11,7 +11,8 @@ pub table : {A : Type 0} (pages : List (Page A)) (m : PagedMemory) → table_vie
 table pages m view h = record { bytes = ap (λ x. x.bytes) view; own = ap (λ x. x.own) view; whole = h.whole; sized = h.sized }
 
 -- another page of as many bytes
-pub IsTable-set : {A : Type 0} (pages : List (Page A)) (i : ℕ) (p : Page A) → IsTable pages → length (page_bytes p) ≡ 4096 → IsTable (set pages i p)
+pub IsTable-set : {A : Type 0} (pages : List (Page A)) (i : ℕ) (p : Page A) → IsTable pages → length (page_bytes p) ≡ 4096
+    → IsTable (set pages i p)
 IsTable-set pages i p h long =
     record {
       sized = rw (length-set pages i p) h.sized;
@@ -19,5 +20,6 @@ IsTable-set pages i p h long =
     }
 
 -- the page at `i`, or one of the same bytes
-pub IsTable-same : {A : Type 0} (pages : List (Page A)) (i : ℕ) (x p : Page A) → IsTable pages → i < length pages → x ≡ get_or pages i x → page_bytes p ≡ page_bytes x → IsTable (set pages i p)
+pub IsTable-same : {A : Type 0} (pages : List (Page A)) (i : ℕ) (x p : Page A) → IsTable pages → i < length pages → x ≡ get_or pages i x
+    → page_bytes p ≡ page_bytes x → IsTable (set pages i p)
 IsTable-same pages i x p h in' is same = IsTable-set pages i p h (ap length same ∙ whole-at page_bytes pages pages i x h.whole refl in' is)

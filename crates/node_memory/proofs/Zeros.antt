@@ -1,5 +1,6 @@
 -- Memories whose shared pages are all zeros.
-use Rattle.std.proofs.Common.{◌≡◌, ℕ, ◌+◌, ◌-◌, ◌*◌, ◌/◌, ◌%◌, ◌^◌, min, max, ◌<◌, ◌≤◌, ◌⊎◌, ◌≢◌, ⊎_elim, inl, inr, Bool, true, false, List, length, get_or, set, replicate, refl, sym, ap, ◌∙◌, arith, Some, Fits, w64}
+use Rattle.std.proofs.Common.{◌≡◌, ℕ, ◌+◌, ◌-◌, ◌*◌, ◌/◌, ◌%◌, ◌^◌, min, max, ◌<◌, ◌≤◌, ◌⊎◌, ◌≢◌, ⊎_elim, inl, inr, Bool, true, false, List}
+use Rattle.std.proofs.Common.{length, get_or, set, replicate, refl, sym, ap, ◌∙◌, arith, Some, Fits, w64}
 use Rattle.std.specs.Prelude.{slice_get}
 use Rattle.std.specs.List.{flat_map}
 use Rattle.std.proofs.lemmas.List.{places, length-replicate}
@@ -20,18 +21,21 @@ own_by_flag own page true is unshared = is
 own_by_flag own page false is unshared = absurd (unshared is)
 
 -- a byte beside a range that was written
-beside : (m bytes : List ℕ) (addr k : ℕ) → addr + length bytes ≤ length m → (k < addr) ⊎ (addr + length bytes ≤ k) → get_or (with_bytes m addr bytes) k 0 ≡ get_or m k 0
+beside : (m bytes : List ℕ) (addr k : ℕ) → addr + length bytes ≤ length m → (k < addr) ⊎ (addr + length bytes ≤ k)
+    → get_or (with_bytes m addr bytes) k 0 ≡ get_or m k 0
 beside m bytes addr k within out = grind (arith, places)
 
 zero_in_zeros : (n k : ℕ) → ◌≡◌ {A = ℕ} (get_or (replicate n 0) k 0) 0
 zero_in_zeros n k = grind (arith, places)
 
 -- a byte of a range that was cleared
-zero_in_cleared : (m : List ℕ) (addr n k : ℕ) → addr + n ≤ length m → addr ≤ k → k < addr + n → get_or (with_bytes m addr (replicate n 0)) k 0 ≡ 0
+zero_in_cleared : (m : List ℕ) (addr n k : ℕ) → addr + n ≤ length m → addr ≤ k → k < addr + n
+    → get_or (with_bytes m addr (replicate n 0)) k 0 ≡ 0
 zero_in_cleared m addr n k within from to = grind (arith, places)
 
 -- a range that need not be cleared
-pub cleared_already : (m : List ℕ) (addr n : ℕ) → addr + n ≤ length m → ((k : ℕ) → addr ≤ k → k < addr + n → get_or m k 0 ≡ 0) → m ≡ with_bytes m addr (replicate n 0)
+pub cleared_already : (m : List ℕ) (addr n : ℕ) → addr + n ≤ length m → ((k : ℕ) → addr ≤ k → k < addr + n → get_or m k 0 ≡ 0)
+    → m ≡ with_bytes m addr (replicate n 0)
 cleared_already m addr n within zeros =
     same_number_lists _ _ (grind (arith, places)) (λ k below. ⊎_elim
     (λ (before : k < addr). grind (arith, places))
@@ -46,7 +50,9 @@ abbrev pub below_page : ℕ → ℕ → ℕ → ℕ
 below_page addr len page = min (page * 4096 - addr) len
 
 -- the bytes of a range below a page are cleared, and then those in it
-pub cleared_more : (m now after : List ℕ) (addr len page from to : ℕ) → now ≡ with_bytes m addr (replicate (below_page addr len page) 0) → from ≡ max addr (page * 4096) → to ≡ min (addr + len) (page * 4096 + 4096) → after ≡ with_bytes now from (replicate (to - from) 0) → addr / 4096 ≤ page → page < (addr + len - 1) / 4096 + 1 → 0 < len → addr + len ≤ length m
+pub cleared_more : (m now after : List ℕ) (addr len page from to : ℕ) → now ≡ with_bytes m addr (replicate (below_page addr len page) 0)
+    → from ≡ max addr (page * 4096) → to ≡ min (addr + len) (page * 4096 + 4096) → after ≡ with_bytes now from (replicate (to - from) 0)
+    → addr / 4096 ≤ page → page < (addr + len - 1) / 4096 + 1 → 0 < len → addr + len ≤ length m
     → after ≡ with_bytes m addr (replicate (below_page addr len (page + 1)) 0)
 cleared_more m now after addr len page from to was begins ends then low high some within =
     let start : from ≡ addr + below_page addr len page = omega arith in
@@ -55,15 +61,22 @@ cleared_more m now after addr len page from to was begins ends then low high som
     ∙ ap (λ n. with_bytes m addr (replicate n 0)) both
 
 -- those in a shared page are zeros
-pub cleared_shared : (m now : PagedMemory) (addr len page : ℕ) → now.bytes ≡ with_bytes m.bytes addr (replicate (below_page addr len page) 0) → SharesZeros now → IsShared now.own page → addr / 4096 ≤ page → page < (addr + len - 1) / 4096 + 1 → 0 < len → addr + len ≤ length m.bytes
+pub cleared_shared : (m now : PagedMemory) (addr len page : ℕ)
+    → now.bytes ≡ with_bytes m.bytes addr (replicate (below_page addr len page) 0) → SharesZeros now → IsShared now.own page
+    → addr / 4096 ≤ page → page < (addr + len - 1) / 4096 + 1 → 0 < len → addr + len ≤ length m.bytes
     → now.bytes ≡ with_bytes m.bytes addr (replicate (below_page addr len (page + 1)) 0)
 cleared_shared m now addr len page was zeros shared low high some within =
-    let n : length (replicate {A = ℕ} (below_page addr len page) 0) ≡ below_page addr len page = length-replicate {A = ℕ} (below_page addr len page) 0 in
-    let size : length now.bytes ≡ length m.bytes = ap length was ∙ length-with_bytes m.bytes addr (replicate (below_page addr len page) 0) (omega arith) in
-    let already = cleared_already now.bytes (max addr (page * 4096)) (min (addr + len) (page * 4096 + 4096) - max addr (page * 4096)) (omega arith) (λ k above below.
+    let n : length (replicate {A = ℕ} (below_page addr len page) 0) ≡ below_page addr len page =
+    length-replicate {A = ℕ} (below_page addr len page) 0 in
+    let size : length now.bytes ≡ length m.bytes =
+    ap length was ∙ length-with_bytes m.bytes addr (replicate (below_page addr len page) 0) (omega arith) in
+    let already =
+    cleared_already now.bytes (max addr (page * 4096)) (min (addr + len) (page * 4096 + 4096) - max addr (page * 4096)) (omega arith)
+    (λ k above below.
     let same : k / 4096 ≡ page = omega arith in
     zeros k (rw same shared)) in
-    cleared_more m.bytes now.bytes now.bytes addr len page (max addr (page * 4096)) (min (addr + len) (page * 4096 + 4096)) was refl refl already low high some within
+    cleared_more m.bytes now.bytes now.bytes addr len page (max addr (page * 4096)) (min (addr + len) (page * 4096 + 4096)) was refl refl
+    already low high some within
 
 -- no bytes of a range are below its first page, and all below the page after its last
 pub below_first : (addr len : ℕ) → below_page addr len (addr / 4096) ≡ 0
@@ -83,10 +96,12 @@ pub page_start-fits : (end size page : ℕ) → page < (end - 1) / 4096 + 1 → 
 page_start-fits end size page before within most = omega arith
 
 -- the part of a range that lies in a page
-pub part-ordered : (addr len page from to : ℕ) → from ≡ max addr (page * 4096) → to ≡ min (addr + len) (page * 4096 + 4096) → addr / 4096 ≤ page → page < (addr + len - 1) / 4096 + 1 → (len ≡ 0 → ⊥) → from ≤ to
+pub part-ordered : (addr len page from to : ℕ) → from ≡ max addr (page * 4096) → to ≡ min (addr + len) (page * 4096 + 4096)
+    → addr / 4096 ≤ page → page < (addr + len - 1) / 4096 + 1 → (len ≡ 0 → ⊥) → from ≤ to
 part-ordered addr len page from to begins ends low high some = omega arith
 
-pub part-in_page : (addr len page from to : ℕ) → from ≡ max addr (page * 4096) → to ≡ min (addr + len) (page * 4096 + 4096) → addr / 4096 ≤ page → page < (addr + len - 1) / 4096 + 1 → (len ≡ 0 → ⊥) → from % 4096 + (to - from) ≤ 4096
+pub part-in_page : (addr len page from to : ℕ) → from ≡ max addr (page * 4096) → to ≡ min (addr + len) (page * 4096 + 4096)
+    → addr / 4096 ≤ page → page < (addr + len - 1) / 4096 + 1 → (len ≡ 0 → ⊥) → from % 4096 + (to - from) ≤ 4096
 part-in_page addr len page from to begins ends low high some = omega arith
 
 pub start-within : (addr len size : ℕ) → addr + len ≤ size → addr ≤ size
@@ -102,12 +117,14 @@ own_or_shared own page in' unshared = own_by_flag own page _ (slice_get-get_or o
 pub SharesZeros-new : (m : PagedMemory) (n : ℕ) → m.bytes ≡ replicate n 0 → SharesZeros m
 SharesZeros-new m n is = λ k shared. ap (λ bs. get_or bs k 0) is ∙ zero_in_zeros n k
 
-was_shared : (old new : List Bool) (page : ℕ) (b : Bool) → slice_get old page ≡ Some b → KeepsOwn old new → IsShared new page → IsShared old page
+was_shared : (old new : List Bool) (page : ℕ) (b : Bool) → slice_get old page ≡ Some b → KeepsOwn old new → IsShared new page
+    → IsShared old page
 was_shared old new page true is keeps shared = absurd (own_and_shared new page (keeps.kept page is) shared)
 was_shared old new page false is keeps shared = is
 
 -- pages have become own
-pub SharesZeros-owned : (old new : PagedMemory) (addr len : ℕ) → SharesZeros old → OwnsMore addr len old.own new.own → new.bytes ≡ old.bytes → SharesZeros new
+pub SharesZeros-owned : (old new : PagedMemory) (addr len : ℕ) → SharesZeros old → OwnsMore addr len old.own new.own → new.bytes ≡ old.bytes
+    → SharesZeros new
 SharesZeros-owned old new addr len zeros more same = λ k shared.
     let in' : k / 4096 < length new.own = slice_get_within new.own (k / 4096) false shared in
     let count = more.keeps.pages in
@@ -124,18 +141,21 @@ out_of_owned own addr len k owns shared = ⊎_elim
     (cases_lt k addr)
 
 -- a range of own pages was written
-pub SharesZeros-written : (old new : PagedMemory) (addr : ℕ) (bytes : List ℕ) → SharesZeros old → Owns old.own addr (length bytes) → addr + length bytes ≤ length old.bytes → new.bytes ≡ with_bytes old.bytes addr bytes → new.own ≡ old.own → SharesZeros new
+pub SharesZeros-written : (old new : PagedMemory) (addr : ℕ) (bytes : List ℕ) → SharesZeros old → Owns old.own addr (length bytes)
+    → addr + length bytes ≤ length old.bytes → new.bytes ≡ with_bytes old.bytes addr bytes → new.own ≡ old.own → SharesZeros new
 SharesZeros-written old new addr bytes zeros owns within is same = λ k shared.
     let was : IsShared old.own (k / 4096) = rw (← same) shared in
     ap (λ bs. get_or bs k 0) is ∙ beside old.bytes bytes addr k within (out_of_owned old.own addr (length bytes) k owns was) ∙ zeros k was
 
-pub SharesZeros-zeroed : (old new : PagedMemory) (addr n : ℕ) → SharesZeros old → Owns old.own addr n → addr + n ≤ length old.bytes → new.bytes ≡ with_bytes old.bytes addr (replicate n 0) → new.own ≡ old.own → SharesZeros new
+pub SharesZeros-zeroed : (old new : PagedMemory) (addr n : ℕ) → SharesZeros old → Owns old.own addr n → addr + n ≤ length old.bytes
+    → new.bytes ≡ with_bytes old.bytes addr (replicate n 0) → new.own ≡ old.own → SharesZeros new
 SharesZeros-zeroed old new addr n zeros owns within is same =
     let count : length (replicate {A = ℕ} n 0) ≡ n = length-replicate {A = ℕ} n 0 in
     SharesZeros-written old new addr (replicate n 0) zeros (rw count owns) (rw count within) is same
 
 -- the page of zeros has come into the place of a page
-pub SharesZeros-cleared : (old new : PagedMemory) (page : ℕ) → SharesZeros old → page * 4096 + 4096 ≤ length old.bytes → new.bytes ≡ with_bytes old.bytes (page * 4096) (replicate 4096 0) → new.own ≡ set old.own page false → SharesZeros new
+pub SharesZeros-cleared : (old new : PagedMemory) (page : ℕ) → SharesZeros old → page * 4096 + 4096 ≤ length old.bytes
+    → new.bytes ≡ with_bytes old.bytes (page * 4096) (replicate 4096 0) → new.own ≡ set old.own page false → SharesZeros new
 SharesZeros-cleared old new page zeros within is flags = λ k shared.
     let n : length (replicate {A = ℕ} 4096 0) ≡ 4096 = length-replicate {A = ℕ} 4096 0 in
     ap (λ bs. get_or bs k 0) is ∙ ⊎_elim
@@ -143,7 +163,9 @@ SharesZeros-cleared old new page zeros within is flags = λ k shared.
     (λ (other : k / 4096 ≢ page).
     let now : IsShared (set old.own page false) (k / 4096) = rw (← flags) shared in
     let was : IsShared old.own (k / 4096) = sym (slice_get-set_other old.own page (k / 4096) false other) ∙ now in
-    beside old.bytes (replicate 4096 0) (page * 4096) k (omega arith) (⊎_elim (λ (below : k < page * 4096). inl below) (λ (above : page * 4096 ≤ k). inr (omega arith)) (cases_lt k (page * 4096))) ∙ zeros k was)
+    beside old.bytes (replicate 4096 0) (page * 4096) k (omega arith)
+    (⊎_elim (λ (below : k < page * 4096). inl below) (λ (above : page * 4096 ≤ k). inr (omega arith)) (cases_lt k (page * 4096)))
+    ∙ zeros k was)
     (cases_eq (k / 4096) page)
 
 -- a page of zeros in the place of another: as a list, and in a table
@@ -151,11 +173,14 @@ zeros_over_page : (old new : List ℕ) (a n : ℕ) → length old ≡ n → new 
 zeros_over_page old new a n long is at =
     is ∙ rw at (same_number_lists _ _ (grind (arith, places)) (λ k below. grind (arith, places)))
 
-pub page_cleared-shown : {X : Type 0} {f : X → List ℕ} {g : X → Bool} {xs : List X} {m : PagedMemory} → Shows f g xs m → (page : ℕ) (x p : X) → page < length xs → x ≡ get_or xs page x → f p ≡ replicate 4096 0 → flat_map f (set xs page p) ≡ with_bytes m.bytes (page * 4096) (replicate 4096 0)
+pub page_cleared-shown : {X : Type 0} {f : X → List ℕ} {g : X → Bool} {xs : List X} {m : PagedMemory} → Shows f g xs m
+    → (page : ℕ) (x p : X) → page < length xs → x ≡ get_or xs page x → f p ≡ replicate 4096 0
+    → flat_map f (set xs page p) ≡ with_bytes m.bytes (page * 4096) (replicate 4096 0)
 page_cleared-shown {X} {f} {g} {xs} {m} h page x p in' is zeros =
     let at : page * 4096 / 4096 ≡ page = omega arith in
     let start : page * 4096 % 4096 ≡ 0 = omega arith in
     let n : length (replicate {A = ℕ} 4096 0) ≡ 4096 = length-replicate {A = ℕ} 4096 0 in
     let long : length (f x) ≡ 4096 = whole-at f xs xs page x h.whole refl in' is in
     ap (λ i. flat_map f (set xs i p)) (sym at)
-    ∙ write-shown h (page * 4096) (replicate 4096 0) x p (rw at in') (omega arith) (rw at is) (zeros_over_page (f x) (f p) (page * 4096 % 4096) 4096 long zeros start)
+    ∙ write-shown h (page * 4096) (replicate 4096 0) x p (rw at in') (omega arith) (rw at is)
+    (zeros_over_page (f x) (f p) (page * 4096 % 4096) 4096 long zeros start)

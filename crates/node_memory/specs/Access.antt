@@ -1,5 +1,6 @@
 -- What reading and writing a memory answers, and what is left of it: said once, for a memory and for what has one inside.
-use Rattle.std.specs.Prelude.{◌≡◌, ℕ, ◌+◌, ◌/◌, ◌%◌, ◌^◌, ◌<◌, ◌≤◌, ◌↔◌, Bool, true, false, List, length, IsTrue, if◌then◌else◌, Option, Some, None, IfSome, IsNone, OnOk, OnErr, IfOk, IsErrOf, is_ok}
+use Rattle.std.specs.Prelude.{◌≡◌, ℕ, ◌+◌, ◌/◌, ◌%◌, ◌^◌, ◌<◌, ◌≤◌, ◌↔◌, Bool, true, false, List, length, IsTrue, if◌then◌else◌, Option}
+use Rattle.std.specs.Prelude.{Some, None, IfSome, IsNone, OnOk, OnErr, IfOk, IsErrOf, is_ok}
 use Rattle.std.specs.declared.result.Result.{Result}
 use Rattle.node_memory.specs.declared.memory.MemoryError.{MemoryError}
 use Rattle.node_memory.specs.declared.memory.MemoryError.TheVariants.{BadSize, SegmentOutside}

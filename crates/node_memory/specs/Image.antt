@@ -1,7 +1,8 @@
 -- An image, as the program headers of an executable describe it (System V ABI, chapter 5 "Program Loading and Dynamic
 -- Linking", section "Program Header": p_vaddr, p_filesz, p_memsz), and the memory that it gives. The ABI leaves open what
 -- segments that overlap give: here the later one counts (own rule).
-use Rattle.std.specs.Prelude.{ℕ, ◌+◌, ◌-◌, ◌≤◌, ◌^◌, ◌++◌, List, [], ◌∷◌, length, map, find, reverse, replicate, sum_by, Bool, ◌&&◌, nat_le, nat_lt, slice_index}
+use Rattle.std.specs.Prelude.{ℕ, ◌+◌, ◌-◌, ◌≤◌, ◌^◌, ◌++◌, List, [], ◌∷◌, length, map, find, reverse, replicate, sum_by, Bool, ◌&&◌, nat_le}
+use Rattle.std.specs.Prelude.{nat_lt, slice_index}
 use Rattle.std.specs.List.{range_with_len, list_any}
 use Rattle.std.specs.Option.{option_map_or}
 use Rattle.node_memory.specs.Bytes.{with_bytes}

@@ -1,6 +1,7 @@
 //! The bytes of a node, by address.
 
-ghost use Rattle.std.specs.Prelude.{◌≡◌, ◌+◌, ◌*◌, ◌/◌, ◌%◌, ◌^◌, ◌<◌, ◌≤◌, ◌↔◌, true, false, IsTrue, length, if◌then◌else◌, OnOk, OnErr, IfOk, IsErrOf, slice_set, slice_get, Some};
+ghost use Rattle.std.specs.Prelude.{◌≡◌, ◌+◌, ◌*◌, ◌/◌, ◌%◌, ◌^◌, ◌<◌, ◌≤◌, ◌↔◌, true, false, IsTrue, length, if◌then◌else◌, OnOk, OnErr};
+ghost use Rattle.std.specs.Prelude.{IfOk, IsErrOf, slice_set, slice_get, Some};
 ghost use Rattle.node_memory.specs.Bytes.{is_memory_size, fits, bytes_at, with_bytes, byte_at, half_at, word_at};
 ghost use Rattle.node_memory.specs.Image.{image_bytes, is_segment_outside};
 ghost use Rattle.node_memory.specs.Pages.{PagedMemory, none_own, Owns, OwnsMore, IsOwn, IsShared};

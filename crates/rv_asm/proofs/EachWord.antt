@@ -6,7 +6,8 @@ use Rattle.rv_tables.specs.declared.instr.PlainOp.TheVariants.{Fence, FenceI, Ec
 use Rattle.rv_tables.specs.Operands.{IsEncodable, IsFence}
 use Rattle.rv_tables.specs.Rows.{instruction_of, encodings}
 use Rattle.rv_tables.specs.Words.{IsOnlyWord}
-use Rattle.rv_tables.proofs.OnlyWords.{only_r, only_i, only_shift, only_load, only_store, only_branch, only_upper, only_jal, only_jalr, only_ecall, only_ebreak}
+use Rattle.rv_tables.proofs.OnlyWords.{only_r, only_i, only_shift, only_load, only_store, only_branch, only_upper, only_jal, only_jalr}
+use Rattle.rv_tables.proofs.OnlyWords.{only_ecall, only_ebreak}
 use Rattle.rv_tables.proofs.RowReads.{IsEncodable-instruction_of}
 use Rattle.rv_asm.specs.Layout.{IsWordOf}
 use Rattle.rv_asm.proofs.FormatWords.{r_format, i_format, s_format, b_format, u_format, j_format}
@@ -20,7 +21,8 @@ record TheWord (i : Instr) (w : ℕ) : Type 0 where
   is : IsWordOf i w
   only : (v : ℕ) → v < 2 ^ 32 → instruction_of v ≡ Some i → ¬ IsFence i → v ≡ w
 
-of_only : (i : Instr) (w : ℕ) → w < 2 ^ 32 → IsOnlyWord (λ v. instruction_of v ≡ Some i) (Some w) → i ≢ Plain Fence → i ≢ Plain FenceI → TheWord i w
+of_only : (i : Instr) (w : ℕ) → w < 2 ^ 32 → IsOnlyWord (λ v. instruction_of v ≡ Some i) (Some w) → i ≢ Plain Fence → i ≢ Plain FenceI
+    → TheWord i w
 of_only i w fits only no_fence no_fence_i = record {
   is = record { fits = fits; decodes = only.0; fence = λ e. absurd (no_fence e); fence_i = λ e. absurd (no_fence_i e) };
   only = λ v v_in h _. some_injective w v (only.1 v v_in h);
@@ -59,8 +61,11 @@ the_word (Store op a b imm) h =
     let row = store_value op in let f = s_format row.value a b imm row.own h.0 h.1 h.2 in
     (f.word, of_only (Store op a b imm) f.word f.fits (only_store row.value a b imm op (Some f.word) row.named f.only) (λ e. cc) (λ e. cc))
 the_word (Branch op a b imm) h =
-    let row = branch_value op in let f = b_format row.value a b imm row.own h.0 h.1 h.2.0 h.2.1 in
-    (f.word, of_only (Branch op a b imm) f.word f.fits (only_branch row.value a b imm op (Some f.word) row.named f.only) (λ e. cc) (λ e. cc))
+    let row = branch_value op in let f = b_format row.value a b imm row.own h.0 h.1 h.2.0 h.2.1 in (
+      f.word,
+      of_only (Branch op a b imm) f.word f.fits (only_branch row.value a b imm op (Some f.word) row.named f.only) (λ e. cc)
+          (λ e. cc),
+    )
 the_word (Upper op d imm) h =
     let row = upper_value op in let f = u_format row.value d imm row.own h.0 h.1 in
     (f.word, of_only (Upper op d imm) f.word f.fits (only_upper row.value d imm op (Some f.word) row.named f.only) (λ e. cc) (λ e. cc))
@@ -70,10 +75,34 @@ the_word (Jal d imm) h =
 the_word (Jalr d a imm) h =
     let f = i_format 0x67 d a imm refl h.0 h.1 h.2 in
     (f.word, of_only (Jalr d a imm) f.word f.fits (only_jalr d a imm (Some f.word) f.only) (λ e. cc) (λ e. cc))
-the_word (Plain Fence) h = (0x0FF0000F, record { is = record { fits = lit< tt; decodes = fence_word; fence = λ e. refl; fence_i = λ e. cc }; only = λ v v_in e no. absurd (no tt) })
-the_word (Plain FenceI) h = (0x100F, record { is = record { fits = lit< tt; decodes = fence_i_word; fence = λ e. cc; fence_i = λ e. refl }; only = λ v v_in e no. absurd (no tt) })
-the_word (Plain Ecall) h = (0x73, record { is = record { fits = lit< tt; decodes = ecall_word; fence = λ e. cc; fence_i = λ e. cc }; only = λ v v_in e no. sym (only_ecall v v_in e) })
-the_word (Plain Ebreak) h = (0x100073, record { is = record { fits = lit< tt; decodes = ebreak_word; fence = λ e. cc; fence_i = λ e. cc }; only = λ v v_in e no. sym (only_ebreak v v_in e) })
+the_word (Plain Fence) h = (
+  0x0FF0000F,
+  record {
+    is = record { fits = lit< tt; decodes = fence_word; fence = λ e. refl; fence_i = λ e. cc };
+    only = λ v v_in e no. absurd (no tt);
+  },
+)
+the_word (Plain FenceI) h = (
+  0x100F,
+  record {
+    is = record { fits = lit< tt; decodes = fence_i_word; fence = λ e. cc; fence_i = λ e. refl };
+    only = λ v v_in e no. absurd (no tt);
+  },
+)
+the_word (Plain Ecall) h = (
+  0x73,
+  record {
+    is = record { fits = lit< tt; decodes = ecall_word; fence = λ e. cc; fence_i = λ e. cc };
+    only = λ v v_in e no. sym (only_ecall v v_in e);
+  },
+)
+the_word (Plain Ebreak) h = (
+  0x100073,
+  record {
+    is = record { fits = lit< tt; decodes = ebreak_word; fence = λ e. cc; fence_i = λ e. cc };
+    only = λ v v_in e no. sym (only_ebreak v v_in e);
+  },
+)
 
 pub word_of : (i : Instr) → IsEncodable i → (w : ℕ) × IsWordOf i w
 word_of i h = let t = the_word i h in (t.0, t.1.is)

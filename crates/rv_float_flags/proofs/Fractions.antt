@@ -15,14 +15,17 @@ use lib.Ieee.Positive.{den, den_pos, num}
 pub raised_amount : (p r : Scaled) → r ≡ record { digits = p.digits; place = p.place + 1074 } → amount r ≡ amount p * 2 ^ 1074
 raised_amount p r e =
     let a : 2 ^ (p.place + 1074) ≡ 2 ^ p.place * 2 ^ 1074 = pow-add 2 p.place 1074 in
-    ap amount e ∙ ap (λ (x : ℕ). p.digits * x) a ∙ (let k : p.digits * (2 ^ p.place * 2 ^ 1074) ≡ p.digits * 2 ^ p.place * 2 ^ 1074 = omega arith in k)
+    ap amount e ∙ ap (λ (x : ℕ). p.digits * x) a
+    ∙ (let k : p.digits * (2 ^ p.place * 2 ^ 1074) ≡ p.digits * 2 ^ p.place * 2 ^ 1074 = omega arith in k)
 
-pub product_amount : (p q r : Scaled) → r ≡ record { digits = p.digits * q.digits; place = p.place + q.place } → amount r ≡ amount p * amount q
+pub product_amount : (p q r : Scaled) → r ≡ record { digits = p.digits * q.digits; place = p.place + q.place }
+    → amount r ≡ amount p * amount q
 product_amount p q r e = ap amount e ∙ sym (bound_at p.digits p.place q.digits q.place)
 
 -- ---- from products with 2 ^ 1074 to fractions
 
-by_square : (r : Ratio) (n m : ℕ) → r.numerator * (2 ^ 1074 * 2 ^ 1074) * m ≡ n * r.denominator → r.numerator * 2 ^ 2148 * m ≡ n * r.denominator
+by_square : (r : Ratio) (n m : ℕ) → r.numerator * (2 ^ 1074 * 2 ^ 1074) * m ≡ n * r.denominator
+    → r.numerator * 2 ^ 2148 * m ≡ n * r.denominator
 by_square r n m h = ap (λ (z : ℕ). r.numerator * z * m) square ∙ h
 
 sum_cross : (o : Bool) (a b c k l u w : ℕ) → a * w ≡ k * u * c → b * w ≡ l * u * c → combined o a b * w * 1 ≡ combined o (k * u) (l * u) * c
@@ -34,7 +37,8 @@ sum_cross o a b c k l u w e f =
     ∙ combined_times o (k * u) (l * u) c
 
 pub sum_fraction : (f : Format) (o : Bool) (x y : Float) (p q : Scaled) → IsMagnitude f x p → IsMagnitude f y q
-    → IsFraction (record { numerator = combined o (num x * den y) (num y * den x); denominator = den x * den y }) (combined o (amount p * 2 ^ 1074) (amount q * 2 ^ 1074)) 1
+    → IsFraction (record { numerator = combined o (num x * den y) (num y * den x); denominator = den x * den y })
+    (combined o (amount p * 2 ^ 1074) (amount q * 2 ^ 1074)) 1
 sum_fraction f o x y p q h g =
     let u = 2 ^ 1074 in
     let a : num x * den y * (u * u) ≡ amount p * u * (den x * den y) = omega (arith, ap (λ (z : ℕ). z * (u * den y)) h.value) in
@@ -43,7 +47,8 @@ sum_fraction f o x y p q h g =
     record {
       nonzero = d;
       divisor = omega arith;
-      value = by_square (record { numerator = combined o (num x * den y) (num y * den x); denominator = den x * den y }) (combined o (amount p * u) (amount q * u)) 1
+      value = by_square (record { numerator = combined o (num x * den y) (num y * den x); denominator = den x * den y })
+          (combined o (amount p * u) (amount q * u)) 1
           (sum_cross o (num x * den y) (num y * den x) (den x * den y) (amount p) (amount q) u (u * u) a b);
     }
 
@@ -74,7 +79,8 @@ fused_fraction f o x y z p q r h g k =
       nonzero = mul-pos (mul-pos (den_pos x) (den_pos y)) (den_pos z);
       divisor = omega arith;
       value = by_square (record { numerator = combined o (num x * num y * den z) (num z * (den x * den y)); denominator = c })
-          (combined o (amount p * amount q) (amount r * u)) 1 (terms o (num x * num y * den z) (num z * (den x * den y)) c (amount p * amount q) (amount r * u) (u * u) a b);
+          (combined o (amount p * amount q) (amount r * u)) 1
+          (terms o (num x * num y * den z) (num z * (den x * den y)) c (amount p * amount q) (amount r * u) (u * u) a b);
     }
   where
     terms : (o : Bool) (a b c k l w : ℕ) → a * w ≡ k * c → b * w ≡ l * c → combined o a b * w * 1 ≡ combined o k l * c
@@ -105,9 +111,15 @@ quotient_fraction f x y p q h g k =
     }
   where
     first : (a b : ℕ) → 0 < a * b → 0 < a
-    first a b h = elim (eq-zero-or-pos a) [ inl z ↦ let e : a * b ≡ 0 = ap (λ (x : ℕ). x * b) z ∙ zero-mul b in absurd (omega (arith, e, h)) | inr l ↦ l ]
+    first a b h =
+        elim (eq-zero-or-pos a) [
+          | inl z ↦ let e : a * b ≡ 0 = ap (λ (x : ℕ). x * b) z ∙ zero-mul b in
+              absurd (omega (arith, e, h))
+          | inr l ↦ l
+        ]
 
-pub value_fraction : (f : Format) (x : Float) (p : Scaled) (n : ℕ) → IsMagnitude f x p → n ≡ amount p * 2 ^ 1074 → IsFraction (exact_value x) n 1
+pub value_fraction : (f : Format) (x : Float) (p : Scaled) (n : ℕ) → IsMagnitude f x p → n ≡ amount p * 2 ^ 1074
+    → IsFraction (exact_value x) n 1
 value_fraction f x p n h e =
     let u = 2 ^ 1074 in
     let a : num x * (u * u) * 1 ≡ amount p * u * den x = omega (arith, ap (λ (z : ℕ). z * u) h.value) in

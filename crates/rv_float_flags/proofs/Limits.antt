@@ -61,7 +61,8 @@ cut_again : (a q w : ℕ) → w ≡ a / q → w * q + a % q ≡ a
 cut_again a q w h = ap (λ (z : ℕ). z * q + a % q) h ∙ div-add-mod' a q
 
 of_sum : (o : Bool) (a b q w v : ℕ) → w ≡ a / q → v * q ≡ b → o ≡ false → w * q + a % q + v * q ≡ combined o a b
-of_sum o a b q w v h e f = let k : w * q + a % q + v * q ≡ a + b = omega (arith, cut_again a q w h, e) in k ∙ ap (λ (z : Bool). combined z a b) (sym f)
+of_sum o a b q w v h e f = let k : w * q + a % q + v * q ≡ a + b = omega (arith, cut_again a q w h, e) in
+    k ∙ ap (λ (z : Bool). combined z a b) (sym f)
 
 of_difference : (o : Bool) (a b q w v : ℕ) → w ≡ a / q → v * q ≡ b → o ≡ true → abs_diff (w * q + a % q) (v * q) ≡ combined o a b
 of_difference o a b q w v h e f =
@@ -70,19 +71,25 @@ of_difference o a b q w v h e f =
 pub sum_test : (o : Bool) (a b q w v l : ℕ) → 0 < q → w ≡ a / q → v * q ≡ b → o ≡ false → nat_lt (w + v) l ≡ nat_lt (combined o a b) (l * q)
 sum_test o a b q w v l p h e f = below_sum w v l q (a % q) (mod_below a q p) ∙ ap (λ (z : ℕ). nat_lt z (l * q)) (of_sum o a b q w v h e f)
 
-pub upper_test : (o : Bool) (a b q w v l : ℕ) → 0 < q → w ≡ a / q → v * q ≡ b → o ≡ true → v ≤ w → nat_lt (w - v) l ≡ nat_lt (combined o a b) (l * q)
-upper_test o a b q w v l p h e f g = below_upper w v l q (a % q) (mod_below a q p) g ∙ ap (λ (z : ℕ). nat_lt z (l * q)) (of_difference o a b q w v h e f)
+pub upper_test : (o : Bool) (a b q w v l : ℕ) → 0 < q → w ≡ a / q → v * q ≡ b → o ≡ true → v ≤ w
+    → nat_lt (w - v) l ≡ nat_lt (combined o a b) (l * q)
+upper_test o a b q w v l p h e f g =
+    below_upper w v l q (a % q) (mod_below a q p) g ∙ ap (λ (z : ℕ). nat_lt z (l * q)) (of_difference o a b q w v h e f)
 
-pub lower_test : (o : Bool) (a b q w v l : ℕ) → 0 < q → w ≡ a / q → v * q ≡ b → o ≡ true → w < v → v - w < l → true ≡ nat_lt (combined o a b) (l * q)
-lower_test o a b q w v l p h e f g k = below_lower w v l q (a % q) p (mod_below a q p) g k ∙ ap (λ (z : ℕ). nat_lt z (l * q)) (of_difference o a b q w v h e f)
+pub lower_test : (o : Bool) (a b q w v l : ℕ) → 0 < q → w ≡ a / q → v * q ≡ b → o ≡ true → w < v → v - w < l
+    → true ≡ nat_lt (combined o a b) (l * q)
+lower_test o a b q w v l p h e f g k =
+    below_lower w v l q (a % q) p (mod_below a q p) g k ∙ ap (λ (z : ℕ). nat_lt z (l * q)) (of_difference o a b q w v h e f)
 
 pub limit_test : (o : Bool) (a b q w v l : ℕ) → 0 < q → w ≡ a / q → v * q ≡ b → o ≡ true → w < v → l ≤ v - w → 0 < a % q
     → nat_eq (v - w) l ≡ nat_lt (combined o a b) (l * q)
-limit_test o a b q w v l p h e f g k r = at_limit w v l q (a % q) (mod_below a q p) g k r ∙ ap (λ (z : ℕ). nat_lt z (l * q)) (of_difference o a b q w v h e f)
+limit_test o a b q w v l p h e f g k r =
+    at_limit w v l q (a % q) (mod_below a q p) g k r ∙ ap (λ (z : ℕ). nat_lt z (l * q)) (of_difference o a b q w v h e f)
 
 pub past_test : (o : Bool) (a b q w v l : ℕ) → 0 < q → w ≡ a / q → v * q ≡ b → o ≡ true → w < v → l ≤ v - w → a % q ≡ 0
     → false ≡ nat_lt (combined o a b) (l * q)
-past_test o a b q w v l p h e f g k r = not_below w v l q (a % q) (mod_below a q p) g k r ∙ ap (λ (z : ℕ). nat_lt z (l * q)) (of_difference o a b q w v h e f)
+past_test o a b q w v l p h e f g k r =
+    not_below w v l q (a % q) (mod_below a q p) g k r ∙ ap (λ (z : ℕ). nat_lt z (l * q)) (of_difference o a b q w v h e f)
 
 -- a multiple that is far above both
 far_sum : (o : Bool) (a b t : ℕ) → a + t ≤ b → t ≤ combined o a b

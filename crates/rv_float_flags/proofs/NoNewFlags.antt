@@ -5,7 +5,8 @@ use Rattle.std.proofs.lemmas.Bool.{and_parts}
 use Rattle.std.proofs.lemmas.Float.{not_nan_f32_bits}
 use Rattle.std.specs.Float.{float_zero}
 use Rattle.rv_float_flags.specs.Flags.{accrued}
-use Rattle.rv_float_flags.specs.NoNewFlags.{is_finite, is_single_finite, product_raises_no_new_flags, quotient_raises_no_new_flags, root_raises_no_new_flags, sum_raises_no_new_flags}
+use Rattle.rv_float_flags.specs.NoNewFlags.{is_finite, is_single_finite, product_raises_no_new_flags, quotient_raises_no_new_flags}
+use Rattle.rv_float_flags.specs.NoNewFlags.{root_raises_no_new_flags, sum_raises_no_new_flags}
 use Rattle.rv_float_flags.specs.Operations.{add_flags, div_flags, mul_flags, sqrt_flags, sub_flags}
 use Rattle.rv_float_flags.specs.declared.flags.Flags.{Flags}
 use Rattle.rv_float_flags.proofs.FiniteResults.{difference_no_nan, finite, pattern_no_nan, product_no_nan, sum_no_nan}
@@ -29,7 +30,8 @@ sum_operands binary64 g a b none =
     let below = Double.sum_below g a b none in
     (pattern_no_nan a below.0, pattern_no_nan b below.1)
 
-pub sum_number : (f : Format) (g : Flags) (a b : ℕ) → sum_raises_no_new_flags f g a b ≡ true → T (not (is_nan (add f (of_bits f a) (of_bits f b))))
+pub sum_number : (f : Format) (g : Flags) (a b : ℕ) → sum_raises_no_new_flags f g a b ≡ true
+    → T (not (is_nan (add f (of_bits f a) (of_bits f b))))
 sum_number binary32 g a b none =
     let below = Single.sum_below g a b none in
     sum_no_nan binary32 _ _ (Singles.finite a below.0).magnitude.finite (Singles.finite b below.1).magnitude.finite
@@ -37,7 +39,8 @@ sum_number binary64 g a b none =
     let below = Double.sum_below g a b none in
     sum_no_nan binary64 _ _ (finite a below.0).magnitude.finite (finite b below.1).magnitude.finite
 
-pub difference_number : (f : Format) (g : Flags) (a b : ℕ) → sum_raises_no_new_flags f g a b ≡ true → T (not (is_nan (sub f (of_bits f a) (of_bits f b))))
+pub difference_number : (f : Format) (g : Flags) (a b : ℕ) → sum_raises_no_new_flags f g a b ≡ true
+    → T (not (is_nan (sub f (of_bits f a) (of_bits f b))))
 difference_number binary32 g a b none =
     let below = Single.sum_below g a b none in
     difference_no_nan binary32 _ _ (Singles.finite a below.0).magnitude.finite (Singles.finite b below.1).magnitude.finite
@@ -63,7 +66,8 @@ product_operands binary64 g a b none =
     let below = Double.product_below g a b none in
     (pattern_no_nan a below.0, pattern_no_nan b below.1)
 
-pub product_number : (f : Format) (g : Flags) (a b : ℕ) → product_raises_no_new_flags f g a b ≡ true → T (not (is_nan (mul f (of_bits f a) (of_bits f b))))
+pub product_number : (f : Format) (g : Flags) (a b : ℕ) → product_raises_no_new_flags f g a b ≡ true
+    → T (not (is_nan (mul f (of_bits f a) (of_bits f b))))
 product_number binary32 g a b none =
     let below = Single.product_below g a b none in
     product_no_nan binary32 _ _ (Singles.finite a below.0).magnitude.finite (Singles.finite b below.1).magnitude.finite
@@ -87,7 +91,8 @@ quotient_operands binary64 g a b none =
     let normal = both_normal g a b none in
     (pattern_no_nan a (normal_below a normal.0), pattern_no_nan b (normal_below b normal.1))
 
-pub quotient_number : (f : Format) (g : Flags) (a b : ℕ) → quotient_raises_no_new_flags f g a b ≡ true → T (not (is_nan (div f (of_bits f a) (of_bits f b))))
+pub quotient_number : (f : Format) (g : Flags) (a b : ℕ) → quotient_raises_no_new_flags f g a b ≡ true
+    → T (not (is_nan (div f (of_bits f a) (of_bits f b))))
 quotient_number binary32 g a b none =
     let middling = Single.both_middling g a b none in
     Singles.quotient_no_nan a b (Single.middling_so a middling.0) (Single.middling_so b middling.1)
@@ -95,7 +100,8 @@ quotient_number binary64 g a b none =
     let normal = both_normal g a b none in
     quotient_no_nan a b normal.0 normal.1
 
-pub quotient_flags_there : (f : Format) (g : Flags) (a b : ℕ) → quotient_raises_no_new_flags f g a b ≡ true → accrued g (div_flags f a b) ≡ g
+pub quotient_flags_there : (f : Format) (g : Flags) (a b : ℕ) → quotient_raises_no_new_flags f g a b ≡ true
+    → accrued g (div_flags f a b) ≡ g
 quotient_flags_there binary32 g a b none = Single.quotient_raises_none g a b _ none refl
 quotient_flags_there binary64 g a b none = quotient g a b none
 

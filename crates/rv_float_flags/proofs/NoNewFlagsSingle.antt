@@ -4,12 +4,14 @@ use Rattle.std.proofs.Math.Nat.{zero-mul}
 use Rattle.std.proofs.lemmas.Bool.{and_parts, eqb-true, leb-true, ltb-true, or_cases}
 use Rattle.std.specs.Float.{float_zero}
 use Rattle.rv_float_flags.specs.Flags.{accrued}
-use Rattle.rv_float_flags.specs.NoNewFlags.{is_single_finite, is_single_middling, is_single_moderate, single_product_raises_no_new_flags, single_quotient_raises_no_new_flags, single_sum_raises_no_new_flags}
+use Rattle.rv_float_flags.specs.NoNewFlags.{is_single_finite, is_single_middling, is_single_moderate, single_product_raises_no_new_flags}
+use Rattle.rv_float_flags.specs.NoNewFlags.{single_quotient_raises_no_new_flags, single_sum_raises_no_new_flags}
 use Rattle.rv_float_flags.specs.Operations.{add_flags, div_flags, mul_flags, sqrt_flags, sub_flags}
 use Rattle.rv_float_flags.specs.Scaled.{single_exponent}
 use Rattle.rv_float_flags.specs.declared.flags.Flags.{Flags}
 use Rattle.rv_float_flags.proofs.NoNewFlagsDouble.{root_flags_there}
-use Rattle.rv_float_flags.proofs.Singles.{difference, finite, middling, moderate, product, product_of_zero, quotient, sum, Finite, Middling, Moderate}
+use Rattle.rv_float_flags.proofs.Singles.{difference, finite, middling, moderate, product, product_of_zero, quotient, sum, Finite, Middling}
+use Rattle.rv_float_flags.proofs.Singles.{Moderate}
 use lib.Ieee.{add, binary32, div, lt, mul, of_bits, sub, to_bits}
 
 finite_so : (a : ℕ) → is_single_finite a ≡ true → Finite a
@@ -25,7 +27,8 @@ pub middling_below : (a : ℕ) → is_single_middling a ≡ true → a % 2147483
 middling_below a h = let l = ltb-true (single_exponent a) 190 (and_parts (nat_le 64 (single_exponent a)) _ h).1 in omega (arith, l)
 
 -- neither of the two is a NaN
-pub sum_below : (g : Flags) (a b : ℕ) → single_sum_raises_no_new_flags g a b ≡ true → (a % 2147483648 < 2139095040) × (b % 2147483648 < 2139095040)
+pub sum_below : (g : Flags) (a b : ℕ) → single_sum_raises_no_new_flags g a b ≡ true
+    → (a % 2147483648 < 2139095040) × (b % 2147483648 < 2139095040)
 sum_below g a b h =
     let last = and_parts _ _ h in
     let l = ltb-true (single_exponent a) 253 (and_parts _ _ last.0).1 in
@@ -34,15 +37,19 @@ sum_below g a b h =
 
 pub sum_raises_none : (g : Flags) (a b z : ℕ) → single_sum_raises_no_new_flags g a b ≡ true
     → z ≡ to_bits binary32 (add binary32 (of_bits binary32 a) (of_bits binary32 b)) → accrued g (add_flags binary32 a b) ≡ g
-sum_raises_none g a b z h is = let last = and_parts _ _ h in let first = and_parts _ _ last.0 in sum g a b z (moderate_so a first.1) (moderate_so b last.1) first.0 is
+sum_raises_none g a b z h is = let last = and_parts _ _ h in let first = and_parts _ _ last.0 in
+    sum g a b z (moderate_so a first.1) (moderate_so b last.1) first.0 is
 
 pub difference_raises_none : (g : Flags) (a b z : ℕ) → single_sum_raises_no_new_flags g a b ≡ true
     → z ≡ to_bits binary32 (sub binary32 (of_bits binary32 a) (of_bits binary32 b)) → accrued g (sub_flags binary32 a b) ≡ g
-difference_raises_none g a b z h is = let last = and_parts _ _ h in let first = and_parts _ _ last.0 in difference g a b z (moderate_so a first.1) (moderate_so b last.1) first.0 is
+difference_raises_none g a b z h is = let last = and_parts _ _ h in let first = and_parts _ _ last.0 in
+    difference g a b z (moderate_so a first.1) (moderate_so b last.1) first.0 is
 
-pub product_below : (g : Flags) (a b : ℕ) → single_product_raises_no_new_flags g a b ≡ true → (a % 2147483648 < 2139095040) × (b % 2147483648 < 2139095040)
+pub product_below : (g : Flags) (a b : ℕ) → single_product_raises_no_new_flags g a b ≡ true
+    → (a % 2147483648 < 2139095040) × (b % 2147483648 < 2139095040)
 product_below g a b h =
-    elim (or_cases (g.nx && is_single_middling a && is_single_middling b) (is_single_finite a && is_single_finite b && (nat_eq (a % 2147483648) 0 || nat_eq (b % 2147483648) 0)) h) [
+    elim (or_cases (g.nx && is_single_middling a && is_single_middling b)
+    (is_single_finite a && is_single_finite b && (nat_eq (a % 2147483648) 0 || nat_eq (b % 2147483648) 0)) h) [
       | inl l ↦
           let last = and_parts (g.nx && is_single_middling a) (is_single_middling b) l in
           let m = middling_below a (and_parts g.nx (is_single_middling a) last.0).1 in
@@ -73,12 +80,15 @@ product_raises_none g a b z h is = elim (or_cases _ _ h) [
       is
 ]
 
-pub both_middling : (g : Flags) (a b : ℕ) → single_quotient_raises_no_new_flags g a b ≡ true → (is_single_middling a ≡ true) × (is_single_middling b ≡ true)
+pub both_middling : (g : Flags) (a b : ℕ) → single_quotient_raises_no_new_flags g a b ≡ true
+    → (is_single_middling a ≡ true) × (is_single_middling b ≡ true)
 both_middling g a b h = let last = and_parts _ _ h in ((and_parts _ _ last.0).1, last.1)
 
 pub quotient_raises_none : (g : Flags) (a b z : ℕ) → single_quotient_raises_no_new_flags g a b ≡ true
     → z ≡ to_bits binary32 (div binary32 (of_bits binary32 a) (of_bits binary32 b)) → accrued g (div_flags binary32 a b) ≡ g
-quotient_raises_none g a b z h is = let last = and_parts _ _ h in let first = and_parts _ _ last.0 in quotient g a b z (middling_so a first.1) (middling_so b last.1) first.0 is
+quotient_raises_none g a b z h is = let last = and_parts _ _ h in let first = and_parts _ _ last.0 in
+    quotient g a b z (middling_so a first.1) (middling_so b last.1) first.0 is
 
-pub root_raises_none : (g : Flags) (a : ℕ) → g.nx ≡ true → is_single_finite a ≡ true → lt (of_bits binary32 a) float_zero ≡ false → accrued g (sqrt_flags binary32 a) ≡ g
+pub root_raises_none : (g : Flags) (a : ℕ) → g.nx ≡ true → is_single_finite a ≡ true → lt (of_bits binary32 a) float_zero ≡ false
+    → accrued g (sqrt_flags binary32 a) ≡ g
 root_raises_none g a there h above = root_flags_there binary32 g a there (finite_so a h).magnitude.finite above

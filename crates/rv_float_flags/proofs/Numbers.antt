@@ -8,10 +8,12 @@ use Rattle.rv_float_flags.specs.Exact.{combined}
 
 -- two tests of the same fact
 pub same_eq : (a b x y : ℕ) → (a ≡ b → x ≡ y) → (x ≡ y → a ≡ b) → nat_eq a b ≡ nat_eq x y
-same_eq a b x y f g = same_from_decides {P = x ≡ y} (nat_eq a b) (nat_eq x y) (Decides-like (nat_eq a b) f g (Decides-eqb a b)) (Decides-eqb x y)
+same_eq a b x y f g =
+    same_from_decides {P = x ≡ y} (nat_eq a b) (nat_eq x y) (Decides-like (nat_eq a b) f g (Decides-eqb a b)) (Decides-eqb x y)
 
 pub same_lt : (a b x y : ℕ) → (a < b → x < y) → (x < y → a < b) → nat_lt a b ≡ nat_lt x y
-same_lt a b x y f g = same_from_decides {P = x < y} (nat_lt a b) (nat_lt x y) (Decides-like (nat_lt a b) f g (Decides-ltb a b)) (Decides-ltb x y)
+same_lt a b x y f g =
+    same_from_decides {P = x < y} (nat_lt a b) (nat_lt x y) (Decides-like (nat_lt a b) f g (Decides-ltb a b)) (Decides-ltb x y)
 
 -- a factor that both sides have
 pub eq_times : (x y p : ℕ) → 0 < p → nat_eq x y ≡ nat_eq (x * p) (y * p)

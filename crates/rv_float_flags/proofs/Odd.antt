@@ -1,5 +1,6 @@
 -- Odd digits: the zeros at a number's end divided out, and sums that are too long for few digits.
-use Rattle.std.proofs.Common.{◌≡◌, ℕ, zero, suc, ◌+◌, ◌-◌, ◌*◌, ◌/◌, ◌%◌, ◌^◌, ◌<◌, ◌≤◌, Bool, true, false, sym, ap, ◌∙◌, refl, arith, inl, inr}
+use Rattle.std.proofs.Common.{◌≡◌, ℕ, zero, suc, ◌+◌, ◌-◌, ◌*◌, ◌/◌, ◌%◌, ◌^◌, ◌<◌, ◌≤◌, Bool, true, false, sym, ap, ◌∙◌, refl, arith, inl}
+use Rattle.std.proofs.Common.{inr}
 use Rattle.std.proofs.Math.Nat.{div-div-eq-div-mul, mul-one, div-one, mul-le-mul_right, mul_left_comm, pow-succ', eq_of_mul-eq-mul_right}
 use Rattle.std.proofs.lemmas.Bool.{cases_lt}
 use Rattle.std.proofs.lemmas.Nat.{pow-add, pow_pos}
@@ -45,7 +46,9 @@ same_number n i =
 -- an odd number of more than 53 digits is no other with fewer
 even_times : (k n : ℕ) → 0 < n → k * 2 ^ n % 2 ≡ 0
 even_times k zero p = absurd (omega (arith, p))
-even_times k (suc n) p = let e : 2 ^ suc n ≡ 2 * 2 ^ n = pow-succ' 2 n in let f : k * 2 ^ suc n ≡ k * 2 ^ n * 2 = omega (arith, ap (λ (x : ℕ). k * x) e) in omega (arith, f)
+even_times k (suc n) p =
+    let e : 2 ^ suc n ≡ 2 * 2 ^ n = pow-succ' 2 n in let f : k * 2 ^ suc n ≡ k * 2 ^ n * 2 = omega (arith, ap (λ (x : ℕ). k * x) e) in
+    omega (arith, f)
 
 pub odd_far : (s i k g : ℕ) → s % 2 ≡ 1 → 2 ^ 53 ≤ s → k < 2 ^ 53 → s * 2 ^ i ≡ k * 2 ^ g → ⊥
 odd_far s i k g o l h e = elim (cases_lt i g) [
@@ -66,5 +69,7 @@ odd_far s i k g o l h e = elim (cases_lt i g) [
 pub far_sum : (o : Bool) (a b n : ℕ) → a % 2 ≡ 1 → a < 2 ^ 106 → b < 2 ^ 106 → 2 ^ 120 ≤ b * 2 ^ n
     → (combined o a (b * 2 ^ n) % 2 ≡ 1) × (2 ^ 53 ≤ combined o a (b * 2 ^ n))
 far_sum o a b zero p h k l = absurd (omega (arith, k, l))
-far_sum true a b (suc n) p h k l = let e : b * 2 ^ suc n % 2 ≡ 0 = even_times b (suc n) (omega arith) in (omega (arith, e, p, h, l), omega (arith, h, l))
-far_sum false a b (suc n) p h k l = let e : b * 2 ^ suc n % 2 ≡ 0 = even_times b (suc n) (omega arith) in (omega (arith, e, p, h, l), omega (arith, h, l))
+far_sum true a b (suc n) p h k l = let e : b * 2 ^ suc n % 2 ≡ 0 = even_times b (suc n) (omega arith) in
+    (omega (arith, e, p, h, l), omega (arith, h, l))
+far_sum false a b (suc n) p h k l = let e : b * 2 ^ suc n % 2 ≡ 0 = even_times b (suc n) (omega arith) in
+    (omega (arith, e, p, h, l), omega (arith, h, l))

@@ -1,5 +1,6 @@
 -- What a quotient of normal doubles raises beside NX, where they lie close enough.
-use Rattle.std.proofs.Common.{◌≡◌, ℕ, suc, ◌+◌, ◌-◌, ◌*◌, ◌%◌, ◌^◌, ◌<◌, ◌≤◌, Bool, true, false, not, ◌&&◌, ◌||◌, nat_le, inl, inr, mul-pos, sym, ap, ◌∙◌, refl, arith}
+use Rattle.std.proofs.Common.{◌≡◌, ℕ, suc, ◌+◌, ◌-◌, ◌*◌, ◌%◌, ◌^◌, ◌<◌, ◌≤◌, Bool, true, false, not, ◌&&◌, ◌||◌, nat_le, inl, inr, mul-pos}
+use Rattle.std.proofs.Common.{sym, ap, ◌∙◌, refl, arith}
 use Rattle.std.proofs.Math.Nat.{eq-zero-or-pos, lt_of_mul-lt-mul_right, mul-lt-mul_of_pos_right}
 use Rattle.std.proofs.Math.Pow.{pow_mono}
 use Rattle.std.proofs.lemmas.Nat.{mul-le, pow-add, pow_pos}
@@ -39,7 +40,8 @@ normal_so a p h =
     let x_small : x < 2046 = omega (arith, h, p) in
     record {
       scaled = record { digits = 4503599627370496 + a % 4503599627370496; place = x };
-      magnitude = normal binary64 a x 0 _ e (λ ones. absurd (omega (arith, ones, x_small))) refl refl (omega arith) (omega arith) (omega (arith, x_small));
+      magnitude = normal binary64 a x 0 _ e (λ ones. absurd (omega (arith, ones, x_small))) refl refl (omega arith) (omega arith)
+          (omega (arith, x_small));
       place = refl;
       least = omega arith;
       exponent = p;
@@ -47,7 +49,8 @@ normal_so a p h =
 
 finite_fraction : (r : Ratio) (n m : ℕ) → IsFraction r n m → n < 2 ^ 3171 * m → float_is_finite (rounded binary64 r) ≡ true
 finite_fraction r n m fraction h =
-    let a : r.numerator * (2 ^ 1074 * 2 ^ 1074) * m ≡ n * r.denominator = ap (λ (z : ℕ). r.numerator * z * m) (sym square) ∙ fraction.value in
+    let a : r.numerator * (2 ^ 1074 * 2 ^ 1074) * m ≡ n * r.denominator =
+    ap (λ (z : ℕ). r.numerator * z * m) (sym square) ∙ fraction.value in
     let b : n * r.denominator < 2 ^ 3171 * m * r.denominator = mul-lt-mul_of_pos_right h fraction.nonzero in
     let c : r.numerator * 2 ^ 1074 * (2 ^ 1074 * m) < 2 ^ 2097 * r.denominator * (2 ^ 1074 * m) = omega (arith, a, b) in
     finite_below binary64 r fraction.nonzero (lt_of_mul-lt-mul_right (2 ^ 1074 * m) c)
@@ -56,7 +59,8 @@ finite_fraction r n m fraction h =
 below : (d i e j : ℕ) → d < 2 ^ 53 → 2 ^ 52 ≤ e → i ≤ j + 1021 → d * 2 ^ (i + 2148) < 2 ^ 3171 * (e * 2 ^ j)
 below d i e j h k l =
     let a : 2 ^ (i + 2148) ≤ 2 ^ (j + 3169) = pow_mono (omega (arith, l)) in
-    let b : d * 2 ^ (i + 2148) ≤ (2 ^ 53 - 1) * 2 ^ (j + 3169) = mul-le d (2 ^ (i + 2148)) (2 ^ 53 - 1) (2 ^ (j + 3169)) (omega (arith, h)) a in
+    let b : d * 2 ^ (i + 2148) ≤ (2 ^ 53 - 1) * 2 ^ (j + 3169) =
+    mul-le d (2 ^ (i + 2148)) (2 ^ 53 - 1) (2 ^ (j + 3169)) (omega (arith, h)) a in
     let c : 2 ^ (j + 3169) ≡ 2 ^ j * 2 ^ 3169 = pow-add 2 j 3169 in
     let p : 0 < 2 ^ j = pow_pos j in
     let f : 2 ^ 52 * 2 ^ j ≤ e * 2 ^ j = mul-le (2 ^ 52) (2 ^ j) e (2 ^ j) k (omega arith) in
@@ -136,7 +140,8 @@ quotient g a b found =
     (finite_fraction (exact_quotient x y) _ _ fraction (below d i e j p.magnitude.narrow q.least near))
     in
     sym
-    (of_quotient_so (accrued g) binary64 x y p.scaled q.scaled z (Some f.scaled) g p.magnitude q.magnitude invalid_not divided_not refl f.magnitude
+    (of_quotient_so (accrued g) binary64 x y p.scaled q.scaled z (Some f.scaled) g p.magnitude q.magnitude invalid_not divided_not refl
+    f.magnitude
     (λ r fraction result.
     beside g binary64 r f.scaled there result
     (underflow binary64 r limit _ _ (record { digits = refl; place = refl }) fraction
@@ -144,7 +149,8 @@ quotient g a b found =
     ∙ no_and (is_inexact binary64 r)))
     ∙ ap (accrued g) (none_signals binary64 a b (quotient_flags binary64 x y) invalid p.magnitude.finite q.magnitude.finite))
 
-pub quotient_no_nan : (a b : ℕ) → is_normal a ≡ true → is_normal b ≡ true → T (not (is_nan (div binary64 (of_bits binary64 a) (of_bits binary64 b))))
+pub quotient_no_nan : (a b : ℕ) → is_normal a ≡ true → is_normal b ≡ true
+    → T (not (is_nan (div binary64 (of_bits binary64 a) (of_bits binary64 b))))
 quotient_no_nan a b h k =
     let p = normal_of a h in
     let q = normal_of b k in

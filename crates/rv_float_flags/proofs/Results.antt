@@ -1,5 +1,6 @@
 -- The library's operations round the exact results, whatever their signs.
-use Rattle.std.proofs.Common.{◌≡◌, ℕ, zero, suc, ◌+◌, ◌-◌, ◌*◌, ◌/◌, ◌^◌, ◌<◌, ◌≤◌, Bool, true, false, cond, ◌&&◌, nat_lt, sym, ap, ◌∙◌, subst, refl, arith, inl, inr}
+use Rattle.std.proofs.Common.{◌≡◌, ℕ, zero, suc, ◌+◌, ◌-◌, ◌*◌, ◌/◌, ◌^◌, ◌<◌, ◌≤◌, Bool, true, false, cond, ◌&&◌, nat_lt, sym, ap, ◌∙◌}
+use Rattle.std.proofs.Common.{subst, refl, arith, inl, inr}
 use Rattle.std.specs.Prelude.{None, Some}
 use Rattle.std.specs.declared.option.Option.{Option}
 use Rattle.std.specs.Float.{float_is_finite, float_mul_add, float_zero, is_sign_negative, round_to_format}
@@ -11,7 +12,8 @@ use Rattle.rv_float_flags.specs.declared.scaled.Scaled.{Scaled}
 use Prim.Native.Nat.{compare, ◌%◌}
 use lib.Dec.{T, eqb}
 use Rattle.std.proofs.Math.Nat.{eq-zero-or-pos, zero-mul}
-use lib.Ieee.{Float, Format, nan, inf, fin, add, mul, div, down, emax, eq, fits, level, low, nearest, odd, of_bits, prec, round, size, sum, to_bits, units, unlike, up}
+use lib.Ieee.{Float, Format, nan, inf, fin, add, mul, div, down, emax, eq, fits, level, low, nearest, odd, of_bits, prec, round, size, sum}
+use lib.Ieee.{to_bits, units, unlike, up}
 use lib.Ieee.Bits.{of_bits-to_bits}
 use lib.Ieee.Fits.{core, round_is}
 use lib.Ieee.Positive.{den, num}
@@ -52,13 +54,16 @@ either_round f s t a c =
     (subst (λ (y : Float). SameSize (core f s n c k) y) (sym (round_is f t a c)) (either_core f s t n c k))
 
 -- the pattern of a value, where the format holds that
-pub of_pattern : (f : Format) (v : Float) (p : Option Scaled) → T (fits f v) → IsMagnitudeOf f (of_bits f (to_bits f v)) p → IsMagnitudeOf f v p
+pub of_pattern : (f : Format) (v : Float) (p : Option Scaled) → T (fits f v) → IsMagnitudeOf f (of_bits f (to_bits f v)) p
+    → IsMagnitudeOf f v p
 of_pattern f v p h g = subst (λ (x : Float). IsMagnitudeOf f x p) (of_bits-to_bits f v h) g
 
 -- what is rounded with any sign
-pub rounded_so : (f : Format) (s : Bool) (v : Float) (r : Ratio) (p : Option Scaled) → v ≡ round f s r.numerator r.denominator → IsMagnitudeOf f v p → IsMagnitudeOf f (rounded f r) p
+pub rounded_so : (f : Format) (s : Bool) (v : Float) (r : Ratio) (p : Option Scaled) → v ≡ round f s r.numerator r.denominator
+    → IsMagnitudeOf f v p → IsMagnitudeOf f (rounded f r) p
 rounded_so f s v r p e h =
-    magnitude_of f (round f s r.numerator r.denominator) (rounded f r) p (either_round f s false r.numerator r.denominator) (subst (λ (x : Float). IsMagnitudeOf f x p) e h)
+    magnitude_of f (round f s r.numerator r.denominator) (rounded f r) p (either_round f s false r.numerator r.denominator)
+    (subst (λ (x : Float). IsMagnitudeOf f x p) e h)
 
 -- ---- sums
 

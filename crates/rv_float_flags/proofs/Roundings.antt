@@ -1,5 +1,6 @@
 -- What of a rounding follows from the exact result as a multiple of 2 ^ -2148.
-use Rattle.std.proofs.Common.{◌≡◌, ℕ, zero, suc, ◌+◌, ◌-◌, ◌*◌, ◌^◌, ◌<◌, ◌≤◌, Bool, true, false, cond, not, ◌&&◌, nat_eq, nat_lt, sym, ap, ◌∙◌, subst, refl, arith, inl, inr}
+use Rattle.std.proofs.Common.{◌≡◌, ℕ, zero, suc, ◌+◌, ◌-◌, ◌*◌, ◌^◌, ◌<◌, ◌≤◌, Bool, true, false, cond, not, ◌&&◌, nat_eq, nat_lt, sym, ap}
+use Rattle.std.proofs.Common.{◌∙◌, subst, refl, arith, inl, inr}
 use Rattle.std.proofs.Math.Nat.{eq_of_mul-eq-mul_right, eq-zero-or-pos, lt_of_mul-lt-mul_right, mul-pos, pow-succ', zero-mul}
 use Rattle.std.proofs.Math.Pow.{pow_mono}
 use Rattle.std.proofs.lemmas.Bool.{cases_Bool, eq-eqb, lt-ltb, ltb-true}
@@ -26,8 +27,10 @@ cross : (nx dx rn rd n m p u : ℕ) → nx * u ≡ p * dx → rn * (u * u) * m �
     → nat_eq (nx * rd) (rn * dx) ≡ nat_eq n (p * u * m)
 cross nx dx rn rd n m p u e f R D U M =
     same_eq (nx * rd) (rn * dx) n (p * u * m)
-    (λ g. eq_of_mul-eq-mul_right (rd * dx) (mul-pos R D) n (p * u * m) (omega (arith, ap (λ (z : ℕ). z * dx) f, ap (λ (z : ℕ). z * (u * u * m)) g, ap (λ (z : ℕ). z * (u * m * rd)) e)))
-    (λ g. eq_of_mul-eq-mul_right (u * u * m) (mul-pos (mul-pos U U) M) (nx * rd) (rn * dx) (omega (arith, ap (λ (z : ℕ). z * dx) f, ap (λ (z : ℕ). z * (rd * dx)) g, ap (λ (z : ℕ). z * (u * m * rd)) e)))
+    (λ g. eq_of_mul-eq-mul_right (rd * dx) (mul-pos R D) n (p * u * m)
+    (omega (arith, ap (λ (z : ℕ). z * dx) f, ap (λ (z : ℕ). z * (u * u * m)) g, ap (λ (z : ℕ). z * (u * m * rd)) e)))
+    (λ g. eq_of_mul-eq-mul_right (u * u * m) (mul-pos (mul-pos U U) M) (nx * rd) (rn * dx)
+    (omega (arith, ap (λ (z : ℕ). z * dx) f, ap (λ (z : ℕ). z * (rd * dx)) g, ap (λ (z : ℕ). z * (u * m * rd)) e)))
 
 pub square : 2 ^ 2148 ≡ 2 ^ 1074 * 2 ^ 1074
 square = pow-add 2 1074 1074
@@ -59,11 +62,13 @@ multiple f r w p h e =
     (round_exact f false r.numerator r.denominator w 0 p h (omega (arith, a, b, h)) (e ∙ ap (λ (z : ℕ). z * r.denominator) (sym a)))
 
 pub zero_exact : (f : Format) (r : Ratio) → 0 < r.denominator → r.numerator ≡ 0 → is_exactly (rounded f r) r ≡ true
-zero_exact f r p z = multiple f r 0 p (pow_pos (prec f)) (ap (λ (x : ℕ). x * 2 ^ low f) z ∙ zero-mul (2 ^ low f) ∙ sym (zero-mul r.denominator))
+zero_exact f r p z =
+    multiple f r 0 p (pow_pos (prec f)) (ap (λ (x : ℕ). x * 2 ^ low f) z ∙ zero-mul (2 ^ low f) ∙ sym (zero-mul r.denominator))
 
 -- ---- a rounded result is finite or infinite
 
-units-finite : (f : Format) (b s : Bool) (d q k l : ℕ) → float_is_infinite (cond b (odd d s q k l) (inf s)) ≡ not (float_is_finite (cond b (odd d s q k l) (inf s)))
+units-finite : (f : Format) (b s : Bool) (d q k l : ℕ)
+    → float_is_infinite (cond b (odd d s q k l) (inf s)) ≡ not (float_is_finite (cond b (odd d s q k l) (inf s)))
 unfolding odd float_is_finite float_is_infinite
 units-finite f true s d zero k l = refl
 units-finite f true s d (suc q) k l = refl
@@ -80,7 +85,8 @@ either f s a c = subst (λ (x : Float). float_is_infinite x ≡ not (float_is_fi
 
 limit_is : (f : Format) (l : Scaled) → IsLimit f l → l.digits ≡ 2 * 2 ^ prec f - 1
 limit_is f l h =
-    let e : 2 ^ (prec f + 1) ≡ 2 * 2 ^ prec f = ap (λ (x : ℕ). 2 ^ x) (let q : prec f + 1 ≡ suc (prec f) = omega arith in q) ∙ pow-succ' 2 (prec f) in
+    let e : 2 ^ (prec f + 1) ≡ 2 * 2 ^ prec f =
+    ap (λ (x : ℕ). 2 ^ x) (let q : prec f + 1 ≡ suc (prec f) = omega arith in q) ∙ pow-succ' 2 (prec f) in
     h.digits ∙ ap (λ (x : ℕ). x - 1) e
 
 place_is : (f : Format) (l : Scaled) → IsLimit f l → 2 ^ low f * 4 * 2 ^ l.place ≡ 2 ^ 2148
@@ -97,20 +103,24 @@ size_pos n h = elim (eq-zero-or-pos (size n)) [
   | inr p ↦ p
 ]
 
-scaled_test : (rn rd n m l q d v : ℕ) → rn * v * m ≡ n * rd → q * 4 * l ≡ v → 0 < rd → 0 < l → 0 < m → nat_lt (rn * q * 4) (d * rd) ≡ nat_lt n (d * l * m)
+scaled_test : (rn rd n m l q d v : ℕ) → rn * v * m ≡ n * rd → q * 4 * l ≡ v → 0 < rd → 0 < l → 0 < m
+    → nat_lt (rn * q * 4) (d * rd) ≡ nat_lt n (d * l * m)
 scaled_test rn rd n m l q d v e f R L M =
     let a : rn * (q * 4 * l) * m ≡ n * rd = ap (λ (z : ℕ). rn * z * m) f ∙ e in
     let b : rn * q * 4 * (l * m) ≡ n * rd = (let k : rn * q * 4 * (l * m) ≡ rn * (q * 4 * l) * m = omega arith in k) ∙ a in
     let c : d * rd * (l * m) ≡ d * l * m * rd = omega arith in
-    lt_times (rn * q * 4) (d * rd) (l * m) (mul-pos L M) ∙ ap (λ (z : ℕ). nat_lt z (d * rd * (l * m))) b ∙ ap (λ (z : ℕ). nat_lt (n * rd) z) c ∙ sym (lt_times n (d * l * m) rd R)
+    lt_times (rn * q * 4) (d * rd) (l * m) (mul-pos L M) ∙ ap (λ (z : ℕ). nat_lt z (d * rd * (l * m))) b
+    ∙ ap (λ (z : ℕ). nat_lt (n * rd) z) c ∙ sym (lt_times n (d * l * m) rd R)
 
-pub tiny : (f : Format) (r : Ratio) (l : Scaled) (n m : ℕ) → IsLimit f l → IsFraction r n m → is_tiny f r ≡ nat_lt 0 r.numerator && nat_lt n (amount l * m)
+pub tiny : (f : Format) (r : Ratio) (l : Scaled) (n m : ℕ) → IsLimit f l → IsFraction r n m
+    → is_tiny f r ≡ nat_lt 0 r.numerator && nat_lt n (amount l * m)
 tiny f r l n m h g =
     let t = size r.denominator in
     ap (λ (b : Bool). nat_lt 0 r.numerator && b)
     (tiny_quarters f r.numerator r.denominator t g.nonzero (size_pos r.denominator g.nonzero)
     ∙ ap (λ (x : ℕ). nat_lt (r.numerator * 2 ^ low f * 4) (x * r.denominator)) (sym (limit_is f l h))
-    ∙ scaled_test r.numerator r.denominator n m (2 ^ l.place) (2 ^ low f) l.digits (2 ^ 2148) g.value (place_is f l h) g.nonzero (pow_pos l.place) g.divisor)
+    ∙ scaled_test r.numerator r.denominator n m (2 ^ l.place) (2 ^ low f) l.digits (2 ^ 2148) g.value (place_is f l h) g.nonzero
+    (pow_pos l.place) g.divisor)
 
 pub no_and : (x : Bool) → (x && false) ≡ false
 no_and true = refl
@@ -140,17 +150,22 @@ pub underflow : (f : Format) (r : Ratio) (l : Scaled) (n m : ℕ) → IsLimit f 
 underflow f r l n m h g = ap (λ (b : Bool). b && is_inexact f r) (tiny f r l n m h g) ∙ no_zero f r (nat_lt n (amount l * m)) g.nonzero
 
 -- a multiple of the format's smallest value that is below the limit is exact
-pub coarse_exact : (f : Format) (r : Ratio) (l : Scaled) (n w : ℕ) → IsLimit f l → IsFraction r n 1 → w * 2 ^ (l.place + 2) ≡ n → n < amount l
+pub coarse_exact : (f : Format) (r : Ratio) (l : Scaled) (n w : ℕ) → IsLimit f l → IsFraction r n 1 → w * 2 ^ (l.place + 2) ≡ n
+    → n < amount l
     → is_exactly (rounded f r) r ≡ true
 coarse_exact f r l n w h g e k =
     let a : 2 ^ (l.place + 2) ≡ 2 ^ l.place * 2 ^ 2 = pow-add 2 l.place 2 in
-    let b : w * 4 * 2 ^ l.place ≡ n = (let x : w * 4 * 2 ^ l.place ≡ w * (2 ^ l.place * 2 ^ 2) = omega arith in x) ∙ ap (λ (z : ℕ). w * z) (sym a) ∙ e in
+    let b : w * 4 * 2 ^ l.place ≡ n =
+    (let x : w * 4 * 2 ^ l.place ≡ w * (2 ^ l.place * 2 ^ 2) = omega arith in x) ∙ ap (λ (z : ℕ). w * z) (sym a) ∙ e in
     let c : w * 4 < l.digits = lt_of_mul-lt-mul_right (2 ^ l.place) (omega (arith, b, k)) in
     let d : l.digits ≡ 2 * 2 ^ prec f - 1 = limit_is f l h in
-    let s : r.numerator * (2 ^ low f * 4 * 2 ^ l.place) * 1 ≡ n * r.denominator = ap (λ (z : ℕ). r.numerator * z * 1) (place_is f l h) ∙ g.value in
-    let t : r.numerator * 2 ^ low f * (4 * 2 ^ l.place) ≡ w * r.denominator * (4 * 2 ^ l.place) = omega (arith, s, ap (λ (z : ℕ). z * r.denominator) b) in
+    let s : r.numerator * (2 ^ low f * 4 * 2 ^ l.place) * 1 ≡ n * r.denominator =
+    ap (λ (z : ℕ). r.numerator * z * 1) (place_is f l h) ∙ g.value in
+    let t : r.numerator * 2 ^ low f * (4 * 2 ^ l.place) ≡ w * r.denominator * (4 * 2 ^ l.place) =
+    omega (arith, s, ap (λ (z : ℕ). z * r.denominator) b) in
     let u : 0 < 4 * 2 ^ l.place = let x = pow_pos l.place in omega (arith, x) in
-    multiple f r w g.nonzero (omega (arith, c, d)) (eq_of_mul-eq-mul_right (4 * 2 ^ l.place) u (r.numerator * 2 ^ low f) (w * r.denominator) t)
+    multiple f r w g.nonzero (omega (arith, c, d))
+    (eq_of_mul-eq-mul_right (4 * 2 ^ l.place) u (r.numerator * 2 ^ low f) (w * r.denominator) t)
 
 -- ---- flags
 
@@ -158,7 +173,8 @@ pub finite_some : (f : Format) (x : Float) (p : Option Scaled) → IsMagnitudeOf
 finite_some f x None h = h
 finite_some f x (Some q) h = h.finite
 
-pub overflow : (f : Format) (r : Ratio) (p : Option Scaled) (b : Bool) → is_some p ≡ not b → IsMagnitudeOf f (rounded f r) p → b ≡ overflows f r
+pub overflow : (f : Format) (r : Ratio) (p : Option Scaled) (b : Bool) → is_some p ≡ not b → IsMagnitudeOf f (rounded f r) p
+    → b ≡ overflows f r
 overflow f r p b e h = twice b ∙ ap not (sym e ∙ sym (finite_some f (rounded f r) p h)) ∙ sym (either f false r.numerator r.denominator)
   where
     twice : (b : Bool) → b ≡ not (not b)
@@ -170,7 +186,8 @@ pub flags : (f : Format) (r : Ratio) (o u x : Bool) → o ≡ overflows f r → 
 flags f r o u x a b c = cc
 
 -- what a rounding that does not underflow raises beside flags that have NX
-pub raised_beside : (g : Flags) (b o u x : Bool) → g.nx ≡ true → b ≡ o → u ≡ false → accrued g (overflow_if b) ≡ accrued g (record { nv = false; dz = false; of = o; uf = u; nx = x })
+pub raised_beside : (g : Flags) (b o u x : Bool) → g.nx ≡ true → b ≡ o → u ≡ false
+    → accrued g (overflow_if b) ≡ accrued g (record { nv = false; dz = false; of = o; uf = u; nx = x })
 raised_beside g b o u x there overflows none = rw (there, overflows, none) refl
 
 -- ---- as the code has these numbers
@@ -205,7 +222,8 @@ coarse_none f r l n w h g e = elim (cases_Bool (nat_lt n (amount l))) [
   | inr t ↦ ap (λ (b : Bool). is_inexact f r && b) t ∙ no_and (is_inexact f r)
 ]
 
-pub two_coarse : (o : Bool) (a i b j p : ℕ) → p ≤ i → p ≤ j → combined o (a * 2 ^ (i - p)) (b * 2 ^ (j - p)) * 2 ^ p ≡ combined o (a * 2 ^ i) (b * 2 ^ j)
+pub two_coarse : (o : Bool) (a i b j p : ℕ) → p ≤ i → p ≤ j
+    → combined o (a * 2 ^ (i - p)) (b * 2 ^ (j - p)) * 2 ^ p ≡ combined o (a * 2 ^ i) (b * 2 ^ j)
 two_coarse o a i b j p h k =
     sym (combined_times o (a * 2 ^ (i - p)) (b * 2 ^ (j - p)) (2 ^ p))
     ∙ ap (λ (x : ℕ). combined o x (b * 2 ^ (j - p) * 2 ^ p)) (power_split a p i h)

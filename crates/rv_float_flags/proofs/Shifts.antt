@@ -1,6 +1,8 @@
 -- Shifts of numbers of at most 128 bits.
 use Rattle.std.proofs.Common.{◌≡◌, ℕ, ◌+◌, ◌-◌, ◌*◌, ◌/◌, ◌%◌, ◌^◌, ◌<◌, ◌≤◌, not, nat_eq, nat_lt, sym, ap, ◌∙◌, refl, arith, inl, inr}
-use Rattle.std.proofs.Math.Nat.{eq-zero-or-pos, mul-le-mul_left, mul-le-mul_right, mul-lt-mul_of_pos_right, mul-pos, zero-mul, mul-div_cancel, mul-mod_left, div-lt_iff_lt-mul, le-div_iff_mul-le, mod-eq_of_lt, div-eq_of_lt, div-add-mod'}
+use Rattle.std.proofs.Math.Nat.{eq-zero-or-pos, mul-le-mul_left, mul-le-mul_right, mul-lt-mul_of_pos_right, mul-pos, zero-mul}
+use Rattle.std.proofs.Math.Nat.{mul-div_cancel, mul-mod_left, div-lt_iff_lt-mul, le-div_iff_mul-le, mod-eq_of_lt, div-eq_of_lt}
+use Rattle.std.proofs.Math.Nat.{div-add-mod'}
 use Rattle.std.proofs.Math.Pow.{pow_mono}
 use Rattle.std.proofs.lemmas.Nat.{pow-add, mod_below, pow_pos, one_shl, shl_below}
 use Rattle.std.proofs.Math.Arith.{digits_div, digits_mod}
@@ -10,7 +12,8 @@ use Rattle.rv_float_flags.proofs.Numbers.{power_split, same_eq}
 -- x * 2 ^ n against 2 ^ 120
 pub short_enough : (x n : ℕ) → n < 120 → x / 2 ^ (120 - n) ≡ 0 → x * 2 ^ n < 2 ^ 120
 short_enough x n h e =
-    let l : x < 2 ^ (120 - n) = let k : x / 2 ^ (120 - n) < 1 = omega arith in let m : x < 1 * 2 ^ (120 - n) = (div-lt_iff_lt-mul (pow_pos (120 - n))).0 k in omega arith in
+    let l : x < 2 ^ (120 - n) = let k : x / 2 ^ (120 - n) < 1 = omega arith in
+    let m : x < 1 * 2 ^ (120 - n) = (div-lt_iff_lt-mul (pow_pos (120 - n))).0 k in omega arith in
     let s : x * 2 ^ n < 2 ^ (120 - n + n) = shl_below x (120 - n) n l in
     let t : 2 ^ (120 - n + n) ≡ 2 ^ 120 = ap (λ (z : ℕ). 2 ^ z) (let q : 120 - n + n ≡ 120 = omega arith in q) in
     omega (arith, s, t)
@@ -38,7 +41,8 @@ one n h = one_shl n 128 h
 pub whole_multiple : (x y p : ℕ) → 0 < p → x % p ≡ 0 → nat_eq (x / p) y ≡ nat_eq x (y * p)
 whole_multiple x y p h e =
     same_eq (x / p) y x (y * p)
-    (λ q. sym (div-add-mod' x p) ∙ ap (λ (z : ℕ). x / p * p + z) e ∙ (let k : x / p * p + 0 ≡ x / p * p = omega arith in k) ∙ ap (λ (z : ℕ). z * p) q)
+    (λ q. sym (div-add-mod' x p) ∙ ap (λ (z : ℕ). x / p * p + z) e ∙ (let k : x / p * p + 0 ≡ x / p * p = omega arith in k)
+    ∙ ap (λ (z : ℕ). z * p) q)
     (λ q. ap (λ (z : ℕ). z / p) q ∙ mul-div_cancel y h)
 
 pub no_multiple : (x y p : ℕ) → (x % p ≡ 0 → ⊥) → x ≡ y * p → ⊥
@@ -92,7 +96,8 @@ cut_below x i p h =
 -- whether a rest is there
 pub rest_test : (r s i : ℕ) → s ≡ r * 2 ^ i → not (nat_eq r 0) ≡ nat_lt 0 s
 rest_test r s i e = elim (eq-zero-or-pos r) [
-  | inl z ↦ ap not (eq-eqb r 0 z) ∙ sym (le-ltb 0 s (let k : s ≡ 0 = e ∙ ap (λ (x : ℕ). x * 2 ^ i) z ∙ zero-mul (2 ^ i) in omega (arith, k)))
+  | inl z ↦ ap not (eq-eqb r 0 z)
+      ∙ sym (le-ltb 0 s (let k : s ≡ 0 = e ∙ ap (λ (x : ℕ). x * 2 ^ i) z ∙ zero-mul (2 ^ i) in omega (arith, k)))
   | inr p ↦
       let k : 0 < s = let m : 0 < r * 2 ^ i = mul-pos p (pow_pos i) in omega (arith, m, e) in
       ap not (ne_eqb r 0 (λ z. absurd (omega (arith, z, p)))) ∙ sym (lt-ltb 0 s k)

@@ -1,5 +1,6 @@
 -- What a sum, a product or a quotient of finite singles raises beside NX, where it is finite and not tiny.
-use Rattle.std.proofs.Common.{◌≡◌, ℕ, suc, ◌+◌, ◌-◌, ◌*◌, ◌%◌, ◌^◌, ◌<◌, ◌≤◌, Bool, true, false, not, ◌&&◌, ◌||◌, mul-pos, sym, subst, ap, ◌∙◌, refl, arith, inl, inr}
+use Rattle.std.proofs.Common.{◌≡◌, ℕ, suc, ◌+◌, ◌-◌, ◌*◌, ◌%◌, ◌^◌, ◌<◌, ◌≤◌, Bool, true, false, not, ◌&&◌, ◌||◌, mul-pos, sym, subst, ap}
+use Rattle.std.proofs.Common.{◌∙◌, refl, arith, inl, inr}
 use Rattle.std.proofs.Math.Nat.{eq-zero-or-pos, lt_of_mul-lt-mul_right, mul-lt-mul_of_pos_right, zero-mul}
 use Rattle.std.proofs.Math.Pow.{pow_mono}
 use Rattle.std.proofs.lemmas.Nat.{mul-le, pow-add, pow_pos}
@@ -8,11 +9,13 @@ use Rattle.std.specs.Float.{float_is_finite, float_is_infinite, is_sign_negative
 use Rattle.std.specs.Prelude.{Some}
 use Rattle.rv_float_flags.specs.Exact.{combined, exact_product, exact_quotient, exact_sum, is_inexact, rounded, Ratio}
 use Rattle.rv_float_flags.specs.Flags.{accrued, invalid}
-use Rattle.rv_float_flags.specs.Operations.{add_flags, div_flags, is_division_by_zero, is_invalid_quotient, is_zero, mul_flags, product_flags, quotient_flags, sub_flags, sum_flags}
+use Rattle.rv_float_flags.specs.Operations.{add_flags, div_flags, is_division_by_zero, is_invalid_quotient, is_zero, mul_flags}
+use Rattle.rv_float_flags.specs.Operations.{product_flags, quotient_flags, sub_flags, sum_flags}
 use Rattle.rv_float_flags.specs.Scaled.{amount, single_exponent, IsFraction, IsMagnitude}
 use Rattle.rv_float_flags.specs.declared.flags.Flags.{Flags}
 use Rattle.rv_float_flags.specs.declared.scaled.Scaled.{Scaled}
-use Rattle.rv_float_flags.proofs.FiniteResults.{beside, coarse, combined_most, exact, finite_below, negated, raised_by, rounded_no_nan, sub_is, zero_of}
+use Rattle.rv_float_flags.proofs.FiniteResults.{beside, coarse, combined_most, exact, finite_below, negated, raised_by, rounded_no_nan}
+use Rattle.rv_float_flags.proofs.FiniteResults.{sub_is, zero_of}
 use Rattle.rv_float_flags.proofs.Fractions.{product_fraction, quotient_fraction, sum_fraction}
 use Rattle.rv_float_flags.proofs.Magnitudes.{no_magnitude, normal, subnormal}
 use Rattle.rv_float_flags.proofs.Operations.{none_signals, of_product_so, of_quotient_so, of_sum_so}
@@ -50,7 +53,8 @@ finite a h = elim (eq-zero-or-pos (single_exponent a)) [
       let x_small : x < 254 = omega (arith, h) in
       record {
         scaled = record { digits = 8388608 + a % 8388608; place = x + 925 };
-        magnitude = normal binary32 a x 925 _ e (λ ones. absurd (omega (arith, ones, x_small))) refl refl refl (omega arith) (omega (arith, x_small));
+        magnitude = normal binary32 a x 925 _ e (λ ones. absurd (omega (arith, ones, x_small))) refl refl refl (omega arith)
+            (omega (arith, x_small));
         most = λ k q l. omega (arith, e, l);
         least = λ q. (omega arith, omega (arith, e));
         zero = λ h. absurd (omega (arith, h, p));
@@ -66,11 +70,14 @@ finite_pattern a h = elim (cases_lt (a % 2147483648) 2139095040) [
   | inr l ↦ absurd (true≢false (sym h ∙ not_finite a l))
 ]
 
-finite_result : (z : ℕ) (v : Float) (r : Ratio) (u : Bool) → z ≡ to_bits binary32 v → v ≡ round binary32 u r.numerator r.denominator → float_is_finite (rounded binary32 r) ≡ true → Finite z
+finite_result : (z : ℕ) (v : Float) (r : Ratio) (u : Bool) → z ≡ to_bits binary32 v → v ≡ round binary32 u r.numerator r.denominator
+    → float_is_finite (rounded binary32 r) ≡ true → Finite z
 finite_result z v r u is rounds h =
     let same = either_round binary32 u false r.numerator r.denominator in
-    let fit : T (fits binary32 v) = subst (λ (x : Float). T (fits binary32 x)) (sym rounds) (round-fits binary32 u r.numerator r.denominator) in
-    finite_pattern z (ap (λ (x : ℕ). float_is_finite (of_bits binary32 x)) is ∙ ap float_is_finite (of_bits-to_bits binary32 v fit) ∙ ap float_is_finite rounds ∙ same.2 ∙ h)
+    let fit : T (fits binary32 v) =
+    subst (λ (x : Float). T (fits binary32 x)) (sym rounds) (round-fits binary32 u r.numerator r.denominator) in
+    finite_pattern z (ap (λ (x : ℕ). float_is_finite (of_bits binary32 x)) is ∙ ap float_is_finite (of_bits-to_bits binary32 v fit)
+    ∙ ap float_is_finite rounds ∙ same.2 ∙ h)
 
 -- less than 2 ^ 127
 finite_fraction : (r : Ratio) (n m : ℕ) → IsFraction r n m → n < 2 ^ 2275 * m → float_is_finite (rounded binary32 r) ≡ true
@@ -99,7 +106,8 @@ moderate a l =
 term_below : (d i l : ℕ) → d < 2 ^ 24 → i ≤ l → d * 2 ^ i ≤ (2 ^ 24 - 1) * 2 ^ l
 term_below d i l h k = mul-le d (2 ^ i) (2 ^ 24 - 1) (2 ^ l) (omega (arith, h)) (pow_mono k)
 
-sum_of : (g : Flags) (x y : Float) (p q : Scaled) (z : ℕ) → g.nx ≡ true → IsMagnitude binary32 x p → IsMagnitude binary32 y q → p.place ≤ 1176 → q.place ≤ 1176
+sum_of : (g : Flags) (x y : Float) (p q : Scaled) (z : ℕ) → g.nx ≡ true → IsMagnitude binary32 x p → IsMagnitude binary32 y q
+    → p.place ≤ 1176 → q.place ≤ 1176
     → z ≡ to_bits binary32 (add binary32 x y) → g ≡ accrued g (sum_flags binary32 x y)
 sum_of g x y p q z there hx hy px py is =
     let o = unlike (is_sign_negative x) (is_sign_negative y) in
@@ -110,7 +118,8 @@ sum_of g x y p q z there hx hy px py is =
     let rounds = add_rounds binary32 x y hx.finite hy.finite in
     let fraction : IsFraction (exact_sum x y) (combined o (d * 2 ^ (i + 1074)) (e * 2 ^ (j + 1074))) 1 =
     subst (λ (n : ℕ). IsFraction (exact_sum x y) n 1)
-    (ap (λ (n : ℕ). combined o n (e * 2 ^ j * 2 ^ 1074)) (raised_by d i) ∙ ap (λ (n : ℕ). combined o (d * 2 ^ (i + 1074)) n) (raised_by e j))
+    (ap (λ (n : ℕ). combined o n (e * 2 ^ j * 2 ^ 1074)) (raised_by d i)
+    ∙ ap (λ (n : ℕ). combined o (d * 2 ^ (i + 1074)) n) (raised_by e j))
     (sum_fraction binary32 o x y p q hx hy)
     in
     let most = combined_most o (d * 2 ^ (i + 1074)) (e * 2 ^ (j + 1074)) in
@@ -118,12 +127,16 @@ sum_of g x y p q z there hx hy px py is =
     let ej : j + 1074 ≤ 2250 = omega (arith, py) in
     let md = term_below d (i + 1074) 2250 hx.narrow di in
     let me = term_below e (j + 1074) 2250 hy.narrow ej in
-    let f : Finite z = finite_result z (add binary32 x y) (exact_sum x y) rounds.0 is rounds.1 (finite_fraction (exact_sum x y) _ 1 fraction (omega (arith, most, md, me))) in
-    of_sum_so (accrued g) binary32 x y p q (record { digits = d; place = i + 1074 }) (record { digits = e; place = j + 1074 }) o z (Some f.scaled) g
+    let f : Finite z =
+    finite_result z (add binary32 x y) (exact_sum x y) rounds.0 is rounds.1
+    (finite_fraction (exact_sum x y) _ 1 fraction (omega (arith, most, md, me))) in
+    of_sum_so (accrued g) binary32 x y p q (record { digits = d; place = i + 1074 }) (record { digits = e; place = j + 1074 }) o z
+    (Some f.scaled) g
     hx hy refl refl refl is f.magnitude
     (λ r fraction result.
     beside g binary32 r f.scaled there result
-    (coarse binary32 r limit o d (i + 1074) e (j + 1074) (record { digits = refl; place = refl }) (omega (arith, hx.coarse)) (omega (arith, hy.coarse)) fraction))
+    (coarse binary32 r limit o d (i + 1074) e (j + 1074) (record { digits = refl; place = refl }) (omega (arith, hx.coarse))
+    (omega (arith, hy.coarse)) fraction))
 
 pub sum : (g : Flags) (a b z : ℕ) (p : Moderate a) (q : Moderate b) → g.nx ≡ true
     → z ≡ to_bits binary32 (add binary32 (of_bits binary32 a) (of_bits binary32 b)) → accrued g (add_flags binary32 a b) ≡ g
@@ -138,10 +151,12 @@ pub difference : (g : Flags) (a b z : ℕ) (p : Moderate a) (q : Moderate b) →
 difference g a b z p q there is =
     let x = p.finite.magnitude in
     let y = q.finite.magnitude in
-    let y_negated = magnitude_of binary32 (of_bits binary32 b) (neg (of_bits binary32 b)) (Some q.finite.scaled) (negated (of_bits binary32 b)) y in
+    let y_negated =
+    magnitude_of binary32 (of_bits binary32 b) (neg (of_bits binary32 b)) (Some q.finite.scaled) (negated (of_bits binary32 b)) y in
     sym (sum_of g (of_bits binary32 a) (neg (of_bits binary32 b)) p.finite.scaled q.finite.scaled z there x y_negated p.most q.most
     (is ∙ ap (to_bits binary32) (sub_is binary32 (of_bits binary32 a) (of_bits binary32 b)))
-    ∙ ap (accrued g) (none_signals binary32 a b (sum_flags binary32 (of_bits binary32 a) (neg (of_bits binary32 b))) invalid x.finite y.finite))
+    ∙ ap (accrued g)
+    (none_signals binary32 a b (sum_flags binary32 (of_bits binary32 a) (neg (of_bits binary32 b))) invalid x.finite y.finite))
 
 -- ---- products and quotients
 
@@ -170,16 +185,19 @@ product g a b z p q there is =
     let e = y.scaled.digits in
     let j = y.scaled.place in
     let rounds = mul_rounds binary32 v w x.magnitude.finite y.magnitude.finite in
-    let most : d * e ≤ (2 ^ 24 - 1) * (2 ^ 24 - 1) = mul-le d e (2 ^ 24 - 1) (2 ^ 24 - 1) (omega (arith, x.magnitude.narrow)) (omega (arith, y.magnitude.narrow)) in
+    let most : d * e ≤ (2 ^ 24 - 1) * (2 ^ 24 - 1) =
+    mul-le d e (2 ^ 24 - 1) (2 ^ 24 - 1) (omega (arith, x.magnitude.narrow)) (omega (arith, y.magnitude.narrow)) in
     let least : 2 ^ 23 * 2 ^ 23 ≤ d * e = mul-le (2 ^ 23) (2 ^ 23) d e p.digits q.digits in
     let above : 2 ^ 1976 ≤ 2 ^ (i + j) = pow_mono {i = 1976} (omega (arith, p.least, q.least)) in
     let below : 2 ^ (i + j) ≤ 2 ^ 2226 = pow_mono {j = 2226} (omega (arith, p.most, q.most)) in
-    let top : d * e * 2 ^ (i + j) ≤ (2 ^ 24 - 1) * (2 ^ 24 - 1) * 2 ^ 2226 = mul-le (d * e) (2 ^ (i + j)) ((2 ^ 24 - 1) * (2 ^ 24 - 1)) (2 ^ 2226) most below in
+    let top : d * e * 2 ^ (i + j) ≤ (2 ^ 24 - 1) * (2 ^ 24 - 1) * 2 ^ 2226 =
+    mul-le (d * e) (2 ^ (i + j)) ((2 ^ 24 - 1) * (2 ^ 24 - 1)) (2 ^ 2226) most below in
     let bottom : 2 ^ 23 * 2 ^ 23 * 2 ^ 1976 ≤ d * e * 2 ^ (i + j) = mul-le (2 ^ 23 * 2 ^ 23) (2 ^ 1976) (d * e) (2 ^ (i + j)) least above in
     let value : d * 2 ^ i * (e * 2 ^ j) ≡ d * e * 2 ^ (i + j) = bound_at d i e j in
     let f : Finite z =
     finite_result z (mul binary32 v w) (exact_product v w) rounds.0 is rounds.1
-    (finite_fraction (exact_product v w) _ 1 (product_fraction binary32 v w x.scaled y.scaled (d * e * 2 ^ (i + j)) x.magnitude y.magnitude (sym value)) (omega (arith, top)))
+    (finite_fraction (exact_product v w) _ 1
+    (product_fraction binary32 v w x.scaled y.scaled (d * e * 2 ^ (i + j)) x.magnitude y.magnitude (sym value)) (omega (arith, top)))
     in
     sym (of_product_so (accrued g) binary32 v w x.scaled y.scaled (record { digits = d * e; place = i + j }) z (Some f.scaled) g
     x.magnitude y.magnitude refl is f.magnitude
@@ -208,7 +226,8 @@ product_of_zero g a b z x y h is =
     let value : d * 2 ^ i * (e * 2 ^ j) ≡ 0 = bound_at d i e j ∙ ap (λ (n : ℕ). n * 2 ^ (i + j)) none ∙ zero-mul (2 ^ (i + j)) in
     let f : Finite z =
     finite_result z (mul binary32 v w) (exact_product v w) rounds.0 is rounds.1
-    (finite_fraction (exact_product v w) 0 1 (product_fraction binary32 v w x.scaled y.scaled 0 x.magnitude y.magnitude (sym value)) (let k = pow_pos 2275 in omega (arith, k)))
+    (finite_fraction (exact_product v w) 0 1 (product_fraction binary32 v w x.scaled y.scaled 0 x.magnitude y.magnitude (sym value))
+    (let k = pow_pos 2275 in omega (arith, k)))
     in
     sym (of_product_so (accrued g) binary32 v w x.scaled y.scaled (record { digits = d * e; place = i + j }) z (Some f.scaled) g
     x.magnitude y.magnitude refl is f.magnitude
@@ -275,7 +294,8 @@ quotient g a b z m l there is =
     (finite_fraction (exact_quotient x y) _ _ fraction (below d i e j p.magnitude.narrow l.digits m.most l.least))
     in
     sym
-    (of_quotient_so (accrued g) binary32 x y p.scaled q.scaled z (Some f.scaled) g p.magnitude q.magnitude invalid_not divided_not is f.magnitude
+    (of_quotient_so (accrued g) binary32 x y p.scaled q.scaled z (Some f.scaled) g p.magnitude q.magnitude invalid_not divided_not is
+    f.magnitude
     (λ r fraction result.
     beside g binary32 r f.scaled there result
     (underflow binary32 r limit _ _ (record { digits = refl; place = refl }) fraction

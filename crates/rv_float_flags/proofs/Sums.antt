@@ -26,7 +26,8 @@ placed : (f : Format) (s : Bool) (m : ℕ) (e : ℤ) → down e ≤ 2 ^ low f �
 placed f s m (pos a) h = (m * 2 ^ a * 2 ^ low f, omega arith)
 placed f s m (negsuc a) h =
     let l : suc a ≤ low f = power_back (suc a) (low f) h in
-    let e : 2 ^ (low f - suc a) * 2 ^ suc a ≡ 2 ^ low f = sym (pow-add 2 (low f - suc a) (suc a)) ∙ ap (λ (x : ℕ). 2 ^ x) (sub-add_cancel l) in
+    let e : 2 ^ (low f - suc a) * 2 ^ suc a ≡ 2 ^ low f =
+    sym (pow-add 2 (low f - suc a) (suc a)) ∙ ap (λ (x : ℕ). 2 ^ x) (sub-add_cancel l) in
     (m * 2 ^ (low f - suc a), omega (arith, ap (λ (x : ℕ). m * x) e))
 
 whole : (f : Format) (x : Float) → fits f x ≡ true → float_is_finite x ≡ true → Multiple f x

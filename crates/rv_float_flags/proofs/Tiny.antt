@@ -2,7 +2,8 @@
 -- what the last of p digits counts there, and only then. So t does not matter, as long as it is not 0.
 use Rattle.std.proofs.Common.{◌≡◌, ℕ, suc, ◌+◌, ◌-◌, ◌*◌, ◌/◌, ◌%◌, ◌^◌, ◌<◌, ◌≤◌, Bool, nat_lt, sym, ap, ◌∙◌, subst, refl, arith, inl, inr}
 use Rattle.std.proofs.Math.Dec.{T, is_le, compare_is_eq, nleb→lt, eqb→eq}
-use Rattle.std.proofs.Math.Nat.{div-add-mod', div-div-eq-div-mul, div-lt_iff_lt-mul, le-div_iff_mul-le, le_trans, le_of_eq, lt_of_mul-lt-mul_right, mul-le-mul_right, mul-lt-mul_of_pos_right, mul-pos, pow-succ'}
+use Rattle.std.proofs.Math.Nat.{div-add-mod', div-div-eq-div-mul, div-lt_iff_lt-mul, le-div_iff_mul-le, le_trans, le_of_eq}
+use Rattle.std.proofs.Math.Nat.{lt_of_mul-lt-mul_right, mul-le-mul_right, mul-lt-mul_of_pos_right, mul-pos, pow-succ'}
 use Rattle.std.proofs.Math.Pow.{pow_mono}
 use Rattle.std.proofs.lemmas.Bool.{cases_lt, cases_order, le-ltb, lt-ltb}
 use Rattle.std.proofs.lemmas.Nat.{pow-add, pow_pos}
@@ -72,7 +73,8 @@ kept-ge p n c P K =
     let w = n / c in
     let s : p - 1 + k < size w = omega (arith, P, K) in
     let a : 2 ^ (p - 1) * 2 ^ k ≤ w = le_trans (le_of_eq (sym (pow-add 2 (p - 1) k))) (size_reaches w (p - 1 + k) s) in
-    le_trans (subst (λ (x : ℕ). 2 ^ (p - 1) ≤ x) (div-div-eq-div-mul n c (2 ^ k)) ((le-div_iff_mul-le (pow_pos k)).1 a)) (nearest-ge (n / u) (compare (n % u * 2) u))
+    le_trans (subst (λ (x : ℕ). 2 ^ (p - 1) ≤ x) (div-div-eq-div-mul n c (2 ^ k)) ((le-div_iff_mul-le (pow_pos k)).1 a))
+    (nearest-ge (n / u) (compare (n % u * 2) u))
 
 -- ---- the three ways in which t may stand to the digits that are dropped
 
@@ -88,7 +90,8 @@ doubled p h = sym (pow-succ' 2 (p - 1)) ∙ ap (λ (x : ℕ). 2 ^ x) (let q : su
 
 -- 2 ^ p - 1 / 2, twice, times q
 limit_times : (p q : ℕ) → (2 * 2 ^ p - 1) * q + q ≡ 2 * 2 ^ p * q
-limit_times p q = let a : 0 < 2 ^ p = pow_pos p in let e : 2 * 2 ^ p - 1 + 1 ≡ 2 * 2 ^ p = omega (arith, a) in omega (arith, ap (λ (x : ℕ). x * q) e)
+limit_times p q = let a : 0 < 2 ^ p = pow_pos p in let e : 2 * 2 ^ p - 1 + 1 ≡ 2 * 2 ^ p = omega (arith, a) in
+    omega (arith, ap (λ (x : ℕ). x * q) e)
 
 more_dropped : (p n c t : ℕ) → 0 < p → 0 < c → 0 < t → t ≤ drop p n c → Left p n c t ≡ Right p n c t
 more_dropped p n c t P C T l =
@@ -110,14 +113,18 @@ fewer_dropped p n c t P C l =
     let m : 2 ^ suc (suc k) ≤ 2 ^ t = pow_mono l in
     let d : 2 ^ suc (suc k) ≡ 2 * (2 * 2 ^ k) = pow-succ' 2 (suc k) ∙ ap (λ (x : ℕ). 2 * x) (pow-succ' 2 k) in
     let a : kept p n c * 2 ^ k ≤ 2 ^ p * 2 ^ k = mul-le-mul_right (2 ^ k) (kept-le p n c) in
-    let b : 4 * 2 ^ k * 2 ^ (p - 1) ≤ 2 ^ t * 2 ^ (p - 1) = let x : 4 * 2 ^ k ≤ 2 ^ t = omega (arith, m, d) in mul-le-mul_right (2 ^ (p - 1)) x in
+    let b : 4 * 2 ^ k * 2 ^ (p - 1) ≤ 2 ^ t * 2 ^ (p - 1) = let x : 4 * 2 ^ k ≤ 2 ^ t = omega (arith, m, d) in
+    mul-le-mul_right (2 ^ (p - 1)) x in
     let f : 2 * 2 ^ (p - 1) * 2 ^ k ≡ 2 ^ p * 2 ^ k = ap (λ (x : ℕ). x * 2 ^ k) (doubled p P) in
     let i : 0 < 2 ^ (p - 1) * 2 ^ k = mul-pos (pow_pos (p - 1)) (pow_pos k) in
-    let j : 2 ^ p * 2 ^ k * c * 4 ≤ 2 ^ p * (c * 2 ^ t) = let x : 4 * 2 ^ k ≤ 2 ^ t = omega (arith, m, d) in omega (arith, mul-le-mul_right (2 ^ p * c) x) in
-    let s : w < 2 ^ (p + k) = let x : 2 ^ size w ≤ 2 ^ (p + k) = pow_mono (let y : size w ≤ p + k = omega arith in y) in omega (arith, x, size-lt w) in
+    let j : 2 ^ p * 2 ^ k * c * 4 ≤ 2 ^ p * (c * 2 ^ t) = let x : 4 * 2 ^ k ≤ 2 ^ t = omega (arith, m, d) in
+    omega (arith, mul-le-mul_right (2 ^ p * c) x) in
+    let s : w < 2 ^ (p + k) = let x : 2 ^ size w ≤ 2 ^ (p + k) = pow_mono (let y : size w ≤ p + k = omega arith in y) in
+    omega (arith, x, size-lt w) in
     let g : n < 2 ^ (p + k) * c = (div-lt_iff_lt-mul C).0 s in
     let h : 2 ^ (p + k) * c ≡ 2 ^ p * 2 ^ k * c = ap (λ (x : ℕ). x * c) (pow-add 2 p k) in
-    let v : c * 2 ^ t ≤ 2 ^ p * (c * 2 ^ t) = let x : 1 * (c * 2 ^ t) ≤ 2 ^ p * (c * 2 ^ t) = mul-le-mul_right (c * 2 ^ t) (pow_pos p) in omega (arith, x) in
+    let v : c * 2 ^ t ≤ 2 ^ p * (c * 2 ^ t) = let x : 1 * (c * 2 ^ t) ≤ 2 ^ p * (c * 2 ^ t) = mul-le-mul_right (c * 2 ^ t) (pow_pos p) in
+    omega (arith, x) in
     lt-ltb _ _ (omega (arith, a, b, f, i)) ∙ sym (lt-ltb _ _ (omega (arith, g, h, j, v, limit_times p (c * 2 ^ t))))
 
 as_many_dropped : (p n c t : ℕ) → 0 < p → 0 < c → suc (drop p n c) ≡ t → Left p n c t ≡ Right p n c t
@@ -129,11 +136,17 @@ as_many_dropped p n c t P C l =
     let e : q % 2 ≡ 0 = let x : 2 * 2 ^ (p - 1) ≡ q = doubled p P in omega (arith, x) in
     let d : 2 ^ t ≡ 2 * 2 ^ k = ap (λ (x : ℕ). 2 ^ x) (sym l) ∙ pow-succ' 2 k in
     let f : 2 * 2 ^ (p - 1) * 2 ^ k ≡ q * 2 ^ k = ap (λ (x : ℕ). x * 2 ^ k) (doubled p P) in
-    let g : 2 ^ (p - 1) * 2 ^ t ≡ q * 2 ^ k = let x : 2 ^ (p - 1) * 2 ^ t ≡ 2 ^ (p - 1) * (2 * 2 ^ k) = ap (λ (x : ℕ). 2 ^ (p - 1) * x) d in omega (arith, x, f) in
-    let h : (2 * q - 1) * c * 2 ^ t ≡ (2 * q - 1) * u * 2 = let x : (2 * q - 1) * c * 2 ^ t ≡ (2 * q - 1) * c * (2 * 2 ^ k) = ap (λ (x : ℕ). (2 * q - 1) * c * x) d in omega (arith, x) in
+    let g : 2 ^ (p - 1) * 2 ^ t ≡ q * 2 ^ k = let x : 2 ^ (p - 1) * 2 ^ t ≡ 2 ^ (p - 1) * (2 * 2 ^ k) = ap (λ (x : ℕ). 2 ^ (p - 1) * x) d in
+    omega (arith, x, f) in
+    let h : (2 * q - 1) * c * 2 ^ t ≡ (2 * q - 1) * u * 2 =
+    let x : (2 * q - 1) * c * 2 ^ t ≡ (2 * q - 1) * c * (2 * 2 ^ k) = ap (λ (x : ℕ). (2 * q - 1) * c * x) d in omega (arith, x) in
     same_lt _ _ _ _
     (λ x. let y : closest n u < q = lt_of_mul-lt-mul_right (2 ^ k) (let z : closest n u * 2 ^ k < q * 2 ^ k = omega (arith, x, g) in z) in
-    elim (cases_lt (n * 2) ((2 * q - 1) * u)) [ inl z ↦ omega (arith, z, h) | inr z ↦ absurd (let v : q ≤ closest n u = at_least n u q e (pow_pos p) U z in omega (arith, v, y)) ])
+    elim (cases_lt (n * 2) ((2 * q - 1) * u)) [
+      | inl z ↦ omega (arith, z, h)
+      | inr z ↦
+          absurd (let v : q ≤ closest n u = at_least n u q e (pow_pos p) U z in omega (arith, v, y))
+    ])
     (λ x. let y : closest n u < q = under n u q (pow_pos p) U (let z : n * 2 < (2 * q - 1) * u = omega (arith, x, h) in z) in
     let z : closest n u * 2 ^ k < q * 2 ^ k = mul-lt-mul_of_pos_right y (pow_pos k) in omega (arith, z, g))
 

@@ -154,7 +154,8 @@ fn root_flags<P: Pattern>(a: P) -> Flags
 }
 
 fn fused_flags<P: Pattern>(a: P, b: P, c: P) -> Flags
-    ensures { result ≡ Operations.fused_flags P.format (of_bits P.format (P.bits a)) (of_bits P.format (P.bits b)) (of_bits P.format (P.bits c)) }
+    ensures { result ≡ Operations.fused_flags P.format (of_bits P.format (P.bits a)) (of_bits P.format (P.bits b))
+        (of_bits P.format (P.bits c)) }
 {
     let opposite = (is_negative(a) != is_negative(b)) != is_negative(c);
     match (magnitude_of(a), magnitude_of(b), magnitude_of(c)) {
@@ -207,7 +208,8 @@ fn is_invalid_sum<P: Pattern>(a: P, b: P) -> bool
 }
 
 fn is_invalid_fused<P: Pattern>(a: P, b: P, c: P) -> bool
-    ensures { result ≡ Operations.is_invalid_fused P.format (of_bits P.format (P.bits a)) (of_bits P.format (P.bits b)) (of_bits P.format (P.bits c)) }
+    ensures { result ≡ Operations.is_invalid_fused P.format (of_bits P.format (P.bits a)) (of_bits P.format (P.bits b))
+        (of_bits P.format (P.bits c)) }
 {
     is_invalid_product(a, b) || (is_either_infinite(a, b) && is_invalid_sum(a.mul(b), c))
 }

@@ -32,7 +32,8 @@ pub trait Quick: Pattern {
 #[inline(always)]
 pub fn add_without_new_flags<P: Quick>(flags: Flags, a: P, b: P) -> Option<P>
     ensures when { is_some result ≡ NoNewFlags.sum_raises_no_new_flags P.format flags (P.bits a) (P.bits b) }
-    ensures value { IfSome result (λ z. P.bits z ≡ to_bits P.format (Ieee.add P.format (of_bits P.format (P.bits a)) (of_bits P.format (P.bits b)))) }
+    ensures value { IfSome result
+        (λ z. P.bits z ≡ to_bits P.format (Ieee.add P.format (of_bits P.format (P.bits a)) (of_bits P.format (P.bits b)))) }
     ensures flags { IfSome result (λ z. accrued flags (Operations.add_flags P.format (P.bits a) (P.bits b)) ≡ flags) }
 {
     if P::sum_raises_no_new_flags(flags, a, b) {
@@ -46,7 +47,8 @@ pub fn add_without_new_flags<P: Quick>(flags: Flags, a: P, b: P) -> Option<P>
 #[inline(always)]
 pub fn sub_without_new_flags<P: Quick>(flags: Flags, a: P, b: P) -> Option<P>
     ensures when { is_some result ≡ NoNewFlags.sum_raises_no_new_flags P.format flags (P.bits a) (P.bits b) }
-    ensures value { IfSome result (λ z. P.bits z ≡ to_bits P.format (Ieee.sub P.format (of_bits P.format (P.bits a)) (of_bits P.format (P.bits b)))) }
+    ensures value { IfSome result
+        (λ z. P.bits z ≡ to_bits P.format (Ieee.sub P.format (of_bits P.format (P.bits a)) (of_bits P.format (P.bits b)))) }
     ensures flags { IfSome result (λ z. accrued flags (Operations.sub_flags P.format (P.bits a) (P.bits b)) ≡ flags) }
 {
     if P::sum_raises_no_new_flags(flags, a, b) {
@@ -60,7 +62,8 @@ pub fn sub_without_new_flags<P: Quick>(flags: Flags, a: P, b: P) -> Option<P>
 #[inline(always)]
 pub fn mul_without_new_flags<P: Quick>(flags: Flags, a: P, b: P) -> Option<P>
     ensures when { is_some result ≡ NoNewFlags.product_raises_no_new_flags P.format flags (P.bits a) (P.bits b) }
-    ensures value { IfSome result (λ z. P.bits z ≡ to_bits P.format (Ieee.mul P.format (of_bits P.format (P.bits a)) (of_bits P.format (P.bits b)))) }
+    ensures value { IfSome result
+        (λ z. P.bits z ≡ to_bits P.format (Ieee.mul P.format (of_bits P.format (P.bits a)) (of_bits P.format (P.bits b)))) }
     ensures flags { IfSome result (λ z. accrued flags (Operations.mul_flags P.format (P.bits a) (P.bits b)) ≡ flags) }
 {
     if P::product_raises_no_new_flags(flags, a, b) {
@@ -75,7 +78,8 @@ pub fn mul_without_new_flags<P: Quick>(flags: Flags, a: P, b: P) -> Option<P>
 #[inline(always)]
 pub fn div_without_new_flags<P: Quick>(flags: Flags, a: P, b: P) -> Option<P>
     ensures when { is_some result ≡ NoNewFlags.quotient_raises_no_new_flags P.format flags (P.bits a) (P.bits b) }
-    ensures value { IfSome result (λ z. P.bits z ≡ to_bits P.format (Ieee.div P.format (of_bits P.format (P.bits a)) (of_bits P.format (P.bits b)))) }
+    ensures value { IfSome result
+        (λ z. P.bits z ≡ to_bits P.format (Ieee.div P.format (of_bits P.format (P.bits a)) (of_bits P.format (P.bits b)))) }
     ensures flags { IfSome result (λ z. accrued flags (Operations.div_flags P.format (P.bits a) (P.bits b)) ≡ flags) }
 {
     if P::quotient_raises_no_new_flags(flags, a, b) {

@@ -153,7 +153,8 @@ fn is_quotient_inexact(dividend: Scaled, y: Scaled, nearest: Option<Scaled>) -> 
     requires y_narrow { y.digits < 2 ^ 53 }
     requires y_low { y.place < 2 ^ 15 }
     requires narrow { IsNarrow nearest }
-    ensures { (f : Format) (r : Ratio) → IsFraction r (amount dividend) (amount y) → IsMagnitudeOf f (rounded f r) nearest → result ≡ is_inexact f r }
+    ensures { (f : Format) (r : Ratio) → IsFraction r (amount dividend) (amount y) → IsMagnitudeOf f (rounded f r) nearest
+        → result ≡ is_inexact f r }
 {
     match nearest {
         Some(z) => !is_same(

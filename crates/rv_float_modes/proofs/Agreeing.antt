@@ -1,5 +1,6 @@
 -- To the nearest, ties to even, an operation here is the library's, and its flags are those of `rv_float_flags`.
-use Rattle.std.proofs.Common.{◌≡◌, ℕ, zero, suc, ◌+◌, ◌-◌, ◌*◌, ◌/◌, ◌%◌, ◌^◌, ◌<◌, ◌≤◌, Bool, true, false, cond, not, ◌&&◌, ◌||◌, if◌then◌else◌, nat_lt, sym, ap, ◌∙◌, refl, arith, inl, inr}
+use Rattle.std.proofs.Common.{◌≡◌, ℕ, zero, suc, ◌+◌, ◌-◌, ◌*◌, ◌/◌, ◌%◌, ◌^◌, ◌<◌, ◌≤◌, Bool, true, false, cond, not, ◌&&◌, ◌||◌}
+use Rattle.std.proofs.Common.{if◌then◌else◌, nat_lt, sym, ap, ◌∙◌, refl, arith, inl, inr}
 use Rattle.std.proofs.Math.Nat.{mul-pos, zero-add, zero-mul}
 use Rattle.std.proofs.lemmas.Nat.{pow_pos}
 use Rattle.std.proofs.lemmas.Bool.{cases_Bool, le-ltb, ltb-false, ltb-true, ne_eqb, true≢false}
@@ -12,10 +13,15 @@ use Rattle.rv_floats.specs.declared.rounding.Rounding.TheVariants.{NearestEven}
 use Rattle.rv_float_flags.specs.Conversions.{exact_word, narrowing_flags}
 use Rattle.rv_float_flags.specs.Exact.{Ratio, combined, exact_fused, exact_product, exact_quotient, exact_sum, exact_value}
 use Rattle.rv_float_flags.specs.Flags.{divided_by_zero, invalid, invalid_if, no_flags, rounding_flags}
-use Rattle.rv_float_flags.specs.Operations.{add_flags, any_signaling, div_flags, fused_flags, is_division_by_zero, is_invalid_fused, is_invalid_product, is_invalid_quotient, is_invalid_sum, is_zero, mul_flags, multiply_add_flags, multiply_subtract_flags, negated_multiply_add_flags, negated_multiply_subtract_flags, product_flags, quotient_flags, root_flags, sqrt_flags, sub_flags, sum_flags}
+use Rattle.rv_float_flags.specs.Operations.{add_flags, any_signaling, div_flags, fused_flags, is_division_by_zero, is_invalid_fused}
+use Rattle.rv_float_flags.specs.Operations.{is_invalid_product, is_invalid_quotient, is_invalid_sum, is_zero, mul_flags, multiply_add_flags}
+use Rattle.rv_float_flags.specs.Operations.{multiply_subtract_flags, negated_multiply_add_flags, negated_multiply_subtract_flags}
+use Rattle.rv_float_flags.specs.Operations.{product_flags, quotient_flags, root_flags, sqrt_flags, sub_flags, sum_flags}
 use Rattle.rv_float_flags.specs.declared.flags.Flags.{Flags}
 use Rattle.rv_float_modes.specs.Modes.{bounded, rounding_flags_in, rounding_in, unbounded}
-use Rattle.rv_float_modes.specs.Operations.{add_in, div_in, either, exact_root, fused_in, is_nonzero, mul_in, multiply_add_in, multiply_subtract_in, narrowed_in, negated_multiply_add_in, negated_multiply_subtract_in, product_in, quotient_in, sign_of_sum, sqrt_in, sub_in, sum_in, word_in}
+use Rattle.rv_float_modes.specs.Operations.{add_in, div_in, either, exact_root, fused_in, is_nonzero, mul_in, multiply_add_in}
+use Rattle.rv_float_modes.specs.Operations.{multiply_subtract_in, narrowed_in, negated_multiply_add_in, negated_multiply_subtract_in}
+use Rattle.rv_float_modes.specs.Operations.{product_in, quotient_in, sign_of_sum, sqrt_in, sub_in, sum_in, word_in}
 use Rattle.rv_float_modes.specs.declared.rounded.Rounded.{Rounded}
 use Rattle.rv_float_modes.proofs.Nearest.{nearest_even}
 use Rattle.rv_float_modes.proofs.NearestFlags.{same_flags}
@@ -24,7 +30,8 @@ use Rattle.rv_float_modes.proofs.Roundings.{pair}
 use Rattle.rv_float_modes.proofs.Sums.{negated_finite}
 use lib.Dec.{eqb}
 use lib.IntN.{ℤ, pos, negsuc}
-use lib.Ieee.{Float, Format, nan, inf, fin, add, binary32, binary64, div, down, emax, eq, hid, is_nan, low, mul, neg, odd, of_bits, of_int, prec, round, sqrt, sub, sum, to_bits, top, units, unlike, up}
+use lib.Ieee.{Float, Format, nan, inf, fin, add, binary32, binary64, div, down, emax, eq, hid, is_nan, low, mul, neg, odd, of_bits, of_int}
+use lib.Ieee.{prec, round, sqrt, sub, sum, to_bits, top, units, unlike, up}
 use lib.Ieee.Bits.{of_bits-fits}
 use lib.Ieee.Fits.{round_is}
 use lib.Ieee.Positive.{den, den_pos, num}
@@ -40,7 +47,8 @@ signed_number h k x = omega arith
 signed_infinity : (h n : ℕ) → h + n ≡ h + (0 + n)
 signed_infinity h n = omega arith
 
-signed_value : (f : Format) (s b : Bool) (d q k l : ℕ) → to_bits f (cond b (odd d s q k l) (inf s)) ≡ head f s + to_bits f (cond b (odd d false q k l) (inf false))
+signed_value : (f : Format) (s b : Bool) (d q k l : ℕ)
+    → to_bits f (cond b (odd d s q k l) (inf s)) ≡ head f s + to_bits f (cond b (odd d false q k l) (inf false))
 unfolding odd to_bits
 signed_value f s true d zero k l = signed_number (head f s) _ _
 signed_value f s true d (suc q) k l = signed_number (head f s) _ _
@@ -56,7 +64,8 @@ signed_round f s n d =
     ∙ signed_units f s _ _
     ∙ sym (ap (λ (v : Float). head f s + to_bits f v) (round_is f false n d))
 
-agrees : (f : Format) (s : Bool) (r : Ratio) (v : Float) (g : Flags) → 0 < r.denominator → v ≡ round f s r.numerator r.denominator → g ≡ rounding_flags f r
+agrees : (f : Format) (s : Bool) (r : Ratio) (v : Float) (g : Flags) → 0 < r.denominator → v ≡ round f s r.numerator r.denominator
+    → g ≡ rounding_flags f r
     → rounding_in NearestEven s f r ≡ pair (to_bits f v) g
 agrees f s r v g h e k =
     let b = bounded NearestEven false f (unbounded NearestEven false f r) in
@@ -65,7 +74,8 @@ agrees f s r v g h e k =
     ∙ sym (signed_round f s r.numerator r.denominator)
     ∙ ap (λ (x : Float). to_bits f x) (sym e)
     in
-    ap (λ (z : ℕ). pair z (rounding_flags_in NearestEven false f r)) bits ∙ ap (λ (z : Flags). pair (to_bits f v) z) (same_flags f r h ∙ sym k)
+    ap (λ (z : ℕ). pair z (rounding_flags_in NearestEven false f r)) bits
+    ∙ ap (λ (z : Flags). pair (to_bits f v) z) (same_flags f r h ∙ sym k)
 
 -- ---- what is not finite
 
@@ -86,7 +96,8 @@ no_nan (fin s m e) h = refl
 no_signal : (f : Format) (a : ℕ) → float_is_finite (of_bits f a) ≡ true → is_signaling f a ≡ false
 no_signal f a h = ap (λ (b : Bool). b && nat_lt (a % hid f) (hid f / 2)) (no_nan (of_bits f a) h)
 
-no_signals : (f : Format) (a b : ℕ) → float_is_finite (of_bits f a) ≡ true → float_is_finite (of_bits f b) ≡ true → any_signaling f a b ≡ false
+no_signals : (f : Format) (a b : ℕ) → float_is_finite (of_bits f a) ≡ true → float_is_finite (of_bits f b) ≡ true
+    → any_signaling f a b ≡ false
 no_signals f a b h g = ap (λ (x : Bool). x || is_signaling f b) (no_signal f a h) ∙ no_signal f b g
 
 quiet : (s : Bool) (g : Flags) → s ≡ false → (if s then invalid else g) ≡ g
@@ -117,10 +128,12 @@ apart f s t a b c =
       | inr h ↦
           let l : b ≤ a = ltb-false a b h in
           let e : a - b ≡ (a - b) + (b - a) = omega (arith, l) in
-          ap by h ∙ ap (λ (n : ℕ). round f (s && nat_lt b a) n c) e ∙ ap (λ (x : Bool). round f x (abs_diff a b) c) (and_is s (nat_lt b a)) ∙ sym (ap to h)
+          ap by h ∙ ap (λ (n : ℕ). round f (s && nat_lt b a) n c) e ∙ ap (λ (x : Bool). round f x (abs_diff a b) c) (and_is s (nat_lt b a))
+          ∙ sym (ap to h)
     ]
 
-sum_is : (f : Format) (s : Bool) (a : ℕ) (t : Bool) (b c : ℕ) → sum f s a t b c ≡ round f (sign_of_sum NearestEven s t a b) (combined (unlike s t) a b) c
+sum_is : (f : Format) (s : Bool) (a : ℕ) (t : Bool) (b c : ℕ)
+    → sum f s a t b c ≡ round f (sign_of_sum NearestEven s t a b) (combined (unlike s t) a b) c
 unfolding sum
 sum_is f true a true b c = refl
 sum_is f false a false b c = refl
@@ -128,7 +141,8 @@ sum_is f true a false b c = apart f true false a b c
 sum_is f false a true b c = apart f false true a b c
 
 add_is : (f : Format) (x y : Float) → float_is_finite x ≡ true → float_is_finite y ≡ true → add f x y
-    ≡ round f (sign_of_sum NearestEven (is_sign_negative x) (is_sign_negative y) (num x * den y) (num y * den x)) (exact_sum x y).numerator (exact_sum x y).denominator
+    ≡ round f (sign_of_sum NearestEven (is_sign_negative x) (is_sign_negative y) (num x * den y) (num y * den x)) (exact_sum x y).numerator
+    (exact_sum x y).denominator
 unfolding add float_is_finite is_sign_negative
 add_is f nan y h g = absurd (true≢false (sym h))
 add_is f (inf s) y h g = absurd (true≢false (sym h))
@@ -140,7 +154,8 @@ sum_agrees : (f : Format) (x y : Float) (g : Flags) → float_is_finite x ≡ tr
     → sum_in NearestEven f x y ≡ pair (to_bits f (add f x y)) g
 sum_agrees f x y g h i k =
     let r = exact_sum x y in
-    agrees f _ r (add f x y) g (mul-pos (den_pos x) (den_pos y)) (add_is f x y h i) (k ∙ two _ _ (rounding_flags f r) (invalid_if (is_invalid_sum x y)) h i)
+    agrees f _ r (add f x y) g (mul-pos (den_pos x) (den_pos y)) (add_is f x y h i)
+    (k ∙ two _ _ (rounding_flags f r) (invalid_if (is_invalid_sum x y)) h i)
 
 pub add_agrees : (f : Format) (a b : ℕ) → add_in NearestEven f a b ≡ pair (to_bits f (add f (of_bits f a) (of_bits f b))) (add_flags f a b)
 add_agrees f a b =
@@ -155,13 +170,16 @@ sub_agrees f a b =
     let x = of_bits f a in
     let y = of_bits f b in
     by_finite _ (sum_in NearestEven f x (neg y)) (to_bits f (add f x (neg y))) (sub_flags f a b)
-    (λ c. let h = both _ _ c in sum_agrees f x (neg y) (sub_flags f a b) h.0 (negated_finite y ∙ h.1) (quiet _ (sum_flags f x (neg y)) (no_signals f a b h.0 h.1)))
+    (λ c. let h = both _ _ c in
+    sum_agrees f x (neg y) (sub_flags f a b) h.0 (negated_finite y ∙ h.1) (quiet _ (sum_flags f x (neg y)) (no_signals f a b h.0 h.1)))
 
 -- ---- fused multiply-adds
 
-mul_add_is : (f : Format) (x y z : Float) → float_is_finite x ≡ true → float_is_finite y ≡ true → float_is_finite z ≡ true → float_mul_add f x y z
+mul_add_is : (f : Format) (x y z : Float) → float_is_finite x ≡ true → float_is_finite y ≡ true → float_is_finite z ≡ true
+    → float_mul_add f x y z
     ≡ round f
-    (sign_of_sum NearestEven (unlike (is_sign_negative x) (is_sign_negative y)) (is_sign_negative z) (num x * num y * den z) (num z * (den x * den y)))
+    (sign_of_sum NearestEven (unlike (is_sign_negative x) (is_sign_negative y)) (is_sign_negative z) (num x * num y * den z)
+    (num z * (den x * den y)))
     (exact_fused x y z).numerator
     (exact_fused x y z).denominator
 unfolding float_mul_add float_is_finite is_sign_negative
@@ -179,19 +197,23 @@ fused_agrees : (f : Format) (x y z : Float) (g : Flags) → float_is_finite x �
 fused_agrees f x y z g h i j k =
     let r = exact_fused x y z in
     let flags : fused_flags f x y z ≡ rounding_flags f r =
-    ap (λ (b : Bool). if b && float_is_finite z then rounding_flags f r else invalid_if (is_invalid_fused f x y z)) (ap (λ (b : Bool). b && float_is_finite y) h ∙ i)
+    ap (λ (b : Bool). if b && float_is_finite z then rounding_flags f r else invalid_if (is_invalid_fused f x y z))
+    (ap (λ (b : Bool). b && float_is_finite y) h ∙ i)
     ∙ ap (λ (b : Bool). if b then rounding_flags f r else invalid_if (is_invalid_fused f x y z)) j
     in
     agrees f _ r (float_mul_add f x y z) g (mul-pos (mul-pos (den_pos x) (den_pos y)) (den_pos z)) (mul_add_is f x y z h i j) (k ∙ flags)
 
-no_three : (f : Format) (a b c : ℕ) → float_is_finite (of_bits f a) ≡ true → float_is_finite (of_bits f b) ≡ true → float_is_finite (of_bits f c) ≡ true
+no_three : (f : Format) (a b c : ℕ) → float_is_finite (of_bits f a) ≡ true → float_is_finite (of_bits f b) ≡ true
+    → float_is_finite (of_bits f c) ≡ true
     → (any_signaling f a b || is_signaling f c) ≡ false
 no_three f a b c h g k = ap (λ (x : Bool). x || is_signaling f c) (no_signals f a b h g) ∙ no_signal f c k
 
 -- of the values that patterns with other signs have
-fused_by : (f : Format) (a b c : ℕ) (x z : Float) (g : Flags) → float_is_finite x ≡ float_is_finite (of_bits f a) → float_is_finite z ≡ float_is_finite (of_bits f c)
+fused_by : (f : Format) (a b c : ℕ) (x z : Float) (g : Flags) → float_is_finite x ≡ float_is_finite (of_bits f a)
+    → float_is_finite z ≡ float_is_finite (of_bits f c)
     → g ≡ (if any_signaling f a b || is_signaling f c then invalid else fused_flags f x (of_bits f b) z)
-    → either (float_is_finite (of_bits f a) && float_is_finite (of_bits f b) && float_is_finite (of_bits f c)) (fused_in NearestEven f x (of_bits f b) z)
+    → either (float_is_finite (of_bits f a) && float_is_finite (of_bits f b) && float_is_finite (of_bits f c))
+    (fused_in NearestEven f x (of_bits f b) z)
     (to_bits f (float_mul_add f x (of_bits f b) z)) g
     ≡ pair (to_bits f (float_mul_add f x (of_bits f b) z)) g
 fused_by f a b c x z g p q k =
@@ -199,7 +221,8 @@ fused_by f a b c x z g p q k =
     (λ t.
     let i = both _ _ t in
     let h = both _ _ i.0 in
-    fused_agrees f x (of_bits f b) z g (p ∙ h.0) h.1 (q ∙ i.1) (k ∙ quiet _ (fused_flags f x (of_bits f b) z) (no_three f a b c h.0 h.1 i.1)))
+    fused_agrees f x (of_bits f b) z g (p ∙ h.0) h.1 (q ∙ i.1)
+    (k ∙ quiet _ (fused_flags f x (of_bits f b) z) (no_three f a b c h.0 h.1 i.1)))
 
 pub multiply_add_agrees : (f : Format) (a b c : ℕ) → multiply_add_in NearestEven f a b c
     ≡ pair (to_bits f (multiply_add f (of_bits f a) (of_bits f b) (of_bits f c))) (multiply_add_flags f a b c)
@@ -218,7 +241,8 @@ negated_multiply_subtract_agrees f a b c =
 pub negated_multiply_add_agrees : (f : Format) (a b c : ℕ) → negated_multiply_add_in NearestEven f a b c
     ≡ pair (to_bits f (negated_multiply_add f (of_bits f a) (of_bits f b) (of_bits f c))) (negated_multiply_add_flags f a b c)
 negated_multiply_add_agrees f a b c =
-    fused_by f a b c (neg (of_bits f a)) (neg (of_bits f c)) (negated_multiply_add_flags f a b c) (negated_finite (of_bits f a)) (negated_finite (of_bits f c)) refl
+    fused_by f a b c (neg (of_bits f a)) (neg (of_bits f c)) (negated_multiply_add_flags f a b c) (negated_finite (of_bits f a))
+    (negated_finite (of_bits f c)) refl
 
 -- ---- products
 
@@ -317,11 +341,13 @@ value_is f nan h = absurd (true≢false (sym h))
 value_is f (inf s) h = absurd (true≢false (sym h))
 value_is f (fin s m e) h = refl
 
-pub narrowed_agrees : (a : ℕ) → narrowed_in NearestEven a ≡ pair (to_bits binary32 (round_to_format binary32 (of_bits binary64 a))) (narrowing_flags a)
+pub narrowed_agrees : (a : ℕ)
+    → narrowed_in NearestEven a ≡ pair (to_bits binary32 (round_to_format binary32 (of_bits binary64 a))) (narrowing_flags a)
 narrowed_agrees a =
     let x = of_bits binary64 a in
     let r = exact_value x in
-    by_finite _ (rounding_in NearestEven (is_sign_negative x) binary32 r) (to_bits binary32 (round_to_format binary32 x)) (narrowing_flags a)
+    by_finite _ (rounding_in NearestEven (is_sign_negative x) binary32 r) (to_bits binary32 (round_to_format binary32 x))
+    (narrowing_flags a)
     (λ h.
     agrees binary32 _ r (round_to_format binary32 x) (narrowing_flags a) (den_pos x) (value_is binary32 x h)
     (quiet _ (if float_is_finite x then rounding_flags binary32 r else no_flags) (no_signal binary64 a h)
@@ -337,11 +363,13 @@ word_agrees n = agrees binary32 _ (exact_word n) (of_int binary32 n) (rounding_f
 
 -- ---- roots
 
-root_is : (f : Format) (x : Float) → (is_nonzero x && not (is_sign_negative x)) ≡ true → sqrt f x ≡ round f false (exact_root x).numerator (exact_root x).denominator
+root_is : (f : Format) (x : Float) → (is_nonzero x && not (is_sign_negative x)) ≡ true
+    → sqrt f x ≡ round f false (exact_root x).numerator (exact_root x).denominator
 unfolding sqrt float_is_finite is_sign_negative
 root_is f nan h = absurd (true≢false (sym h))
 root_is f (inf s) h = absurd (true≢false (sym h))
-root_is f (fin s zero e) h = absurd (let p : 0 < 0 * up e = ltb-true 0 (0 * up e) (both _ _ h).0 in let z : 0 * up e ≡ 0 = zero-mul (up e) in omega (arith, p, z))
+root_is f (fin s zero e) h =
+    absurd (let p : 0 < 0 * up e = ltb-true 0 (0 * up e) (both _ _ h).0 in let z : 0 * up e ≡ 0 = zero-mul (up e) in omega (arith, p, z))
 root_is f (fin true (suc m) e) h = absurd (true≢false (sym (both _ _ h).1))
 root_is f (fin false (suc m) e) h = refl
 

@@ -1,6 +1,9 @@
 -- A magnitude cut off for a format: the digits that it drops, what it keeps, and how the rest compares with the half.
-use Rattle.std.proofs.Common.{◌≡◌, ℕ, suc, ◌+◌, ◌-◌, ◌*◌, ◌/◌, ◌%◌, ◌^◌, ◌<◌, ◌≤◌, Bool, true, false, not, ◌&&◌, ◌||◌, nat_eq, nat_le, nat_lt, min, sym, ap, ◌∙◌, refl, arith, inl, inr}
-use Rattle.std.proofs.Math.Nat.{div-add-mod', div-div-eq-div-mul, div-eq_of_lt, div-lt_iff_lt-mul, eq-zero-or-pos, le-div_iff_mul-le, le_of_mul-le-mul_right, lt_of_mul-lt-mul_right, eq_of_mul-eq-mul_right, mod-eq_of_lt, mul-le-mul_right, mul-pos, pow-succ'}
+use Rattle.std.proofs.Common.{◌≡◌, ℕ, suc, ◌+◌, ◌-◌, ◌*◌, ◌/◌, ◌%◌, ◌^◌, ◌<◌, ◌≤◌, Bool, true, false, not, ◌&&◌, ◌||◌, nat_eq, nat_le}
+use Rattle.std.proofs.Common.{nat_lt, min, sym, ap, ◌∙◌, refl, arith, inl, inr}
+use Rattle.std.proofs.Math.Nat.{div-add-mod', div-div-eq-div-mul, div-eq_of_lt, div-lt_iff_lt-mul, eq-zero-or-pos, le-div_iff_mul-le}
+use Rattle.std.proofs.Math.Nat.{le_of_mul-le-mul_right, lt_of_mul-lt-mul_right, eq_of_mul-eq-mul_right, mod-eq_of_lt, mul-le-mul_right}
+use Rattle.std.proofs.Math.Nat.{mul-pos, pow-succ'}
 use Rattle.std.proofs.Math.Pow.{pow_mono}
 use Rattle.std.proofs.Math.Arith.{digits_div, digits_mod}
 use Rattle.std.proofs.lemmas.Bool.{cases_lt, eq-eqb, le-leb, le-ltb, lt-leb, lt-ltb, ne_eqb, eqb-true, eqb-false, true≢false}
@@ -87,7 +90,8 @@ below R T S r e h = lt_of_mul-lt-mul_right S (let k : R * 2 * S < T * S = omega 
 
 some : (R T S r : ℕ) → R * 2 * S ≡ 0 * (T * S) + 2 * r → 0 < r → 0 < R
 some R T S r e h = elim (eq-zero-or-pos R) [
-  | inl z ↦ let k : R * 2 * S ≡ 0 = ap (λ (x : ℕ). x * 2 * S) z ∙ (let q : 0 * 2 * S ≡ 0 = omega arith in q) in absurd (omega (arith, k, e, h))
+  | inl z ↦ let k : R * 2 * S ≡ 0 = ap (λ (x : ℕ). x * 2 * S) z ∙ (let q : 0 * 2 * S ≡ 0 = omega arith in q) in
+      absurd (omega (arith, k, e, h))
   | inr l ↦ l
 ]
 
@@ -237,20 +241,26 @@ size_of D h l =
 
 -- where there are so many digits, the cut is above the last of them
 pub above_place : (D i P L k : ℕ) → 2 ^ 63 ≤ D → D < 2 ^ 127 → P < 54 → k ≡ 128 - count_leading_zeros 128 D + i - (P + L) → i + 1 ≤ k + L
-above_place D i P L k h l p e = let s = size_of D h l in let a : 128 - count_leading_zeros 128 D ≡ suc s.0 = s.1.size in let b : 63 ≤ s.0 = s.1.many in omega (arith, a, b, p, e)
+above_place D i P L k h l p e = let s = size_of D h l in let a : 128 - count_leading_zeros 128 D ≡ suc s.0 = s.1.size in
+    let b : 63 ≤ s.0 = s.1.many in omega (arith, a, b, p, e)
 
-pub kept_small : (D i P L k d : ℕ) → 2 ^ 63 ≤ D → D < 2 ^ 127 → P < 54 → k ≡ 128 - count_leading_zeros 128 D + i - (P + L) → d ≡ min (k + L - i - 1) 127
+pub kept_small : (D i P L k d : ℕ) → 2 ^ 63 ≤ D → D < 2 ^ 127 → P < 54 → k ≡ 128 - count_leading_zeros 128 D + i - (P + L)
+    → d ≡ min (k + L - i - 1) 127
     → D / 2 ^ d / 2 < 2 ^ 54
 kept_small D i P L k d h l p e g =
     let s = size_of D h l in
     let a : k ≡ suc s.0 + i - (P + L) = let b : 128 - count_leading_zeros 128 D ≡ suc s.0 = s.1.size in omega (arith, e, b) in
-    let c : D / 2 ^ (k + L - i - 1) / 2 < 2 ^ P = kept_below D (suc s.0) i P L k (k + L - i - 1) s.1.below a refl (above_place D i P L k h l p e) in
-    let q : D / 2 ^ d / 2 ≡ D / 2 ^ (k + L - i - 1) / 2 = ap (λ (x : ℕ). D / 2 ^ x / 2) g ∙ ap (λ (x : ℕ). x / 2) (far_cut D (k + L - i - 1) l).0 in
+    let c : D / 2 ^ (k + L - i - 1) / 2 < 2 ^ P =
+    kept_below D (suc s.0) i P L k (k + L - i - 1) s.1.below a refl (above_place D i P L k h l p e) in
+    let q : D / 2 ^ d / 2 ≡ D / 2 ^ (k + L - i - 1) / 2 =
+    ap (λ (x : ℕ). D / 2 ^ x / 2) g ∙ ap (λ (x : ℕ). x / 2) (far_cut D (k + L - i - 1) l).0 in
     let m : 2 ^ P ≤ 2 ^ 54 = pow_mono (let x : P ≤ 54 = omega (arith, p) in x) in
     omega (arith, c, q, m)
 
-pub few_dropped : (D i P L k : ℕ) → 2 ^ 63 ≤ D → D < 2 ^ 127 → i < 6500 → 3022 ≤ L → k ≡ 128 - count_leading_zeros 128 D + i - (P + L) → k < 3606
-few_dropped D i P L k h l p q e = let s = size_of D h l in let a : 128 - count_leading_zeros 128 D ≡ suc s.0 = s.1.size in let b : s.0 < 127 = s.1.few in omega (arith, a, b, p, q, e)
+pub few_dropped : (D i P L k : ℕ) → 2 ^ 63 ≤ D → D < 2 ^ 127 → i < 6500 → 3022 ≤ L → k ≡ 128 - count_leading_zeros 128 D + i - (P + L)
+    → k < 3606
+few_dropped D i P L k h l p q e = let s = size_of D h l in let a : 128 - count_leading_zeros 128 D ≡ suc s.0 = s.1.size in
+    let b : s.0 < 127 = s.1.few in omega (arith, a, b, p, q, e)
 
 pub pattern_narrow : (k h q : ℕ) → k < 3606 → h ≤ 2 ^ 52 → q < 2 ^ 54 → k * h + q < 2 ^ 64 - 1
 pattern_narrow k h q a b c =
@@ -287,7 +297,8 @@ rest_none g t e W h k = elim (eq-zero-or-pos t) [
 
 -- ---- all of it
 
-pub cut_is : (f : Format) (r : Ratio) (e : Magnitude) (s : Shape) (k d : ℕ) (more : Bool) → IsShape f s → Encloses r e → IsWide e → s.digits < 54
+pub cut_is : (f : Format) (r : Ratio) (e : Magnitude) (s : Shape) (k d : ℕ) (more : Bool) → IsShape f s → Encloses r e → IsWide e
+    → s.digits < 54
     → k ≡ 128 - count_leading_zeros 128 e.digits + e.place - (s.digits + s.lowest) → d ≡ min (k + s.lowest - e.place - 1) 127
     → more ≡ (e.goes_on || not (nat_eq (e.digits % 2 ^ d) 0))
     → IsCut f r (record { pattern = k * s.hidden + e.digits / 2 ^ d / 2; half = nat_eq (e.digits / 2 ^ d % 2) 1; more = more })
@@ -303,7 +314,8 @@ cut_is f r e s k d more h g w p a b m =
     let x : n * 2 ^ L ≡ r.numerator * 2 ^ 4096 =
     let y : 2 ^ (low f + L) ≡ 2 ^ low f * 2 ^ L = pow-add 2 (low f) L in
     let v : low f + L ≡ 4096 = let u : L + low f ≡ 4096 = h.lowest in omega (arith, u) in
-    (let u : n * 2 ^ L ≡ r.numerator * (2 ^ low f * 2 ^ L) = omega arith in u) ∙ ap (λ (u : ℕ). r.numerator * u) (sym y) ∙ ap (λ (u : ℕ). r.numerator * 2 ^ u) v
+    (let u : n * 2 ^ L ≡ r.numerator * (2 ^ low f * 2 ^ L) = omega arith in u) ∙ ap (λ (u : ℕ). r.numerator * u) (sym y)
+    ∙ ap (λ (u : ℕ). r.numerator * 2 ^ u) v
     in
     let W = c * 2 ^ i in
     let wp : 0 < W = mul-pos g.nonzero (pow_pos i) in
@@ -322,11 +334,14 @@ cut_is f r e s k d more h g w p a b m =
     let o : 2 ^ suc q ≡ 2 * 2 ^ q = pow-succ' 2 q in
     let u : k + L ≡ i + suc q = omega (arith, above) in
     let t : 2 ^ k * 2 ^ L ≡ 2 ^ i * (2 * 2 ^ q) = sym y ∙ ap (λ (j : ℕ). 2 ^ j) u ∙ v ∙ ap (λ (j : ℕ). 2 ^ i * j) o in
-    (let j : T * 2 ^ L ≡ c * (2 ^ k * 2 ^ L) = omega arith in j) ∙ ap (λ (j : ℕ). c * j) t ∙ (let j : c * (2 ^ i * (2 * 2 ^ q)) ≡ W * (2 * 2 ^ q) = omega arith in j)
+    (let j : T * 2 ^ L ≡ c * (2 ^ k * 2 ^ L) = omega arith in j) ∙ ap (λ (j : ℕ). c * j) t
+    ∙ (let j : c * (2 ^ i * (2 * 2 ^ q)) ≡ W * (2 * 2 ^ q) = omega arith in j)
     in
     let t = n * 2 ^ L % W in
     let split : D * W + t ≡ n * 2 ^ L = ap (λ (u : ℕ). u * W + t) whole ∙ div-add-mod' (n * 2 ^ L) W in
-    let H = halved_at (n * 2 ^ L) W (2 ^ q) D t (D / 2 ^ q) (D % 2 ^ q) (D / 2 ^ q / 2) (D / 2 ^ q % 2) (pow_pos q) split (mod_below (n * 2 ^ L) W wp)
+    let H =
+    halved_at (n * 2 ^ L) W (2 ^ q) D t (D / 2 ^ q) (D % 2 ^ q) (D / 2 ^ q / 2) (D / 2 ^ q % 2) (pow_pos q) split
+    (mod_below (n * 2 ^ L) W wp)
     (div-add-mod' D (2 ^ q)) (mod_below D (2 ^ q) (pow_pos q)) (div-add-mod' (D / 2 ^ q) 2) (mod_below (D / 2 ^ q) 2 (omega arith))
     in
     let R = scaled_down n T (2 ^ L) (n * 2 ^ L) W (2 ^ q) (D / 2 ^ q / 2) (D / 2 ^ q % 2) (D % 2 ^ q * W + t) tp (pow_pos L) refl ts H in
@@ -339,7 +354,9 @@ cut_is f r e s k d more h g w p a b m =
     let mm : more ≡ (e.goes_on || not (nat_eq (D % 2 ^ q) 0)) = m ∙ ap (λ (u : ℕ). e.goes_on || not (nat_eq u 0)) fr in
     let K = tests half more (n % T) T (2 ^ L) (D / 2 ^ q % 2) (D % 2 ^ q * W + t) tp (pow_pos L) R.rest R.low
     (λ u. sym bit ∙ eqb-true (D / 2 ^ d % 2) 1 u)
-    (λ u. let v : D / 2 ^ d % 2 ≡ 1 → ⊥ = eqb-false (D / 2 ^ d % 2) 1 u in let y : D / 2 ^ d % 2 < 2 = mod_below (D / 2 ^ d) 2 (omega arith) in sym bit ∙ (elim (eq-zero-or-pos (D / 2 ^ d % 2)) [ inl o ↦ o | inr o ↦ absurd (v (omega (arith, o, y))) ]))
+    (λ u. let v : D / 2 ^ d % 2 ≡ 1 → ⊥ = eqb-false (D / 2 ^ d % 2) 1 u in
+    let y : D / 2 ^ d % 2 < 2 = mod_below (D / 2 ^ d) 2 (omega arith) in
+    sym bit ∙ (elim (eq-zero-or-pos (D / 2 ^ d % 2)) [ inl o ↦ o | inr o ↦ absurd (v (omega (arith, o, y))) ]))
     (λ u. rest_there e.goes_on t (D % 2 ^ q) W wp goes (sym mm ∙ u))
     (λ u. rest_none e.goes_on t (D % 2 ^ q) W goes (sym mm ∙ u))
     in

@@ -1,5 +1,6 @@
 -- Magnitudes that are whole numbers of digits at a place, zero among them.
-use Rattle.std.proofs.Common.{◌≡◌, ℕ, suc, ◌+◌, ◌-◌, ◌*◌, ◌/◌, ◌%◌, ◌^◌, ◌<◌, ◌≤◌, Bool, true, false, not, ◌&&◌, ◌||◌, if◌then◌else◌, nat_eq, nat_lt, sym, ap, ◌∙◌, refl, arith, inl, inr}
+use Rattle.std.proofs.Common.{◌≡◌, ℕ, suc, ◌+◌, ◌-◌, ◌*◌, ◌/◌, ◌%◌, ◌^◌, ◌<◌, ◌≤◌, Bool, true, false, not, ◌&&◌, ◌||◌, if◌then◌else◌}
+use Rattle.std.proofs.Common.{nat_eq, nat_lt, sym, ap, ◌∙◌, refl, arith, inl, inr}
 use Rattle.std.proofs.Math.Nat.{div-add-mod', mod-eq_of_lt, mul-le-mul_right, mul-lt-mul_of_pos_right, mul-pos, zero-div, zero-mul}
 use Rattle.std.proofs.Math.Pow.{pow_mono}
 use Rattle.std.proofs.Math.Arith.{digits_div, digits_mod}
@@ -32,7 +33,8 @@ moved D h l =
     let j = t.0 in
     let z = count_leading_zeros 128 D in
     let e : z + suc j ≡ 128 = t.1 in
-    let few : j < 127 = elim (cases_lt j 127) [ inl g ↦ g | inr g ↦ let m : 2 ^ 127 ≤ 2 ^ j = pow_mono g in absurd (omega (arith, m, l, t.2)) ] in
+    let few : j < 127 =
+    elim (cases_lt j 127) [ inl g ↦ g | inr g ↦ let m : 2 ^ 127 ≤ 2 ^ j = pow_mono g in absurd (omega (arith, m, l, t.2)) ] in
     let s = z - 1 in
     let a : 2 ^ j * 2 ^ s ≤ D * 2 ^ s = mul-le-mul_right (2 ^ s) t.2 in
     let b : D * 2 ^ s < 2 ^ suc j * 2 ^ s = mul-lt-mul_of_pos_right t.3 (pow_pos s) in
@@ -54,7 +56,8 @@ moved_value D s i h = let e : D * 2 ^ (i - s) * 2 ^ s ≡ D * 2 ^ i = power_spli
 
 -- ---- what encloses them
 
-pub encloses : (r : Ratio) (digits place : ℕ) (e : Magnitude) → IsNumber r digits place → e.digits * 2 ^ e.place ≡ digits * 2 ^ place → e.goes_on ≡ false → Encloses r e
+pub encloses : (r : Ratio) (digits place : ℕ) (e : Magnitude) → IsNumber r digits place → e.digits * 2 ^ e.place ≡ digits * 2 ^ place
+    → e.goes_on ≡ false → Encloses r e
 encloses r digits place e h v g =
     let W = r.denominator * 2 ^ e.place in
     let w : 0 < W = mul-pos h.nonzero (pow_pos e.place) in
@@ -68,7 +71,8 @@ encloses r digits place e h v g =
 
 -- ---- twice as much
 
-pub twice_encloses : (r : Ratio) (e t : Magnitude) → Encloses r e → t ≡ record { digits = e.digits; place = e.place + 1; goes_on = e.goes_on } → Encloses (twice r) t
+pub twice_encloses : (r : Ratio) (e t : Magnitude) → Encloses r e
+    → t ≡ record { digits = e.digits; place = e.place + 1; goes_on = e.goes_on } → Encloses (twice r) t
 twice_encloses r e t h q =
     let c = r.denominator in
     let X = r.numerator * 2 ^ 4096 in
@@ -82,12 +86,15 @@ twice_encloses r e t h q =
     let v : V ≡ 2 * W = ap (λ (z : ℕ). c * z) y ∙ (let z : c * (2 ^ e.place * 2 ^ 1) ≡ 2 * W = omega arith in z) in
     let x : X / W * (2 * W) + 2 * o ≡ 2 * r.numerator * 2 ^ 4096 = omega (arith, s) in
     let k : 2 * o < 2 * W = omega (arith, l) in
-    let d : 2 * r.numerator * 2 ^ 4096 / V ≡ X / W = ap (λ (z : ℕ). 2 * r.numerator * 2 ^ 4096 / z) v ∙ sym (ap (λ (z : ℕ). z / (2 * W)) x) ∙ digits_div (X / W) k in
-    let m : 2 * r.numerator * 2 ^ 4096 % V ≡ 2 * o = ap (λ (z : ℕ). 2 * r.numerator * 2 ^ 4096 % z) v ∙ sym (ap (λ (z : ℕ). z % (2 * W)) x) ∙ digits_mod (X / W) k in
+    let d : 2 * r.numerator * 2 ^ 4096 / V ≡ X / W =
+    ap (λ (z : ℕ). 2 * r.numerator * 2 ^ 4096 / z) v ∙ sym (ap (λ (z : ℕ). z / (2 * W)) x) ∙ digits_div (X / W) k in
+    let m : 2 * r.numerator * 2 ^ 4096 % V ≡ 2 * o =
+    ap (λ (z : ℕ). 2 * r.numerator * 2 ^ 4096 % z) v ∙ sym (ap (λ (z : ℕ). z % (2 * W)) x) ∙ digits_mod (X / W) k in
     let u = 2 * r.numerator * 2 ^ 4096 in
     record {
       nonzero = h.nonzero;
-      whole = ap (λ (z : Magnitude). z.digits) q ∙ h.whole ∙ sym d ∙ ap (λ (z : ℕ). u / (c * 2 ^ z)) (sym (ap (λ (z : Magnitude). z.place) q));
+      whole = ap (λ (z : Magnitude). z.digits) q ∙ h.whole ∙ sym d
+          ∙ ap (λ (z : ℕ). u / (c * 2 ^ z)) (sym (ap (λ (z : Magnitude). z.place) q));
       rest =
           ap (λ (z : Magnitude). z.goes_on) q
           ∙ h.rest
@@ -106,7 +113,8 @@ none_dropped : (f : Format) (r : Ratio) → r.numerator ≡ 0 → dropped f r �
 none_dropped f r h =
     let a : r.numerator * 2 ^ low f ≡ 0 = ap (λ (z : ℕ). z * 2 ^ low f) h ∙ zero-mul (2 ^ low f) in
     let b : r.numerator * 2 ^ low f / r.denominator ≡ 0 = ap (λ (z : ℕ). z / r.denominator) a ∙ zero-div r.denominator in
-    let c : size (r.numerator * 2 ^ low f / r.denominator) ≤ 0 = size-le (r.numerator * 2 ^ low f / r.denominator) 0 (let k : r.numerator * 2 ^ low f / r.denominator < 1 = omega (arith, b) in k) in
+    let c : size (r.numerator * 2 ^ low f / r.denominator) ≤ 0 =
+    size-le (r.numerator * 2 ^ low f / r.denominator) 0 (let k : r.numerator * 2 ^ low f / r.denominator < 1 = omega (arith, b) in k) in
     omega (arith, c)
 
 no_rest : (f : Format) (r : Ratio) → r.numerator ≡ 0 → 0 < r.denominator → rest f r ≡ 0
@@ -122,13 +130,15 @@ none_truncated f r h =
     omega (arith, b, c)
 
 stays : (mode : Rounding) (negative : Bool) (t : ℕ) → 0 < t → goes_up mode negative false 0 t ≡ false
-stays NearestEven negative t h = ap (λ (z : Bool). z || (nat_eq (0 * 2) t && false)) (le-ltb t (0 * 2) (omega arith)) ∙ and_false (nat_eq (0 * 2) t)
+stays NearestEven negative t h =
+    ap (λ (z : Bool). z || (nat_eq (0 * 2) t && false)) (le-ltb t (0 * 2) (omega arith)) ∙ and_false (nat_eq (0 * 2) t)
 stays TowardZero negative t h = refl
 stays Down negative t h = and_false negative
 stays Up negative t h = and_false (not negative)
 stays NearestAway negative t h = lt-leb t (0 * 2) (omega (arith, h))
 
-pub zero_unbounded : (mode : Rounding) (negative : Bool) (f : Format) (r : Ratio) → r.numerator ≡ 0 → 0 < r.denominator → unbounded mode negative f r ≡ 0
+pub zero_unbounded : (mode : Rounding) (negative : Bool) (f : Format) (r : Ratio) → r.numerator ≡ 0 → 0 < r.denominator
+    → unbounded mode negative f r ≡ 0
 zero_unbounded mode negative f r h p =
     let a : truncated f r ≡ 0 = none_truncated f r h in
     let s : 0 < step f r = mul-pos p (pow_pos (dropped f r)) in
@@ -145,7 +155,8 @@ pub number_of_fraction : (r : Ratio) (n digits place : ℕ) → IsFraction r n 1
 number_of_fraction r n digits place h e =
     let a : 2 ^ (2148 + 1948) ≡ 2 ^ 2148 * 2 ^ 1948 = pow-add 2 2148 1948 in
     let b : 2 ^ (place + 1948) ≡ 2 ^ place * 2 ^ 1948 = pow-add 2 place 1948 in
-    let c : r.numerator * (2 ^ 2148 * 2 ^ 1948) ≡ n * 2 ^ 1948 * r.denominator = times (r.numerator) (2 ^ 2148) n r.denominator (2 ^ 1948) h.value in
+    let c : r.numerator * (2 ^ 2148 * 2 ^ 1948) ≡ n * 2 ^ 1948 * r.denominator =
+    times (r.numerator) (2 ^ 2148) n r.denominator (2 ^ 1948) h.value in
     record {
       nonzero = h.nonzero;
       value =
@@ -169,5 +180,6 @@ whole_number r n m e h =
     let b : r.denominator ≡ 1 = ap (λ (z : Ratio). z.denominator) e in
     record {
       nonzero = omega (arith, b);
-      value = ap (λ (z : ℕ). z * 2 ^ 4096) a ∙ (let k : m * 2 ^ 4096 ≡ m * 2 ^ 4096 * 1 = omega arith in k) ∙ ap (λ (z : ℕ). m * 2 ^ 4096 * z) (sym b);
+      value = ap (λ (z : ℕ). z * 2 ^ 4096) a ∙ (let k : m * 2 ^ 4096 ≡ m * 2 ^ 4096 * 1 = omega arith in k)
+          ∙ ap (λ (z : ℕ). m * 2 ^ 4096 * z) (sym b);
     }

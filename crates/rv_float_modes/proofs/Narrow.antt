@@ -1,5 +1,6 @@
 -- The patterns of results are no wider than their format: those of singles have 32 bits.
-use Rattle.std.proofs.Common.{ℕ, ◌+◌, ◌-◌, ◌*◌, ◌^◌, ◌<◌, ◌≤◌, Bool, true, false, cond, ◌&&◌, if◌then◌else◌, nat_lt, ap, sym, subst, arith, inl, inr}
+use Rattle.std.proofs.Common.{ℕ, ◌+◌, ◌-◌, ◌*◌, ◌^◌, ◌<◌, ◌≤◌, Bool, true, false, cond, ◌&&◌, if◌then◌else◌, nat_lt, ap, sym, subst, arith}
+use Rattle.std.proofs.Common.{inl, inr}
 use Rattle.std.proofs.lemmas.Bool.{cases_Bool, ltb-true}
 use Rattle.std.specs.Float.{float_mul_add, round_to_format}
 use Rattle.rv_floats.specs.declared.rounding.Rounding.{Rounding}
@@ -7,7 +8,8 @@ use Rattle.rv_float_flags.specs.Exact.{Ratio}
 use Rattle.rv_float_flags.specs.Operations.{sqrt_flags}
 use Rattle.rv_float_flags.specs.declared.flags.Flags.{Flags}
 use Rattle.rv_float_modes.specs.Modes.{bounded, goes_to_infinity, infinity, rounding_in, unbounded, with_sign}
-use Rattle.rv_float_modes.specs.Operations.{add_in, div_in, either, exact_root, mul_in, multiply_add_in, multiply_subtract_in, narrowed_in, negated_multiply_add_in, negated_multiply_subtract_in, sqrt_in, sub_in, word_in}
+use Rattle.rv_float_modes.specs.Operations.{add_in, div_in, either, exact_root, mul_in, multiply_add_in, multiply_subtract_in, narrowed_in}
+use Rattle.rv_float_modes.specs.Operations.{negated_multiply_add_in, negated_multiply_subtract_in, sqrt_in, sub_in, word_in}
 use mathlib.Core.Bool.{beq}
 use lib.Dec.{T}
 use lib.IntN.{ℤ}
@@ -99,7 +101,8 @@ multiply_add_narrow f mode a b c = either_narrow f _ mode _ _ _ _ (to_bits-lt f 
 pub multiply_subtract_narrow : (f : Format) (mode : Rounding) (a b c : ℕ) → (multiply_subtract_in mode f a b c).bits < 2 * top f
 multiply_subtract_narrow f mode a b c = either_narrow f _ mode _ _ _ _ (to_bits-lt f _ (fused-fits f _ _ _))
 
-pub negated_multiply_subtract_narrow : (f : Format) (mode : Rounding) (a b c : ℕ) → (negated_multiply_subtract_in mode f a b c).bits < 2 * top f
+pub negated_multiply_subtract_narrow : (f : Format) (mode : Rounding) (a b c : ℕ)
+    → (negated_multiply_subtract_in mode f a b c).bits < 2 * top f
 negated_multiply_subtract_narrow f mode a b c = either_narrow f _ mode _ _ _ _ (to_bits-lt f _ (fused-fits f _ _ _))
 
 pub negated_multiply_add_narrow : (f : Format) (mode : Rounding) (a b c : ℕ) → (negated_multiply_add_in mode f a b c).bits < 2 * top f

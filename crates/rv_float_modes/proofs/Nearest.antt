@@ -1,7 +1,9 @@
 -- To the nearest, ties to even, a rounding here is the library's.
-use Rattle.std.proofs.Common.{◌≡◌, ℕ, suc, ◌+◌, ◌-◌, ◌*◌, ◌/◌, ◌%◌, ◌^◌, ◌<◌, ◌≤◌, Bool, true, false, cond, not, ◌&&◌, ◌||◌, if◌then◌else◌, nat_eq, nat_lt, sym, ap, ◌∙◌, subst, refl, arith, inl, inr}
+use Rattle.std.proofs.Common.{◌≡◌, ℕ, suc, ◌+◌, ◌-◌, ◌*◌, ◌/◌, ◌%◌, ◌^◌, ◌<◌, ◌≤◌, Bool, true, false, cond, not, ◌&&◌, ◌||◌, if◌then◌else◌}
+use Rattle.std.proofs.Common.{nat_eq, nat_lt, sym, ap, ◌∙◌, subst, refl, arith, inl, inr}
 use Rattle.std.proofs.Math.Dec.{compare_is_eq, is_le}
-use Rattle.std.proofs.Math.Nat.{div-div-eq-div-mul, eq-zero-or-pos, le-div_iff_mul-le, le_of_eq, le_of_mul-le-mul_right, le_trans, lt_of_mul-lt-mul_right, mul-div_cancel, mul-le-mul_right, mul-lt-mul_of_pos_right, pow-succ', zero-add}
+use Rattle.std.proofs.Math.Nat.{div-div-eq-div-mul, eq-zero-or-pos, le-div_iff_mul-le, le_of_eq, le_of_mul-le-mul_right, le_trans}
+use Rattle.std.proofs.Math.Nat.{lt_of_mul-lt-mul_right, mul-div_cancel, mul-le-mul_right, mul-lt-mul_of_pos_right, pow-succ', zero-add}
 use Rattle.std.proofs.Math.Pow.{pow_mono}
 use Rattle.std.proofs.lemmas.Bool.{cases_lt, eq-eqb, le-ltb, lt-ltb, ne_eqb, true≢false}
 use Rattle.std.proofs.lemmas.Nat.{pow-add, pow_pos}
@@ -43,23 +45,28 @@ to_even t q e = elim (eq-zero-or-pos (q % 2)) [
 
 pub nearest_is : (k h q a b : ℕ) → h % 2 ≡ 0
     → (if nat_lt b a || (nat_eq a b && nat_eq ((k * h + q) % 2) 1) then k * h + q + 1 else k * h + q) ≡ k * h + nearest q (compare a b)
-nearest_is k h q a b e = go (compare a b) (leb→le a b) (nleb→lt a b) (eqb→eq a b) (λ (x : a ≡ b). subst (λ (y : Bool). T y) (sym (eq-eqb a b x)) tt)
+nearest_is k h q a b e =
+    go (compare a b) (leb→le a b) (nleb→lt a b) (eqb→eq a b) (λ (x : a ≡ b). subst (λ (y : Bool). T y) (sym (eq-eqb a b x)) tt)
   where
-    go : (o : Ordering) → (T (is_le o) → a ≤ b) → (T (not (is_le o)) → b < a) → (T (compare_is_eq o) → a ≡ b) → (a ≡ b → T (compare_is_eq o))
+    go : (o : Ordering) → (T (is_le o) → a ≤ b) → (T (not (is_le o)) → b < a) → (T (compare_is_eq o) → a ≡ b)
+        → (a ≡ b → T (compare_is_eq o))
         → (if nat_lt b a || (nat_eq a b && nat_eq ((k * h + q) % 2) 1) then k * h + q + 1 else k * h + q) ≡ k * h + nearest q o
     go Ordering.lt l m i n = by_tests _ _ _ (k * h + q) (le-ltb b a (l tt)) (ne_eqb a b (λ x. absurd (n x)))
     go Ordering.eq l m i n =
         let x : a ≡ b = i tt in
-        at_tie _ _ _ (k * h + q) (le-ltb b a (l tt)) (eq-eqb a b x) ∙ to_even (k * h + q) q (even_parity k h q e) ∙ (let y : k * h + q + q % 2 ≡ k * h + (q + q % 2) = omega arith in y)
+        at_tie _ _ _ (k * h + q) (le-ltb b a (l tt)) (eq-eqb a b x) ∙ to_even (k * h + q) q (even_parity k h q e)
+        ∙ (let y : k * h + q + q % 2 ≡ k * h + (q + q % 2) = omega arith in y)
     go Ordering.gt l m i n =
-        ap (λ (z : Bool). if z || (nat_eq a b && nat_eq ((k * h + q) % 2) 1) then k * h + q + 1 else k * h + q) (lt-ltb b a (m tt)) ∙ (let y : k * h + q + 1 ≡ k * h + suc q = omega arith in y)
+        ap (λ (z : Bool). if z || (nat_eq a b && nat_eq ((k * h + q) % 2) 1) then k * h + q + 1 else k * h + q) (lt-ltb b a (m tt))
+        ∙ (let y : k * h + q + 1 ≡ k * h + suc q = omega arith in y)
 
 -- ---- the pattern of q * 2 ^ k, for a q of P digits where k is not 0, or the next number
 
 doubled : (P : ℕ) → 0 < P → 2 ^ P ≡ 2 * 2 ^ (P - 1)
 doubled P h = ap (λ (z : ℕ). 2 ^ z) (let k : P ≡ suc (P - 1) = omega (arith, h) in k) ∙ pow-succ' 2 (P - 1)
 
-short : (P q k : ℕ) → 0 < P → q < 2 ^ P → (0 < k → 2 ^ (P - 1) ≤ q) → (size (q * 2 ^ k) - P) * 2 ^ (P - 1) + q * 2 ^ k / 2 ^ (size (q * 2 ^ k) - P) ≡ k * 2 ^ (P - 1) + q
+short : (P q k : ℕ) → 0 < P → q < 2 ^ P → (0 < k → 2 ^ (P - 1) ≤ q)
+    → (size (q * 2 ^ k) - P) * 2 ^ (P - 1) + q * 2 ^ k / 2 ^ (size (q * 2 ^ k) - P) ≡ k * 2 ^ (P - 1) + q
 short P q k p h g =
     let n = q * 2 ^ k in
     let a : n < 2 ^ P * 2 ^ k = mul-lt-mul_of_pos_right h (pow_pos k) in
@@ -68,7 +75,8 @@ short P q k p h g =
       | inl z ↦ omega (arith, b, z)
       | inr y ↦
           let c : 2 ^ (P - 1) * 2 ^ k ≤ n = mul-le-mul_right (2 ^ k) (g y) in
-          let e : P - 1 + k < size n = size_at_least n (P - 1 + k) (let z : 2 ^ (P - 1 + k) ≡ 2 ^ (P - 1) * 2 ^ k = pow-add 2 (P - 1) k in omega (arith, c, z)) in
+          let e : P - 1 + k < size n =
+          size_at_least n (P - 1 + k) (let z : 2 ^ (P - 1 + k) ≡ 2 ^ (P - 1) * 2 ^ k = pow-add 2 (P - 1) k in omega (arith, c, z)) in
           omega (arith, b, e, p)
     ] in
     ap (λ (z : ℕ). z * 2 ^ (P - 1) + n / 2 ^ z) d ∙ ap (λ (z : ℕ). k * 2 ^ (P - 1) + z) (mul-div_cancel q (pow_pos k))
@@ -83,12 +91,15 @@ long P q k p h =
     let a : size n ≤ suc (P + k) = size-le n (suc (P + k)) (omega (arith, w, u, v)) in
     let b : P + k < size n = size_at_least n (P + k) (omega (arith, w)) in
     let d : size n - P ≡ suc k = omega (arith, a, b) in
-    let e : n ≡ H * 2 ^ suc k = ap (λ (z : ℕ). z * 2 ^ k) (h ∙ doubled P p) ∙ (let z : 2 * H * 2 ^ k ≡ H * (2 * 2 ^ k) = omega arith in z) ∙ ap (λ (z : ℕ). H * z) (sym (pow-succ' 2 k)) in
+    let e : n ≡ H * 2 ^ suc k =
+    ap (λ (z : ℕ). z * 2 ^ k) (h ∙ doubled P p) ∙ (let z : 2 * H * 2 ^ k ≡ H * (2 * 2 ^ k) = omega arith in z)
+    ∙ ap (λ (z : ℕ). H * z) (sym (pow-succ' 2 k)) in
     let i : n / 2 ^ suc k ≡ H = ap (λ (z : ℕ). z / 2 ^ suc k) e ∙ mul-div_cancel H (pow_pos (suc k)) in
     let j : q ≡ 2 * H = h ∙ doubled P p in
     ap (λ (z : ℕ). z * H + n / 2 ^ z) d ∙ ap (λ (z : ℕ). suc k * H + z) i ∙ (let z : suc k * H + H ≡ k * H + q = omega (arith, j) in z)
 
-by_value : (f : Format) (v : Float) (n : ℕ) → HasValue v false n (2 ^ low f) → to_bits f v ≡ (size n - prec f) * hid f + n / 2 ^ (size n - prec f)
+by_value : (f : Format) (v : Float) (n : ℕ) → HasValue v false n (2 ^ low f)
+    → to_bits f v ≡ (size n - prec f) * hid f + n / 2 ^ (size n - prec f)
 unfolding to_bits
 by_value f nan n h = absurd h
 by_value f (inf s) n h = absurd h
@@ -102,7 +113,8 @@ pub prec_pos : (f : Format) → 0 < prec f
 prec_pos binary32 = omega arith
 prec_pos binary64 = omega arith
 
-finite_bits : (f : Format) (q k : ℕ) → q ≤ 2 ^ prec f → (0 < k → 2 ^ (prec f - 1) ≤ q) → to_bits f (odd (suc (prec f)) false q k (low f)) ≡ k * hid f + q
+finite_bits : (f : Format) (q k : ℕ) → q ≤ 2 ^ prec f → (0 < k → 2 ^ (prec f - 1) ≤ q)
+    → to_bits f (odd (suc (prec f)) false q k (low f)) ≡ k * hid f + q
 finite_bits f q k h g =
     by_value f (odd (suc (prec f)) false q k (low f)) (q * 2 ^ k) (odd_sign (suc (prec f)) false q k (low f))
     ∙ elim (cases_lt q (2 ^ prec f)) [
@@ -115,7 +127,8 @@ finite_bits f q k h g =
 exponents : (a b : ℕ) → 2 ^ a < 2 ^ b → a < b
 exponents a b h = elim (cases_lt a b) [ inl l ↦ l | inr l ↦ let m : 2 ^ b ≤ 2 ^ a = pow_mono l in absurd (omega (arith, m, h)) ]
 
-pub in_range : (P E q k : ℕ) → 0 < P → 0 < E → q ≤ 2 ^ P → (0 < k → 2 ^ (P - 1) ≤ q) → q * 2 ^ k < 2 ^ (P - 1 + 2 * E) → k * 2 ^ (P - 1) + q < (2 * E + 1) * 2 ^ (P - 1)
+pub in_range : (P E q k : ℕ) → 0 < P → 0 < E → q ≤ 2 ^ P → (0 < k → 2 ^ (P - 1) ≤ q) → q * 2 ^ k < 2 ^ (P - 1 + 2 * E)
+    → k * 2 ^ (P - 1) + q < (2 * E + 1) * 2 ^ (P - 1)
 in_range P E q k p e h g l =
     let H = 2 ^ (P - 1) in
     let hp : 0 < H = pow_pos (P - 1) in
@@ -130,16 +143,19 @@ in_range P E q k p e h g l =
           let b : 2 ^ (P - 1 + k) ≡ H * 2 ^ k = pow-add 2 (P - 1) k in
           let c : P - 1 + k < P - 1 + 2 * E = exponents (P - 1 + k) (P - 1 + 2 * E) (omega (arith, a, b, l)) in
           elim (cases_lt (k + 1) (2 * E)) [
-            | inl s ↦ let m : (k + 2) * H ≤ 2 * E * H = mul-le-mul_right H (let z : k + 2 ≤ 2 * E = omega (arith, s) in z) in omega (arith, m, d, h, hp)
+            | inl s ↦ let m : (k + 2) * H ≤ 2 * E * H = mul-le-mul_right H (let z : k + 2 ≤ 2 * E = omega (arith, s) in z) in
+                omega (arith, m, d, h, hp)
             | inr s ↦
-                let i : 2 ^ (P - 1 + 2 * E) ≡ 2 ^ P * 2 ^ k = ap (λ (z : ℕ). 2 ^ z) (let z : P - 1 + 2 * E ≡ P + k = omega (arith, s, c, p) in z) ∙ pow-add 2 P k in
+                let i : 2 ^ (P - 1 + 2 * E) ≡ 2 ^ P * 2 ^ k =
+                ap (λ (z : ℕ). 2 ^ z) (let z : P - 1 + 2 * E ≡ P + k = omega (arith, s, c, p) in z) ∙ pow-add 2 P k in
                 let j : q < 2 ^ P = lt_of_mul-lt-mul_right (2 ^ k) (let z : q * 2 ^ k < 2 ^ P * 2 ^ k = omega (arith, i, l) in z) in
                 let m : (2 * E + 1) * H ≡ (k + 2) * H = ap (λ (z : ℕ). z * H) (let z : 2 * E + 1 ≡ k + 2 = omega (arith, s, c) in z) in
                 omega (arith, j, d, m)
           ]
     ]
 
-pub out_of_range : (P E q k : ℕ) → 0 < P → 0 < E → q ≤ 2 ^ P → (0 < k → 2 ^ (P - 1) ≤ q) → 2 ^ (P - 1 + 2 * E) ≤ q * 2 ^ k → (2 * E + 1) * 2 ^ (P - 1) ≤ k * 2 ^ (P - 1) + q
+pub out_of_range : (P E q k : ℕ) → 0 < P → 0 < E → q ≤ 2 ^ P → (0 < k → 2 ^ (P - 1) ≤ q) → 2 ^ (P - 1 + 2 * E) ≤ q * 2 ^ k
+    → (2 * E + 1) * 2 ^ (P - 1) ≤ k * 2 ^ (P - 1) + q
 out_of_range P E q k p e h g l =
     let H = 2 ^ (P - 1) in
     let d : 2 ^ P ≡ 2 * H = doubled P p in
@@ -150,7 +166,8 @@ out_of_range P E q k p e h g l =
     let c : P - 1 + 2 * E < suc (P + k) = exponents (P - 1 + 2 * E) (suc (P + k)) (omega (arith, a, b, l, u, v)) in
     elim (cases_lt k (2 * E)) [
       | inl s ↦
-          let i : 2 ^ (P - 1 + 2 * E) ≡ 2 ^ P * 2 ^ k = ap (λ (z : ℕ). 2 ^ z) (let z : P - 1 + 2 * E ≡ P + k = omega (arith, s, c, p) in z) ∙ pow-add 2 P k in
+          let i : 2 ^ (P - 1 + 2 * E) ≡ 2 ^ P * 2 ^ k =
+          ap (λ (z : ℕ). 2 ^ z) (let z : P - 1 + 2 * E ≡ P + k = omega (arith, s, c, p) in z) ∙ pow-add 2 P k in
           let j : 2 ^ P ≤ q = le_of_mul-le-mul_right (let z : 2 ^ P * 2 ^ k ≤ q * 2 ^ k = omega (arith, i, l) in z) (pow_pos k) in
           let m : (2 * E + 1) * H ≡ (k + 2) * H = ap (λ (z : ℕ). z * H) (let z : 2 * E + 1 ≡ k + 2 = omega (arith, s, c, p) in z) in
           omega (arith, j, d, m)
@@ -184,23 +201,29 @@ inside b x y h = ap (λ (z : Bool). if z then x else y) h
 outside : (b : Bool) (x y : ℕ) → b ≡ false → (if b then x else y) ≡ y
 outside b x y h = ap (λ (z : Bool). if z then x else y) h
 
-pub units_is : (f : Format) (q k : ℕ) → units f false q k ≡ cond (nat_lt (q * 2 ^ k) (2 ^ (low f + suc (emax f)))) (odd (suc (prec f)) false q k (low f)) (inf false)
+pub units_is : (f : Format) (q k : ℕ)
+    → units f false q k ≡ cond (nat_lt (q * 2 ^ k) (2 ^ (low f + suc (emax f)))) (odd (suc (prec f)) false q k (low f)) (inf false)
 unfolding units
 units_is f q k = refl
 
-units_bits : (f : Format) (q k : ℕ) → q ≤ 2 ^ prec f → (0 < k → 2 ^ (prec f - 1) ≤ q) → to_bits f (units f false q k) ≡ bounded NearestEven false f (k * hid f + q)
+units_bits : (f : Format) (q k : ℕ) → q ≤ 2 ^ prec f → (0 < k → 2 ^ (prec f - 1) ≤ q)
+    → to_bits f (units f false q k) ≡ bounded NearestEven false f (k * hid f + q)
 units_bits f q k h g =
     let top = low f + suc (emax f) in
     let e : 2 ^ top ≡ 2 ^ (prec f - 1 + 2 * emax f) = ap (λ (z : ℕ). 2 ^ z) (top_exponent f) in
     ap (λ (v : Float). to_bits f v) (units_is f q k)
     ∙ elim (cases_lt (q * 2 ^ k) (2 ^ top)) [
       | inl l ↦
-          let i : k * hid f + q < infinity f = in_range (prec f) (emax f) q k (prec_pos f) (emax_pos f) h g (let z : q * 2 ^ k < 2 ^ (prec f - 1 + 2 * emax f) = omega (arith, l, e) in z) in
+          let i : k * hid f + q < infinity f =
+          in_range (prec f) (emax f) q k (prec_pos f) (emax_pos f) h g
+          (let z : q * 2 ^ k < 2 ^ (prec f - 1 + 2 * emax f) = omega (arith, l, e) in z) in
           ap (λ (v : Float). to_bits f v) (choose _ (odd (suc (prec f)) false q k (low f)) (inf false) (lt-ltb _ _ l))
           ∙ finite_bits f q k h g
           ∙ sym (inside (nat_lt (k * hid f + q) (infinity f)) (k * hid f + q) (infinity f) (lt-ltb _ _ i))
       | inr l ↦
-          let i : infinity f ≤ k * hid f + q = out_of_range (prec f) (emax f) q k (prec_pos f) (emax_pos f) h g (let z : 2 ^ (prec f - 1 + 2 * emax f) ≤ q * 2 ^ k = omega (arith, l, e) in z) in
+          let i : infinity f ≤ k * hid f + q =
+          out_of_range (prec f) (emax f) q k (prec_pos f) (emax_pos f) h g
+          (let z : 2 ^ (prec f - 1 + 2 * emax f) ≤ q * 2 ^ k = omega (arith, l, e) in z) in
           ap (λ (v : Float). to_bits f v) (refuse _ (odd (suc (prec f)) false q k (low f)) (inf false) (le-ltb _ _ l))
           ∙ infinite_bits f
           ∙ sym (outside (nat_lt (k * hid f + q) (infinity f)) (k * hid f + q) (infinity f) (le-ltb _ _ i))
@@ -216,10 +239,12 @@ kept_at_most P n c k e =
     let d : nearest (n / u) (compare (n % u * 2) u) ≤ suc (n / u) = nearest-le (n / u) (compare (n % u * 2) u) in
     omega (arith, a, b, d)
 
-pub kept_at_least : (P n c k : ℕ) → 0 < P → k ≡ size (n / c) - P → 0 < k → 2 ^ (P - 1) ≤ nearest (n / (c * 2 ^ k)) (compare (n % (c * 2 ^ k) * 2) (c * 2 ^ k))
+pub kept_at_least : (P n c k : ℕ) → 0 < P → k ≡ size (n / c) - P → 0 < k
+    → 2 ^ (P - 1) ≤ nearest (n / (c * 2 ^ k)) (compare (n % (c * 2 ^ k) * 2) (c * 2 ^ k))
 kept_at_least P n c k p e h =
     let u = c * 2 ^ k in
-    let a : 2 ^ (P - 1) * 2 ^ k ≤ n / c = le_trans (le_of_eq (sym (pow-add 2 (P - 1) k))) (size_reaches (n / c) (P - 1 + k) (omega (arith, e, h, p))) in
+    let a : 2 ^ (P - 1) * 2 ^ k ≤ n / c =
+    le_trans (le_of_eq (sym (pow-add 2 (P - 1) k))) (size_reaches (n / c) (P - 1 + k) (omega (arith, e, h, p))) in
     let b : 2 ^ (P - 1) ≤ n / c / 2 ^ k = (le-div_iff_mul-le (pow_pos k)).1 a in
     let d : n / c / 2 ^ k ≡ n / u = div-div-eq-div-mul n c (2 ^ k) in
     let i : n / u ≤ nearest (n / u) (compare (n % u * 2) u) = nearest-ge (n / u) (compare (n % u * 2) u) in

@@ -1,5 +1,6 @@
 -- To the nearest, ties to even, the flags of a rounding are those of `rv_float_flags`.
-use Rattle.std.proofs.Common.{◌≡◌, ℕ, zero, suc, ◌+◌, ◌-◌, ◌*◌, ◌/◌, ◌%◌, ◌^◌, ◌<◌, ◌≤◌, Bool, true, false, cond, not, ◌&&◌, ◌||◌, nat_eq, nat_lt, sym, ap, ◌∙◌, subst, refl, arith, inl, inr, ◌⊎◌}
+use Rattle.std.proofs.Common.{◌≡◌, ℕ, zero, suc, ◌+◌, ◌-◌, ◌*◌, ◌/◌, ◌%◌, ◌^◌, ◌<◌, ◌≤◌, Bool, true, false, cond, not, ◌&&◌, ◌||◌, nat_eq}
+use Rattle.std.proofs.Common.{nat_lt, sym, ap, ◌∙◌, subst, refl, arith, inl, inr, ◌⊎◌}
 use Rattle.std.proofs.Math.Dec.{compare_is_eq, is_le}
 use Rattle.std.proofs.Math.Nat.{div-add-mod', eq-zero-or-pos, mul-le-mul_right, mul-mod_left, mul-pos}
 use Rattle.std.proofs.lemmas.Bool.{cases_lt, eq-eqb, le-leb, le-ltb, lt-leb, lt-ltb, ne_eqb}
@@ -12,10 +13,12 @@ use Rattle.rv_float_flags.specs.Flags.{rounding_flags}
 use Rattle.rv_float_flags.specs.declared.flags.Flags.{Flags}
 use Rattle.rv_float_flags.proofs.Numbers.{eq_times, same_lt}
 use Rattle.rv_float_flags.proofs.Tiny.{tiny_quarters}
-use Rattle.rv_float_modes.specs.Modes.{dropped, infinity, is_inexact_in, is_tiny_in, overflows_in, rest, rounding_flags_in, step, twice, unbounded}
+use Rattle.rv_float_modes.specs.Modes.{dropped, infinity, is_inexact_in, is_tiny_in, overflows_in, rest, rounding_flags_in, step, twice}
+use Rattle.rv_float_modes.specs.Modes.{unbounded}
 use Rattle.rv_float_modes.proofs.Cuts.{size_at_least}
 use Rattle.rv_float_modes.proofs.Exactly.{zero_rest, zero_unbounded}
-use Rattle.rv_float_modes.proofs.Nearest.{choose, emax_pos, hid_even, in_range, kept_at_least, kept_at_most, nearest_is, out_of_range, prec_pos, refuse, top_exponent, units_is}
+use Rattle.rv_float_modes.proofs.Nearest.{choose, emax_pos, hid_even, in_range, kept_at_least, kept_at_most, nearest_is, out_of_range}
+use Rattle.rv_float_modes.proofs.Nearest.{prec_pos, refuse, top_exponent, units_is}
 use Prim.Native.Nat.{compare, Ordering}
 use lib.Dec.{T, eqb→eq, nleb→lt}
 use lib.Ieee.{Float, Format, inf, binary32, binary64, emax, hid, low, nearest, odd, prec, size, units}
@@ -31,7 +34,8 @@ kept_of f r = nearest (r.numerator * 2 ^ low f / step f r) (compare (r.numerator
 
 pattern_is : (f : Format) (r : Ratio) → unbounded NearestEven false f r ≡ dropped f r * hid f + kept_of f r
 unfolding kept_of
-pattern_is f r = nearest_is (dropped f r) (hid f) (r.numerator * 2 ^ low f / step f r) (r.numerator * 2 ^ low f % step f r * 2) (step f r) (hid_even f)
+pattern_is f r =
+    nearest_is (dropped f r) (hid f) (r.numerator * 2 ^ low f / step f r) (r.numerator * 2 ^ low f % step f r * 2) (step f r) (hid_even f)
 
 at_most : (f : Format) (r : Ratio) → kept_of f r ≤ 2 ^ prec f
 unfolding kept_of
@@ -85,14 +89,23 @@ in_or_out f r =
     let top = low f + suc (emax f) in
     let e : 2 ^ top ≡ 2 ^ (prec f - 1 + 2 * emax f) = ap (λ (z : ℕ). 2 ^ z) (top_exponent f) in
     let p : unbounded NearestEven false f r ≡ k * hid f + q = pattern_is f r in
-    let v : rounded f r ≡ cond (nat_lt (q * 2 ^ k) (2 ^ top)) (odd (suc (prec f)) false q k (low f)) (inf false) = result_is f r ∙ units_is f q k in
+    let v : rounded f r ≡ cond (nat_lt (q * 2 ^ k) (2 ^ top)) (odd (suc (prec f)) false q k (low f)) (inf false) =
+    result_is f r ∙ units_is f q k in
     elim (cases_lt (q * 2 ^ k) (2 ^ top)) [
       | inl l ↦
-          let i : k * hid f + q < infinity f = in_range (prec f) (emax f) q k (prec_pos f) (emax_pos f) (at_most f r) (at_least f r) (omega (arith, l, e)) in
-          inl (record { value = v ∙ choose _ _ _ (lt-ltb _ _ l); over = lt-leb (infinity f) (unbounded NearestEven false f r) (omega (arith, i, p)) })
+          let i : k * hid f + q < infinity f =
+          in_range (prec f) (emax f) q k (prec_pos f) (emax_pos f) (at_most f r) (at_least f r) (omega (arith, l, e)) in
+          inl (record {
+            value = v ∙ choose _ _ _ (lt-ltb _ _ l);
+            over = lt-leb (infinity f) (unbounded NearestEven false f r) (omega (arith, i, p));
+          })
       | inr l ↦
-          let i : infinity f ≤ k * hid f + q = out_of_range (prec f) (emax f) q k (prec_pos f) (emax_pos f) (at_most f r) (at_least f r) (omega (arith, l, e)) in
-          inr (record { value = v ∙ refuse _ _ _ (le-ltb _ _ l); over = le-leb (infinity f) (unbounded NearestEven false f r) (omega (arith, i, p)) })
+          let i : infinity f ≤ k * hid f + q =
+          out_of_range (prec f) (emax f) q k (prec_pos f) (emax_pos f) (at_most f r) (at_least f r) (omega (arith, l, e)) in
+          inr (record {
+            value = v ∙ refuse _ _ _ (le-ltb _ _ l);
+            over = le-leb (infinity f) (unbounded NearestEven false f r) (omega (arith, i, p));
+          })
     ]
 
 same_overflow : (f : Format) (r : Ratio) → overflows_in NearestEven false f r ≡ overflows f r
@@ -117,14 +130,17 @@ exact_test n u h =
     elim (eq-zero-or-pos (n % u)) [
       | inl z ↦
           let a : q ≡ n / u = ap (λ (x : ℕ). nearest (n / u) (compare (x * 2) u)) z ∙ no_rest (n / u) u h in
-          let b : q * u ≡ n = ap (λ (x : ℕ). x * u) a ∙ (let y : n / u * u + n % u ≡ n = div-add-mod' n u in let x : n / u * u ≡ n = omega (arith, y, z) in x) in
+          let b : q * u ≡ n =
+          ap (λ (x : ℕ). x * u) a
+          ∙ (let y : n / u * u + n % u ≡ n = div-add-mod' n u in let x : n / u * u ≡ n = omega (arith, y, z) in x) in
           eq-eqb (q * u) n b ∙ sym (ap not (le-ltb 0 (n % u) (omega (arith, z))))
       | inr p ↦
           ne_eqb (q * u) n (λ e. let b : n % u ≡ 0 = ap (λ (x : ℕ). x % u) (sym e) ∙ mul-mod_left q u in absurd (omega (arith, b, p)))
           ∙ sym (ap not (lt-ltb 0 (n % u) p))
     ]
 
-kept_exact : (f : Format) (r : Ratio) → 0 < r.denominator → nat_eq (kept_of f r * step f r) (r.numerator * 2 ^ low f) ≡ not (nat_lt 0 (rest f r))
+kept_exact : (f : Format) (r : Ratio) → 0 < r.denominator
+    → nat_eq (kept_of f r * step f r) (r.numerator * 2 ^ low f) ≡ not (nat_lt 0 (rest f r))
 unfolding kept_of
 kept_exact f r h = exact_test (r.numerator * 2 ^ low f) (step f r) (mul-pos h (pow_pos (dropped f r)))
 
@@ -169,7 +185,8 @@ same_inexact : (f : Format) (r : Ratio) → 0 < r.denominator → is_inexact_in 
 same_inexact f r h = elim (in_or_out f r) [
   | inl g ↦
       let v = rounded f r in
-      let fin' : float_is_finite v ≡ true = ap float_is_finite g.value ∙ always_finite (suc (prec f)) false (kept_of f r) (dropped f r) (low f) in
+      let fin' : float_is_finite v ≡ true =
+      ap float_is_finite g.value ∙ always_finite (suc (prec f)) false (kept_of f r) (dropped f r) (low f) in
       let a : is_exactly v r ≡ not (nat_lt 0 (rest f r)) =
       ap (λ (z : Bool). z && nat_eq (num v * r.denominator) (r.numerator * den v)) fin' ∙ finite_exact f r v h g.value
       in
@@ -203,10 +220,13 @@ same_tiny f r h p =
     let c = r.denominator in
     let t = size c in
     let tp : 0 < t = size_at_least c 0 (omega (arith, h)) in
-    let a : is_tiny_in NearestEven false f r ≡ nat_lt (dropped f s * hid f + kept_of f s) (2 * hid f) = ap (λ (z : ℕ). nat_lt z (2 * hid f)) (pattern_is f s) in
-    let b : nat_lt (dropped f s * hid f + kept_of f s) (2 * hid f) ≡ nat_lt (kept_of f s * 2 ^ dropped f s) (hid f * 2 ^ 1) = by_grid (hid f) (dropped f s) (kept_of f s) (pow_pos (prec f - 1)) (at_least f s) in
+    let a : is_tiny_in NearestEven false f r ≡ nat_lt (dropped f s * hid f + kept_of f s) (2 * hid f) =
+    ap (λ (z : ℕ). nat_lt z (2 * hid f)) (pattern_is f s) in
+    let b : nat_lt (dropped f s * hid f + kept_of f s) (2 * hid f) ≡ nat_lt (kept_of f s * 2 ^ dropped f s) (hid f * 2 ^ 1) =
+    by_grid (hid f) (dropped f s) (kept_of f s) (pow_pos (prec f - 1)) (at_least f s) in
     let d : nat_lt (kept_of f s * 2 ^ dropped f s) (hid f * 2 ^ 1) ≡ nat_lt (grid f (r.numerator * 2 ^ 1) c) (hid f * 2 ^ 1) =
-    ap (λ (z : ℕ). nat_lt z (hid f * 2 ^ 1)) (sym (grid_is f s) ∙ ap (λ (z : ℕ). grid f z c) (let y : 2 * r.numerator ≡ r.numerator * 2 ^ 1 = omega arith in y))
+    ap (λ (z : ℕ). nat_lt z (hid f * 2 ^ 1))
+    (sym (grid_is f s) ∙ ap (λ (z : ℕ). grid f z c) (let y : 2 * r.numerator ≡ r.numerator * 2 ^ 1 = omega arith in y))
     in
     a ∙ b ∙ d
     ∙ tiny_quarters f r.numerator c 1 h (omega arith)
@@ -217,10 +237,13 @@ same_underflow : (f : Format) (r : Ratio) → 0 < r.denominator
     → (is_tiny_in NearestEven false f r && is_inexact_in NearestEven false f r) ≡ (is_tiny f r && is_inexact f r)
 same_underflow f r h = elim (eq-zero-or-pos r.numerator) [
   | inr p ↦
-      ap (λ (z : Bool). z && is_inexact_in NearestEven false f r) (same_tiny f r h p) ∙ ap (λ (z : Bool). is_tiny f r && z) (same_inexact f r h)
+      ap (λ (z : Bool). z && is_inexact_in NearestEven false f r) (same_tiny f r h p)
+      ∙ ap (λ (z : Bool). is_tiny f r && z) (same_inexact f r h)
   | inl z ↦
-      let o : overflows_in NearestEven false f r ≡ false = lt-leb (infinity f) (unbounded NearestEven false f r) (omega (arith, zero_unbounded NearestEven false f r z h, some_infinity f)) in
-      let x : is_inexact_in NearestEven false f r ≡ false = ap (λ (y : Bool). nat_lt 0 (rest f r) || y) o ∙ ap (λ (y : Bool). y || false) (zero_rest f r z h) in
+      let o : overflows_in NearestEven false f r ≡ false =
+      lt-leb (infinity f) (unbounded NearestEven false f r) (omega (arith, zero_unbounded NearestEven false f r z h, some_infinity f)) in
+      let x : is_inexact_in NearestEven false f r ≡ false =
+      ap (λ (y : Bool). nat_lt 0 (rest f r) || y) o ∙ ap (λ (y : Bool). y || false) (zero_rest f r z h) in
       ap (λ (y : Bool). is_tiny_in NearestEven false f r && y) x
       ∙ and_false (is_tiny_in NearestEven false f r)
       ∙ sym (ap (λ (y : Bool). is_tiny f r && y) (sym (same_inexact f r h) ∙ x) ∙ and_false (is_tiny f r))
@@ -238,6 +261,7 @@ flags_of o u n = record { nv = false; dz = false; of = o; uf = u; nx = n }
 pub same_flags : (f : Format) (r : Ratio) → 0 < r.denominator → rounding_flags_in NearestEven false f r ≡ rounding_flags f r
 unfolding flags_of
 same_flags f r h =
-    ap (λ (z : Bool). flags_of z (is_tiny_in NearestEven false f r && is_inexact_in NearestEven false f r) (is_inexact_in NearestEven false f r)) (same_overflow f r)
+    ap (λ (z : Bool). flags_of z (is_tiny_in NearestEven false f r && is_inexact_in NearestEven false f r)
+    (is_inexact_in NearestEven false f r)) (same_overflow f r)
     ∙ ap (λ (z : Bool). flags_of (overflows f r) z (is_inexact_in NearestEven false f r)) (same_underflow f r h)
     ∙ ap (λ (z : Bool). flags_of (overflows f r) (is_tiny f r && is_inexact f r) z) (same_inexact f r h)

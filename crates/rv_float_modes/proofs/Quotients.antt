@@ -1,6 +1,7 @@
 -- Quotients, as whole multiples and a rest.
 use Rattle.std.proofs.Common.{◌≡◌, ℕ, ◌+◌, ◌-◌, ◌*◌, ◌/◌, ◌%◌, ◌^◌, ◌<◌, ◌≤◌, not, nat_eq, nat_lt, sym, ap, ◌∙◌, refl, arith, inl, inr}
-use Rattle.std.proofs.Math.Nat.{div-add-mod', div-le_self, eq-zero-or-pos, eq_of_mul-eq-mul_right, le-div_iff_mul-le, le_of_mul-le-mul_right, lt_of_mul-lt-mul_right, mul-lt-mul_of_pos_right, mul-pos, zero-mul}
+use Rattle.std.proofs.Math.Nat.{div-add-mod', div-le_self, eq-zero-or-pos, eq_of_mul-eq-mul_right, le-div_iff_mul-le}
+use Rattle.std.proofs.Math.Nat.{le_of_mul-le-mul_right, lt_of_mul-lt-mul_right, mul-lt-mul_of_pos_right, mul-pos, zero-mul}
 use Rattle.std.proofs.Math.Arith.{digits_div, digits_mod}
 use Rattle.std.proofs.lemmas.Bool.{eq-eqb, le-ltb, lt-ltb, ne_eqb}
 use Rattle.std.proofs.lemmas.Nat.{mod_below, pow-add, pow_pos}
@@ -11,7 +12,8 @@ use Rattle.rv_float_modes.specs.Enclosed.{Encloses, IsNumber}
 use Rattle.rv_float_modes.specs.declared.magnitude.Magnitude.{Magnitude}
 
 no_numerator : (a b u : ℕ) → 0 < u → a * u ≡ b → b ≡ 0 → a ≡ 0
-no_numerator a b u h e z = elim (eq-zero-or-pos a) [ inl y ↦ y | inr p ↦ let m : 0 < a * u = mul-pos p h in absurd (omega (arith, m, e, z)) ]
+no_numerator a b u h e z =
+    elim (eq-zero-or-pos a) [ inl y ↦ y | inr p ↦ let m : 0 < a * u = mul-pos p h in absurd (omega (arith, m, e, z)) ]
 
 pub zero_number : (r : Ratio) (n m place : ℕ) → IsFraction r n m → n ≡ 0 → IsNumber r 0 place
 zero_number r n m place h z =
@@ -20,7 +22,8 @@ zero_number r n m place h z =
     let c : r.numerator ≡ 0 = no_numerator r.numerator 0 (2 ^ 2148) (pow_pos 2148) b refl in
     record {
       nonzero = h.nonzero;
-      value = ap (λ (x : ℕ). x * 2 ^ 4096) c ∙ zero-mul (2 ^ 4096) ∙ sym (zero-mul r.denominator) ∙ ap (λ (x : ℕ). x * r.denominator) (sym (zero-mul (2 ^ place)));
+      value = ap (λ (x : ℕ). x * 2 ^ 4096) c ∙ zero-mul (2 ^ 4096) ∙ sym (zero-mul r.denominator)
+          ∙ ap (λ (x : ℕ). x * r.denominator) (sym (zero-mul (2 ^ place)));
     }
 
 -- X is D / q multiples of W, and a rest
@@ -45,11 +48,17 @@ parts X D q W Q t h w e k l =
           ap not (eq-eqb t 0 z) ∙ sym (le-ltb 0 o (omega (arith, y)))
       | inr p ↦
           let y : 0 < t * W = mul-pos p w in
-          let x : 0 < o = elim (eq-zero-or-pos o) [ inr s ↦ s | inl s ↦ let u : o * q ≡ 0 = ap (λ (v : ℕ). v * q) s ∙ zero-mul q in absurd (omega (arith, u, g, y)) ] in
+          let x : 0 < o =
+          elim (eq-zero-or-pos o) [
+            | inr s ↦ s
+            | inl s ↦ let u : o * q ≡ 0 = ap (λ (v : ℕ). v * q) s ∙ zero-mul q in
+                absurd (omega (arith, u, g, y))
+          ] in
           ap not (ne_eqb t 0 (λ z. absurd (omega (arith, z, p)))) ∙ sym (lt-ltb 0 o x)
     ]
 
-pub divided_encloses : (r : Ratio) (d i q j : ℕ) (e : Magnitude) → IsFraction r (d * 2 ^ (i + 2148)) (q * 2 ^ j) → 0 < q → e.digits * 2 ^ e.place ≡ d * 2 ^ (i + 4096)
+pub divided_encloses : (r : Ratio) (d i q j : ℕ) (e : Magnitude) → IsFraction r (d * 2 ^ (i + 2148)) (q * 2 ^ j) → 0 < q
+    → e.digits * 2 ^ e.place ≡ d * 2 ^ (i + 4096)
     → j ≤ e.place → Encloses r (record { digits = e.digits / q; place = e.place - j; goes_on = not (nat_eq (e.digits % q) 0) })
 divided_encloses r d i q j e f h v l =
     let c = r.denominator in
@@ -60,10 +69,12 @@ divided_encloses r d i q j e f h v l =
     let a : 2 ^ (2148 + 1948) ≡ 2 ^ 2148 * 2 ^ 1948 = pow-add 2 2148 1948 in
     let b : 2 ^ (i + 2148 + 1948) ≡ 2 ^ (i + 2148) * 2 ^ 1948 = pow-add 2 (i + 2148) 1948 in
     let s : e.digits * 2 ^ p * 2 ^ j ≡ d * (2 ^ (i + 2148) * 2 ^ 1948) =
-    power_split e.digits j e.place l ∙ v ∙ ap (λ (z : ℕ). d * 2 ^ z) (let k : i + 4096 ≡ i + 2148 + 1948 = omega arith in k) ∙ ap (λ (z : ℕ). d * z) b
+    power_split e.digits j e.place l ∙ v ∙ ap (λ (z : ℕ). d * 2 ^ z) (let k : i + 4096 ≡ i + 2148 + 1948 = omega arith in k)
+    ∙ ap (λ (z : ℕ). d * z) b
     in
     let x : n * 2 ^ 4096 * q * 2 ^ j ≡ e.digits * W * 2 ^ j =
-    ap (λ (z : ℕ). n * z * q * 2 ^ j) a ∙ cross n (2 ^ 2148) (2 ^ 1948) q (2 ^ j) d (2 ^ (i + 2148)) c f.value ∙ sym (ap (λ (z : ℕ). z * c) s) ∙ regroup e.digits (2 ^ p) (2 ^ j) c
+    ap (λ (z : ℕ). n * z * q * 2 ^ j) a ∙ cross n (2 ^ 2148) (2 ^ 1948) q (2 ^ j) d (2 ^ (i + 2148)) c f.value
+    ∙ sym (ap (λ (z : ℕ). z * c) s) ∙ regroup e.digits (2 ^ p) (2 ^ j) c
     in
     let y : n * 2 ^ 4096 * q ≡ e.digits * W = eq_of_mul-eq-mul_right (2 ^ j) (pow_pos j) (n * 2 ^ 4096 * q) (e.digits * W) x in
     let k = parts (n * 2 ^ 4096) e.digits q W (e.digits / q) (e.digits % q) h w y (div-add-mod' e.digits q) (mod_below e.digits q h) in

@@ -1,7 +1,9 @@
--- To the nearest, ties to even, the flags of a root are those of `rv_float_flags`: it neither overflows nor underflows, and it is inexact just where
--- its square is another number.
-use Rattle.std.proofs.Common.{◌≡◌, ℕ, zero, suc, ◌+◌, ◌-◌, ◌*◌, ◌/◌, ◌%◌, ◌^◌, ◌<◌, ◌≤◌, Bool, true, false, cond, not, ◌&&◌, if◌then◌else◌, nat_eq, nat_lt, sym, ap, ◌∙◌, refl, arith, inl, inr}
-use Rattle.std.proofs.Math.Nat.{eq_of_mul-eq-mul_right, mul-div_cancel, mul-le-mul, mul-le-mul_right, mul-lt-mul_of_pos_right, mul-pos, pow-succ', zero-mul}
+-- To the nearest, ties to even, the flags of a root are those of `rv_float_flags`: it neither overflows nor underflows, and it is inexact
+-- just where its square is another number.
+use Rattle.std.proofs.Common.{◌≡◌, ℕ, zero, suc, ◌+◌, ◌-◌, ◌*◌, ◌/◌, ◌%◌, ◌^◌, ◌<◌, ◌≤◌, Bool, true, false, cond, not, ◌&&◌, if◌then◌else◌}
+use Rattle.std.proofs.Common.{nat_eq, nat_lt, sym, ap, ◌∙◌, refl, arith, inl, inr}
+use Rattle.std.proofs.Math.Nat.{eq_of_mul-eq-mul_right, mul-div_cancel, mul-le-mul, mul-le-mul_right, mul-lt-mul_of_pos_right, mul-pos}
+use Rattle.std.proofs.Math.Nat.{pow-succ', zero-mul}
 use Rattle.std.proofs.Math.Pow.{pow_mono}
 use Rattle.std.proofs.lemmas.Bool.{cases_lt, eq-eqb, eqb-true, le-ltb, true≢false}
 use Rattle.std.proofs.lemmas.Nat.{pow-add, pow_pos}
@@ -35,7 +37,8 @@ power_divides : (e : ℤ) (L : ℕ) → down e ≤ 2 ^ L → Divides (down e) (2
 power_divides (pos k) L h = record { times = 2 ^ L; nonzero = pow_pos L; value = omega arith }
 power_divides (negsuc k) L h =
     let l : suc k ≤ L = elim (cases_lt L (suc k)) [
-      | inl g ↦ let m : 2 ^ suc L ≤ 2 ^ suc k = pow_mono g in let s : 2 ^ suc L ≡ 2 * 2 ^ L = pow-succ' 2 L in absurd (omega (arith, m, s, h, pow_pos L))
+      | inl g ↦ let m : 2 ^ suc L ≤ 2 ^ suc k = pow_mono g in let s : 2 ^ suc L ≡ 2 * 2 ^ L = pow-succ' 2 L in
+          absurd (omega (arith, m, s, h, pow_pos L))
       | inr g ↦ g
     ] in
     record {
@@ -55,7 +58,8 @@ divides f (fin s zero e) t =
 divides f (fin s (suc m) e) t =
     let narrow : Bool = nat_eq (suc m % 2) 1 && nat_lt (suc m) (2 ^ prec f) in
     let coarse : Bool = leb (down e) (2 ^ low f) in
-    power_divides e (low f) (leb→le (down e) (2 ^ low f) (and_r narrow coarse (and_l (narrow && coarse) (nat_lt (suc m * up e) (2 ^ suc (emax f) * down e)) t)))
+    power_divides e (low f)
+    (leb→le (down e) (2 ^ low f) (and_r narrow coarse (and_l (narrow && coarse) (nat_lt (suc m * up e) (2 ^ suc (emax f) * down e)) t)))
 
 -- what a format holds is below 2 ^ (emax + 1)
 below_top : (f : Format) (x : Float) → T (fits f x) → num x < 2 ^ suc (emax f) * den x
@@ -112,8 +116,10 @@ pub record IsSized (f : Format) (root : ℕ) : Type 0 where
 
 whole_is : (n d c L : ℕ) → 0 < d → L ≤ 4542 → d * c ≡ 2 ^ L → n * 2 ^ 4542 / d ≡ n * c * 2 ^ (4542 - L)
 whole_is n d c L p l h =
-    let s : 2 ^ 4542 ≡ 2 ^ L * 2 ^ (4542 - L) = ap (λ (z : ℕ). 2 ^ z) (let q : 4542 ≡ L + (4542 - L) = omega (arith, l) in q) ∙ pow-add 2 L (4542 - L) in
-    let v : n * 2 ^ 4542 ≡ n * c * 2 ^ (4542 - L) * d = ap (λ (z : ℕ). n * z) s ∙ ap (λ (z : ℕ). n * (z * 2 ^ (4542 - L))) (sym h) ∙ regroup n d c (2 ^ (4542 - L)) in
+    let s : 2 ^ 4542 ≡ 2 ^ L * 2 ^ (4542 - L) =
+    ap (λ (z : ℕ). 2 ^ z) (let q : 4542 ≡ L + (4542 - L) = omega (arith, l) in q) ∙ pow-add 2 L (4542 - L) in
+    let v : n * 2 ^ 4542 ≡ n * c * 2 ^ (4542 - L) * d =
+    ap (λ (z : ℕ). n * z) s ∙ ap (λ (z : ℕ). n * (z * 2 ^ (4542 - L))) (sym h) ∙ regroup n d c (2 ^ (4542 - L)) in
     ap (λ (z : ℕ). z / d) v ∙ mul-div_cancel (n * c * 2 ^ (4542 - L)) p
   where
     regroup : (n d c u : ℕ) → n * (d * c * u) ≡ n * c * u * d
@@ -145,7 +151,8 @@ sized f x t p =
     in
     let most : R < 2 ^ (E + 2271) = root_upper E N R (emax_pos f) r.0 (omega (arith, n, less, all)) in
     let a : 2 ^ suc (2272 - E) ≡ 2 * 2 ^ (2272 - E) = pow-succ' 2 (2272 - E) in
-    let b : 2 ^ (E + 2272) ≡ 2 * 2 ^ (E + 2271) = ap (λ (z : ℕ). 2 ^ z) (let q : E + 2272 ≡ suc (E + 2271) = omega arith in q) ∙ pow-succ' 2 (E + 2271) in
+    let b : 2 ^ (E + 2272) ≡ 2 * 2 ^ (E + 2271) =
+    ap (λ (z : ℕ). 2 ^ z) (let q : E + 2272 ≡ suc (E + 2271) = omega arith in q) ∙ pow-succ' 2 (E + 2271) in
     record { least = omega (arith, least, w, a); most = omega (arith, most, w, o, b) }
   where
     units_below : (n d c t l : ℕ) → 0 < c → n < t * d → d * c ≡ l → n * c < t * l
@@ -164,7 +171,8 @@ finite_root f r d h =
     let b : 2 ^ (E + 2272) ≡ 2 ^ E * 2 ^ 2272 = pow-add 2 E 2272 in
     let c : 2 ^ (L + E) ≡ 2 ^ L * 2 ^ E = pow-add 2 L E in
     let s : 2 ^ (E + 2272) * 2 ^ L ≡ 2 ^ (L + E) * r.denominator =
-    ap (λ (z : ℕ). z * 2 ^ L) b ∙ regroup (2 ^ E) (2 ^ 2272) (2 ^ L) ∙ ap (λ (z : ℕ). z * 2 ^ 2272) (sym c) ∙ ap (λ (z : ℕ). 2 ^ (L + E) * z) (sym d)
+    ap (λ (z : ℕ). z * 2 ^ L) b ∙ regroup (2 ^ E) (2 ^ 2272) (2 ^ L) ∙ ap (λ (z : ℕ). z * 2 ^ 2272) (sym c)
+    ∙ ap (λ (z : ℕ). 2 ^ (L + E) * z) (sym d)
     in
     let p : 0 < 2 ^ 2272 = pow_pos 2272 in
     finite_below f r (omega (arith, d, p)) (omega (arith, a, s))
@@ -185,7 +193,8 @@ above_limit f root h =
     let P = prec f + 1 in
     let i = 2146 - low f in
     let k = suc (2272 - emax f) in
-    let a : (2 ^ P - 1) * (2 ^ i * 2 ^ 2272) ≤ 2 ^ P * (2 ^ i * 2 ^ 2272) = mul-le-mul_right (2 ^ i * 2 ^ 2272) (let q : 2 ^ P - 1 ≤ 2 ^ P = omega arith in q) in
+    let a : (2 ^ P - 1) * (2 ^ i * 2 ^ 2272) ≤ 2 ^ P * (2 ^ i * 2 ^ 2272) =
+    mul-le-mul_right (2 ^ i * 2 ^ 2272) (let q : 2 ^ P - 1 ≤ 2 ^ P = omega arith in q) in
     let b : 2 ^ (P + i + 2272) ≡ 2 ^ P * 2 ^ i * 2 ^ 2272 = pow-add 2 (P + i) 2272 ∙ ap (λ (z : ℕ). z * 2 ^ 2272) (pow-add 2 P i) in
     let c : 2 ^ (P + i + 2272) ≤ 2 ^ (k + 2148) = pow_mono (limit_small f) in
     let d : 2 ^ (k + 2148) ≡ 2 ^ k * 2 ^ 2148 = pow-add 2 k 2148 in
@@ -200,7 +209,9 @@ no_underflow f r d h =
     let p : 0 < 2 ^ 2272 = pow_pos 2272 in
     let q : 0 < r.denominator = omega (arith, d, p) in
     let n = r.numerator * 2 ^ 2148 in
-    let g : amount (limit f) * r.denominator ≤ n = let a : amount (limit f) * 2 ^ 2272 ≤ n = above_limit f r.numerator h in let b : amount (limit f) * r.denominator ≡ amount (limit f) * 2 ^ 2272 = ap (λ (z : ℕ). amount (limit f) * z) d in omega (arith, a, b) in
+    let g : amount (limit f) * r.denominator ≤ n = let a : amount (limit f) * 2 ^ 2272 ≤ n = above_limit f r.numerator h in
+    let b : amount (limit f) * r.denominator ≡ amount (limit f) * 2 ^ 2272 = ap (λ (z : ℕ). amount (limit f) * z) d in
+    omega (arith, a, b) in
     underflow f r (limit f) n r.denominator (is_limit f) (record { nonzero = q; divisor = q; value = refl })
     ∙ ap (λ (b : Bool). is_inexact f r && b) (le-ltb n (amount (limit f) * r.denominator) g)
     ∙ no_and (is_inexact f r)
@@ -210,7 +221,8 @@ no_overflow f r d h = either f false r.numerator r.denominator ∙ ap not (finit
 
 -- ---- it is exact just where its square is the number
 
--- The root of a / d is looked for, and is p / q: both are multiples of 1 / l. One is 2 * l * h in the terms of the root, and R is the whole root of N.
+-- The root of a / d is looked for, and is p / q: both are multiples of 1 / l. One is 2 * l * h in the terms of the root, and R is the whole
+-- root of N.
 pub record Terms (a d p q l h N R o : ℕ) : Type 0 where
   pub number : Divides d l
   pub root : Divides q l
@@ -223,7 +235,8 @@ pub record Terms (a d p q l h N R o : ℕ) : Type 0 where
   pub more : o ≡ cond (nat_eq (R * R) N) 0 1
 
 -- the square of p / q in these terms
-square_is : (a d p q l h N R o : ℕ) (t : Terms a d p q l h N R o) → p * p * d ≡ a * (q * q) → p * t.root.times * h * (p * t.root.times * h) ≡ N
+square_is : (a d p q l h N R o : ℕ) (t : Terms a d p q l h N R o) → p * p * d ≡ a * (q * q)
+    → p * t.root.times * h * (p * t.root.times * h) ≡ N
 square_is a d p q l h N R o t e =
     let c = t.number.times in
     let b = t.root.times in
@@ -245,17 +258,21 @@ square_is a d p q l h N R o t e =
     regroup w l u = omega arith
 
 -- and back
-is_square : (a d p q l h N R o : ℕ) (t : Terms a d p q l h N R o) → p * t.root.times * h * (p * t.root.times * h) ≡ N → p * p * d ≡ a * (q * q)
+is_square : (a d p q l h N R o : ℕ) (t : Terms a d p q l h N R o) → p * t.root.times * h * (p * t.root.times * h) ≡ N
+    → p * p * d ≡ a * (q * q)
 is_square a d p q l h N R o t e =
     let c = t.number.times in
     let b = t.root.times in
     let s : p * p * (b * b) * (h * h) ≡ a * c * (q * b) * (h * h) =
-    (let k : p * p * (b * b) * (h * h) ≡ p * b * h * (p * b * h) = omega arith in k) ∙ e ∙ t.value ∙ ap (λ (z : ℕ). a * c * (z * (h * h))) (sym t.root.value)
+    (let k : p * p * (b * b) * (h * h) ≡ p * b * h * (p * b * h) = omega arith in k) ∙ e ∙ t.value
+    ∙ ap (λ (z : ℕ). a * c * (z * (h * h))) (sym t.root.value)
     ∙ (let k : a * c * (q * b * (h * h)) ≡ a * c * (q * b) * (h * h) = omega arith in k)
     in
-    let u : p * p * (b * b) ≡ a * c * (q * b) = eq_of_mul-eq-mul_right (h * h) (mul-pos t.h_nonzero t.h_nonzero) (p * p * (b * b)) (a * c * (q * b)) s in
+    let u : p * p * (b * b) ≡ a * c * (q * b) =
+    eq_of_mul-eq-mul_right (h * h) (mul-pos t.h_nonzero t.h_nonzero) (p * p * (b * b)) (a * c * (q * b)) s in
     let v : d * c ≡ q * b = t.number.value ∙ sym t.root.value in
-    eq_of_mul-eq-mul_right (c * (b * b)) (mul-pos t.number.nonzero (mul-pos t.root.nonzero t.root.nonzero)) (p * p * d) (a * (q * q)) (scaled a d p q c b u v)
+    eq_of_mul-eq-mul_right (c * (b * b)) (mul-pos t.number.nonzero (mul-pos t.root.nonzero t.root.nonzero)) (p * p * d) (a * (q * q))
+    (scaled a d p q c b u v)
   where
     scaled : (a d p q c b : ℕ) → p * p * (b * b) ≡ a * c * (q * b) → d * c ≡ q * b → p * p * d * (c * (b * b)) ≡ a * (q * q) * (c * (b * b))
     scaled a d p q c b u v =
@@ -270,14 +287,17 @@ whole_root S N R e h l =
     let b : S < R + 1 = squares_lt S (R + 1) (omega (arith, e, l)) in
     omega (arith, a, b)
 
-exact_test : (a d p q l h N R o : ℕ) → Terms a d p q l h N R o → nat_eq (p * (2 * (l * h))) ((2 * R + o) * q) ≡ nat_eq (p * p * d) (a * (q * q))
-exact_test a d p q l h N R o t = same_eq (p * (2 * (l * h))) ((2 * R + o) * q) (p * p * d) (a * (q * q)) (to_square (nat_eq (R * R) N) refl) from_square
+exact_test : (a d p q l h N R o : ℕ) → Terms a d p q l h N R o
+    → nat_eq (p * (2 * (l * h))) ((2 * R + o) * q) ≡ nat_eq (p * p * d) (a * (q * q))
+exact_test a d p q l h N R o t =
+    same_eq (p * (2 * (l * h))) ((2 * R + o) * q) (p * p * d) (a * (q * q)) (to_square (nat_eq (R * R) N) refl) from_square
   where
     S : ℕ
     S = p * t.root.times * h
 
     unit : p * (2 * (l * h)) ≡ 2 * S * q
-    unit = ap (λ (z : ℕ). p * (2 * (z * h))) (sym t.root.value) ∙ (let b : ℕ = t.root.times in let k : p * (2 * (q * b * h)) ≡ 2 * (p * b * h) * q = omega arith in k)
+    unit = ap (λ (z : ℕ). p * (2 * (z * h))) (sym t.root.value)
+        ∙ (let b : ℕ = t.root.times in let k : p * (2 * (q * b * h)) ≡ 2 * (p * b * h) * q = omega arith in k)
 
     to_square : (w : Bool) → nat_eq (R * R) N ≡ w → p * (2 * (l * h)) ≡ (2 * R + o) * q → p * p * d ≡ a * (q * q)
     to_square true e g =
@@ -317,7 +337,8 @@ exactly_root f x z t v =
     ∙ ap (λ (y : ℕ). 2 ^ L * y) (pow-add 2 (2271 - L) (2271 - L))
     in
     let one : 2 ^ 2272 ≡ 2 * (2 ^ L * h) =
-    pow-succ' 2 2271 ∙ ap (λ (y : ℕ). 2 * 2 ^ y) (let q : 2271 ≡ L + (2271 - L) = omega (arith, l) in q) ∙ ap (λ (y : ℕ). 2 * y) (pow-add 2 L (2271 - L))
+    pow-succ' 2 2271 ∙ ap (λ (y : ℕ). 2 * 2 ^ y) (let q : 2271 ≡ L + (2271 - L) = omega (arith, l) in q)
+    ∙ ap (λ (y : ℕ). 2 * y) (pow-add 2 L (2271 - L))
     in
     let k : Terms (num x) (den x) (num z) (den z) (2 ^ L) h N R o = record {
       number = g;
@@ -346,7 +367,8 @@ not_below_zero (fin false m e) h g = le-ltb _ _ (let z : 0 * 1 * down e ≡ 0 = 
 only_inexact : (o u x y : Bool) → o ≡ false → u ≡ false → x ≡ y → record { nv = false; dz = false; of = o; uf = u; nx = x } ≡ inexact_if y
 only_inexact o u x y h g e = rw (h, g, e) refl
 
-pub root_flags_are : (f : Format) (x : Float) → T (fits f x) → float_is_finite x ≡ true → 0 < num x → is_sign_negative x ≡ false → sqrt f x ≡ rounded f (exact_root x)
+pub root_flags_are : (f : Format) (x : Float) → T (fits f x) → float_is_finite x ≡ true → 0 < num x → is_sign_negative x ≡ false
+    → sqrt f x ≡ rounded f (exact_root x)
     → rounding_flags f (exact_root x) ≡ root_flags f x
 root_flags_are f x t finite p above e =
     let r = exact_root x in

@@ -1,6 +1,8 @@
 -- Roots, as whole multiples and a rest.
-use Rattle.std.proofs.Common.{◌≡◌, ℕ, suc, ◌+◌, ◌-◌, ◌*◌, ◌/◌, ◌%◌, ◌^◌, ◌<◌, ◌≤◌, Bool, true, false, cond, not, nat_eq, nat_lt, sym, ap, ◌∙◌, refl, arith, inl, inr}
-use Rattle.std.proofs.Math.Nat.{eq_of_mul-eq-mul_right, mod-eq_of_lt, mul-div_cancel, mul-le-mul, mul-le-mul_right, mul-lt-mul_of_pos_right, mul-pos, zero-mul}
+use Rattle.std.proofs.Common.{◌≡◌, ℕ, suc, ◌+◌, ◌-◌, ◌*◌, ◌/◌, ◌%◌, ◌^◌, ◌<◌, ◌≤◌, Bool, true, false, cond, not, nat_eq, nat_lt, sym, ap}
+use Rattle.std.proofs.Common.{◌∙◌, refl, arith, inl, inr}
+use Rattle.std.proofs.Math.Nat.{eq_of_mul-eq-mul_right, mod-eq_of_lt, mul-div_cancel, mul-le-mul, mul-le-mul_right, mul-lt-mul_of_pos_right}
+use Rattle.std.proofs.Math.Nat.{mul-pos, zero-mul}
 use Rattle.std.proofs.Math.Pow.{pow_mono}
 use Rattle.std.proofs.Math.Arith.{digits_div, digits_mod}
 use Rattle.std.proofs.lemmas.Bool.{cases_lt, eq-eqb, eqb-true, le-ltb, lt-ltb, ne_eqb, true≢false}
@@ -30,7 +32,8 @@ even D i h l =
     let j = t.0 in
     let z = count_leading_zeros 128 D in
     let e : z + suc j ≡ 128 = t.1 in
-    let few : j < 53 = elim (cases_lt j 53) [ inl g ↦ g | inr g ↦ let m : 2 ^ 53 ≤ 2 ^ j = pow_mono g in absurd (omega (arith, m, l, t.2)) ] in
+    let few : j < 53 =
+    elim (cases_lt j 53) [ inl g ↦ g | inr g ↦ let m : 2 ^ 53 ≤ 2 ^ j = pow_mono g in absurd (omega (arith, m, l, t.2)) ] in
     let s = z - (i + z) % 2 in
     let a : 2 ^ j * 2 ^ s ≤ D * 2 ^ s = mul-le-mul_right (2 ^ s) t.2 in
     let b : D * 2 ^ s < 2 ^ suc j * 2 ^ s = mul-lt-mul_of_pos_right t.3 (pow_pos s) in
@@ -50,7 +53,8 @@ even D i h l =
 pub root_wide : (S d : ℕ) → 2 ^ 126 ≤ S → S < (d + 1) * (d + 1) → 2 ^ 63 ≤ d
 root_wide S d h l = elim (cases_lt d (2 ^ 63)) [
   | inr g ↦ g
-  | inl g ↦ let k : d + 1 ≤ 2 ^ 63 = omega (arith, g) in let m : (d + 1) * (d + 1) ≤ 2 ^ 63 * 2 ^ 63 = mul-le-mul k k in absurd (omega (arith, m, h, l))
+  | inl g ↦ let k : d + 1 ≤ 2 ^ 63 = omega (arith, g) in let m : (d + 1) * (d + 1) ≤ 2 ^ 63 * 2 ^ 63 = mul-le-mul k k in
+      absurd (omega (arith, m, h, l))
 ]
 
 pub root_narrow : (d : ℕ) → d < 2 ^ 64 → d < 2 ^ 127
@@ -109,11 +113,13 @@ root_at S d c R o b p h l g k e q =
     let w : 2 * (R - d * c) + o < 2 * c = omega (arith, a, f, i) in
     record { rest = 2 * (R - d * c) + o; value = v; low = w; test = tests b e q a }
   where
-    tests : (b : Bool) → nat_eq (R * R) (S * (c * c)) ≡ b → o ≡ cond b 0 1 → d * c ≤ R → not (nat_eq (d * d) S) ≡ nat_lt 0 (2 * (R - d * c) + o)
+    tests : (b : Bool) → nat_eq (R * R) (S * (c * c)) ≡ b → o ≡ cond b 0 1 → d * c ≤ R
+        → not (nat_eq (d * d) S) ≡ nat_lt 0 (2 * (R - d * c) + o)
     tests true e q a =
         let n : R * R ≡ S * (c * c) = eqb-true (R * R) (S * (c * c)) e in
         elim (cases_lt 0 (R - d * c)) [
-          | inl y ↦ ap not (ne_eqb (d * d) S (λ z. let r : R ≡ d * c = same_root S d c R z a g in absurd (omega (arith, r, y)))) ∙ sym (lt-ltb 0 _ (omega (arith, y)))
+          | inl y ↦ ap not (ne_eqb (d * d) S (λ z. let r : R ≡ d * c = same_root S d c R z a g in absurd (omega (arith, r, y))))
+              ∙ sym (lt-ltb 0 _ (omega (arith, y)))
           | inr y ↦
               let r : R ≡ d * c = omega (arith, y, a) in
               let s : R * R ≡ d * c * (d * c) = ap (λ (z : ℕ). z * z) r in
@@ -131,7 +137,8 @@ root_at S d c R o b p h l g k e q =
 
 -- ---- in the terms of a value
 
-pub rooted_encloses : (f : Format) (x : Float) (p : Scaled) (s d : ℕ) → IsMagnitude f x p → s < 128 → (p.place + 7118 - s) % 2 ≡ 0 → d * d ≤ p.digits * 2 ^ s
+pub rooted_encloses : (f : Format) (x : Float) (p : Scaled) (s d : ℕ) → IsMagnitude f x p → s < 128 → (p.place + 7118 - s) % 2 ≡ 0
+    → d * d ≤ p.digits * 2 ^ s
     → p.digits * 2 ^ s < (d + 1) * (d + 1)
     → Encloses (exact_root x) (record { digits = d; place = (p.place + 7118 - s) / 2; goes_on = not (nat_eq (d * d) (p.digits * 2 ^ s)) })
 rooted_encloses f x p s d h l e a b =
@@ -143,7 +150,8 @@ rooted_encloses f x p s d h l e a b =
     let m : i + 3468 - s ≡ j + j = omega (arith, l, e) in
     let cc : 2 ^ (i + 3468 - s) ≡ c * c = ap (λ (z : ℕ). 2 ^ z) m ∙ pow-add 2 j j in
     let v : p.digits * 2 ^ (i + 3468) ≡ S * (c * c) =
-    sym (power_split p.digits s (i + 3468) (omega (arith, l))) ∙ ap (λ (z : ℕ). p.digits * z * 2 ^ s) cc ∙ (let k : p.digits * (c * c) * 2 ^ s ≡ S * (c * c) = omega arith in k)
+    sym (power_split p.digits s (i + 3468) (omega (arith, l))) ∙ ap (λ (z : ℕ). p.digits * z * 2 ^ s) cc
+    ∙ (let k : p.digits * (c * c) * 2 ^ s ≡ S * (c * c) = omega arith in k)
     in
     let w : num x * 2 ^ 4542 ≡ S * (c * c) * den x =
     ap (λ (z : ℕ). num x * z) (pow-add 2 1074 3468)
@@ -170,7 +178,8 @@ rooted_encloses f x p s d h l e a b =
     ∙ ap (λ (z : ℕ). z * u) (pow-add 2 1 j)
     in
     let X = root_twice N * u in
-    let xv : d * W + t.rest * u ≡ X = ap (λ (z : ℕ). d * z + t.rest * u) wv ∙ parts d (2 * c) t.rest (2 * R + o) u t.value ∙ ap (λ (z : ℕ). z * u) (sym (twice_is N)) in
+    let xv : d * W + t.rest * u ≡ X =
+    ap (λ (z : ℕ). d * z + t.rest * u) wv ∙ parts d (2 * c) t.rest (2 * R + o) u t.value ∙ ap (λ (z : ℕ). z * u) (sym (twice_is N)) in
     let low : t.rest * u < 2 * c * u = mul-lt-mul_of_pos_right t.low (pow_pos 4096) in
     let o' : t.rest * u < W = omega (arith, low, wv) in
     record {

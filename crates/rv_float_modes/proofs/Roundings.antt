@@ -1,5 +1,6 @@
 -- A rounding, from the pattern without bounds, and operations, from a rounding.
-use Rattle.std.proofs.Common.{◌≡◌, ℕ, ◌+◌, ◌-◌, ◌*◌, ◌<◌, ◌^◌, Bool, true, false, ◌&&◌, ◌||◌, if◌then◌else◌, nat_le, nat_lt, sym, ap, ◌∙◌, refl, arith, inl, inr}
+use Rattle.std.proofs.Common.{◌≡◌, ℕ, ◌+◌, ◌-◌, ◌*◌, ◌<◌, ◌^◌, Bool, true, false, ◌&&◌, ◌||◌, if◌then◌else◌, nat_le, nat_lt, sym, ap, ◌∙◌}
+use Rattle.std.proofs.Common.{refl, arith, inl, inr}
 use Rattle.std.proofs.Math.Nat.{eq-zero-or-pos, mul-pos}
 use Rattle.std.proofs.lemmas.Bool.{lt-leb, lt-ltb}
 use Rattle.std.proofs.lemmas.Nat.{pow_pos}
@@ -30,18 +31,28 @@ abbrev pub pair : ℕ → Flags → Rounded
 pair b g = record { bits = b; flags = g }
 
 abbrev flags_by : Bool → Bool → Bool → Flags
-flags_by inexact overflow tiny = record { nv = false; dz = false; of = overflow; uf = tiny && (inexact || overflow); nx = inexact || overflow }
+flags_by inexact overflow tiny =
+    record { nv = false; dz = false; of = overflow; uf = tiny && (inexact || overflow); nx = inexact || overflow }
 
-pub rounding_is : (mode : Rounding) (negative : Bool) (f : Format) (r : Ratio) (s : Shape) (p t bits bound : ℕ) (inexact : Bool) (flags : Flags)
+pub rounding_is : (mode : Rounding) (negative : Bool) (f : Format) (r : Ratio) (s : Shape) (p t bits bound : ℕ) (inexact : Bool)
+    (flags : Flags)
     → IsShape f s → p ≡ unbounded mode negative f r → inexact ≡ nat_lt 0 (rest f r) → t ≡ unbounded mode negative f (twice r)
     → bound ≡ bounded mode negative f p → bits ≡ with_sign f negative bound
-    → flags ≡ record { nv = false; dz = false; of = nat_le s.infinity p; uf = nat_lt t (2 * s.hidden) && (inexact || nat_le s.infinity p); nx = inexact || nat_le s.infinity p }
+    → flags ≡ record {
+      nv = false;
+      dz = false;
+      of = nat_le s.infinity p;
+      uf = nat_lt t (2 * s.hidden) && (inexact || nat_le s.infinity p);
+      nx = inexact || nat_le s.infinity p;
+    }
     → pair bits flags ≡ rounding_in mode negative f r
 rounding_is mode negative f r s p t bits bound inexact flags h e i k b w g =
     let u = unbounded mode negative f r in
     let o : nat_le s.infinity p ≡ nat_le (infinity f) u = ap (λ (z : ℕ). nat_le z p) h.infinity ∙ ap (λ (z : ℕ). nat_le (infinity f) z) e in
-    let y : nat_lt t (2 * s.hidden) ≡ is_tiny_in mode negative f r = ap (λ (z : ℕ). nat_lt t (2 * z)) h.hidden ∙ ap (λ (z : ℕ). nat_lt z (2 * hid f)) k in
-    let v : bits ≡ with_sign f negative (bounded mode negative f u) = w ∙ ap (λ (z : ℕ). with_sign f negative z) (b ∙ ap (λ (z : ℕ). bounded mode negative f z) e) in
+    let y : nat_lt t (2 * s.hidden) ≡ is_tiny_in mode negative f r =
+    ap (λ (z : ℕ). nat_lt t (2 * z)) h.hidden ∙ ap (λ (z : ℕ). nat_lt z (2 * hid f)) k in
+    let v : bits ≡ with_sign f negative (bounded mode negative f u) =
+    w ∙ ap (λ (z : ℕ). with_sign f negative z) (b ∙ ap (λ (z : ℕ). bounded mode negative f z) e) in
     let a : flags ≡ flags_by (nat_lt 0 (rest f r)) (nat_le (infinity f) u) (is_tiny_in mode negative f r) =
     g ∙ ap (λ (z : Bool). flags_by z (nat_le s.infinity p) (nat_lt t (2 * s.hidden))) i
     ∙ ap (λ (z : Bool). flags_by (nat_lt 0 (rest f r)) z (nat_lt t (2 * s.hidden))) o
@@ -56,7 +67,8 @@ infinity_above binary32 = omega arith
 infinity_above binary64 = omega arith
 
 no_numerator : (a b u : ℕ) → 0 < u → a * u ≡ b → b ≡ 0 → a ≡ 0
-no_numerator a b u h e z = elim (eq-zero-or-pos a) [ inl y ↦ y | inr p ↦ let m : 0 < a * u = mul-pos p h in absurd (omega (arith, m, e, z)) ]
+no_numerator a b u h e z =
+    elim (eq-zero-or-pos a) [ inl y ↦ y | inr p ↦ let m : 0 < a * u = mul-pos p h in absurd (omega (arith, m, e, z)) ]
 
 inside : (b : Bool) (x y : ℕ) → b ≡ true → (if b then x else y) ≡ x
 inside b x y h = ap (λ (z : Bool). if z then x else y) h
@@ -65,7 +77,8 @@ and_false : (b : Bool) → (b && false) ≡ false
 and_false true = refl
 and_false false = refl
 
-pub zero_rounding : (mode : Rounding) (negative : Bool) (f : Format) (r : Ratio) (digits place bits : ℕ) (flags : Flags) → IsNumber r digits place → digits ≡ 0
+pub zero_rounding : (mode : Rounding) (negative : Bool) (f : Format) (r : Ratio) (digits place bits : ℕ) (flags : Flags)
+    → IsNumber r digits place → digits ≡ 0
     → bits ≡ with_sign f negative 0 → flags ≡ no_flags → pair bits flags ≡ rounding_in mode negative f r
 zero_rounding mode negative f r digits place bits flags h z w g =
     let n : r.numerator ≡ 0 =
@@ -74,20 +87,24 @@ zero_rounding mode negative f r digits place bits flags h z w g =
     in
     let u : unbounded mode negative f r ≡ 0 = zero_unbounded mode negative f r n h.nonzero in
     let i : nat_lt 0 (rest f r) ≡ false = zero_rest f r n h.nonzero in
-    let o : nat_le (infinity f) (unbounded mode negative f r) ≡ false = ap (λ (x : ℕ). nat_le (infinity f) x) u ∙ lt-leb (infinity f) 0 (infinity_above f) in
+    let o : nat_le (infinity f) (unbounded mode negative f r) ≡ false =
+    ap (λ (x : ℕ). nat_le (infinity f) x) u ∙ lt-leb (infinity f) 0 (infinity_above f) in
     let t : is_tiny_in mode negative f r ≡ is_tiny_in mode negative f r = refl in
     let b : bounded mode negative f (unbounded mode negative f r) ≡ 0 =
     ap (λ (x : ℕ). bounded mode negative f x) u
     ∙ inside (nat_lt 0 (infinity f)) 0 _ (lt-ltb 0 (infinity f) (infinity_above f))
     in
-    let v : with_sign f negative (bounded mode negative f (unbounded mode negative f r)) ≡ bits = ap (λ (x : ℕ). with_sign f negative x) b ∙ sym w in
+    let v : with_sign f negative (bounded mode negative f (unbounded mode negative f r)) ≡ bits =
+    ap (λ (x : ℕ). with_sign f negative x) b ∙ sym w in
     let c : flags_by (nat_lt 0 (rest f r)) (nat_le (infinity f) (unbounded mode negative f r)) (is_tiny_in mode negative f r) ≡ flags =
     ap (λ (x : Bool). flags_by x (nat_le (infinity f) (unbounded mode negative f r)) (is_tiny_in mode negative f r)) i
     ∙ ap (λ (x : Bool). flags_by false x (is_tiny_in mode negative f r)) o
     ∙ ap (λ (x : Bool). record { nv = false; dz = false; of = false; uf = x; nx = false }) (and_false (is_tiny_in mode negative f r))
     ∙ sym g
     in
-    sym (ap (λ (x : ℕ). pair x (flags_by (nat_lt 0 (rest f r)) (nat_le (infinity f) (unbounded mode negative f r)) (is_tiny_in mode negative f r))) v ∙ ap (λ (x : Flags). pair bits x) c)
+    sym (ap (λ (x : ℕ). pair x
+    (flags_by (nat_lt 0 (rest f r)) (nat_le (infinity f) (unbounded mode negative f r)) (is_tiny_in mode negative f r))) v
+    ∙ ap (λ (x : Flags). pair bits x) c)
 
 -- ---- operations
 
@@ -121,12 +138,15 @@ format_of binary64 s is = record {
 }
 
 pub of_finite : (p q : Bool) (v w : Rounded) (bits : ℕ) (flags : Flags) → p ≡ true → q ≡ true → w ≡ v → w ≡ either (p && q) v bits flags
-of_finite p q v w bits flags e h k = k ∙ sym (ap (λ (z : Bool). either (z && q) v bits flags) e ∙ ap (λ (z : Bool). either z v bits flags) h)
+of_finite p q v w bits flags e h k =
+    k ∙ sym (ap (λ (z : Bool). either (z && q) v bits flags) e ∙ ap (λ (z : Bool). either z v bits flags) h)
 
-pub of_three : (p q r : Bool) (v w : Rounded) (bits : ℕ) (flags : Flags) → p ≡ true → q ≡ true → r ≡ true → w ≡ v → w ≡ either (p && q && r) v bits flags
+pub of_three : (p q r : Bool) (v w : Rounded) (bits : ℕ) (flags : Flags) → p ≡ true → q ≡ true → r ≡ true → w ≡ v
+    → w ≡ either (p && q && r) v bits flags
 of_three p q r v w bits flags e h l k =
     k
-    ∙ sym (ap (λ (z : Bool). either (z && q && r) v bits flags) e ∙ ap (λ (z : Bool). either (z && r) v bits flags) h ∙ ap (λ (z : Bool). either z v bits flags) l)
+    ∙ sym (ap (λ (z : Bool). either (z && q && r) v bits flags) e ∙ ap (λ (z : Bool). either (z && r) v bits flags) h
+    ∙ ap (λ (z : Bool). either z v bits flags) l)
 
 pub divides : (b : Bool) (n : ℕ) → b ≡ true → 0 < n → (b && nat_lt 0 n) ≡ true
 divides b n h k = ap (λ (z : Bool). z && nat_lt 0 n) h ∙ lt-ltb 0 n k

@@ -1,6 +1,8 @@
 -- Sums of magnitudes, exact and far apart.
-use Rattle.std.proofs.Common.{◌≡◌, ℕ, suc, ◌+◌, ◌-◌, ◌*◌, ◌/◌, ◌%◌, ◌^◌, ◌<◌, ◌≤◌, Bool, true, false, ◌&&◌, if◌then◌else◌, nat_lt, sym, ap, ◌∙◌, subst, refl, arith, inl, inr}
-use Rattle.std.proofs.Math.Nat.{div-add-mod', eq-zero-or-pos, mod-eq_of_lt, mul-le-mul_left, mul-le-mul_right, mul-lt-mul_of_pos_right, mul-pos, zero-mul}
+use Rattle.std.proofs.Common.{◌≡◌, ℕ, suc, ◌+◌, ◌-◌, ◌*◌, ◌/◌, ◌%◌, ◌^◌, ◌<◌, ◌≤◌, Bool, true, false, ◌&&◌, if◌then◌else◌, nat_lt, sym, ap}
+use Rattle.std.proofs.Common.{◌∙◌, subst, refl, arith, inl, inr}
+use Rattle.std.proofs.Math.Nat.{div-add-mod', eq-zero-or-pos, mod-eq_of_lt, mul-le-mul_left, mul-le-mul_right, mul-lt-mul_of_pos_right}
+use Rattle.std.proofs.Math.Nat.{mul-pos, zero-mul}
 use Rattle.std.proofs.Math.Pow.{pow_mono}
 use Rattle.std.proofs.Math.Arith.{digits_div, digits_mod}
 use Rattle.std.proofs.lemmas.Bool.{cases_lt, le-ltb, lt-ltb, true≢false}
@@ -72,7 +74,12 @@ pub record Raised (D i h s : ℕ) : Type 0 where
   pub narrow : D * 2 ^ s < 2 ^ 120
 
 nonzero : (D n : ℕ) → 2 ^ 120 ≤ D * 2 ^ n → 0 < D
-nonzero D n h = elim (eq-zero-or-pos D) [ inl z ↦ let k : D * 2 ^ n ≡ 0 = ap (λ (x : ℕ). x * 2 ^ n) z ∙ zero-mul (2 ^ n) in absurd (omega (arith, k, h)) | inr p ↦ p ]
+nonzero D n h =
+    elim (eq-zero-or-pos D) [
+      | inl z ↦ let k : D * 2 ^ n ≡ 0 = ap (λ (x : ℕ). x * 2 ^ n) z ∙ zero-mul (2 ^ n) in
+          absurd (omega (arith, k, h))
+      | inr p ↦ p
+    ]
 
 pub raised : (D i h : ℕ) → D < 2 ^ 106 → i ≤ h → 2 ^ 120 ≤ D * 2 ^ (h - i) → Raised D i h (count_leading_zeros 128 D - 8)
 raised D i h l o f =
@@ -81,7 +88,8 @@ raised D i h l o f =
     let j = t.0 in
     let z = count_leading_zeros 128 D in
     let e : z + suc j ≡ 128 = t.1 in
-    let few : j < 106 = elim (cases_lt j 106) [ inl g ↦ g | inr g ↦ let m : 2 ^ 106 ≤ 2 ^ j = pow_mono g in absurd (omega (arith, m, l, t.2)) ] in
+    let few : j < 106 =
+    elim (cases_lt j 106) [ inl g ↦ g | inr g ↦ let m : 2 ^ 106 ≤ 2 ^ j = pow_mono g in absurd (omega (arith, m, l, t.2)) ] in
     let s = z - 8 in
     let a : 2 ^ j * 2 ^ s ≤ D * 2 ^ s = mul-le-mul_right (2 ^ s) t.2 in
     let b : D * 2 ^ s < 2 ^ suc j * 2 ^ s = mul-lt-mul_of_pos_right t.3 (pow_pos s) in
@@ -90,7 +98,12 @@ raised D i h l o f =
     let q : 2 ^ (j + s) ≡ 2 ^ 119 = ap (λ (x : ℕ). 2 ^ x) (let q : j + s ≡ 119 = omega (arith, e, few) in q) in
     let g : 2 ^ (suc j + s) ≡ 2 ^ 120 = ap (λ (x : ℕ). 2 ^ x) (let q : suc j + s ≡ 120 = omega (arith, e, few) in q) in
     let n : D * 2 ^ s < 2 ^ 120 = omega (arith, b, d, g) in
-    let m : s < h - i = elim (cases_lt s (h - i)) [ inl y ↦ y | inr y ↦ let x : D * 2 ^ (h - i) ≤ D * 2 ^ s = mul-le-mul_left D (pow_mono y) in absurd (omega (arith, x, n, f)) ] in
+    let m : s < h - i =
+    elim (cases_lt s (h - i)) [
+      | inl y ↦ y
+      | inr y ↦ let x : D * 2 ^ (h - i) ≤ D * 2 ^ s = mul-le-mul_left D (pow_mono y) in
+          absurd (omega (arith, x, n, f))
+    ] in
     record {
       room = omega (arith, e, few);
       below = omega (arith, m, o);
@@ -109,7 +122,8 @@ high_amount D h s l = let e : D * 2 ^ (h - s) * 2 ^ s ≡ D * 2 ^ h = power_spli
 low_amount : (A u w : ℕ) → 0 < u → w ≡ A / u → w * u + A % u ≡ A
 low_amount A u w h e = ap (λ (z : ℕ). z * u + A % u) e ∙ div-add-mod' A u
 
-pub far_plus : (r : Ratio) (o : Bool) (A D h s w : ℕ) (g : Bool) → IsFraction r (combined o A (D * 2 ^ h)) 1 → s ≤ h → o ≡ false → w ≡ A / 2 ^ (h - s)
+pub far_plus : (r : Ratio) (o : Bool) (A D h s w : ℕ) (g : Bool) → IsFraction r (combined o A (D * 2 ^ h)) 1 → s ≤ h → o ≡ false
+    → w ≡ A / 2 ^ (h - s)
     → g ≡ nat_lt 0 (A % 2 ^ (h - s)) → Encloses r (record { digits = D * 2 ^ s + w; place = h - s + 1948; goes_on = g })
 far_plus r o A D h s w g f l e q k =
     let u = 2 ^ (h - s) in
@@ -131,8 +145,10 @@ difference_less A H M w u t a b l p o =
     let f : (M - w - 1) * u + w * u + u ≡ M * u = omega (arith, ap (λ (x : ℕ). x * u) e) in
     omega (arith, a, b, f, p, o)
 
-pub far_minus : (r : Ratio) (o : Bool) (A D h s w : ℕ) (g : Bool) → IsFraction r (combined o A (D * 2 ^ h)) 1 → s ≤ h → o ≡ true → w ≡ A / 2 ^ (h - s)
-    → w < D * 2 ^ s → g ≡ nat_lt 0 (A % 2 ^ (h - s)) → g ≡ false → Encloses r (record { digits = D * 2 ^ s - w; place = h - s + 1948; goes_on = g })
+pub far_minus : (r : Ratio) (o : Bool) (A D h s w : ℕ) (g : Bool) → IsFraction r (combined o A (D * 2 ^ h)) 1 → s ≤ h → o ≡ true
+    → w ≡ A / 2 ^ (h - s)
+    → w < D * 2 ^ s → g ≡ nat_lt 0 (A % 2 ^ (h - s)) → g ≡ false
+    → Encloses r (record { digits = D * 2 ^ s - w; place = h - s + 1948; goes_on = g })
 far_minus r o A D h s w g f l e q m k i =
     let u = 2 ^ (h - s) in
     let a : w * u + A % u ≡ A = low_amount A u w (pow_pos (h - s)) q in
@@ -145,8 +161,10 @@ far_minus r o A D h s w g f l e q m k i =
     none : (t : ℕ) → nat_lt 0 t ≡ false → t ≡ 0
     none t e = elim (eq-zero-or-pos t) [ inl z ↦ z | inr p ↦ absurd (true≢false (sym (lt-ltb 0 t p) ∙ e)) ]
 
-pub far_less : (r : Ratio) (o : Bool) (A D h s w : ℕ) (g : Bool) → IsFraction r (combined o A (D * 2 ^ h)) 1 → s ≤ h → o ≡ true → w ≡ A / 2 ^ (h - s)
-    → w < D * 2 ^ s → g ≡ nat_lt 0 (A % 2 ^ (h - s)) → g ≡ true → Encloses r (record { digits = D * 2 ^ s - w - 1; place = h - s + 1948; goes_on = g })
+pub far_less : (r : Ratio) (o : Bool) (A D h s w : ℕ) (g : Bool) → IsFraction r (combined o A (D * 2 ^ h)) 1 → s ≤ h → o ≡ true
+    → w ≡ A / 2 ^ (h - s)
+    → w < D * 2 ^ s → g ≡ nat_lt 0 (A % 2 ^ (h - s)) → g ≡ true
+    → Encloses r (record { digits = D * 2 ^ s - w - 1; place = h - s + 1948; goes_on = g })
 far_less r o A D h s w g f l e q m k i =
     let u = 2 ^ (h - s) in
     let a : w * u + A % u ≡ A = low_amount A u w (pow_pos (h - s)) q in
@@ -163,7 +181,8 @@ far_less r o A D h s w g f l e q m k i =
 
 -- ---- sums that are near
 
-pub near : (r : Ratio) (o : Bool) (a i v D h n : ℕ) → IsFraction r (combined o (a * 2 ^ i) (D * 2 ^ h)) 1 → i ≤ h → v ≡ D * 2 ^ (h - i) → n ≡ combined o a v
+pub near : (r : Ratio) (o : Bool) (a i v D h n : ℕ) → IsFraction r (combined o (a * 2 ^ i) (D * 2 ^ h)) 1 → i ≤ h → v ≡ D * 2 ^ (h - i)
+    → n ≡ combined o a v
     → IsNumber r n (i + 1948)
 near r o a i v D h n f l e k =
     let b : v * 2 ^ i ≡ D * 2 ^ h = ap (λ (z : ℕ). z * 2 ^ i) e ∙ power_split D i h l in
@@ -173,22 +192,27 @@ near r o a i v D h n f l e k =
 -- ---- the sign, by magnitudes that are in proportion
 
 cross_lt : (a b A B u d : ℕ) → 0 < u → 0 < d → a * u ≡ A * d → b * u ≡ B * d → nat_lt A B ≡ nat_lt a b
-cross_lt a b A B u d h p e k = lt_times A B d p ∙ ap (λ (z : ℕ). nat_lt z (B * d)) (sym e) ∙ ap (λ (z : ℕ). nat_lt (a * u) z) (sym k) ∙ sym (lt_times a b u h)
+cross_lt a b A B u d h p e k =
+    lt_times A B d p ∙ ap (λ (z : ℕ). nat_lt z (B * d)) (sym e) ∙ ap (λ (z : ℕ). nat_lt (a * u) z) (sym k) ∙ sym (lt_times a b u h)
 
 pub same_signs : (mode : Rounding) (s t s' t' : Bool) (a b A B u d : ℕ) → s ≡ s' → t ≡ t' → 0 < u → 0 < d → a * u ≡ A * d → b * u ≡ B * d
     → sign_of_sum mode s t A B ≡ sign_of_sum mode s' t' a b
 same_signs mode s t s' t' a b A B u d e k h p g l =
     ap (λ (z : Bool). sign_of_sum mode z t A B) e
     ∙ ap (λ (z : Bool). sign_of_sum mode s' z A B) k
-    ∙ ap (λ (z : Bool). if unlike s' t' then (if z then t' else if nat_lt B A then s' else is_down mode) else s') (cross_lt a b A B u d h p g l)
-    ∙ ap (λ (z : Bool). if unlike s' t' then (if nat_lt a b then t' else if z then s' else is_down mode) else s') (cross_lt b a B A u d h p l g)
+    ∙ ap (λ (z : Bool). if unlike s' t' then (if z then t' else if nat_lt B A then s' else is_down mode) else s')
+    (cross_lt a b A B u d h p g l)
+    ∙ ap (λ (z : Bool). if unlike s' t' then (if nat_lt a b then t' else if z then s' else is_down mode) else s')
+    (cross_lt b a B A u d h p l g)
 
 -- ---- the sum of two finite values
 
-pub sum_is : (mode : Rounding) (f : Format) (x y : Float) (p q a b : Scaled) (s t : Bool) (w : Rounded) → IsMagnitude f x p → IsMagnitude f y q
+pub sum_is : (mode : Rounding) (f : Format) (x y : Float) (p q a b : Scaled) (s t : Bool) (w : Rounded) → IsMagnitude f x p
+    → IsMagnitude f y q
     → a ≡ record { digits = p.digits; place = p.place + 1074 } → b ≡ record { digits = q.digits; place = q.place + 1074 }
     → s ≡ is_sign_negative x → t ≡ is_sign_negative y
-    → ((r : Ratio) → IsFraction r (combined (unlike s t) (amount a) (amount b)) 1 → w ≡ rounding_in mode (sign_of_sum mode s t (amount a) (amount b)) f r)
+    → ((r : Ratio) → IsFraction r (combined (unlike s t) (amount a) (amount b)) 1
+    → w ≡ rounding_in mode (sign_of_sum mode s t (amount a) (amount b)) f r)
     → w ≡ sum_in mode f x y
 sum_is mode f x y p q a b s t w h g ha hb hs ht k =
     let u = 2 ^ 1074 in
@@ -205,7 +229,8 @@ sum_is mode f x y p q a b s t w h g ha hb hs ht k =
     in
     let i : num x * den y * (u * u) ≡ amount p * u * (den x * den y) = left (num x) (den x) (den y) (amount p) u h.value in
     let j : num y * den x * (u * u) ≡ amount q * u * (den x * den y) = right (num y) (den y) (den x) (amount q) u g.value in
-    let n : sign_of_sum mode s t (amount a) (amount b) ≡ sign_of_sum mode (is_sign_negative x) (is_sign_negative y) (num x * den y) (num y * den x) =
+    let n : sign_of_sum mode s t (amount a) (amount b) ≡ sign_of_sum mode (is_sign_negative x) (is_sign_negative y) (num x * den y)
+    (num y * den x) =
     ap (λ (z : ℕ). sign_of_sum mode s t z (amount b)) ea
     ∙ ap (λ (z : ℕ). sign_of_sum mode s t A z) eb
     ∙ same_signs mode s t (is_sign_negative x) (is_sign_negative y) (num x * den y) (num y * den x) A B (u * u) (den x * den y) hs ht
@@ -235,7 +260,11 @@ pub sub_by_add_in : (mode : Rounding) (f : Format) (a b : ℕ) → add_in mode f
 sub_by_add_in mode f a b =
     let x = of_bits f a in
     let y = of_bits f b in
-    ap (λ (z : Float). either (float_is_finite x && float_is_finite z) (sum_in mode f x z) (to_bits f (add f x z)) (add_flags f a (sign_negated f b b))) (of_negated f b)
-    ∙ ap (λ (z : Bool). either (float_is_finite x && z) (sum_in mode f x (neg y)) (to_bits f (add f x (neg y))) (add_flags f a (sign_negated f b b))) (negated_finite y)
-    ∙ ap (λ (z : Float). either (float_is_finite x && float_is_finite y) (sum_in mode f x (neg y)) (to_bits f z) (add_flags f a (sign_negated f b b))) (subtracted f x y)
-    ∙ ap (λ (z : Flags). either (float_is_finite x && float_is_finite y) (sum_in mode f x (neg y)) (to_bits f (sub f x y)) z) (sub_by_add f a b)
+    ap (λ (z : Float). either (float_is_finite x && float_is_finite z) (sum_in mode f x z) (to_bits f (add f x z))
+    (add_flags f a (sign_negated f b b))) (of_negated f b)
+    ∙ ap (λ (z : Bool). either (float_is_finite x && z) (sum_in mode f x (neg y)) (to_bits f (add f x (neg y)))
+    (add_flags f a (sign_negated f b b))) (negated_finite y)
+    ∙ ap (λ (z : Float). either (float_is_finite x && float_is_finite y) (sum_in mode f x (neg y)) (to_bits f z)
+    (add_flags f a (sign_negated f b b))) (subtracted f x y)
+    ∙ ap (λ (z : Flags). either (float_is_finite x && float_is_finite y) (sum_in mode f x (neg y)) (to_bits f (sub f x y)) z)
+    (sub_by_add f a b)

@@ -1,5 +1,6 @@
 -- The truncated pattern is the largest whose value is not above the magnitude.
-use Rattle.std.proofs.Common.{◌≡◌, ℕ, suc, ◌+◌, ◌-◌, ◌*◌, ◌/◌, ◌%◌, ◌^◌, ◌<◌, ◌≤◌, Bool, if◌then◌else◌, nat_lt, sym, ap, ◌∙◌, refl, arith, inl, inr}
+use Rattle.std.proofs.Common.{◌≡◌, ℕ, suc, ◌+◌, ◌-◌, ◌*◌, ◌/◌, ◌%◌, ◌^◌, ◌<◌, ◌≤◌, Bool, if◌then◌else◌, nat_lt, sym, ap, ◌∙◌, refl, arith}
+use Rattle.std.proofs.Common.{inl, inr}
 use Rattle.std.proofs.Math.Nat.{div-add-mod', div-div-eq-div-mul, eq-zero-or-pos, le-div_iff_mul-le, mul-pos, pow-succ'}
 use Rattle.std.proofs.Math.Arith.{digits_div, digits_mod}
 use Rattle.std.proofs.lemmas.Bool.{cases_lt, le-ltb, lt-ltb}
@@ -23,17 +24,20 @@ high_value H p x t e h =
     ∙ ap (λ (z : ℕ). (H + t) * 2 ^ z) (let y : suc x - 1 ≡ x = omega arith in y)
 
 -- q is of as many digits as the format keeps, where k is not 0, or the next number
-value_at : (H k q : ℕ) → 0 < H → q ≤ 2 * H → (0 < k → H ≤ q) → (if nat_lt (k * H + q) H then k * H + q else (H + (k * H + q) % H) * 2 ^ ((k * H + q) / H - 1)) ≡ q * 2 ^ k
+value_at : (H k q : ℕ) → 0 < H → q ≤ 2 * H → (0 < k → H ≤ q)
+    → (if nat_lt (k * H + q) H then k * H + q else (H + (k * H + q) % H) * 2 ^ ((k * H + q) / H - 1)) ≡ q * 2 ^ k
 value_at H k q p h g = elim (cases_lt q H) [
   | inl l ↦ elim (eq-zero-or-pos k) [
     | inr y ↦ let a : H ≤ q = g y in absurd (omega (arith, a, l))
     | inl z ↦
         let a : k * H ≡ 0 = ap (λ (x : ℕ). x * H) z ∙ (let y : 0 * H ≡ 0 = omega arith in y) in
-        low_value H (k * H + q) (omega (arith, a, l)) ∙ (let y : k * H + q ≡ q * 1 = omega (arith, a) in y) ∙ ap (λ (x : ℕ). q * 2 ^ x) (sym z)
+        low_value H (k * H + q) (omega (arith, a, l)) ∙ (let y : k * H + q ≡ q * 1 = omega (arith, a) in y)
+        ∙ ap (λ (x : ℕ). q * 2 ^ x) (sym z)
   ]
   | inr l ↦ elim (cases_lt q (2 * H)) [
     | inl s ↦
-        high_value H (k * H + q) k (q - H) (omega (arith, l)) (omega (arith, l, s)) ∙ ap (λ (x : ℕ). x * 2 ^ k) (let y : H + (q - H) ≡ q = omega (arith, l) in y)
+        high_value H (k * H + q) k (q - H) (omega (arith, l)) (omega (arith, l, s))
+        ∙ ap (λ (x : ℕ). x * 2 ^ k) (let y : H + (q - H) ≡ q = omega (arith, l) in y)
     | inr s ↦
         let e : q ≡ 2 * H = omega (arith, s, h) in
         high_value H (k * H + q) (suc k) 0 (let y : suc (suc k) * H + 0 ≡ k * H + q = omega (arith, e) in y) p
@@ -54,12 +58,14 @@ kept_many : (P n c k : ℕ) → 0 < P → k ≡ size (n / c) - P → 0 < k → 2
 kept_many P n c k p e h =
     let a : 2 ^ (P - 1 + k) ≤ n / c = size_reaches (n / c) (P - 1 + k) (omega (arith, e, h, p)) in
     let z : 2 ^ (P - 1 + k) ≡ 2 ^ (P - 1) * 2 ^ k = pow-add 2 (P - 1) k in
-    let b : 2 ^ (P - 1) ≤ n / c / 2 ^ k = (le-div_iff_mul-le (pow_pos k)).1 (let y : 2 ^ (P - 1) * 2 ^ k ≤ n / c = omega (arith, a, z) in y) in
+    let b : 2 ^ (P - 1) ≤ n / c / 2 ^ k =
+    (le-div_iff_mul-le (pow_pos k)).1 (let y : 2 ^ (P - 1) * 2 ^ k ≤ n / c = omega (arith, a, z) in y) in
     let d : n / c / 2 ^ k ≡ n / (c * 2 ^ k) = div-div-eq-div-mul n c (2 ^ k) in
     omega (arith, b, d)
 
 pub largest : (f : Format) (r : Ratio) → 0 < r.denominator
-    → (size_of f (truncated f r) * r.denominator ≤ r.numerator * 2 ^ low f) × (r.numerator * 2 ^ low f < size_of f (truncated f r + 1) * r.denominator)
+    → (size_of f (truncated f r) * r.denominator ≤ r.numerator * 2 ^ low f)
+    × (r.numerator * 2 ^ low f < size_of f (truncated f r + 1) * r.denominator)
 largest f r h =
     let n = r.numerator * 2 ^ low f in
     let c = r.denominator in
@@ -78,8 +84,10 @@ largest f r h =
     let m : n % u < u = mod_below n u up in
     let s : size_of f (truncated f r) ≡ w * 2 ^ k = value_at H k w hp (omega (arith, l)) g in
     let t : size_of f (truncated f r + 1) ≡ (w + 1) * 2 ^ k =
-    ap (λ (z : ℕ). size_of f z) (let y : truncated f r + 1 ≡ k * H + (w + 1) = omega arith in y) ∙ value_at H k (w + 1) hp l (λ y. let z : H ≤ w = g y in omega (arith, z))
+    ap (λ (z : ℕ). size_of f z) (let y : truncated f r + 1 ≡ k * H + (w + 1) = omega arith in y)
+    ∙ value_at H k (w + 1) hp l (λ y. let z : H ≤ w = g y in omega (arith, z))
     in
     let x : size_of f (truncated f r) * c ≡ w * u = ap (λ (z : ℕ). z * c) s ∙ (let y : w * 2 ^ k * c ≡ w * u = omega arith in y) in
-    let y : size_of f (truncated f r + 1) * c ≡ (w + 1) * u = ap (λ (z : ℕ). z * c) t ∙ (let z : (w + 1) * 2 ^ k * c ≡ (w + 1) * u = omega arith in z) in
+    let y : size_of f (truncated f r + 1) * c ≡ (w + 1) * u =
+    ap (λ (z : ℕ). z * c) t ∙ (let z : (w + 1) * 2 ^ k * c ≡ (w + 1) * u = omega arith in z) in
     (omega (arith, x, e), omega (arith, y, e, m))

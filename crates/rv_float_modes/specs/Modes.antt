@@ -80,8 +80,8 @@ abbrev pub is_inexact_in : Rounding → Bool → Format → Ratio → Bool
 is_inexact_in mode negative f r = nat_lt 0 (rest f r) || overflows_in mode negative f r
 
 -- Tininess after rounding: rounded with an exponent that has no lower bound either, the result lies below the smallest normal value. Next
--- below that value such results lie half as far apart as those of the format. So the format rounds twice the exact result as it is asked for,
--- and that is compared with twice the value.
+-- below that value such results lie half as far apart as those of the format. So the format rounds twice the exact result as it is asked
+-- for, and that is compared with twice the value.
 abbrev pub twice : Ratio → Ratio
 twice r = record { numerator = 2 * r.numerator; denominator = r.denominator }
 

@@ -8,7 +8,8 @@ use Rattle.rv_floats.specs.declared.rounding.Rounding.{Rounding}
 use Rattle.rv_floats.specs.declared.rounding.Rounding.TheVariants.{NearestEven, TowardZero, Down, Up, NearestAway}
 use Rattle.rv_float_flags.specs.Conversions.{exact_word, narrowing_flags}
 use Rattle.rv_float_flags.specs.Exact.{Ratio, exact_fused, exact_product, exact_quotient, exact_sum, exact_value}
-use Rattle.rv_float_flags.specs.Operations.{add_flags, div_flags, mul_flags, multiply_add_flags, multiply_subtract_flags, negated_multiply_add_flags, negated_multiply_subtract_flags, sqrt_flags, sub_flags}
+use Rattle.rv_float_flags.specs.Operations.{add_flags, div_flags, mul_flags, multiply_add_flags, multiply_subtract_flags}
+use Rattle.rv_float_flags.specs.Operations.{negated_multiply_add_flags, negated_multiply_subtract_flags, sqrt_flags, sub_flags}
 use Rattle.rv_float_flags.specs.declared.flags.Flags.{Flags}
 use Rattle.rv_float_modes.specs.declared.rounded.Rounded.{Rounded}
 use Rattle.rv_float_modes.specs.Modes.{rounding_in}
@@ -73,28 +74,32 @@ multiply_add_in mode f a b c =
     let x = of_bits f a in
     let y = of_bits f b in
     let z = of_bits f c in
-    either (float_is_finite x && float_is_finite y && float_is_finite z) (fused_in mode f x y z) (to_bits f (multiply_add f x y z)) (multiply_add_flags f a b c)
+    either (float_is_finite x && float_is_finite y && float_is_finite z) (fused_in mode f x y z) (to_bits f (multiply_add f x y z))
+    (multiply_add_flags f a b c)
 
 abbrev pub multiply_subtract_in : Rounding → Format → ℕ → ℕ → ℕ → Rounded
 multiply_subtract_in mode f a b c =
     let x = of_bits f a in
     let y = of_bits f b in
     let z = of_bits f c in
-    either (float_is_finite x && float_is_finite y && float_is_finite z) (fused_in mode f x y (neg z)) (to_bits f (multiply_subtract f x y z)) (multiply_subtract_flags f a b c)
+    either (float_is_finite x && float_is_finite y && float_is_finite z) (fused_in mode f x y (neg z))
+    (to_bits f (multiply_subtract f x y z)) (multiply_subtract_flags f a b c)
 
 abbrev pub negated_multiply_subtract_in : Rounding → Format → ℕ → ℕ → ℕ → Rounded
 negated_multiply_subtract_in mode f a b c =
     let x = of_bits f a in
     let y = of_bits f b in
     let z = of_bits f c in
-    either (float_is_finite x && float_is_finite y && float_is_finite z) (fused_in mode f (neg x) y z) (to_bits f (negated_multiply_subtract f x y z)) (negated_multiply_subtract_flags f a b c)
+    either (float_is_finite x && float_is_finite y && float_is_finite z) (fused_in mode f (neg x) y z)
+    (to_bits f (negated_multiply_subtract f x y z)) (negated_multiply_subtract_flags f a b c)
 
 abbrev pub negated_multiply_add_in : Rounding → Format → ℕ → ℕ → ℕ → Rounded
 negated_multiply_add_in mode f a b c =
     let x = of_bits f a in
     let y = of_bits f b in
     let z = of_bits f c in
-    either (float_is_finite x && float_is_finite y && float_is_finite z) (fused_in mode f (neg x) y (neg z)) (to_bits f (negated_multiply_add f x y z)) (negated_multiply_add_flags f a b c)
+    either (float_is_finite x && float_is_finite y && float_is_finite z) (fused_in mode f (neg x) y (neg z))
+    (to_bits f (negated_multiply_add f x y z)) (negated_multiply_add_flags f a b c)
 
 -- ---- FDIV
 
@@ -130,7 +135,8 @@ sqrt_in mode f a =
 abbrev pub narrowed_in : Rounding → ℕ → Rounded
 narrowed_in mode a =
     let x = of_bits binary64 a in
-    either (float_is_finite x) (rounding_in mode (is_sign_negative x) binary32 (exact_value x)) (to_bits binary32 (round_to_format binary32 x)) (narrowing_flags a)
+    either (float_is_finite x) (rounding_in mode (is_sign_negative x) binary32 (exact_value x))
+    (to_bits binary32 (round_to_format binary32 x)) (narrowing_flags a)
 
 abbrev pub word_in : Rounding → ℤ → Rounded
 word_in mode n = rounding_in mode (int_lt n (pos 0)) binary32 (exact_word n)

@@ -145,8 +145,10 @@ pub fn negated_multiply_add_in<P: Pattern>(mode: Rounding, a: P, b: P, c: P) -> 
 
 /// The magnitude of what is finite and above zero.
 fn positive<P: Pattern>(a: P) -> Option<Scaled>
-    ensures value { MatchOption result ((is_nonzero (of_bits P.format (P.bits a)) && not (is_sign_negative (of_bits P.format (P.bits a)))) ≡ false)
-        (λ p. IsMagnitude P.format (of_bits P.format (P.bits a)) p × (0 < num (of_bits P.format (P.bits a))) × (is_sign_negative (of_bits P.format (P.bits a)) ≡ false)) }
+    ensures value { MatchOption result
+        ((is_nonzero (of_bits P.format (P.bits a)) && not (is_sign_negative (of_bits P.format (P.bits a)))) ≡ false)
+        (λ p. IsMagnitude P.format (of_bits P.format (P.bits a)) p × (0 < num (of_bits P.format (P.bits a)))
+        × (is_sign_negative (of_bits P.format (P.bits a)) ≡ false)) }
     ensures narrow { IsNarrow result }
     ensures nonzero { IfSome result (λ p. 0 < p.digits) }
 {

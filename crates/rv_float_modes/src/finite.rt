@@ -30,7 +30,8 @@ pub(crate) fn product(mode: Rounding, negative: bool, p: Scaled, q: Scaled, shap
     requires p_low { p.place < 2046 }
     requires q_low { q.place < 2046 }
     requires format { IsFormat shape }
-    ensures { (f : Format) (x y : Float) → IsShape f shape → IsMagnitude f x p → IsMagnitude f y q → result ≡ rounding_in mode negative f (exact_product x y) }
+    ensures { (f : Format) (x y : Float) → IsShape f shape → IsMagnitude f x p → IsMagnitude f y q
+        → result ≡ rounding_in mode negative f (exact_product x y) }
 {
     let product = p.times(q);
     rounded_number(mode, negative, product.digits, product.place + 1948, shape)
@@ -130,7 +131,8 @@ pub(crate) fn sum(mode: Rounding, a: Term, b: Term, shape: Shape) -> Rounded
     requires a_low { a.size.place < 4200 }
     requires b_low { b.size.place < 4200 }
     requires format { IsFormat shape }
-    ensures { (f : Format) (r : Ratio) → IsShape f shape → IsFraction r (combined (unlike a.negative b.negative) (amount a.size) (amount b.size)) 1
+    ensures { (f : Format) (r : Ratio) → IsShape f shape
+        → IsFraction r (combined (unlike a.negative b.negative) (amount a.size) (amount b.size)) 1
         → result ≡ rounding_in mode (Operations.sign_of_sum mode a.negative b.negative (amount a.size) (amount b.size)) f r }
 {
     let negative = is_sum_negative(mode, a, b);
@@ -182,7 +184,8 @@ fn aligned_sum(
     requires high_narrow { high.digits < 2 ^ 106 }
     requires high_low { high.place < 4200 }
     requires format { IsFormat shape }
-    ensures { (f : Format) (r : Ratio) → IsShape f shape → IsFraction r (combined opposite (amount low) (amount high)) 1 → result ≡ rounding_in mode negative f r }
+    ensures { (f : Format) (r : Ratio) → IsShape f shape → IsFraction r (combined opposite (amount low) (amount high)) 1
+        → result ≡ rounding_in mode negative f r }
 {
     match times_power(high.digits, high.place - low.place) {
         Some(digits) => {

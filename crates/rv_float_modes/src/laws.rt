@@ -40,16 +40,25 @@ pub fn to_the_nearest_operations_are_the_librarys()
     ensures div { (f : Format) (a b : ℕ) → Operations.div_in NearestEven f a b
         ≡ record { bits = to_bits f (div f (of_bits f a) (of_bits f b)); flags = Flags.div_flags f a b } }
     ensures multiply_add { (f : Format) (a b c : ℕ) → Operations.multiply_add_in NearestEven f a b c
-        ≡ record { bits = to_bits f (Fused.multiply_add f (of_bits f a) (of_bits f b) (of_bits f c)); flags = Flags.multiply_add_flags f a b c } }
+        ≡ record {
+          bits = to_bits f (Fused.multiply_add f (of_bits f a) (of_bits f b) (of_bits f c));
+          flags = Flags.multiply_add_flags f a b c;
+        } }
     ensures multiply_subtract { (f : Format) (a b c : ℕ) → Operations.multiply_subtract_in NearestEven f a b c
-        ≡ record { bits = to_bits f (Fused.multiply_subtract f (of_bits f a) (of_bits f b) (of_bits f c)); flags = Flags.multiply_subtract_flags f a b c } }
+        ≡ record {
+          bits = to_bits f (Fused.multiply_subtract f (of_bits f a) (of_bits f b) (of_bits f c));
+          flags = Flags.multiply_subtract_flags f a b c;
+        } }
     ensures negated_multiply_subtract { (f : Format) (a b c : ℕ) → Operations.negated_multiply_subtract_in NearestEven f a b c
         ≡ record {
           bits = to_bits f (Fused.negated_multiply_subtract f (of_bits f a) (of_bits f b) (of_bits f c));
           flags = Flags.negated_multiply_subtract_flags f a b c;
         } }
     ensures negated_multiply_add { (f : Format) (a b c : ℕ) → Operations.negated_multiply_add_in NearestEven f a b c
-        ≡ record { bits = to_bits f (Fused.negated_multiply_add f (of_bits f a) (of_bits f b) (of_bits f c)); flags = Flags.negated_multiply_add_flags f a b c } }
+        ≡ record {
+          bits = to_bits f (Fused.negated_multiply_add f (of_bits f a) (of_bits f b) (of_bits f c));
+          flags = Flags.negated_multiply_add_flags f a b c;
+        } }
     ensures narrowed { (a : ℕ) → Operations.narrowed_in NearestEven a
         ≡ record { bits = to_bits binary32 (round_to_format binary32 (of_bits binary64 a)); flags = narrowing_flags a } }
     ensures word { (n : ℤ) → Operations.word_in NearestEven n

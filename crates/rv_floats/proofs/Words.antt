@@ -11,7 +11,8 @@ unfolding neg odd
 odd_below d zero k l = refl
 odd_below d (suc q) k l = refl
 
-kept_below : (f : Format) (b : Bool) (q k : ℕ) → neg (cond b (odd (suc (prec f)) false q k (low f)) (inf false)) ≡ cond b (odd (suc (prec f)) true q k (low f)) (inf true)
+kept_below : (f : Format) (b : Bool) (q k : ℕ)
+    → neg (cond b (odd (suc (prec f)) false q k (low f)) (inf false)) ≡ cond b (odd (suc (prec f)) true q k (low f)) (inf true)
 unfolding neg
 kept_below f true q k = odd_below (suc (prec f)) q k (low f)
 kept_below f false q k = refl

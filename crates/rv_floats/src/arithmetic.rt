@@ -20,7 +20,8 @@ pub fn multiply_subtract<P: Pattern>(a: P, b: P, c: P) -> P
 #[inline]
 pub fn negated_multiply_subtract<P: Pattern>(a: P, b: P, c: P) -> P
     ensures { P.bits result ≡ to_bits P.format
-        (Fused.negated_multiply_subtract P.format (of_bits P.format (P.bits a)) (of_bits P.format (P.bits b)) (of_bits P.format (P.bits c))) }
+        (Fused.negated_multiply_subtract P.format (of_bits P.format (P.bits a)) (of_bits P.format (P.bits b))
+        (of_bits P.format (P.bits c))) }
 {
     sign_negated(a, a).multiply_add(b, c)
 }

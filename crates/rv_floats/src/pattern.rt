@@ -1,7 +1,8 @@
 //! What the host does with patterns, once for doubles and once for singles.
 
 ghost use Rattle.std.specs.Prelude.{◌≡◌, ℕ, ◌+◌, ◌*◌, ◌<◌, false, pos, is_nan, to_bits};
-ghost use Rattle.std.specs.Float.{NotNan, NotNanBits, float_is_finite, float_is_infinite, float_mul_add, is_normal, is_sign_negative, is_subnormal};
+ghost use Rattle.std.specs.Float.{NotNan, NotNanBits, float_is_finite, float_is_infinite, float_mul_add, is_normal, is_sign_negative};
+ghost use Rattle.std.specs.Float.{is_subnormal};
 ghost use Rattle.rv_floats.specs.Conversions as Conversions;
 ghost use lib.Ieee as Ieee;
 ghost use lib.Ieee.{Format, hid, low, of_bits, of_int, to_signed, to_unsigned, top};

@@ -24,7 +24,8 @@ offset-from_parts x y high low =
 parts-from_offset : (x y : ℕ) → offset x ≡ offset y → (bits x 31 25 ≡ bits y 31 25) × (bits x 11 7 ≡ bits y 11 7)
 parts-from_offset x y e = (omega arith, omega arith)
 
-pub IsOnlyWord-b : (v a b p n : ℕ) (imm : ℤ) → bit_and v 0x707F ≡ v → a < 32 → b < 32 → b_immediate p ≡ imm → p ≡ bits p 31 25 * 2 ^ 25 + bits p 11 7 * 2 ^ 7 → n ≡ v + a * 2 ^ 15 + b * 2 ^ 20 + p → IsOnlyWord (IsBWord v a b imm) (Some n)
+pub IsOnlyWord-b : (v a b p n : ℕ) (imm : ℤ) → bit_and v 0x707F ≡ v → a < 32 → b < 32 → b_immediate p ≡ imm
+    → p ≡ bits p 31 25 * 2 ^ 25 + bits p 11 7 * 2 ^ 7 → n ≡ v + a * 2 ^ 15 + b * 2 ^ 20 + p → IsOnlyWord (IsBWord v a b imm) (Some n)
 IsOnlyWord-b v a b p n imm own a_in b_in extends alone is_n =
     let of_v = under_707F v in
     let of_n = under_707F n in
@@ -35,5 +36,6 @@ IsOnlyWord-b v a b p n imm own a_in b_in extends alone is_n =
           let same_parts = parts-from_offset w p same_field in
           ap Some (same w fits of_operands.0 of_operands.1 of_operands.2 same_parts.0 same_parts.1),
     ) where
-      same : (w : ℕ) → w < 2 ^ 32 → bit_and w 0x707F ≡ v → bits w 19 15 ≡ a → bits w 24 20 ≡ b → bits w 31 25 ≡ bits p 31 25 → bits w 11 7 ≡ bits p 11 7 → n ≡ w
+      same : (w : ℕ) → w < 2 ^ 32 → bit_and w 0x707F ≡ v → bits w 19 15 ≡ a → bits w 24 20 ≡ b → bits w 31 25 ≡ bits p 31 25
+          → bits w 11 7 ≡ bits p 11 7 → n ≡ w
       same w fits met is_a is_b high low = let of_w = under_707F w in omega arith

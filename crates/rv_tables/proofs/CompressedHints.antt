@@ -8,7 +8,9 @@ use Rattle.std.proofs.lemmas.List.Elements.{All-from_recursion, All-contains}
 use Rattle.rv_tables.specs.declared.instr.Instr.{Instr}
 use Rattle.rv_tables.specs.Fields.{sign_extended}
 use Rattle.rv_tables.specs.Halfwords.{rd, immediate, small_layout}
-use Rattle.rv_tables.specs.Compressed.{compressed_rows, expansion_of, IsHint, DoesNothing, rd_is_0, small_is_0, c_addi4spn, c_lw, c_sw, c_addi, c_jal, c_li, c_addi16sp, c_lui, c_srli, c_srai, c_andi, c_sub, c_xor, c_or, c_and, c_j, c_beqz, c_bnez, c_slli, c_lwsp, c_jr, c_mv, c_ebreak, c_jalr, c_add, c_swsp}
+use Rattle.rv_tables.specs.Compressed.{compressed_rows, expansion_of, IsHint, DoesNothing, rd_is_0, small_is_0, c_addi4spn, c_lw, c_sw}
+use Rattle.rv_tables.specs.Compressed.{c_addi, c_jal, c_li, c_addi16sp, c_lui, c_srli, c_srai, c_andi, c_sub, c_xor, c_or, c_and, c_j}
+use Rattle.rv_tables.specs.Compressed.{c_beqz, c_bnez, c_slli, c_lwsp, c_jr, c_mv, c_ebreak, c_jalr, c_add, c_swsp}
 use Rattle.rv_tables.specs.CompressedTables.{CompressedRow, expanded, has_none}
 use Rattle.rv_tables.proofs.CompressedSpelling.{expansion_of-met}
 use Rattle.rv_tables.proofs.Pairs.{◌⨾◌}

@@ -8,9 +8,12 @@ use Rattle.std.proofs.lemmas.Int.{ints}
 use Rattle.std.proofs.lemmas.List.Elements.{All-from_recursion, All-contains}
 use Rattle.rv_tables.specs.declared.instr.Instr.{Instr}
 use Rattle.rv_tables.specs.Fields.{sign_extended}
-use Rattle.rv_tables.specs.Halfwords.{immediate, addi4spn_layout, word_layout, small_layout, addi16sp_layout, jump_layout, branch_layout, lwsp_layout, swsp_layout}
+use Rattle.rv_tables.specs.Halfwords.{immediate, addi4spn_layout, word_layout, small_layout, addi16sp_layout, jump_layout, branch_layout}
+use Rattle.rv_tables.specs.Halfwords.{lwsp_layout, swsp_layout}
 use Rattle.rv_tables.specs.Operands.{IsEncodable, IsFound, IsImmediate, IsBranchOffset, IsJumpOffset}
-use Rattle.rv_tables.specs.Compressed.{compressed_rows, expansion_of, amount_has_bit_5, c_addi4spn, c_lw, c_sw, c_addi, c_jal, c_li, c_addi16sp, c_lui, c_srli, c_srai, c_andi, c_sub, c_xor, c_or, c_and, c_j, c_beqz, c_bnez, c_slli, c_lwsp, c_jr, c_mv, c_ebreak, c_jalr, c_add, c_swsp}
+use Rattle.rv_tables.specs.Compressed.{compressed_rows, expansion_of, amount_has_bit_5, c_addi4spn, c_lw, c_sw, c_addi, c_jal, c_li}
+use Rattle.rv_tables.specs.Compressed.{c_addi16sp, c_lui, c_srli, c_srai, c_andi, c_sub, c_xor, c_or, c_and, c_j, c_beqz, c_bnez, c_slli}
+use Rattle.rv_tables.specs.Compressed.{c_lwsp, c_jr, c_mv, c_ebreak, c_jalr, c_add, c_swsp}
 use Rattle.rv_tables.specs.CompressedTables.{CompressedRow, is_of, meets, expanded, has_none}
 use Rattle.rv_tables.proofs.CompressedSpelling.{Expands-from_expansion}
 use Rattle.rv_tables.proofs.Pairs.{◌⨾◌}

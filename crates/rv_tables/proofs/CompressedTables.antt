@@ -1,5 +1,6 @@
 -- Tables of compressed rows of which no halfword is of two: the row that a lookup finds is the one that the halfword meets.
-use Rattle.std.proofs.Common.{◌≡◌, ℕ, Bool, true, false, not, ◌&&◌, ◌||◌, List, [], ◌∷◌, Option, Some, None, refl, sym, ◌∙◌, ap, eqb, ◌⊎◌, inl, inr}
+use Rattle.std.proofs.Common.{◌≡◌, ℕ, Bool, true, false, not, ◌&&◌, ◌||◌, List, [], ◌∷◌, Option, Some, None, refl, sym, ◌∙◌, ap, eqb, ◌⊎◌}
+use Rattle.std.proofs.Common.{inl, inr}
 use Rattle.std.specs.List.{AllPairs, Contains, find, list_all, list_any}
 use Rattle.std.specs.Option.{option_map}
 use Rattle.std.proofs.lemmas.Bool.{eqb-true, eq-eqb, not-true, both_ways, and_parts}
@@ -7,7 +8,8 @@ use Rattle.std.proofs.lemmas.List.Elements.{All-contains}
 use Rattle.std.proofs.lemmas.List.Folds.{Any-from_list_any}
 use Rattle.std.proofs.lemmas.List.Sums.{AllPass-from_list_all}
 use Rattle.std.proofs.lemmas.Option.{same_Some}
-use Rattle.rv_tables.specs.CompressedTables.{Fixed, CompressedRow, has, has_none, is_of, meets, expanded, expansion_by, ExpandsBy, AreDisjoint}
+use Rattle.rv_tables.specs.CompressedTables.{Fixed, CompressedRow, has, has_none, is_of, meets, expanded, expansion_by, ExpandsBy}
+use Rattle.rv_tables.specs.CompressedTables.{AreDisjoint}
 use Rattle.rv_tables.specs.Fields.{bits}
 use Rattle.rv_tables.specs.Halfwords.{quadrant, funct3}
 use Rattle.rv_tables.proofs.Finds.{find-found, find-finds}
@@ -72,13 +74,15 @@ has_left h (c ∷ code) fs e has_fs =
     let rest = has_left h code fs parts.1 has_fs in
     rw (eq-eqb _ _ here) rest
 
-not_left : {I J : Type 0} (h : ℕ) (r : CompressedRow I) (s : CompressedRow J) → leaves_to r s ≡ true → has_none h r.others ≡ true → has h s.fixed ≡ true → ⊥
+not_left : {I J : Type 0} (h : ℕ) (r : CompressedRow I) (s : CompressedRow J) → leaves_to r s ≡ true → has_none h r.others ≡ true
+    → has h s.fixed ≡ true → ⊥
 not_left h r s e none has_s =
     let (code, code_in, left) = any_found (list_all (is_among s.fixed)) r.others e in
     both_ways _ (not-true _ (all_at (λ c. not (has h c)) r.others code none code_in)) (has_left h code s.fixed left has_s)
 
 -- what it is to be of a row
-of_parts : {I : Type 0} (h : ℕ) (r : CompressedRow I) → is_of h r ≡ true → (quadrant h ≡ r.quadrant) × (funct3 h ≡ r.funct3) × (has h r.fixed ≡ true) × (has_none h r.others ≡ true)
+of_parts : {I : Type 0} (h : ℕ) (r : CompressedRow I) → is_of h r ≡ true
+    → (quadrant h ≡ r.quadrant) × (funct3 h ≡ r.funct3) × (has h r.fixed ≡ true) × (has_none h r.others ≡ true)
 of_parts h r e =
     let q = eqb (quadrant h) r.quadrant in
     let f = eqb (funct3 h) r.funct3 in
@@ -110,19 +114,23 @@ AreDisjoint-from_apart r s e h of_r of_s =
     ]
 
 -- no halfword is of a row of each of two tables
-pub tables_apart : {I J : Type 0} (t : List (CompressedRow I)) (u : List (CompressedRow J)) → list_all (λ (r : CompressedRow I). list_all (apart r) u) t ≡ true → (r : CompressedRow I) (s : CompressedRow J) → Contains t r → Contains u s → AreDisjoint r s
+pub tables_apart : {I J : Type 0} (t : List (CompressedRow I)) (u : List (CompressedRow J))
+    → list_all (λ (r : CompressedRow I). list_all (apart r) u) t ≡ true → (r : CompressedRow I) (s : CompressedRow J) → Contains t r
+    → Contains u s → AreDisjoint r s
 tables_apart {I} {J} t u e r s r_in s_in =
     AreDisjoint-from_apart r s (all_at (apart r) u s (all_at (λ (x : CompressedRow I). list_all (apart x) u) t r e r_in) s_in)
 
 -- a halfword is of one row at most
-pub one_row : {I : Type 0} (table : List (CompressedRow I)) → AllPairs AreDisjoint table → (h : ℕ) (r s : CompressedRow I) → Contains table r → Contains table s → is_of h r ≡ true → is_of h s ≡ true → r ≡ s
+pub one_row : {I : Type 0} (table : List (CompressedRow I)) → AllPairs AreDisjoint table → (h : ℕ) (r s : CompressedRow I)
+    → Contains table r → Contains table s → is_of h r ≡ true → is_of h s ≡ true → r ≡ s
 one_row table disjoint h r s r_in s_in of_r of_s =
     same_by_pairs AreDisjoint table r s disjoint r_in s_in (λ apart. apart h of_r of_s) (λ apart. apart h of_s of_r)
 
 pub of_met : {I : Type 0} (h : ℕ) (r : CompressedRow I) → meets h r ≡ true → is_of h r ≡ true
 of_met h r met = (and_parts (is_of h r) (has_none h r.reserved) met).0
 
-pub ExpandsBy-from_expansion : {I : Type 0} (table : List (CompressedRow I)) (h : ℕ) (i : I) → expansion_by table h ≡ Some i → ExpandsBy table h i
+pub ExpandsBy-from_expansion : {I : Type 0} (table : List (CompressedRow I)) (h : ℕ) (i : I) → expansion_by table h ≡ Some i
+    → ExpandsBy table h i
 ExpandsBy-from_expansion {I} table h i e = from_first (find (meets h) table) refl e where
   from_first : (o : Option (CompressedRow I)) → find (meets h) table ≡ o → option_map (expanded h) o ≡ Some i → ExpandsBy table h i
   from_first None at e = cc
@@ -131,12 +139,14 @@ ExpandsBy-from_expansion {I} table h i e = from_first (find (meets h) table) ref
       record { row = r; listed = found.0; met = found.1; instruction = same_Some _ _ e }
 
 -- the row that a halfword meets is the one that the lookup finds
-pub expansion_by-met : {I : Type 0} (table : List (CompressedRow I)) → AllPairs AreDisjoint table → (h : ℕ) (r : CompressedRow I) → Contains table r → meets h r ≡ true → expansion_by table h ≡ Some (expanded h r)
+pub expansion_by-met : {I : Type 0} (table : List (CompressedRow I)) → AllPairs AreDisjoint table → (h : ℕ) (r : CompressedRow I)
+    → Contains table r → meets h r ≡ true → expansion_by table h ≡ Some (expanded h r)
 expansion_by-met table disjoint h r listed met =
     let first = find-finds (meets h) table r listed met in
     let found = find-found (meets h) table first.0 first.1 in
     let same : first.0 ≡ r = one_row table disjoint h first.0 r found.0 listed (of_met h first.0 found.1) (of_met h r met) in
     ap (option_map (expanded h)) (first.1 ∙ ap Some same)
 
-pub expansion_by-ExpandsBy : {I : Type 0} (table : List (CompressedRow I)) → AllPairs AreDisjoint table → (h : ℕ) (i : I) → ExpandsBy table h i → expansion_by table h ≡ Some i
+pub expansion_by-ExpandsBy : {I : Type 0} (table : List (CompressedRow I)) → AllPairs AreDisjoint table → (h : ℕ) (i : I)
+    → ExpandsBy table h i → expansion_by table h ≡ Some i
 expansion_by-ExpandsBy table disjoint h i x = expansion_by-met table disjoint h x.row x.listed x.met ∙ ap Some x.instruction

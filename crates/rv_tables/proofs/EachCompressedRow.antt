@@ -23,15 +23,19 @@ no_large h q f z =
     let low : bits h 6 2 ≡ 0 = omega arith in
     at_fields h 1 3 q f ∙ elim (cases_eq (rd h) 2) [ inl e ↦ rw (e, high, low) | inr n ↦ rw (ne_eqb (rd h) 2 n, high, low) ]
 
-pub addi16sp : (h : ℕ) → quadrant h ≡ 1 → funct3 h ≡ 3 → immediate h small_layout ≢ 0 → rd h ≡ 2 → expansion_of h ≡ Some (I Addi 2 2 (sign_extended 10 (immediate h addi16sp_layout)))
+pub addi16sp : (h : ℕ) → quadrant h ≡ 1 → funct3 h ≡ 3 → immediate h small_layout ≢ 0 → rd h ≡ 2
+    → expansion_of h ≡ Some (I Addi 2 2 (sign_extended 10 (immediate h addi16sp_layout)))
 unfolding expansion_at compressed_rows
 addi16sp h q f n e = at_fields h 1 3 q f ∙ rw (e, small_not_0 h n)
 
-pub lui : (h : ℕ) → quadrant h ≡ 1 → funct3 h ≡ 3 → immediate h small_layout ≢ 0 → rd h ≢ 2 → expansion_of h ≡ Some (Upper Lui (rd h) (upper_field (sign_extended 18 (immediate h lui_layout))))
+pub lui : (h : ℕ) → quadrant h ≡ 1 → funct3 h ≡ 3 → immediate h small_layout ≢ 0 → rd h ≢ 2
+    → expansion_of h ≡ Some (Upper Lui (rd h) (upper_field (sign_extended 18 (immediate h lui_layout))))
 unfolding expansion_at compressed_rows
 lui h q f n m = at_fields h 1 3 q f ∙ rw (ne_eqb (rd h) 2 m, small_not_0 h n)
 
-pub srli : (h : ℕ) → quadrant h ≡ 1 → funct3 h ≡ 4 → bits h 11 10 ≡ 0 → expansion_of h ≡ (if nat_lt (immediate h small_layout) 32 then Some (Shift Srli (rs1_prime h) (rs1_prime h) (immediate h small_layout)) else None)
+pub srli : (h : ℕ) → quadrant h ≡ 1 → funct3 h ≡ 4 → bits h 11 10 ≡ 0
+    → expansion_of h
+    ≡ (if nat_lt (immediate h small_layout) 32 then Some (Shift Srli (rs1_prime h) (rs1_prime h) (immediate h small_layout)) else None)
 unfolding expansion_at compressed_rows
 srli h q f k =
     at_fields h 1 4 q f ∙ elim (cases_eq (bits h 12 12) 1) [
@@ -41,7 +45,9 @@ srli h q f k =
       | inr n ↦ rw (k, ne_eqb (bits h 12 12) 1 n, lt-ltb (immediate h small_layout) 32 (omega arith))
     ]
 
-pub srai : (h : ℕ) → quadrant h ≡ 1 → funct3 h ≡ 4 → bits h 11 10 ≡ 1 → expansion_of h ≡ (if nat_lt (immediate h small_layout) 32 then Some (Shift Srai (rs1_prime h) (rs1_prime h) (immediate h small_layout)) else None)
+pub srai : (h : ℕ) → quadrant h ≡ 1 → funct3 h ≡ 4 → bits h 11 10 ≡ 1
+    → expansion_of h
+    ≡ (if nat_lt (immediate h small_layout) 32 then Some (Shift Srai (rs1_prime h) (rs1_prime h) (immediate h small_layout)) else None)
 unfolding expansion_at compressed_rows
 srai h q f k =
     at_fields h 1 4 q f ∙ elim (cases_eq (bits h 12 12) 1) [
@@ -51,7 +57,8 @@ srai h q f k =
       | inr n ↦ rw (k, ne_eqb (bits h 12 12) 1 n, lt-ltb (immediate h small_layout) 32 (omega arith))
     ]
 
-pub andi : (h : ℕ) → quadrant h ≡ 1 → funct3 h ≡ 4 → bits h 11 10 ≡ 2 → expansion_of h ≡ Some (I Andi (rs1_prime h) (rs1_prime h) (sign_extended 6 (immediate h small_layout)))
+pub andi : (h : ℕ) → quadrant h ≡ 1 → funct3 h ≡ 4 → bits h 11 10 ≡ 2
+    → expansion_of h ≡ Some (I Andi (rs1_prime h) (rs1_prime h) (sign_extended 6 (immediate h small_layout)))
 unfolding expansion_at compressed_rows
 andi h q f k = at_fields h 1 4 q f ∙ rw k
 

@@ -29,7 +29,8 @@ find-finds p (z ∷ xs) x (suc k, within, at) h =
     ]
 
 -- the first that passes one of two tests that agree where a third passes
-pub find-agree : {X : Type 0} (p q all : X → Bool) (xs : List X) → ((x : X) → all x ≡ true → p x ≡ q x) → list_all all xs ≡ true → find p xs ≡ find q xs
+pub find-agree : {X : Type 0} (p q all : X → Bool) (xs : List X) → ((x : X) → all x ≡ true → p x ≡ q x) → list_all all xs ≡ true
+    → find p xs ≡ find q xs
 find-agree p q all [] same h = refl
 find-agree p q all (x ∷ xs) same h =
     let parts = and_parts (all x) (list_all all xs) h in

@@ -24,7 +24,8 @@ offset-from_high x y high =
 high-from_offset : (x y : ℕ) → offset x ≡ offset y → bits x 31 12 ≡ bits y 31 12
 high-from_offset x y e = omega arith
 
-pub IsOnlyWord-j : (v d p n : ℕ) (imm : ℤ) → bit_and v 0x7F ≡ v → d < 32 → j_immediate p ≡ imm → p ≡ bits p 31 12 * 2 ^ 12 → n ≡ v + d * 2 ^ 7 + p → IsOnlyWord (IsJWord v d imm) (Some n)
+pub IsOnlyWord-j : (v d p n : ℕ) (imm : ℤ) → bit_and v 0x7F ≡ v → d < 32 → j_immediate p ≡ imm → p ≡ bits p 31 12 * 2 ^ 12
+    → n ≡ v + d * 2 ^ 7 + p → IsOnlyWord (IsJWord v d imm) (Some n)
 IsOnlyWord-j v d p n imm own d_in extends alone is_n =
     let of_v = under_7F v in
     let of_n = under_7F n in

@@ -25,8 +25,10 @@ meets-at : {F R : Type 0} (w : ℕ) (e : RowEncoding F R) → eqb (opcode e.row.
 meets-at w e k =
     let same = opcode_under w e.row.mask (eqb-true (opcode e.row.mask) 0x7F k) in
     elim (cases_eq (bit_and w e.row.mask) e.row.value) [
-      | inl met ↦ let op : opcode w ≡ opcode e.row.value = sym same ∙ ap opcode met in rw (op, eq-eqb (opcode e.row.value) (opcode e.row.value) refl)
-      | inr not_met ↦ rw (ne_eqb (bit_and w e.row.mask) e.row.value not_met) (sym (and_right (eqb (opcode w) (opcode e.row.value)) false refl))
+      | inl met ↦ let op : opcode w ≡ opcode e.row.value = sym same ∙ ap opcode met in
+          rw (op, eq-eqb (opcode e.row.value) (opcode e.row.value) refl)
+      | inr not_met ↦
+          rw (ne_eqb (bit_and w e.row.mask) e.row.value not_met) (sym (and_right (eqb (opcode w) (opcode e.row.value)) false refl))
     ]
 
 -- the instruction of a word, among the rows of its opcode alone
@@ -36,7 +38,8 @@ instruction_at op w = option_map (λ e. e.read w) (find (meets_at op w) encoding
 pub of_opcode : (w : ℕ) → instruction_of w ≡ instruction_at (opcode w) w
 unfolding instruction_of instruction_at encodings
 of_opcode w =
-    ap (option_map (λ e. e.read w)) (find-agree (meets w) (meets_at (opcode w) w) (λ e. eqb (opcode e.row.mask) 0x7F) encodings (λ e k. meets-at w e k) refl)
+    ap (option_map (λ e. e.read w))
+    (find-agree (meets w) (meets_at (opcode w) w) (λ e. eqb (opcode e.row.mask) 0x7F) encodings (λ e k. meets-at w e k) refl)
 
 -- what decides the instruction of a word: the values that it has under the masks of its opcode's rows
 pub ruleset by_value = (of_opcode, under_7F, nat_tests)

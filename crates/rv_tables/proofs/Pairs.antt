@@ -18,12 +18,14 @@ AllPairs-from_test r (x ∷ xs) h zero (suc j) d before within =
 AllPairs-from_test r (x ∷ xs) h (suc i) (suc j) d before within =
     AllPairs-from_test r xs (and_parts (list_all (r x) xs) (all_pairs r xs) h).1 i j d (omega arith) (omega arith)
 
-pub AllPairs-from_pass : {X : Type 0} (r : X → X → Bool) (R : X → X → Type 0) (xs : List X) → ((x y : X) → r x y ≡ true → R x y) → all_pairs r xs ≡ true → AllPairs R xs
+pub AllPairs-from_pass : {X : Type 0} (r : X → X → Bool) (R : X → X → Type 0) (xs : List X) → ((x y : X) → r x y ≡ true → R x y)
+    → all_pairs r xs ≡ true → AllPairs R xs
 AllPairs-from_pass r R xs means h i j d before within =
     means (get_or xs i d) (get_or xs j d) (AllPairs-from_test r xs h i j d before within)
 
 -- two elements that fail the test, either way, are one
-pub same_by_pairs : {X : Type 0} (R : X → X → Type 0) (xs : List X) (x y : X) → AllPairs R xs → Contains xs x → Contains xs y → (R x y → ⊥) → (R y x → ⊥) → x ≡ y
+pub same_by_pairs : {X : Type 0} (R : X → X → Type 0) (xs : List X) (x y : X) → AllPairs R xs → Contains xs x → Contains xs y → (R x y → ⊥)
+    → (R y x → ⊥) → x ≡ y
 same_by_pairs R xs x y pairs (i, i_in, x_at) (j, j_in, y_at) not_xy not_yx =
     let x_at_y : get_or xs i y ≡ x = get_or_default xs i y x i_in ∙ x_at in
     let y_at_x : get_or xs j x ≡ y = get_or_default xs j x y j_in ∙ y_at in

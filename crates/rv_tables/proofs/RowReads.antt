@@ -68,7 +68,9 @@ plain op w = (tt, refl)
 
 each_row : All (λ e. ReadsAlike e.read) encodings
 unfolding encodings
-each_row = All-from_recursion (λ e. ReadsAlike e.read) encodings (search (r, i, shift, load, store, branch, upper, jal, jalr, plain) parts 60 fits 10000)
+each_row =
+    All-from_recursion (λ e. ReadsAlike e.read) encodings
+    (search (r, i, shift, load, store, branch, upper, jal, jalr, plain) parts 60 fits 10000)
 
 reads_alike : (e : Encoding) → Contains encodings e → ReadsAlike e.read
 reads_alike e listed = All-contains (λ f. ReadsAlike f.read) encodings e each_row listed

@@ -7,7 +7,8 @@ use Rattle.rv_tables.specs.declared.instr.LoadOp.{LoadOp}
 use Rattle.rv_tables.specs.declared.instr.StoreOp.{StoreOp}
 use Rattle.rv_tables.specs.declared.instr.BranchOp.{BranchOp}
 use Rattle.rv_tables.specs.declared.instr.UpperOp.{UpperOp}
-use Rattle.rv_tables.specs.Mnemonics.{row_named, r_mnemonic, i_mnemonic, shift_mnemonic, load_mnemonic, store_mnemonic, branch_mnemonic, upper_mnemonic}
+use Rattle.rv_tables.specs.Mnemonics.{row_named, r_mnemonic, i_mnemonic, shift_mnemonic, load_mnemonic, store_mnemonic, branch_mnemonic}
+use Rattle.rv_tables.specs.Mnemonics.{upper_mnemonic}
 use Rattle.rv_tables.specs.Rows.{Encoding, encodings}
 use Rattle.rv_tables.specs.Words.{r_row_of, i_row_of, shift_row_of, load_row_of, store_row_of, branch_row_of, upper_row_of}
 

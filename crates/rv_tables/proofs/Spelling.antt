@@ -6,7 +6,8 @@ use Rattle.rv_tables.specs.declared.instr.Instr.{Instr}
 use Rattle.rv_tables.specs.Rows.{Encoding, encodings, Spells, instruction_of}
 use Rattle.rv_tables.specs.Tables.{MeetsRow, IsDisjoint}
 use Rattle.rv_tables.proofs.Pairs.{AllPairs-from_pass}
-use Rattle.rv_tables.proofs.Tables.{apart, IsDisjoint-from_apart, HasDisjointRows, HasDisjointRows-from_apart, read_off-met, Reads-from_read_off, read_off-Reads}
+use Rattle.rv_tables.proofs.Tables.{apart, IsDisjoint-from_apart, HasDisjointRows, HasDisjointRows-from_apart, read_off-met}
+use Rattle.rv_tables.proofs.Tables.{Reads-from_read_off, read_off-Reads}
 
 pub encodings_disjoint : HasDisjointRows encodings
 unfolding encodings

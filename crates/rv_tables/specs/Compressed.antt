@@ -14,9 +14,11 @@ use Rattle.rv_tables.specs.declared.instr.StoreOp.TheVariants.{Sw}
 use Rattle.rv_tables.specs.declared.instr.BranchOp.TheVariants.{Beq, Bne}
 use Rattle.rv_tables.specs.declared.instr.UpperOp.TheVariants.{Lui}
 use Rattle.rv_tables.specs.declared.instr.PlainOp.TheVariants.{Ebreak}
-use Rattle.rv_tables.specs.CompressedTables.{Fixed, ◌is◌, has_none, CompressedRow, c_row, ◌leaves◌, ◌reserves◌, ◌hints_at◌, is_of, meets, ExpandsBy, expansion_by}
+use Rattle.rv_tables.specs.CompressedTables.{Fixed, ◌is◌, has_none, CompressedRow, c_row, ◌leaves◌, ◌reserves◌, ◌hints_at◌, is_of, meets}
+use Rattle.rv_tables.specs.CompressedTables.{ExpandsBy, expansion_by}
 use Rattle.rv_tables.specs.Fields.{sign_extended}
-use Rattle.rv_tables.specs.Halfwords.{rd, rs2, rs1_prime, rs2_prime, ◌to◌, bit, addi4spn_layout, word_layout, small_layout, addi16sp_layout, lui_layout, jump_layout, branch_layout, lwsp_layout, swsp_layout, upper_field}
+use Rattle.rv_tables.specs.Halfwords.{rd, rs2, rs1_prime, rs2_prime, ◌to◌, bit, addi4spn_layout, word_layout, small_layout, addi16sp_layout}
+use Rattle.rv_tables.specs.Halfwords.{lui_layout, jump_layout, branch_layout, lwsp_layout, swsp_layout, upper_field}
 
 -- codes of which rows speak: fields that are 0, and an immediate or amount of 0 in bits 12 and 6 to 2
 abbrev pub rd_is_0 : List Fixed

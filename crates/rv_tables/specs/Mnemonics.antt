@@ -5,7 +5,8 @@ use Rattle.std.specs.Str.{bytes_eq}
 use Rattle.rv_tables.specs.declared.instr.Instr.{Instr}
 use Rattle.rv_tables.specs.declared.instr.Instr.TheVariants.{R, I, Shift, Load, Store, Branch, Upper, Jal, Jalr, Plain}
 use Rattle.rv_tables.specs.declared.instr.ROp.{ROp}
-use Rattle.rv_tables.specs.declared.instr.ROp.TheVariants.{Add, Sub, Sll, Slt, Sltu, Xor, Srl, Sra, Or, And, Mul, Mulh, Mulhsu, Mulhu, Div, Divu, Rem, Remu}
+use Rattle.rv_tables.specs.declared.instr.ROp.TheVariants.{Add, Sub, Sll, Slt, Sltu, Xor, Srl, Sra, Or, And, Mul, Mulh, Mulhsu, Mulhu, Div}
+use Rattle.rv_tables.specs.declared.instr.ROp.TheVariants.{Divu, Rem, Remu}
 use Rattle.rv_tables.specs.declared.instr.IOp.{IOp}
 use Rattle.rv_tables.specs.declared.instr.IOp.TheVariants.{Addi, Slti, Sltiu, Xori, Ori, Andi}
 use Rattle.rv_tables.specs.declared.instr.ShiftOp.{ShiftOp}

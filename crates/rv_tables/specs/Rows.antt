@@ -7,7 +7,8 @@ use Rattle.rv_tables.specs.declared.instr.Form.{Form}
 use Rattle.rv_tables.specs.declared.instr.Form.TheVariants as form
 use Rattle.rv_tables.specs.declared.instr.Row.{Row}
 use Rattle.rv_tables.specs.declared.instr.ROp.{ROp}
-use Rattle.rv_tables.specs.declared.instr.ROp.TheVariants.{Add, Sub, Sll, Slt, Sltu, Xor, Srl, Sra, Or, And, Mul, Mulh, Mulhsu, Mulhu, Div, Divu, Rem, Remu}
+use Rattle.rv_tables.specs.declared.instr.ROp.TheVariants.{Add, Sub, Sll, Slt, Sltu, Xor, Srl, Sra, Or, And, Mul, Mulh, Mulhsu, Mulhu, Div}
+use Rattle.rv_tables.specs.declared.instr.ROp.TheVariants.{Divu, Rem, Remu}
 use Rattle.rv_tables.specs.declared.instr.IOp.{IOp}
 use Rattle.rv_tables.specs.declared.instr.IOp.TheVariants.{Addi, Slti, Sltiu, Xori, Ori, Andi}
 use Rattle.rv_tables.specs.declared.instr.ShiftOp.{ShiftOp}

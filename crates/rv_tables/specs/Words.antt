@@ -13,28 +13,50 @@ use Rattle.rv_tables.specs.declared.instr.UpperOp.{UpperOp}
 use Rattle.rv_tables.specs.Rows.{Encoding}
 use Rattle.rv_tables.specs.Fields as Fields
 
--- Rows by the value of the bits that they fix. In a mask 0x7F is the opcode, bits 6 to 0; 0x7000 is funct3, bits 14 to 12; and 0xFE000000 is
--- funct7, bits 31 to 25.
+-- Rows by the value of the bits that they fix. In a mask 0x7F is the opcode, bits 6 to 0; 0x7000 is funct3, bits 14 to 12; and 0xFE000000
+-- is funct7, bits 31 to 25.
 abbrev pub r_row_of : ℕ → ROp → Encoding
-r_row_of v op = record { row = record { mask = 0xFE00707F; value = v; form = form.R }; read = λ w. R op (Fields.rd w) (Fields.rs1 w) (Fields.rs2 w) }
+r_row_of v op =
+    record { row = record { mask = 0xFE00707F; value = v; form = form.R }; read = λ w. R op (Fields.rd w) (Fields.rs1 w) (Fields.rs2 w) }
 
 abbrev pub i_row_of : ℕ → IOp → Encoding
-i_row_of v op = record { row = record { mask = 0x707F; value = v; form = form.I }; read = λ w. I op (Fields.rd w) (Fields.rs1 w) (Fields.i_immediate w) }
+i_row_of v op =
+    record {
+      row = record { mask = 0x707F; value = v; form = form.I };
+      read = λ w. I op (Fields.rd w) (Fields.rs1 w) (Fields.i_immediate w);
+    }
 
 abbrev pub shift_row_of : ℕ → ShiftOp → Encoding
-shift_row_of v op = record { row = record { mask = 0xFE00707F; value = v; form = form.Shift }; read = λ w. Shift op (Fields.rd w) (Fields.rs1 w) (Fields.shamt w) }
+shift_row_of v op =
+    record {
+      row = record { mask = 0xFE00707F; value = v; form = form.Shift };
+      read = λ w. Shift op (Fields.rd w) (Fields.rs1 w) (Fields.shamt w);
+    }
 
 abbrev pub load_row_of : ℕ → LoadOp → Encoding
-load_row_of v op = record { row = record { mask = 0x707F; value = v; form = form.Load }; read = λ w. Load op (Fields.rd w) (Fields.rs1 w) (Fields.i_immediate w) }
+load_row_of v op =
+    record {
+      row = record { mask = 0x707F; value = v; form = form.Load };
+      read = λ w. Load op (Fields.rd w) (Fields.rs1 w) (Fields.i_immediate w);
+    }
 
 abbrev pub store_row_of : ℕ → StoreOp → Encoding
-store_row_of v op = record { row = record { mask = 0x707F; value = v; form = form.Store }; read = λ w. Store op (Fields.rs1 w) (Fields.rs2 w) (Fields.s_immediate w) }
+store_row_of v op =
+    record {
+      row = record { mask = 0x707F; value = v; form = form.Store };
+      read = λ w. Store op (Fields.rs1 w) (Fields.rs2 w) (Fields.s_immediate w);
+    }
 
 abbrev pub branch_row_of : ℕ → BranchOp → Encoding
-branch_row_of v op = record { row = record { mask = 0x707F; value = v; form = form.Branch }; read = λ w. Branch op (Fields.rs1 w) (Fields.rs2 w) (Fields.b_immediate w) }
+branch_row_of v op =
+    record {
+      row = record { mask = 0x707F; value = v; form = form.Branch };
+      read = λ w. Branch op (Fields.rs1 w) (Fields.rs2 w) (Fields.b_immediate w);
+    }
 
 abbrev pub upper_row_of : ℕ → UpperOp → Encoding
-upper_row_of v op = record { row = record { mask = 0x7F; value = v; form = form.Upper }; read = λ w. Upper op (Fields.rd w) (Fields.u_immediate w) }
+upper_row_of v op =
+    record { row = record { mask = 0x7F; value = v; form = form.Upper }; read = λ w. Upper op (Fields.rd w) (Fields.u_immediate w) }
 
 -- opcode, funct3 and funct7 are those of the value, and three fields of 5 bits are the operands
 abbrev pub IsRWord : ℕ → ℕ → ℕ → ℕ → ℕ → Type 0

@@ -168,7 +168,9 @@ fn arithmetic(half: u32) -> Option<Instr>
 /// A shift of a register in its place. An amount above 31 is reserved.
 #[inline(always)]
 fn shift(op: ShiftOp, register: u8, half: u32) -> Option<Instr>
-    ensures { result ≡ (if nat_lt (immediate half small_layout) 32 then Some (Instr.Shift op register register (immediate half small_layout)) else None) }
+    ensures { result
+        ≡ (if nat_lt (immediate half small_layout) 32
+        then Some (Instr.Shift op register register (immediate half small_layout)) else None) }
 {
     let shamt = halfword::small_field(half);
     if shamt > 31 {

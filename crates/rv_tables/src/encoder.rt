@@ -1,7 +1,8 @@
 //! The word of an instruction.
 
 ghost use Rattle.std.specs.Prelude.{◌≡◌, ◌↔◌, ℕ, ◌^◌, ◌<◌, Some, IsSome, IfSome, bit_and};
-ghost use Rattle.rv_tables.specs.Mnemonics.{row_named, r_mnemonic, i_mnemonic, shift_mnemonic, load_mnemonic, store_mnemonic, branch_mnemonic, upper_mnemonic};
+ghost use Rattle.rv_tables.specs.Mnemonics.{row_named, r_mnemonic, i_mnemonic, shift_mnemonic, load_mnemonic, store_mnemonic};
+ghost use Rattle.rv_tables.specs.Mnemonics.{branch_mnemonic, upper_mnemonic};
 ghost use Rattle.rv_tables.specs.Operands.{IsEncodable, IsFence};
 ghost use Rattle.rv_tables.specs.Rows.{instruction_of};
 ghost use Rattle.rv_tables.specs.Words.{r_row_of, i_row_of, shift_row_of, load_row_of, store_row_of, branch_row_of, upper_row_of};

@@ -46,8 +46,8 @@ impl<A: Allocator> Memory<A> {
         }
     }
 
-    /// Sixteen bytes of which the first are the `len` bytes from `addr` on, which lie in the memory: where these are some and at most 16, and
-    /// stand at least 16 before the end of their page.
+    /// Sixteen bytes of which the first are the `len` bytes from `addr` on, which lie in the memory: where these are some and at most 16,
+    /// and stand at least 16 before the end of their page.
     // For speed: a value of a known size is copied without a call.
     #[inline(always)]
     pub fn read_16(&self, addr: u32, len: u32) -> Option<[u8; 16]>

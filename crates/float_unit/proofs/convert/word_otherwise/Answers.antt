@@ -1,3 +1,4 @@
+-- A signed word, cast to `i32`, is the whole number that the definition rounds.
 use Rattle.std.proofs.Common.{rules, ◌≡◌, ◌∙◌, ap, ℤ, of_z, to_z, w32}
 use Rattle.rv_float_modes.specs.Operations.{word_in}
 use Rattle.float_unit.specs.Values.{whole}

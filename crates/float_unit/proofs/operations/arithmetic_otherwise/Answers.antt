@@ -7,16 +7,20 @@ use lib.Ieee.{top}
 
 pub returns-in-Add-clause-narrow : goal.returns-in-Add-clause-narrow
 returns-in-Add-clause-narrow g c =
-    subst (λ (r : Rounded). r.bits < 2 * top g.P.Pattern.format) (sym c.add_in.ensures) (add_narrow g.P.Pattern.format c.args.mode (g.P.Pattern.bits c.args.a) (g.P.Pattern.bits c.args.b))
+    subst (λ (r : Rounded). r.bits < 2 * top g.P.Pattern.format) (sym c.add_in.ensures)
+    (add_narrow g.P.Pattern.format c.args.mode (g.P.Pattern.bits c.args.a) (g.P.Pattern.bits c.args.b))
 
 pub returns-in-Sub-clause-narrow : goal.returns-in-Sub-clause-narrow
 returns-in-Sub-clause-narrow g c =
-    subst (λ (r : Rounded). r.bits < 2 * top g.P.Pattern.format) (sym c.sub_in.ensures) (sub_narrow g.P.Pattern.format c.args.mode (g.P.Pattern.bits c.args.a) (g.P.Pattern.bits c.args.b))
+    subst (λ (r : Rounded). r.bits < 2 * top g.P.Pattern.format) (sym c.sub_in.ensures)
+    (sub_narrow g.P.Pattern.format c.args.mode (g.P.Pattern.bits c.args.a) (g.P.Pattern.bits c.args.b))
 
 pub returns-in-Mul-clause-narrow : goal.returns-in-Mul-clause-narrow
 returns-in-Mul-clause-narrow g c =
-    subst (λ (r : Rounded). r.bits < 2 * top g.P.Pattern.format) (sym c.mul_in.ensures) (mul_narrow g.P.Pattern.format c.args.mode (g.P.Pattern.bits c.args.a) (g.P.Pattern.bits c.args.b))
+    subst (λ (r : Rounded). r.bits < 2 * top g.P.Pattern.format) (sym c.mul_in.ensures)
+    (mul_narrow g.P.Pattern.format c.args.mode (g.P.Pattern.bits c.args.a) (g.P.Pattern.bits c.args.b))
 
 pub returns-in-Div-clause-narrow : goal.returns-in-Div-clause-narrow
 returns-in-Div-clause-narrow g c =
-    subst (λ (r : Rounded). r.bits < 2 * top g.P.Pattern.format) (sym c.div_in.ensures) (div_narrow g.P.Pattern.format c.args.mode (g.P.Pattern.bits c.args.a) (g.P.Pattern.bits c.args.b))
+    subst (λ (r : Rounded). r.bits < 2 * top g.P.Pattern.format) (sym c.div_in.ensures)
+    (div_narrow g.P.Pattern.format c.args.mode (g.P.Pattern.bits c.args.a) (g.P.Pattern.bits c.args.b))

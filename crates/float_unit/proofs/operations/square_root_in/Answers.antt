@@ -7,4 +7,5 @@ use lib.Ieee.{top}
 
 pub returns-in_default-clause-narrow : goal.returns-in_default-clause-narrow
 returns-in_default-clause-narrow g c =
-    subst (λ (r : Rounded). r.bits < 2 * top g.P.Pattern.format) (sym c.sqrt_in.ensures) (sqrt_narrow g.P.Pattern.format c.args.mode (g.P.Pattern.bits c.args.a))
+    subst (λ (r : Rounded). r.bits < 2 * top g.P.Pattern.format) (sym c.sqrt_in.ensures)
+    (sqrt_narrow g.P.Pattern.format c.args.mode (g.P.Pattern.bits c.args.a))

@@ -19,10 +19,12 @@ pub returns-in-Min : goal.returns-in-Min
 returns-in-Min g c =
     let bits = g.P.Pattern.bits in
     rw (c.in-Min.is)
-    (least g.P.Pattern.format (bits c.args.a) (bits c.args.b) _ c.is_before.result c.requires.first_fits c.requires.second_fits c.requires.first c.requires.second c.is_before.ensures refl)
+    (least g.P.Pattern.format (bits c.args.a) (bits c.args.b) _ c.is_before.result c.requires.first_fits c.requires.second_fits
+    c.requires.first c.requires.second c.is_before.ensures refl)
 
 pub returns-in-Max : goal.returns-in-Max
 returns-in-Max g c =
     let bits = g.P.Pattern.bits in
     rw (c.in-Max.is)
-    (greatest g.P.Pattern.format (bits c.args.a) (bits c.args.b) _ c.is_before-in-Max.result c.requires.first_fits c.requires.second_fits c.requires.first c.requires.second c.is_before-in-Max.ensures refl)
+    (greatest g.P.Pattern.format (bits c.args.a) (bits c.args.b) _ c.is_before-in-Max.result c.requires.first_fits c.requires.second_fits
+    c.requires.first c.requires.second c.is_before-in-Max.ensures refl)

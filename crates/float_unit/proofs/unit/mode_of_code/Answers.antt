@@ -1,3 +1,4 @@
+-- A code above 4 has no rounding mode.
 use Rattle.std.proofs.Common.{rules}
 use Rattle.float_unit.proofs.unit.mode_of_code.Goals as goal
 

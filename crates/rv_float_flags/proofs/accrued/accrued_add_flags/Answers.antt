@@ -11,9 +11,12 @@ pub returns-in-Some-Some : goal.returns-in-Some-Some
 returns-in-Some-Some g c =
     let f = g.P.Pattern.format in
     let bits = g.P.Pattern.bits in
-    of_sum_so (accrued c.args.flags) f (of_bits f (bits c.args.a)) (of_bits f (bits c.args.b)) c.in-Some-Some.p c.in-Some-Some.q c.raised.result c.raised-in-Some-Some.result _ _ _ _
+    of_sum_so (accrued c.args.flags) f (of_bits f (bits c.args.a)) (of_bits f (bits c.args.b)) c.in-Some-Some.p c.in-Some-Some.q
+    c.raised.result c.raised-in-Some-Some.result _ _ _ _
     c.in-Some-Some.ensures c.in-Some-Some.ensures' c.raised.ensures c.raised-in-Some-Some.ensures
     (same_unlike _ _ _ _ (c.is_negative.ensures) (c.is_negative-2.ensures))
     c.add.ensures c.magnitude_of-in-Some-Some.ensures
     (λ r. c.accrued_sum_rounding.ensures f r c.limit.ensures.limit)
-    ∙ ap (accrued c.args.flags) (none_signals f (bits c.args.a) (bits c.args.b) (sum_flags f (of_bits f (bits c.args.a)) (of_bits f (bits c.args.b))) invalid c.in-Some-Some.ensures.finite c.in-Some-Some.ensures'.finite)
+    ∙ ap (accrued c.args.flags)
+    (none_signals f (bits c.args.a) (bits c.args.b) (sum_flags f (of_bits f (bits c.args.a)) (of_bits f (bits c.args.b))) invalid
+    c.in-Some-Some.ensures.finite c.in-Some-Some.ensures'.finite)

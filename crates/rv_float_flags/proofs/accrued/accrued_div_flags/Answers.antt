@@ -5,4 +5,5 @@ use Rattle.rv_float_flags.proofs.accrued.accrued_div_flags.Goals as goal
 
 pub returns-then-quotient_raises_no_new_flags : goal.returns-then-quotient_raises_no_new_flags
 returns-then-quotient_raises_no_new_flags g c =
-    sym (quotient_flags_there g.P.Pattern.format c.args.flags (g.P.Pattern.bits c.args.a) (g.P.Pattern.bits c.args.b) (sym c.quotient_raises_no_new_flags.ensures ∙ c.if-quotient_raises_no_new_flags.true))
+    sym (quotient_flags_there g.P.Pattern.format c.args.flags (g.P.Pattern.bits c.args.a) (g.P.Pattern.bits c.args.b)
+    (sym c.quotient_raises_no_new_flags.ensures ∙ c.if-quotient_raises_no_new_flags.true))

@@ -8,8 +8,10 @@ pub returns-in-Some-Some-Some : goal.returns-in-Some-Some-Some
 returns-in-Some-Some-Some g c =
     let f = g.P.Pattern.format in
     let bits = g.P.Pattern.bits in
-    of_fused f (of_bits f (bits c.args.a)) (of_bits f (bits c.args.b)) (of_bits f (bits c.args.c)) c.in-Some-Some-Some.p c.in-Some-Some-Some.q c.in-Some-Some-Some.r
-    c.times.result c.raised.result _ _ _ _ c.in-Some-Some-Some.ensures c.in-Some-Some-Some.ensures' c.in-Some-Some-Some.ensures'' c.times.ensures c.raised.ensures
+    of_fused f (of_bits f (bits c.args.a)) (of_bits f (bits c.args.b)) (of_bits f (bits c.args.c)) c.in-Some-Some-Some.p
+    c.in-Some-Some-Some.q c.in-Some-Some-Some.r
+    c.times.result c.raised.result _ _ _ _ c.in-Some-Some-Some.ensures c.in-Some-Some-Some.ensures' c.in-Some-Some-Some.ensures''
+    c.times.ensures c.raised.ensures
     (same_unlike _ _ _ _ (same_unlike _ _ _ _ (c.is_negative.ensures) (c.is_negative-2.ensures)) (c.is_negative-3.ensures))
     c.multiply_add.ensures c.magnitude_of-in-Some-Some-Some.ensures
     (λ r. c.sum_rounding.ensures f r c.limit.ensures.limit)

@@ -8,4 +8,5 @@ pub returns : goal.returns
 returns g c =
     let f = g.P.Pattern.format in
     let bits = g.P.Pattern.bits in
-    c.multiply_add_flags.ensures ∙ ap (λ (x : ℕ). multiply_add_flags f x (bits c.args.b) (bits c.args.c)) c.sign_negated.ensures ∙ negated_by_add f (bits c.args.a) (bits c.args.b) (bits c.args.c)
+    c.multiply_add_flags.ensures ∙ ap (λ (x : ℕ). multiply_add_flags f x (bits c.args.b) (bits c.args.c)) c.sign_negated.ensures
+    ∙ negated_by_add f (bits c.args.a) (bits c.args.b) (bits c.args.c)

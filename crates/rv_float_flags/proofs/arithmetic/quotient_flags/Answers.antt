@@ -8,7 +8,8 @@ pub returns-in-Some-Some : goal.returns-in-Some-Some
 returns-in-Some-Some g c =
     let f = g.P.Pattern.format in
     let bits = g.P.Pattern.bits in
-    of_quotient f (of_bits f (bits c.args.a)) (of_bits f (bits c.args.b)) c.in-Some-Some.p c.in-Some-Some.q _ _ _ c.in-Some-Some.ensures c.in-Some-Some.ensures'
+    of_quotient f (of_bits f (bits c.args.a)) (of_bits f (bits c.args.b)) c.in-Some-Some.p c.in-Some-Some.q _ _ _ c.in-Some-Some.ensures
+    c.in-Some-Some.ensures'
     (sym c.is_invalid_quotient.ensures ∙ c.if-is_invalid_quotient.false)
     (sym c.is_division_by_zero.ensures ∙ c.if-is_division_by_zero.false)
     c.div.ensures c.magnitude_of-in-Some-Some.ensures (λ r. c.quotient_rounding.ensures f r c.limit.ensures.limit)

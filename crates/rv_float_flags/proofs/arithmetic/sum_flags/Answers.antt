@@ -8,7 +8,8 @@ pub returns-in-Some-Some : goal.returns-in-Some-Some
 returns-in-Some-Some g c =
     let f = g.P.Pattern.format in
     let bits = g.P.Pattern.bits in
-    of_sum f (of_bits f (bits c.args.a)) (of_bits f (bits c.args.b)) c.in-Some-Some.p c.in-Some-Some.q c.raised.result c.raised-in-Some-Some.result _ _ _ _
+    of_sum f (of_bits f (bits c.args.a)) (of_bits f (bits c.args.b)) c.in-Some-Some.p c.in-Some-Some.q c.raised.result
+    c.raised-in-Some-Some.result _ _ _ _
     c.in-Some-Some.ensures c.in-Some-Some.ensures' c.raised.ensures c.raised-in-Some-Some.ensures
     (same_unlike _ _ _ _ (c.is_negative.ensures) (c.is_negative-2.ensures))
     c.add.ensures c.magnitude_of-in-Some-Some.ensures

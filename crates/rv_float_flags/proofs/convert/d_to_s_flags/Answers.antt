@@ -7,5 +7,6 @@ use lib.Ieee.{binary32, binary64, of_bits}
 pub returns-in-Some : goal.returns-in-Some
 returns-in-Some c =
     of_narrowing c.args.a c.in-Some.p _ (sym c.is_signaling.ensures ∙ c.if-is_signaling.false) c.in-Some.ensures
-    (of_value binary64 binary32 (of_bits binary64 c.args.a) c.in-Some.p c.raised.result _ _ _ c.in-Some.ensures c.raised.ensures c.d_to_s.ensures
+    (of_value binary64 binary32 (of_bits binary64 c.args.a) c.in-Some.p c.raised.result _ _ _ c.in-Some.ensures c.raised.ensures
+    c.d_to_s.ensures
     c.magnitude_of-in-Some.ensures (λ r. c.sum_rounding.ensures binary32 r c.limit.ensures.limit))

@@ -9,5 +9,6 @@ use lib.IntN.{ℤ}
 
 pub returns : goal.returns
 returns c =
-    of_word binary32 c.args.word c.unsigned_abs.result _ _ _ (c.unsigned_abs.ensures.value ∙ ap nat_abs (to_z-of_z c.ranges.word)) (c.of_word.ensures ∙ ap (λ (n : ℤ). to_bits binary32 (of_int binary32 n)) (to_z-of_z c.ranges.word)) c.magnitude_of.ensures
+    of_word binary32 c.args.word c.unsigned_abs.result _ _ _ (c.unsigned_abs.ensures.value ∙ ap nat_abs (to_z-of_z c.ranges.word))
+    (c.of_word.ensures ∙ ap (λ (n : ℤ). to_bits binary32 (of_int binary32 n)) (to_z-of_z c.ranges.word)) c.magnitude_of.ensures
     (λ r. c.sum_rounding.ensures binary32 r c.limit.ensures.limit)

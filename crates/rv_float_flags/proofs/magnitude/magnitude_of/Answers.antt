@@ -7,7 +7,8 @@ use lib.Ieee.{hid}
 pub returns-then-exponent-top : goal.returns-then-exponent-top
 returns-then-exponent-top g c =
     let f = g.P.Pattern.format in
-    no_magnitude_read f (g.P.Pattern.bits c.args.a) _ _ _ c.to_u64.ensures.value c.top.ensures c.hidden.ensures (c.if-exponent-top.true ∙ ones_read f _ _ c.top-2.ensures c.hidden-3.ensures)
+    no_magnitude_read f (g.P.Pattern.bits c.args.a) _ _ _ c.to_u64.ensures.value c.top.ensures c.hidden.ensures
+    (c.if-exponent-top.true ∙ ones_read f _ _ c.top-2.ensures c.hidden-3.ensures)
 
 pub returns-then-exponent-eq0 : goal.returns-then-exponent-eq0
 returns-then-exponent-eq0 g c =

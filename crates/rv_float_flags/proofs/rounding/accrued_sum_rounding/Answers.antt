@@ -1,3 +1,4 @@
+-- If NX is set and the sum would not be tiny, overflow is all that can add a flag.
 use Rattle.std.proofs.Common.{◌≡◌, ◌&&◌, false, sym, ap, ◌∙◌}
 use Rattle.rv_float_flags.specs.Exact.{is_inexact, is_tiny}
 use Rattle.rv_float_flags.specs.Flags.{accrued}

@@ -1,3 +1,4 @@
+-- A quotient is inexact if the dividend is not the rounded magnitude times the divisor.
 use Rattle.std.proofs.Common.{subst, not, ap, ◌∙◌}
 use Rattle.std.specs.declared.option.Option.{Option}
 use Rattle.rv_float_flags.specs.Exact.{rounded}

@@ -1,3 +1,4 @@
+-- An inexact sum is tiny if it is below the limit, which it is not if both terms are multiples of the format's smallest value.
 use Rattle.std.proofs.Common.{Bool, ◌≡◌, ◌+◌, ◌-◌, ◌*◌, ◌^◌, ◌&&◌, ℕ, ap, sym, ◌∙◌, arith, nat_lt}
 use Rattle.std.proofs.Math.Nat.{mul-one}
 use Rattle.std.proofs.lemmas.Bool.{le-ltb}
@@ -17,7 +18,8 @@ returns-else-a-limit c f r l g =
     let n = combined c.args.opposite (amount c.args.a) (amount c.args.b) in
     let p = c.args.limit.place + 2 in
     let w = combined c.args.opposite (c.args.a.digits * 2 ^ (c.args.a.place - p)) (c.args.b.digits * 2 ^ (c.args.b.place - p)) in
-    let e : w * 2 ^ p ≡ n = two_coarse c.args.opposite c.args.a.digits c.args.a.place c.args.b.digits c.args.b.place p (omega arith) c.requires.b_coarse in
+    let e : w * 2 ^ p ≡ n =
+    two_coarse c.args.opposite c.args.a.digits c.args.a.place c.args.b.digits c.args.b.place p (omega arith) c.requires.b_coarse in
     ap (λ (b : Bool). is_inexact f r && b) (le-ltb c.args.a.place p (omega arith))
     ∙ no_and (is_inexact f r)
     ∙ sym (coarse_none f r c.args.limit n w l g e)

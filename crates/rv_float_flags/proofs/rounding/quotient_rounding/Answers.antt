@@ -1,3 +1,4 @@
+-- A quotient underflows if it is inexact and below the limit, and overflows if no finite magnitude is nearest.
 use Rattle.std.proofs.Common.{Bool, ◌≡◌, ◌*◌, ◌+◌, ◌^◌, ◌&&◌, ap, sym, ◌∙◌}
 use Rattle.rv_float_flags.specs.Exact.{is_inexact, is_tiny}
 use Rattle.rv_float_flags.specs.Scaled.{amount}
@@ -12,7 +13,8 @@ returns c f r l g h =
     let u : c.if-inexact.underflow ≡ is_tiny f r && is_inexact f r =
     elim c.if-inexact.branch [
       | then-inexact w ↦
-          when_inexact _ _ (is_inexact f r) _ w.underflow-is (sym x ∙ w.if-inexact.true) (ap (λ (b : Bool). is_inexact f r && b) w.is_quotient_below-underflow.ensures ∙ sym t)
+          when_inexact _ _ (is_inexact f r) _ w.underflow-is (sym x ∙ w.if-inexact.true)
+          (ap (λ (b : Bool). is_inexact f r && b) w.is_quotient_below-underflow.ensures ∙ sym t)
       | else-inexact w ↦ when_exact _ _ (is_tiny f r) (w.underflow-is ∙ x) (sym x ∙ w.if-inexact.false)
     ]
     in

@@ -1,3 +1,4 @@
+-- A sum underflows if it is inexact and tiny, and overflows if no finite magnitude is nearest.
 use Rattle.std.proofs.Common.{◌≡◌, ◌&&◌, sym, ◌∙◌}
 use Rattle.rv_float_flags.specs.Exact.{is_inexact, is_tiny}
 use Rattle.rv_float_flags.proofs.Roundings.{flags, overflow, when_exact, when_inexact}

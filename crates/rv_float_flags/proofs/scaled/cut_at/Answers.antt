@@ -1,3 +1,4 @@
+-- A shift to the left, a shift to the right and a place above all digits: each gives the quotient by 2^place and whether it has a rest.
 use Rattle.std.proofs.Common.{◌≡◌, ◌*◌, ◌-◌, ◌%◌, ◌^◌, ◌<◌, ℕ, ap, sym, ◌∙◌, arith, nat_eq, not}
 use Rattle.std.proofs.Math.Nat.{mod-eq_of_lt}
 use Rattle.std.proofs.lemmas.Bool.{le-ltb}

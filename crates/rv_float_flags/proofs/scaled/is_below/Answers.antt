@@ -1,3 +1,4 @@
+-- Two numbers compare as their digits at the lower place do; digits that would reach 2^120 there are the larger ones.
 use Rattle.std.proofs.Common.{◌*◌, ◌-◌, ◌^◌, ℕ, ap, sym, ◌∙◌, arith, nat_lt}
 use Rattle.std.proofs.lemmas.Bool.{lt-ltb, le-ltb}
 use Rattle.rv_float_flags.proofs.Numbers.{lt_scaled, lt_scaled_turned}

@@ -1,3 +1,4 @@
+-- `x` is `y * 2^n` if its low n bits are zero and the others are `y`; from n = 128 on, if both are 0.
 use Rattle.std.proofs.Common.{◌≡◌, ◌*◌, ◌%◌, ◌^◌, ℕ, ap, sym, ◌∙◌, arith}
 use Rattle.std.proofs.lemmas.Bool.{ne_eqb}
 use Rattle.std.proofs.Math.Nat.{zero-mul}

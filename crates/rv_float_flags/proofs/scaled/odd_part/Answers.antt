@@ -1,3 +1,4 @@
+-- Digits without their trailing zeros, at the place raised by as many, are odd and the same number.
 use Rattle.std.proofs.Common.{arith}
 use Rattle.rv_float_flags.proofs.Odd.{odd_rest, same_number}
 use Rattle.rv_float_flags.proofs.scaled.odd_part.Goals as goal

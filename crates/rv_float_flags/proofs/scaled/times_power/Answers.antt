@@ -1,3 +1,4 @@
+-- A shift by n that loses no bit is below 2^120; in all other cases `x * 2^n` reaches 2^120.
 use Rattle.std.proofs.Common.{◌≡◌, ◌*◌, ◌%◌, ◌^◌, ◌<◌, arith}
 use Rattle.std.proofs.Math.Nat.{mod-eq_of_lt}
 use Rattle.rv_float_flags.proofs.Shifts.{short_enough, too_long, too_far}

@@ -17,4 +17,5 @@ returns-in-Some-Some g c =
     let second = c.in-Some-Some.ensures'.value f y c.magnitude_of-2.ensures in
     of_finite _ _ _ _ _ _ c.in-Some-Some.ensures.finite (divides _ (num y) second.0.finite second.1)
     (c.quotient.ensures f x y c.shape_of.ensures.shape c.in-Some-Some.ensures second.0 second.1
-    ∙ ap (λ (z : Bool). rounding_in c.args.mode z f (exact_quotient x y)) (same_unlike _ _ _ _ c.is_negative.ensures c.is_negative-in-Some-Some.ensures))
+    ∙ ap (λ (z : Bool). rounding_in c.args.mode z f (exact_quotient x y))
+    (same_unlike _ _ _ _ c.is_negative.ensures c.is_negative-in-Some-Some.ensures))

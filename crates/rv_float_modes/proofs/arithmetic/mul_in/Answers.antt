@@ -15,4 +15,5 @@ returns-in-Some-Some g c =
     let y = of_bits f (bits c.args.b) in
     of_finite _ _ _ _ _ _ c.in-Some-Some.ensures.finite c.in-Some-Some.ensures'.finite
     (c.product.ensures f x y c.shape_of.ensures.shape c.in-Some-Some.ensures c.in-Some-Some.ensures'
-    ∙ ap (λ (z : Bool). rounding_in c.args.mode z f (exact_product x y)) (same_unlike _ _ _ _ c.is_negative.ensures c.is_negative-in-Some-Some.ensures))
+    ∙ ap (λ (z : Bool). rounding_in c.args.mode z f (exact_product x y))
+    (same_unlike _ _ _ _ c.is_negative.ensures c.is_negative-in-Some-Some.ensures))

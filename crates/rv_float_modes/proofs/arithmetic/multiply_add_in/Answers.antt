@@ -16,5 +16,7 @@ returns-in-Some-Some-Some g c =
     let second = c.in-Some-Some-Some.ensures' in
     let k = c.in-Some-Some-Some.ensures'' in
     of_three _ _ _ _ _ _ _ h.finite second.finite k.finite
-    (fused_is c.args.mode f x y z c.in-Some-Some-Some.p c.in-Some-Some-Some.q c.in-Some-Some-Some.r c.times.result c.raised.result _ _ _ h second k c.times.ensures c.raised.ensures
-    (same_unlike _ _ _ _ c.is_negative.ensures c.is_negative-in-Some-Some-Some.ensures) c.is_negative-in-Some-Some-Some-2.ensures (λ r. c.sum.ensures f r c.shape_of.ensures.shape))
+    (fused_is c.args.mode f x y z c.in-Some-Some-Some.p c.in-Some-Some-Some.q c.in-Some-Some-Some.r c.times.result c.raised.result _ _ _ h
+    second k c.times.ensures c.raised.ensures
+    (same_unlike _ _ _ _ c.is_negative.ensures c.is_negative-in-Some-Some-Some.ensures) c.is_negative-in-Some-Some-Some-2.ensures
+    (λ r. c.sum.ensures f r c.shape_of.ensures.shape))

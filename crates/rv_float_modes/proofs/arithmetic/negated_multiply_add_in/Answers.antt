@@ -11,5 +11,6 @@ returns g c =
     let bits = g.P.Pattern.bits in
     c.multiply_add_in.ensures
     ∙ ap (λ (x : ℕ). multiply_add_in c.args.mode f x (bits c.args.b) (bits c.sign_negated-2.result)) c.sign_negated.ensures
-    ∙ ap (λ (x : ℕ). multiply_add_in c.args.mode f (sign_negated f (bits c.args.a) (bits c.args.a)) (bits c.args.b) x) c.sign_negated-2.ensures
+    ∙ ap (λ (x : ℕ). multiply_add_in c.args.mode f (sign_negated f (bits c.args.a) (bits c.args.a)) (bits c.args.b) x)
+    c.sign_negated-2.ensures
     ∙ both_in c.args.mode f (bits c.args.a) (bits c.args.b) (bits c.args.c)

@@ -8,4 +8,5 @@ pub returns : goal.returns
 returns g c =
     let f = g.P.Pattern.format in
     let bits = g.P.Pattern.bits in
-    c.add_in.ensures ∙ ap (λ (x : ℕ). add_in c.args.mode f (bits c.args.a) x) c.sign_negated.ensures ∙ sub_by_add_in c.args.mode f (bits c.args.a) (bits c.args.b)
+    c.add_in.ensures ∙ ap (λ (x : ℕ). add_in c.args.mode f (bits c.args.a) x) c.sign_negated.ensures
+    ∙ sub_by_add_in c.args.mode f (bits c.args.a) (bits c.args.b)

@@ -15,5 +15,6 @@ returns-in-Some c =
     let q = c.raised-p.result in
     of_one _ _ _ _ _ c.in-Some.ensures.finite
     (c.rounded_number.ensures binary32 r c.shape_of.ensures.shape
-    (number_of_fraction r _ q.digits q.place (value_fraction binary64 x c.in-Some.p _ c.in-Some.ensures (raised_amount c.in-Some.p q c.raised-p.ensures)) refl)
+    (number_of_fraction r _ q.digits q.place
+    (value_fraction binary64 x c.in-Some.p _ c.in-Some.ensures (raised_amount c.in-Some.p q c.raised-p.ensures)) refl)
     ∙ ap (λ (z : Bool). rounding_in c.args.mode z binary32 r) c.is_negative.ensures)

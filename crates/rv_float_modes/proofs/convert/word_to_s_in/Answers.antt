@@ -12,5 +12,6 @@ use lib.Ieee.{binary32}
 pub returns : goal.returns
 returns c =
     let r = exact_word c.args.word in
-    c.rounded_number.ensures binary32 r c.shape_of.ensures.shape (whole_number r (nat_abs c.args.word) _ refl (c.unsigned_abs.ensures.value ∙ ap nat_abs (to_z-of_z c.ranges.word)))
+    c.rounded_number.ensures binary32 r c.shape_of.ensures.shape
+    (whole_number r (nat_abs c.args.word) _ refl (c.unsigned_abs.ensures.value ∙ ap nat_abs (to_z-of_z c.ranges.word)))
     ∙ ap (λ (n : ℤ). rounding_in c.args.mode (int_lt n (pos 0)) binary32 r) (to_z-of_z c.ranges.word)

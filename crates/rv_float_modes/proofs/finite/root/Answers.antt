@@ -1,3 +1,4 @@
+-- The magnitude by `rooted` encloses the exact root, so its rounding is that of the root.
 use Rattle.rv_float_modes.specs.Operations.{exact_root}
 use Rattle.rv_float_modes.proofs.finite.root.Goals as goal
 

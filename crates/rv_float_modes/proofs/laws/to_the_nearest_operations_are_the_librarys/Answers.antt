@@ -1,4 +1,7 @@
-use Rattle.rv_float_modes.proofs.Agreeing.{add_agrees, div_agrees, mul_agrees, multiply_add_agrees, multiply_subtract_agrees, narrowed_agrees, negated_multiply_add_agrees, negated_multiply_subtract_agrees, root_agrees, sub_agrees, word_agrees}
+-- To the nearest, ties to even, each operation is the library's, by its own lemma of `Agreeing.antt`.
+use Rattle.rv_float_modes.proofs.Agreeing.{add_agrees, div_agrees, mul_agrees, multiply_add_agrees, multiply_subtract_agrees}
+use Rattle.rv_float_modes.proofs.Agreeing.{narrowed_agrees, negated_multiply_add_agrees, negated_multiply_subtract_agrees, root_agrees}
+use Rattle.rv_float_modes.proofs.Agreeing.{sub_agrees, word_agrees}
 use Rattle.rv_float_modes.proofs.laws.to_the_nearest_operations_are_the_librarys.Goals as goal
 
 pub returns-clause-add : goal.returns-clause-add

@@ -1,3 +1,4 @@
+-- Digits that are shifted to 127 bits, at the place lowered by as many, are the same number.
 use Rattle.std.proofs.Common.{◌*◌, ◌-◌, ◌^◌, ℕ, ap, ◌∙◌, arith}
 use Rattle.rv_float_modes.proofs.Exactly.{moved, moved_value}
 use Rattle.rv_float_modes.proofs.magnitude.exactly.Goals as goal

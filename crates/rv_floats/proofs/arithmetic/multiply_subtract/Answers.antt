@@ -11,4 +11,5 @@ returns g c =
     let f = g.P.Pattern.format in
     let bits = g.P.Pattern.bits in
     c.multiply_add.ensures
-    ∙ ap (λ (z : Float). to_bits f (float_mul_add f (of_bits f (bits c.args.a)) (of_bits f (bits c.args.b)) z)) (ap (of_bits f) c.sign_negated.ensures ∙ of_negated f (bits c.args.c))
+    ∙ ap (λ (z : Float). to_bits f (float_mul_add f (of_bits f (bits c.args.a)) (of_bits f (bits c.args.b)) z))
+    (ap (of_bits f) c.sign_negated.ensures ∙ of_negated f (bits c.args.c))

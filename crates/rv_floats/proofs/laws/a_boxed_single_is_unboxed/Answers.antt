@@ -1,3 +1,4 @@
+-- The upper half of a boxed single is all ones, so its lower half, the single, is taken out.
 use Rattle.std.proofs.Common.{◌≡◌, ◌+◌, ◌-◌, ◌*◌, ◌/◌, ◌%◌, ◌^◌, ◌∙◌, arith}
 use Rattle.std.proofs.lemmas.Bool.{cond-true, eq-eqb}
 use Rattle.rv_floats.proofs.laws.a_boxed_single_is_unboxed.Goals as goal

@@ -20,7 +20,8 @@ Clauses i r = record {
   fence_i : i ≡ Plain FenceI → r ≡ Some 0x100F;
 }
 
-clauses : (i j : Instr) (r : Option ℕ) → j ≡ i → IsSome r ↔ IsEncodable i → IsOnlyWord (λ w. instruction_of w ≡ Some i) r → ¬ IsFence i → Clauses j r
+clauses : (i j : Instr) (r : Option ℕ) → j ≡ i → IsSome r ↔ IsEncodable i → IsOnlyWord (λ w. instruction_of w ≡ Some i) r → ¬ IsFence i
+    → Clauses j r
 clauses i j r is encodable only no_fence =
     rw is (record {
       encodable = encodable;
@@ -37,26 +38,31 @@ returns-in-R c =
 pub returns-in-I : goal.returns-in-I
 returns-in-I c =
     let imm = to_z-of_z w32 c.in-I.imm (search rules) in
-    clauses _ _ _ c.in-I.is (rw imm at c.i_word.ensures.encodable) (only_i _ _ _ _ _ _ c.i_value.ensures.row (rw imm at c.i_word.ensures.word)) (λ h. h)
+    clauses _ _ _ c.in-I.is (rw imm at c.i_word.ensures.encodable)
+    (only_i _ _ _ _ _ _ c.i_value.ensures.row (rw imm at c.i_word.ensures.word)) (λ h. h)
 
 pub returns-in-Shift : goal.returns-in-Shift
 returns-in-Shift c =
-    clauses _ _ _ c.in-Shift.is c.r_word-in-Shift.ensures.encodable (only_shift _ _ _ _ _ _ c.shift_value.ensures.row c.r_word-in-Shift.ensures.word) (λ h. h)
+    clauses _ _ _ c.in-Shift.is c.r_word-in-Shift.ensures.encodable
+    (only_shift _ _ _ _ _ _ c.shift_value.ensures.row c.r_word-in-Shift.ensures.word) (λ h. h)
 
 pub returns-in-Load : goal.returns-in-Load
 returns-in-Load c =
     let imm = to_z-of_z w32 c.in-Load.imm (search rules) in
-    clauses _ _ _ c.in-Load.is (rw imm at c.i_word-in-Load.ensures.encodable) (only_load _ _ _ _ _ _ c.load_value.ensures.row (rw imm at c.i_word-in-Load.ensures.word)) (λ h. h)
+    clauses _ _ _ c.in-Load.is (rw imm at c.i_word-in-Load.ensures.encodable)
+    (only_load _ _ _ _ _ _ c.load_value.ensures.row (rw imm at c.i_word-in-Load.ensures.word)) (λ h. h)
 
 pub returns-in-Store : goal.returns-in-Store
 returns-in-Store c =
     let imm = to_z-of_z w32 c.in-Store.imm (search rules) in
-    clauses _ _ _ c.in-Store.is (rw imm at c.s_word.ensures.encodable) (only_store _ _ _ _ _ _ c.store_value.ensures.row (rw imm at c.s_word.ensures.word)) (λ h. h)
+    clauses _ _ _ c.in-Store.is (rw imm at c.s_word.ensures.encodable)
+    (only_store _ _ _ _ _ _ c.store_value.ensures.row (rw imm at c.s_word.ensures.word)) (λ h. h)
 
 pub returns-in-Branch : goal.returns-in-Branch
 returns-in-Branch c =
     let imm = to_z-of_z w32 c.in-Branch.imm (search rules) in
-    clauses _ _ _ c.in-Branch.is (rw imm at c.b_word.ensures.encodable) (only_branch _ _ _ _ _ _ c.branch_value.ensures.row (rw imm at c.b_word.ensures.word)) (λ h. h)
+    clauses _ _ _ c.in-Branch.is (rw imm at c.b_word.ensures.encodable)
+    (only_branch _ _ _ _ _ _ c.branch_value.ensures.row (rw imm at c.b_word.ensures.word)) (λ h. h)
 
 pub returns-in-Upper : goal.returns-in-Upper
 returns-in-Upper c =
@@ -70,4 +76,5 @@ returns-in-Jal c =
 pub returns-in-Jalr : goal.returns-in-Jalr
 returns-in-Jalr c =
     let imm = to_z-of_z w32 c.in-Jalr.imm (search rules) in
-    clauses _ _ _ c.in-Jalr.is (rw imm at c.i_word-in-Jalr.ensures.encodable) (only_jalr _ _ _ _ (rw imm at c.i_word-in-Jalr.ensures.word)) (λ h. h)
+    clauses _ _ _ c.in-Jalr.is (rw imm at c.i_word-in-Jalr.ensures.encodable) (only_jalr _ _ _ _ (rw imm at c.i_word-in-Jalr.ensures.word))
+    (λ h. h)

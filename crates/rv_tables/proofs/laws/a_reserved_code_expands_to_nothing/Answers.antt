@@ -1,3 +1,4 @@
+-- A halfword at a code that its row reserves has no expansion: the lemma `expansion_of-reserved`.
 use Rattle.rv_tables.proofs.CompressedSpelling.{expansion_of-reserved}
 use Rattle.rv_tables.proofs.laws.a_reserved_code_expands_to_nothing.Goals as goal
 

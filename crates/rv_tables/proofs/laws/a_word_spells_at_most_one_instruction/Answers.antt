@@ -1,3 +1,4 @@
+-- Two instructions that a word spells are the same: the lemma `same_from_Spells`.
 use Rattle.rv_tables.proofs.Spelling.{same_from_Spells}
 use Rattle.rv_tables.proofs.laws.a_word_spells_at_most_one_instruction.Goals as goal
 

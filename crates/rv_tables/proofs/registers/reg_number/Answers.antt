@@ -1,3 +1,4 @@
+-- The number found in the table of names is that of the definition, and a register.
 use Rattle.std.proofs.Common.{◌≡◌}
 use Rattle.rv_tables.specs.Registers.{register_names, register_number}
 use Rattle.rv_tables.proofs.RegisterNames.{IsRegister-register_number}

@@ -1,3 +1,4 @@
+-- The row's value, the registers and the immediate's bits make the only word of an I-type row with these operands.
 use Rattle.std.proofs.Common.{rules}
 use Rattle.rv_tables.proofs.Masks.{under_707F}
 use Rattle.rv_tables.proofs.words.i_word.Goals as goal

@@ -1,3 +1,4 @@
+-- The rounding field RUP asks for rounding up.
 use Rattle.std.proofs.Common.{rules}
 use Rattle.float_unit.proofs.unit.FloatUnit.mode.Goals as goal
 

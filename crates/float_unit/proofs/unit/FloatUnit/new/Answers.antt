@@ -1,3 +1,4 @@
+-- A new unit has 32 registers, each below 2^64, and an `frm` of three bits.
 use Rattle.std.proofs.Common.{◌<◌, ◌^◌, refl, arith}
 use Rattle.std.proofs.lemmas.List.Elements.{All-replicate}
 use Rattle.float_unit.proofs.unit.FloatUnit.new.Goals as goal

@@ -11,13 +11,15 @@ index_mut-requires g c = page-shown (table _ _ c.self.view_is c.self.invariant) 
 
 pub invariant_of-self : goal.invariant_of-self
 invariant_of-self g c =
-    IsTable-set _ c.args.page c.in_ok-self-inside.field-0 c.self.invariant (ap length (c.in_ok-self-inside.ensures.bytes ∙ c.requires.zeros.zeros) ∙ length-replicate {A = ℕ} 4096 0)
+    IsTable-set _ c.args.page c.in_ok-self-inside.field-0 c.self.invariant
+    (ap length (c.in_ok-self-inside.ensures.bytes ∙ c.requires.zeros.zeros) ∙ length-replicate {A = ℕ} 4096 0)
 
 pub returns-clause-bytes : goal.returns-clause-bytes
 returns-clause-bytes g c =
     let t = table _ _ c.self.view_is c.self.invariant in
     let in_table = page-shown t c.args.page _ refl c.requires.within in
-    page_cleared-shown t c.args.page c.index_mut.result.now c.in_ok-self-inside.field-0 in_table c.index_mut.ensures.value (c.in_ok-self-inside.ensures.bytes ∙ c.requires.zeros.zeros)
+    page_cleared-shown t c.args.page c.index_mut.result.now c.in_ok-self-inside.field-0 in_table c.index_mut.ensures.value
+    (c.in_ok-self-inside.ensures.bytes ∙ c.requires.zeros.zeros)
 
 pub returns-clause-own : goal.returns-clause-own
 returns-clause-own g c =

@@ -18,7 +18,8 @@ returns-in_ok-clear_page-clause-bytes g c =
 pub returns-in_ok-clear_page-clause-rest : goal.returns-in_ok-clear_page-clause-rest
 returns-in_ok-clear_page-clause-rest g c =
     let within : c.args.addr / 4096 * 4096 + 4096 ≤ length c.args.self.now.bytes = omega (arith, c.requires.one_page, c.requires.within) in
-    SharesZeros-cleared c.args.self.now _ (c.args.addr / 4096) c.requires.rest within c.in_ok-clear_page.ensures.bytes c.in_ok-clear_page.ensures.own
+    SharesZeros-cleared c.args.self.now _ (c.args.addr / 4096) c.requires.rest within c.in_ok-clear_page.ensures.bytes
+    c.in_ok-clear_page.ensures.own
 
 pub returns-else-len-eq-PAGE-clause-bytes : goal.returns-else-len-eq-PAGE-clause-bytes
 returns-else-len-eq-PAGE-clause-bytes g c =

@@ -18,7 +18,8 @@ returns-clause-after g c =
     let fits : inside.addr + inside.size ≤ length m = grind (arith, nat_tests) in
     on_ok_weaker c.clear.result
     (λ cleared. cleared
-    ∙ ap (λ x. with_bytes x (inside.addr + length bytes) (replicate (inside.size - length bytes) 0)) (c.write_owned.ensures.bytes ∙ ap (λ x. with_bytes x inside.addr bytes) c.own.ensures.bytes)
+    ∙ ap (λ x. with_bytes x (inside.addr + length bytes) (replicate (inside.size - length bytes) 0))
+    (c.write_owned.ensures.bytes ∙ ap (λ x. with_bytes x inside.addr bytes) c.own.ensures.bytes)
     ∙ segment_laid m bytes s (inside.addr + length bytes) c.as_slice-bytes.ensures refl c.segment.invariant.holds_bytes fits
     ∙ ap (with_segment m) c.segment.view_is)
     c.clear.ensures.bytes

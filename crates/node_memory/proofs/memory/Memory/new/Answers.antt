@@ -8,7 +8,8 @@ use Rattle.node_memory.proofs.memory.Memory.new.Goals as goal
 
 pub loop-segment-init : goal.loop-segment-init
 loop-segment-init g c =
-    let whole : c.args.size / 4096 * 4096 ≡ c.args.size = whole_pages c.args.size (sym c.is_memory_size.ensures ∙ c.if-not-is_memory_size.false) in
+    let whole : c.args.size / 4096 * 4096 ≡ c.args.size =
+    whole_pages c.args.size (sym c.is_memory_size.ensures ∙ c.if-not-is_memory_size.false) in
     let zeros = ap (λ (m : PagedMemory). m.bytes) c.in_ok-laid.ensures in (
       zeros ∙ ap (λ n. replicate n 0) whole ∙ image_bytes_none _ _,
       SharesZeros-new _ _ zeros,
@@ -23,7 +24,8 @@ lay-requires-clause-fits g c =
 pub loop-segment-preserved : goal.loop-segment-preserved
 loop-segment-preserved g c =
     let segments = c.as_slice-segment-items.ensures ∙ ap (λ (i : Image). i.segments) c.image.view_is in (
-      image_bytes_more _ _ _ _ _ _ _ _ c.in_ok-lay.ensures.after segments c.loop-segment-test.true c.segment-item.is c.lay.ensures.valid c.if-ends_past.ensures c.loop-segment.invariant.0,
+      image_bytes_more _ _ _ _ _ _ _ _ c.in_ok-lay.ensures.after segments c.loop-segment-test.true c.segment-item.is c.lay.ensures.valid
+          c.if-ends_past.ensures c.loop-segment.invariant.0,
       c.in_ok-lay.ensures.rest,
       c.loop-segment.invariant.2,
     )
@@ -34,7 +36,8 @@ returns g c = record {
   segment_outside = search rules;
   ok =
       let segments = c.as_slice-segment-items.ensures ∙ ap (λ (i : Image). i.segments) c.image.view_is in
-      let laid : c.loop-segment.laid.bytes ≡ image_bytes c.args.image.now c.args.size = all_laid _ _ _ _ _ _ segments c.loop-segment-test.false c.loop-segment.invariant.0 in
+      let laid : c.loop-segment.laid.bytes ≡ image_bytes c.args.image.now c.args.size =
+      all_laid _ _ _ _ _ _ segments c.loop-segment-test.false c.loop-segment.invariant.0 in
       let size : length c.loop-segment.laid.bytes ≡ c.args.size = ap length laid ∙ length-image_bytes c.args.image.now c.args.size in
       c.in_ok-share.ensures
       ∙ ap (λ (bs : List ℕ). record { bytes = bs; own = none_own (length c.loop-segment.laid.bytes) }) laid

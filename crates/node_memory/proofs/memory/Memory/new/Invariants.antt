@@ -8,4 +8,5 @@ use Rattle.node_memory.proofs.memory.Memory.new.Given as goal
 
 abbrev pub invariant-loop-segment : goal.invariant-loop-segment
 invariant-loop-segment g l =
-    (l.laid.bytes ≡ image_bytes (image_of l.image.entry (take l.segment-index l.image.segments)) l.size) × SharesZeros l.laid × IsPageOfZeros l.zeros
+    (l.laid.bytes ≡ image_bytes (image_of l.image.entry (take l.segment-index l.image.segments)) l.size) × SharesZeros l.laid
+    × IsPageOfZeros l.zeros

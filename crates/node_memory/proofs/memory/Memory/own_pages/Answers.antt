@@ -19,8 +19,11 @@ own_page-requires g c =
 
 pub loop-page-preserved : goal.loop-page-preserved
 loop-page-preserved g c =
-    let pages = c.loop-page.invariant.1.pages in
-    (c.own_page.ensures.bytes ∙ c.loop-page.invariant.0, OwnUpTo-more _ _ _ _ _ c.loop-page.invariant.1 (omega arith) (omega (arith, c.requires.within)) c.in_ok-own_page.ensures.ok)
+    let pages = c.loop-page.invariant.1.pages in (
+      c.own_page.ensures.bytes
+          ∙ c.loop-page.invariant.0,
+      OwnUpTo-more _ _ _ _ _ c.loop-page.invariant.1 (omega arith) (omega (arith, c.requires.within)) c.in_ok-own_page.ensures.ok,
+    )
 
 pub returns : goal.returns
 returns g c = record {

@@ -13,8 +13,12 @@ returns-then-not-is_own g c =
     let size = size-shown t in
     let vec = c.self.inside.pages.ok.0 in
     let in_table : c.loop-page.page < length c.self.inside.pages.items = omega (arith, vec) in
-    let shared : slice_get c.args.self.now.own c.loop-page.page ≡ Some false = flag-is t c.loop-page.page c.index.result.now in_table c.index.ensures ∙ ap Some (sym c.is_own.ensures ∙ c.if-not-is_own.true) in
-    (λ e. absurd (false≢true e), λ o. absurd (not_Owns-from_up_to _ _ c.args.addr c.args.len c.loop-page.page c.loop-page.invariant (omega arith) (omega arith) (omega arith) shared o))
+    let shared : slice_get c.args.self.now.own c.loop-page.page ≡ Some false =
+    flag-is t c.loop-page.page c.index.result.now in_table c.index.ensures ∙ ap Some (sym c.is_own.ensures ∙ c.if-not-is_own.true) in (
+      λ e. absurd (false≢true e),
+      λ o. absurd (not_Owns-from_up_to _ _ c.args.addr c.args.len c.loop-page.page c.loop-page.invariant (omega arith) (omega arith)
+          (omega arith) shared o),
+    )
 
 pub loop-page-preserved : goal.loop-page-preserved
 loop-page-preserved g c =
@@ -22,5 +26,6 @@ loop-page-preserved g c =
     let size = size-shown t in
     let vec = c.self.inside.pages.ok.0 in
     let in_table : c.loop-page.page < length c.self.inside.pages.items = omega (arith, vec) in
-    let own : slice_get c.args.self.now.own c.loop-page.page ≡ Some true = flag-is t c.loop-page.page c.index.result.now in_table c.index.ensures ∙ ap Some (sym c.is_own.ensures ∙ c.if-not-is_own.false) in
+    let own : slice_get c.args.self.now.own c.loop-page.page ≡ Some true =
+    flag-is t c.loop-page.page c.index.result.now in_table c.index.ensures ∙ ap Some (sym c.is_own.ensures ∙ c.if-not-is_own.false) in
     OwnUpTo-read _ _ _ c.loop-page.invariant (omega arith) own

@@ -19,6 +19,9 @@ returns g c =
     let m = c.args.self.now.bytes in
     let size = size-shown t in
     let in_table : c.args.addr / 4096 < length c.self.inside.pages.items = omega (arith, size) in
-    let value = ap (λ page. bytes_at page (c.args.addr % 4096) c.args.len) c.bytes.ensures ∙ range-shown t c.args.addr c.args.len c.index.result.now in_table c.requires.one_page c.index.ensures in
-    let within = stand_in_page (length c.self.inside.pages.items) (length m) c.args.addr c.args.len size c.requires.begins c.requires.one_page in
+    let value =
+    ap (λ page. bytes_at page (c.args.addr % 4096) c.args.len) c.bytes.ensures
+    ∙ range-shown t c.args.addr c.args.len c.index.result.now in_table c.requires.one_page c.index.ensures in
+    let within =
+    stand_in_page (length c.self.inside.pages.items) (length m) c.args.addr c.args.len size c.requires.begins c.requires.one_page in
     record { value = value; long = ap length value ∙ length-bytes_at m c.args.addr c.args.len within }

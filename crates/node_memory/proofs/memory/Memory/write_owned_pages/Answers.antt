@@ -28,7 +28,8 @@ pub write_window-requires-clause-one_page : goal.write_window-requires-clause-on
 write_window-requires-clause-one_page g c = step-in_page c.args.bytes.now _ _ _ c.min-len.ensures c.loop-done.invariant.2
 
 pub write_window-requires-clause-own : goal.write_window-requires-clause-own
-write_window-requires-clause-own g c = IsOwn-past _ _ c.args.addr _ c.loop-done.done c.requires c.loop-done.invariant.1 c.loop-done-test.true
+write_window-requires-clause-own g c =
+    IsOwn-past _ _ c.args.addr _ c.loop-done.done c.requires c.loop-done.invariant.1 c.loop-done-test.true
 
 pub overflow_add-done-in-loop-done : goal.overflow_add-done-in-loop-done
 overflow_add-done-in-loop-done g c =
@@ -43,17 +44,20 @@ returns-clause-within g c = omega (arith, c.recall_size.ensures.pages, c.require
 
 pub returns-clause-bytes : goal.returns-clause-bytes
 returns-clause-bytes g c =
-    c.loop-done.invariant.0 ∙ ap (with_bytes c.args.self.now.bytes c.args.addr) (take_all c.loop-done.done c.args.bytes.now c.loop-done-test.false)
+    c.loop-done.invariant.0
+    ∙ ap (with_bytes c.args.self.now.bytes c.args.addr) (take_all c.loop-done.done c.args.bytes.now c.loop-done-test.false)
 
 pub returns-clause-same_own : goal.returns-clause-same_own
 returns-clause-same_own g c = c.loop-done.invariant.1
 
 pub loop-done-preserved : goal.loop-done-preserved
 loop-done-preserved g c =
-    let within : c.args.addr + length c.args.bytes.now ≤ length c.args.self.now.bytes = omega (arith, c.recall_size.ensures.pages, c.requires.within) in
+    let within : c.args.addr + length c.args.bytes.now ≤ length c.args.self.now.bytes =
+    omega (arith, c.recall_size.ensures.pages, c.requires.within) in
     let h = c.loop-done.invariant in
     let len = c.min-len.result in (
-      write_more c.args.self.now.bytes _ _ c.args.bytes.now _ c.args.addr (c.args.addr + c.loop-done.done) c.loop-done.done len h.0 refl refl c.write_window.ensures.bytes (omega arith) within,
+      write_more c.args.self.now.bytes _ _ c.args.bytes.now _ c.args.addr (c.args.addr + c.loop-done.done) c.loop-done.done len h.0 refl
+          refl c.write_window.ensures.bytes (omega arith) within,
       c.write_window.ensures.same_own ∙ h.1,
       omega arith,
     )

@@ -5,4 +5,5 @@ use Rattle.node_memory.proofs.Shown.{AllShared}
 use Rattle.node_memory.proofs.memory.Memory.zeros.Given as goal
 
 abbrev pub invariant-loop : goal.invariant-loop
-invariant-loop g l = (page_bytes l.zeros ≡ replicate 4096 0) × AllShared page_bytes is_own l.pages.items (replicate (l.counter * 4096) 0) l.counter
+invariant-loop g l =
+    (page_bytes l.zeros ≡ replicate 4096 0) × AllShared page_bytes is_own l.pages.items (replicate (l.counter * 4096) 0) l.counter

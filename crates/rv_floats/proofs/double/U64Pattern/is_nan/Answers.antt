@@ -5,4 +5,5 @@ use Rattle.rv_floats.proofs.double.U64Pattern.is_nan.Goals as goal
 use lib.Ieee.{binary64, is_nan}
 
 pub returns-clause-number : goal.returns-clause-number
-returns-clause-number c none = pattern_of_number binary64 c.args.self (ap is_nan (sym c.f64_from_bits_with_nan.ensures) ∙ sym c.is_nan.ensures.value ∙ none)
+returns-clause-number c none =
+    pattern_of_number binary64 c.args.self (ap is_nan (sym c.f64_from_bits_with_nan.ensures) ∙ sym c.is_nan.ensures.value ∙ none)

@@ -11,5 +11,6 @@ returns-then-word-lt0 c =
     let below : c.args.word <ℤ pos 0 = search rules in
     c.f32_to_bits_with_nan.ensures
     ∙ ap (λ (x : Float). to_bits binary32 (neg x)) c.nearest_u32_to_f32-size.ensures
-    ∙ ap (λ (n : ℤ). to_bits binary32 (neg (of_int binary32 n))) (ap pos (rw (to_z-of_z w32 c.args.word c.ranges.word) at c.unsigned_abs.ensures.value))
+    ∙ ap (λ (n : ℤ). to_bits binary32 (neg (of_int binary32 n)))
+    (ap pos (rw (to_z-of_z w32 c.args.word c.ranges.word) at c.unsigned_abs.ensures.value))
     ∙ ap (to_bits binary32) (word_below binary32 c.args.word below)

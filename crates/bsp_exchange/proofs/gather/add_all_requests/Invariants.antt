@@ -13,8 +13,10 @@ use Rattle.bsp_exchange.proofs.gather.add_all_requests.Given as goal
 abbrev pub invariant-loop-node : goal.invariant-loop-node
 invariant-loop-node g l = record {
   size : length l.parts ≡ length l.nodes;
-  inside : first_outside (states l.nodes) (issued (drop l.node-index (states l.nodes))) ≡ first_outside (states l.nodes) (issued (states l.nodes));
-  same : with_issued (states l.nodes) l.parts (issued (drop l.node-index (states l.nodes))) ≡ with_issued (states l.nodes) l.fn.parts (issued (states l.nodes));
+  inside : first_outside (states l.nodes) (issued (drop l.node-index (states l.nodes)))
+      ≡ first_outside (states l.nodes) (issued (states l.nodes));
+  same : with_issued (states l.nodes) l.parts (issued (drop l.node-index (states l.nodes)))
+      ≡ with_issued (states l.nodes) l.fn.parts (issued (states l.nodes));
   sound : AreSoundBelow (states l.nodes) l.node-index;
   added : l.loads ≡ with_transfers l.fn.loads (transfers (states (take l.node-index l.nodes)));
 }

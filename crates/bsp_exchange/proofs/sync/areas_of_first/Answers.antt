@@ -8,7 +8,8 @@ pub returns-in-Some : goal.returns-in-Some
 returns-in-Some g c p is =
     c.count.ensures.len
     ∙ ap (λ (r : Registrations). length r.in_effect) c.slots.ensures.registrations
-    ∙ ap (λ (q : PreparedNode). length q.node.hart.communication.registrations.in_effect) (same_Some c.in-Some.node.now p (c.in-Some.ensures.value ∙ is))
+    ∙ ap (λ (q : PreparedNode). length q.node.hart.communication.registrations.in_effect)
+    (same_Some c.in-Some.node.now p (c.in-Some.ensures.value ∙ is))
 
 pub returns-in-None : goal.returns-in-None
 returns-in-None g c p is = absurd (none-some p (c.in-None.ensures.value ∙ is))

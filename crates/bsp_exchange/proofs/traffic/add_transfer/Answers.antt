@@ -4,8 +4,10 @@ use Rattle.bsp_exchange.proofs.traffic.add_transfer.Goals as goal
 
 pub returns-then-from-to : goal.returns-then-from-to
 returns-then-from-to c =
-    kept_added c.args.loads.now (record { from = c.args.from; to = c.args.to; bytes = c.args.bytes; messages = c.args.messages }) no_load c.if-from-to.true
+    kept_added c.args.loads.now (record { from = c.args.from; to = c.args.to; bytes = c.args.bytes; messages = c.args.messages }) no_load
+    c.if-from-to.true
 
 pub returns-else-from-to : goal.returns-else-from-to
 returns-else-from-to c =
-    transfer_added c.args.loads.now (record { from = c.args.from; to = c.args.to; bytes = c.args.bytes; messages = c.args.messages }) no_load c.if-from-to.false
+    transfer_added c.args.loads.now (record { from = c.args.from; to = c.args.to; bytes = c.args.bytes; messages = c.args.messages })
+    no_load c.if-from-to.false

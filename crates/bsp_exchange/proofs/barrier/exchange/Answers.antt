@@ -1,3 +1,5 @@
+-- When the parts of the plan have landed, the row is the one after the exchange; if the plan is refused, so is the exchange, for the same
+-- reason.
 use Rattle.std.proofs.Common.{◌≡◌, List, ap₂, ◌∙◌, rules}
 use Rattle.std.proofs.lemmas.Result.{IfOk-from_err, err_from_is_err_and}
 use Rattle.node_core.specs.Node.{NodeState}

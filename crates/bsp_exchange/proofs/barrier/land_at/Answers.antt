@@ -1,3 +1,4 @@
+-- The node and the part that are indexed are those at the place, so the part lands in that node and is spent.
 use Rattle.std.proofs.Common.{set, get_or, refl, ap, sym, ◌∙◌}
 use Rattle.std.proofs.lemmas.Option.{slice_get_read, get_or_from_slice_get}
 use Rattle.bsp_exchange.specs.Parts.{PartState, landed_as, spent_part}

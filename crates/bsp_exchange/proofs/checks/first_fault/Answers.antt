@@ -1,3 +1,4 @@
+-- The definition too asks first for another tag size, then for other pushes and pops, and only then for a request outside its area.
 use Rattle.std.proofs.Common.{sym, ◌∙◌}
 use Rattle.bsp_exchange.specs.Exchange.{states}
 use Rattle.bsp_exchange.proofs.Refusals.{fault_of_tags, fault_of_slots, fault_of_requests}

@@ -1,3 +1,4 @@
+-- A node without a fault is passed over, the first one with a fault has the fault of all, and past the last node there is none.
 use Rattle.std.proofs.Common.{sym, ◌∙◌}
 use Rattle.bsp_exchange.specs.Exchange.{states}
 use Rattle.bsp_exchange.proofs.Finds.{fault_here, no_fault_here, no_node_left}

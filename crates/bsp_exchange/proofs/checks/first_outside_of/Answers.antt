@@ -1,3 +1,4 @@
+-- A request that keeps to its area is passed over, the first one that leaves it is the fault, and past the last request there is none.
 use Rattle.std.proofs.Common.{length, ◌≤◌, arith, ap, sym, ◌∙◌, Some, option_copied, slice_get}
 use Rattle.std.specs.Prelude.{option_map}
 use Rattle.bsp_requests.specs.Request.{asked}

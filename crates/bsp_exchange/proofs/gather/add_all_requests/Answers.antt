@@ -1,3 +1,4 @@
+-- Adding the requests of one more node keeps the invariant, and all loads have room for them; past the last node every request is added.
 use Rattle.std.proofs.Common.{◌≡◌, ◌+◌, ◌*◌, ◌^◌, List, length, take, drop, arith, ap, sym, refl, ◌∙◌, None}
 use Rattle.std.proofs.lemmas.List.{length-map, length-take-le, take_all}
 use Rattle.std.proofs.lemmas.List.Elements.{All-same}

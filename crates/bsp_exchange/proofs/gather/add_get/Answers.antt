@@ -1,3 +1,4 @@
+-- The bytes read from the target's memory are what the get fetches, and the caller's part is put back with them.
 use Rattle.std.proofs.Common.{sym, ◌∙◌}
 use Rattle.node_memory.specs.Bytes.{bytes_at}
 use Rattle.bsp_exchange.specs.Exchange.{states}

@@ -1,3 +1,4 @@
+-- The target's part is there, and is put back with the message added.
 use Rattle.std.proofs.Common.{◌≡◌, ◌<◌, length, set, subst, sym}
 use Rattle.std.specs.Prelude.{OnOk}
 use Rattle.bsp_requests.specs.Outgoing.{Outgoing}

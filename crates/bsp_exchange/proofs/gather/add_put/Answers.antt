@@ -1,3 +1,4 @@
+-- The target's part is there, and is put back with the put added.
 use Rattle.std.proofs.Common.{length}
 use borrow.Author.Rules.{scaled_Fits}
 use Rattle.bsp_exchange.specs.Arrivals.{with_put}

@@ -1,3 +1,4 @@
+-- A put, a get and a send each change the parts and the loads as the definitions say, and a put or get that is added keeps to its area.
 use Rattle.std.proofs.Common.{◌≡◌, ℕ, ◌+◌, ◌<◌, ◌≤◌, ◌^◌, List, length, Fits, w16, w64, ap, sym, subst, ◌∙◌, arith}
 use Rattle.std.specs.Prelude.{is_none}
 use Rattle.std.proofs.lemmas.Result.{IfOk-from_err}

@@ -1,3 +1,4 @@
+-- Each request meets the limits because the node is sound, and adding it keeps the invariant; past the last one all are added.
 use Rattle.std.proofs.Common.{◌+◌, ◌^◌, List, take, ap, sym, ◌∙◌, arith}
 use Rattle.std.proofs.lemmas.List.{take_all}
 use Rattle.std.proofs.lemmas.List.Elements.{All-same}

@@ -1,3 +1,5 @@
+-- Without a mismatch, and with every request inside its area, the exchange has no fault; the parts and traffic are those of the
+-- definitions.
 use Rattle.std.proofs.Common.{◌≡◌, ℕ, ◌^◌, List, length, map, replicate, refl, ap, sym, ◌∙◌, arith}
 use Rattle.std.proofs.lemmas.List.{length-map, length-replicate, with_items_is}
 use Rattle.std.proofs.lemmas.List.Elements.{All-same, All-replicate}

@@ -1,3 +1,5 @@
+-- What was gathered without a fault makes parts that keep to their limits, and these are the parts of the definition, for which nodes can
+-- be prepared.
 use Rattle.std.proofs.Common.{List, sym, subst, ◌∙◌}
 use Rattle.std.specs.List.{AllZip}
 use Rattle.bsp_exchange.specs.Exchange.{states}

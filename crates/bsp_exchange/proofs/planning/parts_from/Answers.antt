@@ -1,3 +1,4 @@
+-- The first of what is left becomes the next part; when nothing is left, the parts are those of all that arrived.
 use Rattle.std.proofs.Common.{◌+◌, ◌^◌, ◌<◌, ◌++◌, List, length, map, refl, sym, ap, ◌∙◌, arith}
 use Rattle.std.specs.List.{enumerate_from}
 use Rattle.std.proofs.lemmas.List.{append-nil, nil_from_length}

@@ -1,3 +1,5 @@
+-- The drafted parts can land when all nodes are prepared; if a step is refused, the nodes' states are as they were, and the error is handed
+-- on.
 use Rattle.std.proofs.Common.{◌≡◌, refl}
 use Rattle.std.proofs.lemmas.Result.{IfOk-from_err, err_from_is_err_and}
 use Rattle.bsp_exchange.specs.Exchange.{states}

@@ -1,3 +1,4 @@
+-- Preparing one more node keeps its state and what was its own, even if it is refused; past the last place every part can land.
 use Rattle.std.proofs.Common.{◌<◌, length, arith, refl, ap, sym, ◌∙◌}
 use Rattle.std.proofs.lemmas.Option.{slice_get_read}
 use Rattle.std.proofs.lemmas.Result.{IfOk-from_err}

@@ -1,3 +1,4 @@
+-- A node that does not wait at its place keeps the row from being at a sync; past the last place all of them wait.
 use Rattle.std.proofs.Common.{refl, sym, ◌∙◌}
 use Rattle.std.proofs.lemmas.Bool.{false≢true}
 use Rattle.bsp_exchange.proofs.Waiting.{waits_more, at_sync, waits_here}

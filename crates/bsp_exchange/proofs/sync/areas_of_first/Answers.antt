@@ -1,3 +1,4 @@
+-- The count is the length of the first node's list in effect; without a first node there is nothing to show.
 use Rattle.std.proofs.Common.{length, ap, ◌∙◌}
 use Rattle.std.proofs.lemmas.Option.{none-some, same_Some}
 use Rattle.bsp_slots.specs.Registrations.{Registrations}

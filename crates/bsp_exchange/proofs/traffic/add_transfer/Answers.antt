@@ -1,3 +1,4 @@
+-- Bytes that stay with a rank are added to what it keeps; others are added to what one rank sent and the other received.
 use Rattle.bsp_exchange.specs.Loads.{no_load}
 use Rattle.bsp_exchange.proofs.Loads.{kept_added, transfer_added}
 use Rattle.bsp_exchange.proofs.traffic.add_transfer.Goals as goal

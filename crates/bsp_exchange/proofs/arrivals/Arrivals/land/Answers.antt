@@ -1,3 +1,4 @@
+-- The four lists lie in pages that the node owns, and landing them one after another lands all gets and then all puts.
 use Rattle.std.proofs.Common.{◌≡◌, ◌++◌, ℕ, List, Vec, false, sym, subst, ap, ◌∙◌}
 use Rattle.bsp_requests.specs.Message.{Message}
 use Rattle.node_core.specs.Hart.{with_memory}

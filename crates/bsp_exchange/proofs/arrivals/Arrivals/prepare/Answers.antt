@@ -1,3 +1,4 @@
+-- Each of the four lists fits in the node's memory, and the pages that became own for one list stay own while the others are prepared.
 use Rattle.std.proofs.Common.{◌++◌, length, subst, refl, sym, ap, ◌∙◌}
 use Rattle.std.proofs.lemmas.Result.{on_ok_weaker}
 use Rattle.node_core.specs.Node.{NodeState}

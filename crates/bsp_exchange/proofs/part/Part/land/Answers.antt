@@ -1,3 +1,4 @@
+-- The patches of a part are its gets and then its puts, so what arrives lands as the part does, and the part is spent.
 use Rattle.std.proofs.Common.{List, ◌++◌, ℕ, false, true, sym, ap, ◌∙◌}
 use Rattle.node_core.specs.Hart.{with_memory}
 use Rattle.node_core.specs.Turn.{next_superstep}

@@ -1,3 +1,4 @@
+-- The gets and the puts fit in the node's memory because the part's patches do, and once their pages are own the part can land.
 use Rattle.std.proofs.Common.{length, subst, ap, ◌∙◌}
 use Rattle.std.proofs.lemmas.Result.{on_ok_weaker}
 use Rattle.node_core.specs.Node.{NodeState}

@@ -1,3 +1,4 @@
+-- The patch is pushed without bytes and then filled in, so the list ends with the address and the bytes that were put.
 use Rattle.std.proofs.Common.{◌≡◌, List, [], ◌∷◌, ◌++◌, length, get_or, ap, sym, ◌∙◌}
 use Rattle.std.proofs.lemmas.List.{get_or_push}
 use Rattle.bsp_exchange.specs.Parts.{Patch}

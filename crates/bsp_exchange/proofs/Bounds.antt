@@ -134,8 +134,8 @@ puts_of nodes is rank =
     map patch_of (filter (λ l. l.rank == rank) (filter_map (λ i. landing_of_put nodes i.rank i.issue i.request) is))
 
 puts-le : (nodes : List NodeState) (rank caller issue : ℕ) (q : Asked) (is : List Issued)
-    → bytes_in (puts_of nodes (record { rank = caller; issue = issue; request = q } ∷ is) rank) ≤ (transfer caller q).bytes
-    + bytes_in (puts_of nodes is rank)
+    → bytes_in (puts_of nodes (record { rank = caller; issue = issue; request = q } ∷ is) rank)
+    ≤ (transfer caller q).bytes + bytes_in (puts_of nodes is rank)
 puts-le nodes rank caller issue (asks_put p) is =
     let l = put_landing nodes caller issue p in
     put_bytes (p.target == rank) (patch_of l) l _ refl
@@ -161,8 +161,8 @@ gets_of nodes is rank =
     map patch_of (filter (λ l. l.rank == rank) (filter_map (λ i. landing_of_get nodes i.rank i.issue i.request) is))
 
 gets-le : (nodes : List NodeState) (rank caller issue : ℕ) (q : Asked) (is : List Issued)
-    → bytes_in (gets_of nodes (record { rank = caller; issue = issue; request = q } ∷ is) rank) ≤ (transfer caller q).bytes
-    + bytes_in (gets_of nodes is rank)
+    → bytes_in (gets_of nodes (record { rank = caller; issue = issue; request = q } ∷ is) rank)
+    ≤ (transfer caller q).bytes + bytes_in (gets_of nodes is rank)
 gets-le nodes rank caller issue (asks_put p) is = omega arith
 gets-le nodes rank caller issue (asks_get g) is =
     let l = get_landing nodes caller issue g in

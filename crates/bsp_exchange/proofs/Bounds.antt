@@ -1,5 +1,6 @@
 -- How much an exchange moves at most, by the limits of nodes and of their requests.
-use Rattle.std.proofs.Common.{◌≡◌, ℕ, ◌+◌, ◌*◌, ◌^◌, ◌<◌, ◌≤◌, max, Bool, true, false, not, cond, List, [], ◌∷◌, length, map, All, get_or, refl, sym, ap, ap₂, ◌∙◌, arith}
+use Rattle.std.proofs.Common.{◌≡◌, ℕ, ◌+◌, ◌*◌, ◌^◌, ◌<◌, ◌≤◌, max, Bool, true, false, not, cond, List, [], ◌∷◌, length, map, All, get_or}
+use Rattle.std.proofs.Common.{refl, sym, ap, ap₂, ◌∙◌, arith}
 use Rattle.std.specs.Prelude.{◌==◌, filter, filter_map, sum_by}
 use Rattle.std.specs.List.{enumerate_from, fold}
 use Rattle.std.proofs.lemmas.List.{places, map-append}
@@ -15,7 +16,8 @@ use Rattle.bsp_exchange.specs.Arrivals.{received_at}
 use Rattle.bsp_exchange.specs.Issued.{Issued, issued, issued_as, issued_by}
 use Rattle.bsp_exchange.specs.Landings.{Landing, area_start, memory_of, landing_of_get, landing_of_put, get_landing, put_landing}
 use Rattle.bsp_exchange.specs.Parts.{Patch, bytes_in, patch_of}
-use Rattle.bsp_exchange.specs.Traffic.{Transfer, transfer, transfers, between_ranks, bytes_sent, bytes_received, messages_received, h_relation, h_of, h_all_of, messages_of}
+use Rattle.bsp_exchange.specs.Traffic.{Transfer, transfer, transfers, between_ranks, bytes_sent, bytes_received, messages_received}
+use Rattle.bsp_exchange.specs.Traffic.{h_relation, h_of, h_all_of, messages_of}
 use Rattle.bsp_exchange.proofs.Readings.{h_at_most}
 use Rattle.bsp_exchange.proofs.Tallies.{AreHarts}
 
@@ -37,7 +39,8 @@ transfer-bytes rank (asks_get g) = refl
 transfer-bytes rank (asks_send m) = refl
 
 -- a node's requests transfer as many bytes as they count
-bytes-requests : (rank issue : ℕ) (requests : List Asked) → bytes (map transfer_of (map (issued_as rank) (enumerate_from issue requests))) ≡ sum_by size_of requests
+bytes-requests : (rank issue : ℕ) (requests : List Asked)
+    → bytes (map transfer_of (map (issued_as rank) (enumerate_from issue requests))) ≡ sum_by size_of requests
 bytes-requests rank issue [] = refl
 bytes-requests rank issue (q ∷ rest) =
     sum_by-cons (λ (t : Transfer). t.bytes) (transfer rank q) (map transfer_of (map (issued_as rank) (enumerate_from (issue + 1) rest)))
@@ -65,7 +68,8 @@ relation-le most ts nodes few =
     let out = bytes-filter (λ (t : Transfer). t.from == (get_or nodes k d).hart.rank) ts in
     let inn = bytes-filter (λ (t : Transfer). t.to == (get_or nodes k d).hart.rank) ts in
     omega (arith, few, out, inn) in
-    fold-max-le most 0 _ (omega arith) (All-map (λ k. k ≤ most) (λ (n : NodeState). max (bytes_sent ts n.hart.rank) (bytes_received ts n.hart.rank)) nodes each)
+    fold-max-le most 0 _ (omega arith)
+    (All-map (λ k. k ≤ most) (λ (n : NodeState). max (bytes_sent ts n.hart.rank) (bytes_received ts n.hart.rank)) nodes each)
 
 -- ---- and no more messages than they count requests
 
@@ -77,10 +81,13 @@ transfer-messages rank (asks_put p) = omega arith
 transfer-messages rank (asks_get g) = omega arith
 transfer-messages rank (asks_send m) = omega arith
 
-messages-requests : (rank issue : ℕ) (requests : List Asked) → messages (map transfer_of (map (issued_as rank) (enumerate_from issue requests))) ≤ length requests
+messages-requests : (rank issue : ℕ) (requests : List Asked)
+    → messages (map transfer_of (map (issued_as rank) (enumerate_from issue requests))) ≤ length requests
 messages-requests rank issue [] = omega arith
 messages-requests rank issue (q ∷ rest) =
-    let sums = sum_by-cons (λ (t : Transfer). t.messages) (transfer rank q) (map transfer_of (map (issued_as rank) (enumerate_from (issue + 1) rest))) in
+    let sums =
+    sum_by-cons (λ (t : Transfer). t.messages) (transfer rank q)
+    (map transfer_of (map (issued_as rank) (enumerate_from (issue + 1) rest))) in
     omega (arith, sums, transfer-messages rank q, messages-requests rank (issue + 1) rest)
 
 messages-transfers : (nodes : List NodeState) → AreHarts nodes → messages (transfers nodes) ≤ length nodes * max_requests
@@ -106,7 +113,8 @@ messages-le most nodes few =
     fold-max-le most 0 _ (omega arith) (All-map (λ k. k ≤ most) (λ (n : NodeState). messages_received ts n.hart.rank) nodes each)
 
 -- what as many nodes as there may be move among them
-pub traffic_bounded : (nodes : List NodeState) → length nodes ≤ max_nodes → AreHarts nodes → (h_of nodes ≤ h_all_of nodes) × (h_all_of nodes ≤ 2 ^ 34) × (messages_of nodes ≤ 2 ^ 26)
+pub traffic_bounded : (nodes : List NodeState) → length nodes ≤ max_nodes → AreHarts nodes
+    → (h_of nodes ≤ h_all_of nodes) × (h_all_of nodes ≤ 2 ^ 34) × (messages_of nodes ≤ 2 ^ 26)
 traffic_bounded nodes few harts =
     let all_bytes : bytes (transfers nodes) ≤ 2 ^ 34 = omega (arith, bytes-transfers nodes harts, few) in
     let all_messages : messages (transfers nodes) ≤ 2 ^ 26 = omega (arith, messages-transfers nodes harts, few) in
@@ -114,8 +122,10 @@ traffic_bounded nodes few harts =
 
 -- ---- and none receives more bytes than they move
 
-put_bytes : (b : Bool) (p : Patch) (l : Landing) (ls : List Landing) → p ≡ patch_of l → bytes_in (map patch_of (cond b (l ∷ ls) ls)) ≤ length p.bytes + bytes_in (map patch_of ls)
-put_bytes true p l ls is = omega (arith, sum_by-cons (λ (q : Patch). length q.bytes) (patch_of l) (map patch_of ls), ap (λ (q : Patch). length q.bytes) is)
+put_bytes : (b : Bool) (p : Patch) (l : Landing) (ls : List Landing) → p ≡ patch_of l
+    → bytes_in (map patch_of (cond b (l ∷ ls) ls)) ≤ length p.bytes + bytes_in (map patch_of ls)
+put_bytes true p l ls is =
+    omega (arith, sum_by-cons (λ (q : Patch). length q.bytes) (patch_of l) (map patch_of ls), ap (λ (q : Patch). length q.bytes) is)
 put_bytes false p l ls is = omega arith
 
 -- what some requests put into a rank's node
@@ -123,7 +133,9 @@ abbrev puts_of : List NodeState → List Issued → ℕ → List Patch
 puts_of nodes is rank =
     map patch_of (filter (λ l. l.rank == rank) (filter_map (λ i. landing_of_put nodes i.rank i.issue i.request) is))
 
-puts-le : (nodes : List NodeState) (rank caller issue : ℕ) (q : Asked) (is : List Issued) → bytes_in (puts_of nodes (record { rank = caller; issue = issue; request = q } ∷ is) rank) ≤ (transfer caller q).bytes + bytes_in (puts_of nodes is rank)
+puts-le : (nodes : List NodeState) (rank caller issue : ℕ) (q : Asked) (is : List Issued)
+    → bytes_in (puts_of nodes (record { rank = caller; issue = issue; request = q } ∷ is) rank)
+    ≤ (transfer caller q).bytes + bytes_in (puts_of nodes is rank)
 puts-le nodes rank caller issue (asks_put p) is =
     let l = put_landing nodes caller issue p in
     put_bytes (p.target == rank) (patch_of l) l _ refl
@@ -133,7 +145,12 @@ puts-le nodes rank caller issue (asks_send m) is = omega arith
 puts-moved : (nodes : List NodeState) (rank : ℕ) (is : List Issued) → bytes_in (puts_of nodes is rank) ≤ bytes (map transfer_of is)
 puts-moved nodes rank [] = omega arith
 puts-moved nodes rank (i ∷ is) =
-    omega (arith, puts-le nodes rank i.rank i.issue i.request is, puts-moved nodes rank is, sum_by-cons (λ (t : Transfer). t.bytes) (transfer_of i) (map transfer_of is))
+    omega (
+      arith,
+      puts-le nodes rank i.rank i.issue i.request is,
+      puts-moved nodes rank is,
+      sum_by-cons (λ (t : Transfer). t.bytes) (transfer_of i) (map transfer_of is),
+    )
 
 length_fetched : (m : List ℕ) (addr len : ℕ) → length (bytes_at m addr len) ≤ len
 length_fetched m addr len = grind (arith, places)
@@ -143,18 +160,32 @@ abbrev gets_of : List NodeState → List Issued → ℕ → List Patch
 gets_of nodes is rank =
     map patch_of (filter (λ l. l.rank == rank) (filter_map (λ i. landing_of_get nodes i.rank i.issue i.request) is))
 
-gets-le : (nodes : List NodeState) (rank caller issue : ℕ) (q : Asked) (is : List Issued) → bytes_in (gets_of nodes (record { rank = caller; issue = issue; request = q } ∷ is) rank) ≤ (transfer caller q).bytes + bytes_in (gets_of nodes is rank)
+gets-le : (nodes : List NodeState) (rank caller issue : ℕ) (q : Asked) (is : List Issued)
+    → bytes_in (gets_of nodes (record { rank = caller; issue = issue; request = q } ∷ is) rank)
+    ≤ (transfer caller q).bytes + bytes_in (gets_of nodes is rank)
 gets-le nodes rank caller issue (asks_put p) is = omega arith
 gets-le nodes rank caller issue (asks_get g) is =
     let l = get_landing nodes caller issue g in
     let short : length l.bytes ≤ g.len = length_fetched (memory_of nodes g.target) (area_start nodes g.target g.slot + g.offset) g.len in
-    omega (arith, short, put_bytes (caller == rank) (patch_of l) l (filter (λ k. k.rank == rank) (filter_map (λ i. landing_of_get nodes i.rank i.issue i.request) is)) refl)
+    omega (
+      arith,
+      short,
+      put_bytes (caller == rank) (patch_of l) l
+          (filter (λ k. k.rank == rank) (filter_map (λ i. landing_of_get nodes i.rank i.issue i.request) is)) refl,
+    )
 gets-le nodes rank caller issue (asks_send m) is = omega arith
 
 gets-moved : (nodes : List NodeState) (rank : ℕ) (is : List Issued) → bytes_in (gets_of nodes is rank) ≤ bytes (map transfer_of is)
 gets-moved nodes rank [] = omega arith
 gets-moved nodes rank (i ∷ is) =
-    omega (arith, gets-le nodes rank i.rank i.issue i.request is, gets-moved nodes rank is, sum_by-cons (λ (t : Transfer). t.bytes) (transfer_of i) (map transfer_of is))
+    omega (
+      arith,
+      gets-le nodes rank i.rank i.issue i.request is,
+      gets-moved nodes rank is,
+      sum_by-cons (λ (t : Transfer). t.bytes) (transfer_of i) (map transfer_of is),
+    )
 
-pub moved_bounded : (nodes : List NodeState) (rank : ℕ) → length nodes ≤ max_nodes → AreHarts nodes → bytes_in (received_at nodes rank).gets + bytes_in (received_at nodes rank).puts < 2 ^ 63
-moved_bounded nodes rank few harts = omega (arith, gets-moved nodes rank (issued nodes), puts-moved nodes rank (issued nodes), bytes-transfers nodes harts, few)
+pub moved_bounded : (nodes : List NodeState) (rank : ℕ) → length nodes ≤ max_nodes → AreHarts nodes
+    → bytes_in (received_at nodes rank).gets + bytes_in (received_at nodes rank).puts < 2 ^ 63
+moved_bounded nodes rank few harts =
+    omega (arith, gets-moved nodes rank (issued nodes), puts-moved nodes rank (issued nodes), bytes-transfers nodes harts, few)

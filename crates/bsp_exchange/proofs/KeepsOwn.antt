@@ -21,7 +21,8 @@ EachKeepsOwn-then (p ∷ a) (q ∷ b) (r ∷ c) first second =
     (KeepsOwn-then p.own q.own r.own first.0 second.0, EachKeepsOwn-then a b c first.1 second.1)
 
 -- one of the nodes is changed, and keeps what is its own
-pub EachKeepsOwn-set : (xs ys : List PreparedNode) (i : ℕ) (p q : PreparedNode) → EachKeepsOwn xs ys → slice_get ys i ≡ Some p → KeepsOwn p.own q.own → EachKeepsOwn xs (set ys i q)
+pub EachKeepsOwn-set : (xs ys : List PreparedNode) (i : ℕ) (p q : PreparedNode) → EachKeepsOwn xs ys → slice_get ys i ≡ Some p
+    → KeepsOwn p.own q.own → EachKeepsOwn xs (set ys i q)
 EachKeepsOwn-set [] [] i p q each here keeps = tt
 EachKeepsOwn-set [] (y ∷ ys) i p q each here keeps = absurd each
 EachKeepsOwn-set (x ∷ xs) [] i p q each here keeps = absurd each
@@ -31,6 +32,7 @@ EachKeepsOwn-set (x ∷ xs) (y ∷ ys) zero p q each here keeps =
 EachKeepsOwn-set (x ∷ xs) (y ∷ ys) (suc i) p q each here keeps = (each.0, EachKeepsOwn-set xs ys i p q each.1 here keeps)
 
 -- a node for whose turn room is made, or refused
-pub KeepsOwn-readied : {T E : Type 0} (r : Result T E) (old new : PreparedNode) → OnOk r (new ≡ record old { ready = true }) → OnErr r (new ≡ old) → KeepsOwn old.own new.own
+pub KeepsOwn-readied : {T E : Type 0} (r : Result T E) (old new : PreparedNode) → OnOk r (new ≡ record old { ready = true })
+    → OnErr r (new ≡ old) → KeepsOwn old.own new.own
 KeepsOwn-readied (Ok x) old new ok err = rw ok (KeepsOwn-same old.own)
 KeepsOwn-readied (Err e) old new ok err = rw err (KeepsOwn-same old.own)

@@ -1,5 +1,6 @@
 -- The latest landing that covers an address counts.
-use Rattle.std.proofs.Common.{◌≡◌, ℕ, inl, inr, suc, Bool, true, false, cond, List, [], ◌∷◌, length, map, reverse, refl, sym, ap, ap₂, subst, ◌∙◌, arith, Option, Some, None}
+use Rattle.std.proofs.Common.{◌≡◌, ℕ, inl, inr, suc, Bool, true, false, cond, List, [], ◌∷◌, length, map, reverse, refl, sym, ap, ap₂}
+use Rattle.std.proofs.Common.{subst, ◌∙◌, arith, Option, Some, None}
 use Rattle.std.specs.Prelude.{All, Contains, IsTrue, find}
 use Rattle.std.specs.List.{range_with_len}
 use Rattle.std.specs.Option.{option_or, option_map_or}
@@ -10,11 +11,13 @@ use Rattle.std.proofs.lemmas.List.Folds.{find-append}
 use Rattle.node_memory.specs.Bytes.{byte_at}
 use Rattle.node_core.specs.Node.{NodeState}
 use Rattle.bsp_exchange.specs.Exchange.{AreAtSync}
-use Rattle.bsp_exchange.specs.Landings.{Key, IsAtMost, Landing, KeysDoNotFall, HaveOwnKeys, AreSameLandings, landings_at, covers, landing_byte, landed_byte, memory_after}
+use Rattle.bsp_exchange.specs.Landings.{Key, IsAtMost, Landing, KeysDoNotFall, HaveOwnKeys, AreSameLandings, landings_at, covers}
+use Rattle.bsp_exchange.specs.Landings.{landing_byte, landed_byte, memory_after}
 use Rattle.bsp_exchange.proofs.KeyOrder.{keys_do_not_fall, have_own_keys, pairs-head, pairs-tail}
 
 -- the last one that passes is looked for in the rest of a list first
-find-last : (p : Landing → Bool) (x : Landing) (xs : List Landing) → find p (reverse (x ∷ xs)) ≡ option_or (find p (reverse xs)) (cond (p x) (Some x) None)
+find-last : (p : Landing → Bool) (x : Landing) (xs : List Landing)
+    → find p (reverse (x ∷ xs)) ≡ option_or (find p (reverse xs)) (cond (p x) (Some x) None)
 find-last p x xs = ap (find p) (reverse-append (x ∷ []) xs) ∙ find-append p (reverse xs) (x ∷ [])
 
 -- nothing passes, or this one does and is not earlier by its key than any that does
@@ -31,7 +34,8 @@ contains-there x m xs there = (suc there.0, omega (arith, there.1), there.2)
 at_most-itself : (k : Key) → IsAtMost k k
 at_most-itself k = inr (refl, inr (refl, omega arith))
 
-latest-one : (p : Landing → Bool) (x : Landing) (xs : List Landing) → All (λ y. p y ≡ false) xs → IsLatest p (x ∷ xs) (cond (p x) (Some x) None)
+latest-one : (p : Landing → Bool) (x : Landing) (xs : List Landing) → All (λ y. p y ≡ false) xs
+    → IsLatest p (x ∷ xs) (cond (p x) (Some x) None)
 latest-one p x xs none = elim (cases_Bool (p x)) [
   | inl passes ↦ subst (λ b. IsLatest p (x ∷ xs) (cond b (Some x) None)) (sym passes) (
     contains-here x xs,
@@ -42,7 +46,8 @@ latest-one p x xs none = elim (cases_Bool (p x)) [
   | inr fails ↦ subst (λ b. IsLatest p (x ∷ xs) (cond b (Some x) None)) (sym fails) (All-cons (λ y. p y ≡ false) x xs fails none)
 ]
 
-latest-more : (p : Landing → Bool) (x : Landing) (xs : List Landing) (o : Option Landing) → All (λ y. IsAtMost x.key y.key) xs → IsLatest p xs o → IsLatest p (x ∷ xs) (option_or o (cond (p x) (Some x) None))
+latest-more : (p : Landing → Bool) (x : Landing) (xs : List Landing) (o : Option Landing) → All (λ y. IsAtMost x.key y.key) xs
+    → IsLatest p xs o → IsLatest p (x ∷ xs) (option_or o (cond (p x) (Some x) None))
 latest-more p x xs None head latest = latest-one p x xs latest
 latest-more p x xs (Some m) head latest = (
   contains-there x m xs latest.0,
@@ -55,7 +60,8 @@ latest : (p : Landing → Bool) (all : List Landing) → KeysDoNotFall all → I
 latest p [] order = All-nil (λ (x : Landing). p x ≡ false)
 latest p (x ∷ xs) order =
     subst (IsLatest p (x ∷ xs)) (sym (find-last p x xs))
-    (latest-more p x xs (find p (reverse xs)) (pairs-head (λ a b. IsAtMost a.key b.key) x xs order) (latest p xs (pairs-tail (λ a b. IsAtMost a.key b.key) x xs order)))
+    (latest-more p x xs (find p (reverse xs)) (pairs-head (λ a b. IsAtMost a.key b.key) x xs order)
+    (latest p xs (pairs-tail (λ a b. IsAtMost a.key b.key) x xs order)))
 
 same_key : (a b : Key) → a.kind ≡ b.kind → a.caller ≡ b.caller → a.issue ≡ b.issue → a ≡ b
 same_key a b kind caller issue =
@@ -81,14 +87,20 @@ both_at_most a b there back = elim there [
 
 -- ---- the byte of the greatest key
 
-byte_of : (all : List Landing) (addr kept : ℕ) (l : Landing) (o : Option Landing) → HaveOwnKeys all → Contains all l → covers addr l ≡ true → All (λ x. covers addr x ≡ true → IsAtMost x.key l.key) all → IsLatest (covers addr) all o → option_map_or (landing_byte addr) o kept ≡ landing_byte addr l
-byte_of all addr kept l None own there covering greatest is = absurd (both_ways (covers addr l) (All-contains (λ x. covers addr x ≡ false) all l is there) covering)
+byte_of : (all : List Landing) (addr kept : ℕ) (l : Landing) (o : Option Landing) → HaveOwnKeys all → Contains all l
+    → covers addr l ≡ true → All (λ x. covers addr x ≡ true → IsAtMost x.key l.key) all → IsLatest (covers addr) all o
+    → option_map_or (landing_byte addr) o kept ≡ landing_byte addr l
+byte_of all addr kept l None own there covering greatest is =
+    absurd (both_ways (covers addr l) (All-contains (λ x. covers addr x ≡ false) all l is there) covering)
 byte_of all addr kept l (Some m) own there covering greatest is =
     let up : IsAtMost m.key l.key = All-contains (λ x. covers addr x ≡ true → IsAtMost x.key l.key) all m greatest is.0 is.1 in
     let down : IsAtMost l.key m.key = All-contains (λ x. covers addr x ≡ true → IsAtMost x.key m.key) all l is.2 there covering in
     ap (landing_byte addr) (own m l is.0 there (both_at_most m.key l.key up down))
 
-pub greatest_lands : (nodes : List NodeState) (rank addr : ℕ) (memory : List ℕ) (l : Landing) → AreAtSync nodes → Contains (landings_at nodes rank) l → IsTrue (covers addr l) → All (λ other. IsTrue (covers addr other) → IsAtMost other.key l.key) (landings_at nodes rank) → landed_byte (landings_at nodes rank) memory addr ≡ landing_byte addr l
+pub greatest_lands : (nodes : List NodeState) (rank addr : ℕ) (memory : List ℕ) (l : Landing) → AreAtSync nodes
+    → Contains (landings_at nodes rank) l → IsTrue (covers addr l)
+    → All (λ other. IsTrue (covers addr other) → IsAtMost other.key l.key) (landings_at nodes rank)
+    → landed_byte (landings_at nodes rank) memory addr ≡ landing_byte addr l
 greatest_lands nodes rank addr memory l row there covering greatest =
     let all = landings_at nodes rank in
     byte_of all addr (byte_at memory addr) l (find (covers addr) (reverse all)) (have_own_keys nodes rank row) there covering greatest
@@ -101,10 +113,12 @@ find-none p (x ∷ xs) none =
     ∙ ap (λ o. option_or o (cond (p x) (Some x) None)) (find-none p xs (All-tail (λ x. p x ≡ false) x xs none))
     ∙ ap (λ b. cond b (Some x) None) (All-head (λ x. p x ≡ false) x xs none)
 
-uncovered : (all : List Landing) (addr : ℕ) (memory : List ℕ) → All (λ l. covers addr l ≡ false) all → landed_byte all memory addr ≡ byte_at memory addr
+uncovered : (all : List Landing) (addr : ℕ) (memory : List ℕ) → All (λ l. covers addr l ≡ false) all
+    → landed_byte all memory addr ≡ byte_at memory addr
 uncovered all addr memory none = ap (λ o. option_map_or (landing_byte addr) o (byte_at memory addr)) (find-none (covers addr) all none)
 
-pub uncovered_stays : (nodes : List NodeState) (rank addr : ℕ) (memory : List ℕ) → All (λ l. covers addr l ≡ false) (landings_at nodes rank) → landed_byte (landings_at nodes rank) memory addr ≡ byte_at memory addr
+pub uncovered_stays : (nodes : List NodeState) (rank addr : ℕ) (memory : List ℕ)
+    → All (λ l. covers addr l ≡ false) (landings_at nodes rank) → landed_byte (landings_at nodes rank) memory addr ≡ byte_at memory addr
 uncovered_stays nodes rank addr memory none = uncovered (landings_at nodes rank) addr memory none
 
 -- ---- other lists of the same landings
@@ -112,23 +126,32 @@ uncovered_stays nodes rank addr memory none = uncovered (landings_at nodes rank)
 all-same_landings : (P : Landing → Type 0) (others all : List Landing) → All (Contains others) all → All P others → All P all
 all-same_landings P others all same holds = All-weaker (Contains others) P (λ l there. All-contains P others l holds there) all same
 
-byte_of_others : (others all : List Landing) (memory : List ℕ) (addr : ℕ) (o : Option Landing) → AreSameLandings others all → KeysDoNotFall all → HaveOwnKeys all → IsLatest (covers addr) others o → option_map_or (landing_byte addr) o (byte_at memory addr) ≡ landed_byte all memory addr
+byte_of_others : (others all : List Landing) (memory : List ℕ) (addr : ℕ) (o : Option Landing) → AreSameLandings others all
+    → KeysDoNotFall all → HaveOwnKeys all → IsLatest (covers addr) others o
+    → option_map_or (landing_byte addr) o (byte_at memory addr) ≡ landed_byte all memory addr
 byte_of_others others all memory addr None same order own is =
     sym (uncovered all addr memory (all-same_landings (λ l. covers addr l ≡ false) others all same.0 is))
 byte_of_others others all memory addr (Some m) same order own is =
-    sym (byte_of all addr (byte_at memory addr) m (find (covers addr) (reverse all)) own (All-contains (Contains all) others m same.1 is.0) is.1
+    sym (byte_of all addr (byte_at memory addr) m (find (covers addr) (reverse all)) own (All-contains (Contains all) others m same.1 is.0)
+    is.1
     (all-same_landings (λ l. covers addr l ≡ true → IsAtMost l.key m.key) others all same.0 is.2)
     (latest (covers addr) all order))
 
-pub same_byte : (nodes : List NodeState) (rank addr : ℕ) (memory : List ℕ) (others : List Landing) → AreAtSync nodes → AreSameLandings others (landings_at nodes rank) → KeysDoNotFall others → landed_byte others memory addr ≡ landed_byte (landings_at nodes rank) memory addr
+pub same_byte : (nodes : List NodeState) (rank addr : ℕ) (memory : List ℕ) (others : List Landing) → AreAtSync nodes
+    → AreSameLandings others (landings_at nodes rank) → KeysDoNotFall others
+    → landed_byte others memory addr ≡ landed_byte (landings_at nodes rank) memory addr
 same_byte nodes rank addr memory others row same order =
-    byte_of_others others (landings_at nodes rank) memory addr (find (covers addr) (reverse others)) same (keys_do_not_fall nodes rank row) (have_own_keys nodes rank row)
+    byte_of_others others (landings_at nodes rank) memory addr (find (covers addr) (reverse others)) same (keys_do_not_fall nodes rank row)
+    (have_own_keys nodes rank row)
     (latest (covers addr) others order)
 
 map-agree : {X Y : Type 0} (f g : X → Y) (xs : List X) → ((x : X) → f x ≡ g x) → map f xs ≡ map g xs
 map-agree f g [] same = refl
 map-agree f g (x ∷ xs) same = ap₂ (λ y ys. y ∷ ys) (same x) (map-agree f g xs same)
 
-pub same_memory : (nodes : List NodeState) (rank : ℕ) (memory : List ℕ) (others : List Landing) → AreAtSync nodes → AreSameLandings others (landings_at nodes rank) → KeysDoNotFall others → memory_after others memory ≡ memory_after (landings_at nodes rank) memory
+pub same_memory : (nodes : List NodeState) (rank : ℕ) (memory : List ℕ) (others : List Landing) → AreAtSync nodes
+    → AreSameLandings others (landings_at nodes rank) → KeysDoNotFall others
+    → memory_after others memory ≡ memory_after (landings_at nodes rank) memory
 same_memory nodes rank memory others row same order =
-    map-agree (landed_byte others memory) (landed_byte (landings_at nodes rank) memory) (range_with_len 0 (length memory)) (λ addr. same_byte nodes rank addr memory others row same order)
+    map-agree (landed_byte others memory) (landed_byte (landings_at nodes rank) memory) (range_with_len 0 (length memory))
+    (λ addr. same_byte nodes rank addr memory others row same order)

@@ -1,5 +1,6 @@
 -- What a slice's `get` and a comparison of shapes return, as the definitions say it.
-use Rattle.std.proofs.Common.{◌≡◌, ◌↔◌, ℕ, Bool, nat_eq, List, length, Option, Some, None, Bor, refl, sym, ap, ap₂, ◌∙◌, option_copied, slice_get}
+use Rattle.std.proofs.Common.{◌≡◌, ◌↔◌, ℕ, Bool, nat_eq, List, length, Option, Some, None, Bor, refl, sym, ap, ap₂, ◌∙◌, option_copied}
+use Rattle.std.proofs.Common.{slice_get}
 use Rattle.std.specs.Prelude.{IsTrue}
 use Rattle.std.specs.Bool.{Decides}
 use Rattle.std.specs.Option.{option_eq}
@@ -23,7 +24,9 @@ Decides-positions (Some x) None = (λ e. absurd (false≢true e), λ e. absurd (
 Decides-positions (Some x) (Some y) = (λ e. ap Some ((Decides-eqb x y).0 e), λ e. (Decides-eqb x y).1 (same_Some x y e))
 
 -- what is true exactly where two shapes are one is their comparison
-pub shapes_compared : (s t a b : Registrations) (r : Bool) → s ≡ a → t ≡ b → (IsTrue r ↔ HasSameShape s t) → r ≡ pointwise (option_eq nat_eq) (shape a) (shape b)
+pub shapes_compared : (s t a b : Registrations) (r : Bool) → s ≡ a → t ≡ b → (IsTrue r ↔ HasSameShape s t)
+    → r ≡ pointwise (option_eq nat_eq) (shape a) (shape b)
 shapes_compared s t a b r first second is =
-    same_from_decides r (pointwise (option_eq nat_eq) (shape s) (shape t)) is (slice_eq-Decides Decides-positions (shape s) (shape t) _ refl)
+    same_from_decides r (pointwise (option_eq nat_eq) (shape s) (shape t)) is
+    (slice_eq-Decides Decides-positions (shape s) (shape t) _ refl)
     ∙ ap₂ (λ (x y : Registrations). pointwise (option_eq nat_eq) (shape x) (shape y)) first second

@@ -1,5 +1,6 @@
 -- Each part lands in its own node, so that the order of the parts does not matter.
-use Rattle.std.proofs.Common.{◌≡◌, ◌≢◌, ℕ, zero, suc, ◌+◌, ◌<◌, ◌≤◌, ◌==◌, Bool, true, false, cond, List, [], ◌∷◌, length, map, refl, sym, ap, ap₂, ◌∙◌, arith, Option, Some, None}
+use Rattle.std.proofs.Common.{◌≡◌, ◌≢◌, ℕ, zero, suc, ◌+◌, ◌<◌, ◌≤◌, ◌==◌, Bool, true, false, cond, List, [], ◌∷◌, length, map, refl, sym}
+use Rattle.std.proofs.Common.{ap, ap₂, ◌∙◌, arith, Option, Some, None}
 use Rattle.std.specs.Prelude.{slice_get, option_map}
 use Rattle.std.specs.List.{All, count_by, filter, fold, range_with_len}
 use Rattle.std.specs.List.Sorted.{IsPermutation}
@@ -12,13 +13,15 @@ use Rattle.node_core.specs.Node.{NodeState}
 use Rattle.node_core.specs.Turn.{next_superstep}
 use Rattle.bsp_exchange.specs.Arrivals.{Received, after_landing, received_at}
 use Rattle.bsp_exchange.specs.Exchange.{exchanged_node, exchanged}
-use Rattle.bsp_exchange.specs.Parts.{Patch, PartState, changed_at, part_of, parts_of, with_part, with_patches, landed, landed_in, landed_in_turn, CanExchange}
+use Rattle.bsp_exchange.specs.Parts.{Patch, PartState, changed_at, part_of, parts_of, with_part, with_patches, landed, landed_in}
+use Rattle.bsp_exchange.specs.Parts.{landed_in_turn, CanExchange}
 use Rattle.bsp_exchange.specs.Queues.{queue_after}
 use Rattle.bsp_exchange.proofs.Landed.{laid-append, parts_are, whole}
 use Rattle.node_core.specs.Hart.{with_memory}
 
 -- a part lays what arrives at its node: gets and then puts
-as_received : (nodes : List NodeState) (rank : ℕ) (n : NodeState) → with_part (part_of nodes rank) n ≡ after_landing (received_at nodes rank) n
+as_received : (nodes : List NodeState) (rank : ℕ) (n : NodeState)
+    → with_part (part_of nodes rank) n ≡ after_landing (received_at nodes rank) n
 as_received nodes rank n =
     let part : Received = received_at nodes rank in
     let turn : List ℕ → NodeState = λ (m : List ℕ). next_superstep (queue_after nodes rank) (record n { hart = with_memory m n.hart }) in
@@ -26,10 +29,13 @@ as_received nodes rank n =
     ∙ ap turn (laid-append n.hart.memory part.gets part.puts)
 
 -- a part leaves in its node what the exchange is to leave
-pub lands_as_exchanged : (nodes : List NodeState) (i : ℕ) (n : NodeState) → CanExchange nodes → slice_get nodes i ≡ Some n → with_part (part_of nodes i) n ≡ exchanged_node nodes n
+pub lands_as_exchanged : (nodes : List NodeState) (i : ℕ) (n : NodeState) → CanExchange nodes → slice_get nodes i ≡ Some n
+    → with_part (part_of nodes i) n ≡ exchanged_node nodes n
 lands_as_exchanged nodes i n can is = as_received nodes i n ∙ (whole nodes can.row can.faultless can.sound i n is).as_defined
 
-landed-map : (f : ℕ → PartState) (g : NodeState → NodeState) (i : ℕ) (xs : List NodeState) → ((k : ℕ) (n : NodeState) → slice_get xs k ≡ Some n → with_part (f (i + k)) n ≡ g n) → landed (map f (range_with_len i (length xs))) xs ≡ map g xs
+landed-map : (f : ℕ → PartState) (g : NodeState → NodeState) (i : ℕ) (xs : List NodeState)
+    → ((k : ℕ) (n : NodeState) → slice_get xs k ≡ Some n → with_part (f (i + k)) n ≡ g n)
+    → landed (map f (range_with_len i (length xs))) xs ≡ map g xs
 landed-map f g i [] each = refl
 landed-map f g i (n ∷ xs) each =
     let here : i ≡ i + 0 = omega arith in
@@ -77,29 +83,39 @@ abbrev after_parts : List PartState → NodeState → NodeState
 after_parts parts n = fold (λ m part. with_part part m) n parts
 
 -- a node after the parts that landed is itself with those of its own rank
-by_its_own : (nodes : List NodeState) (parts : List PartState) (k : ℕ) → slice_get (landed_in_turn nodes parts) k ≡ option_map (after_parts (filter (is_for k) parts)) (slice_get nodes k)
+by_its_own : (nodes : List NodeState) (parts : List PartState) (k : ℕ)
+    → slice_get (landed_in_turn nodes parts) k ≡ option_map (after_parts (filter (is_for k) parts)) (slice_get nodes k)
 by_its_own nodes [] k = option_map-same (slice_get nodes k)
 by_its_own nodes (part ∷ parts) k = by_its_own (landed_in nodes part) parts k ∙ by (part.rank == k) refl
   where
-    by : (b : Bool) → (part.rank == k) ≡ b → option_map (after_parts (filter (is_for k) parts)) (slice_get (landed_in nodes part) k) ≡ option_map (after_parts (filter (is_for k) (part ∷ parts))) (slice_get nodes k)
+    by : (b : Bool) → (part.rank == k) ≡ b
+        → option_map (after_parts (filter (is_for k) parts)) (slice_get (landed_in nodes part) k)
+        ≡ option_map (after_parts (filter (is_for k) (part ∷ parts))) (slice_get nodes k)
     by true is =
         let rank : part.rank ≡ k = eqb-true part.rank k is in
-        ap (λ (o : Option NodeState). option_map (after_parts (filter (is_for k) parts)) o) (ap (λ j. slice_get (changed_at (with_part part) j nodes) k) rank ∙ changed_same (with_part part) k nodes)
+        ap (λ (o : Option NodeState). option_map (after_parts (filter (is_for k) parts)) o)
+        (ap (λ j. slice_get (changed_at (with_part part) j nodes) k) rank ∙ changed_same (with_part part) k nodes)
         ∙ option_map-twice (after_parts (filter (is_for k) parts)) (with_part part) (slice_get nodes k)
-        ∙ option_map-agree (λ n. after_parts (filter (is_for k) parts) (with_part part n)) (after_parts (filter (is_for k) (part ∷ parts))) (slice_get nodes k) (λ n. ap (λ (b : Bool). after_parts (cond b (part ∷ filter (is_for k) parts) (filter (is_for k) parts)) n) (sym is))
+        ∙ option_map-agree (λ n. after_parts (filter (is_for k) parts) (with_part part n)) (after_parts (filter (is_for k) (part ∷ parts)))
+        (slice_get nodes k)
+        (λ n. ap (λ (b : Bool). after_parts (cond b (part ∷ filter (is_for k) parts) (filter (is_for k) parts)) n) (sym is))
     by false is =
-        ap (λ (o : Option NodeState). option_map (after_parts (filter (is_for k) parts)) o) (changed_other (with_part part) part.rank k nodes (eqb-false part.rank k is))
-        ∙ option_map-agree (after_parts (filter (is_for k) parts)) (after_parts (filter (is_for k) (part ∷ parts))) (slice_get nodes k) (λ n. ap (λ (b : Bool). after_parts (cond b (part ∷ filter (is_for k) parts) (filter (is_for k) parts)) n) (sym is))
+        ap (λ (o : Option NodeState). option_map (after_parts (filter (is_for k) parts)) o)
+        (changed_other (with_part part) part.rank k nodes (eqb-false part.rank k is))
+        ∙ option_map-agree (after_parts (filter (is_for k) parts)) (after_parts (filter (is_for k) (part ∷ parts))) (slice_get nodes k)
+        (λ n. ap (λ (b : Bool). after_parts (cond b (part ∷ filter (is_for k) parts) (filter (is_for k) parts)) n) (sym is))
 
 -- no part is for a rank that none of them has
 none_for : (k : ℕ) (parts : List PartState) → All (λ part. part.rank ≢ k) parts → filter (is_for k) parts ≡ []
 none_for k [] others = refl
 none_for k (part ∷ parts) others =
-    ap (λ (b : Bool). cond b (part ∷ filter (is_for k) parts) (filter (is_for k) parts)) (ne_eqb part.rank k (All-head (λ (p : PartState). p.rank ≢ k) part parts others))
+    ap (λ (b : Bool). cond b (part ∷ filter (is_for k) parts) (filter (is_for k) parts))
+    (ne_eqb part.rank k (All-head (λ (p : PartState). p.rank ≢ k) part parts others))
     ∙ none_for k parts (All-tail (λ (p : PartState). p.rank ≢ k) part parts others)
 
 -- a node stays as it is while the parts of others land
-pub stays_apart : (nodes : List NodeState) (parts : List PartState) (k : ℕ) → All (λ part. part.rank ≢ k) parts → slice_get (landed_in_turn nodes parts) k ≡ slice_get nodes k
+pub stays_apart : (nodes : List NodeState) (parts : List PartState) (k : ℕ) → All (λ part. part.rank ≢ k) parts
+    → slice_get (landed_in_turn nodes parts) k ≡ slice_get nodes k
 stays_apart nodes parts k others =
     by_its_own nodes parts k
     ∙ ap (λ (own : List PartState). option_map (after_parts own) (slice_get nodes k)) (none_for k parts others)
@@ -110,9 +126,12 @@ none_counted : (nodes : List NodeState) (k i n : ℕ) → k < i → count_by (is
 none_counted nodes k i zero past = refl
 none_counted nodes k i (suc n) past =
     sum_by-cons (λ (p : PartState). cond (is_for k p) 1 0) (part_of nodes i) (map (part_of nodes) (range_with_len (i + 1) n))
-    ∙ ap₂ (λ a b. a + b) (ap (λ (b : Bool). cond b 1 0) (ne_eqb i k (λ same. omega (arith, past, same)))) (none_counted nodes k (i + 1) n (omega (arith, past)))
+    ∙ ap₂ (λ a b. a + b) (ap (λ (b : Bool). cond b 1 0) (ne_eqb i k (λ same. omega (arith, past, same))))
+    (none_counted nodes k (i + 1) n (omega (arith, past)))
 
-counted_here : (nodes : List NodeState) (k i n : ℕ) → i ≤ k → (b : Bool) → (i == k) ≡ b → (i < k → count_by (is_for k) (map (part_of nodes) (range_with_len (i + 1) n)) ≡ 1) → cond (i == k) 1 0 + count_by (is_for k) (map (part_of nodes) (range_with_len (i + 1) n)) ≡ 1
+counted_here : (nodes : List NodeState) (k i n : ℕ) → i ≤ k → (b : Bool) → (i == k) ≡ b
+    → (i < k → count_by (is_for k) (map (part_of nodes) (range_with_len (i + 1) n)) ≡ 1)
+    → cond (i == k) 1 0 + count_by (is_for k) (map (part_of nodes) (range_with_len (i + 1) n)) ≡ 1
 counted_here nodes k i n from true is later =
     let here : i ≡ k = eqb-true i k is in
     ap₂ (λ a b. a + b) (ap (λ (b : Bool). cond b 1 0) is) (none_counted nodes k (i + 1) n (omega (arith, here)))
@@ -132,17 +151,20 @@ only x (y ∷ []) one all = ap (λ z. z ∷ []) (All-head (λ z. z ≡ x) y [] a
 only x (y ∷ z ∷ zs) one all = absurd (omega (arith, one))
 
 -- and of those in another order too
-its_own : (nodes : List NodeState) (parts : List PartState) (k : ℕ) → IsPermutation (parts_of nodes) parts → k < length nodes → filter (is_for k) parts ≡ part_of nodes k ∷ []
+its_own : (nodes : List NodeState) (parts : List PartState) (k : ℕ) → IsPermutation (parts_of nodes) parts → k < length nodes
+    → filter (is_for k) parts ≡ part_of nodes k ∷ []
 its_own nodes parts k shuffled there =
     let P : PartState → Type 0 = λ (p : PartState). p ≡ part_of nodes p.rank in
     let planned : All P (parts_of nodes) = All-map P (part_of nodes) (range_with_len 0 (length nodes)) (λ j d below. refl) in
-    let kept : All P (filter (is_for k) parts) = All-filter (is_for k) P parts (All-permutation P (parts_of nodes) parts shuffled planned) in
+    let kept : All P (filter (is_for k) parts) =
+    All-filter (is_for k) P parts (All-permutation P (parts_of nodes) parts shuffled planned) in
     let mine = filter_passes (is_for k) parts in
     let count : length (filter (is_for k) parts) ≡ 1 =
     length-filter (is_for k) parts
     ∙ sum_by-IsPermutation (λ (p : PartState). cond (is_for k p) 1 0) (parts_of nodes) parts shuffled
     ∙ one_counted nodes k 0 (length nodes) (omega arith) (omega arith) in
-    only (part_of nodes k) (filter (is_for k) parts) count (λ j d below. kept j d below ∙ ap (part_of nodes) (eqb-true _ k (mine j d below)))
+    only (part_of nodes k) (filter (is_for k) parts) count
+    (λ j d below. kept j d below ∙ ap (part_of nodes) (eqb-true _ k (mine j d below)))
 
 same_at_each : {X : Type 0} (xs ys : List X) → ((k : ℕ) → slice_get xs k ≡ slice_get ys k) → xs ≡ ys
 same_at_each [] [] same = refl
@@ -151,10 +173,14 @@ same_at_each (x ∷ xs) [] same = absurd (none-some x (sym (same 0)))
 same_at_each (x ∷ xs) (y ∷ ys) same = ap₂ (λ z zs. z ∷ zs) (same_Some x y (same 0)) (same_at_each xs ys (λ k. same (suc k)))
 
 -- whatever the order in which the parts land, the row is that after the exchange
-pub landed_in_any_order : (nodes : List NodeState) (parts : List PartState) → CanExchange nodes → IsPermutation (parts_of nodes) parts → landed_in_turn nodes parts ≡ exchanged nodes
-landed_in_any_order nodes parts can shuffled = same_at_each (landed_in_turn nodes parts) (exchanged nodes) (λ k. by_its_own nodes parts k ∙ by k (slice_get nodes k) refl ∙ sym (slice_get-map (exchanged_node nodes) nodes k))
+pub landed_in_any_order : (nodes : List NodeState) (parts : List PartState) → CanExchange nodes → IsPermutation (parts_of nodes) parts
+    → landed_in_turn nodes parts ≡ exchanged nodes
+landed_in_any_order nodes parts can shuffled =
+    same_at_each (landed_in_turn nodes parts) (exchanged nodes)
+    (λ k. by_its_own nodes parts k ∙ by k (slice_get nodes k) refl ∙ sym (slice_get-map (exchanged_node nodes) nodes k))
   where
-    by : (k : ℕ) (o : Option NodeState) → slice_get nodes k ≡ o → option_map (after_parts (filter (is_for k) parts)) (slice_get nodes k) ≡ option_map (exchanged_node nodes) (slice_get nodes k)
+    by : (k : ℕ) (o : Option NodeState) → slice_get nodes k ≡ o
+        → option_map (after_parts (filter (is_for k) parts)) (slice_get nodes k) ≡ option_map (exchanged_node nodes) (slice_get nodes k)
     by k None is = ap (option_map (after_parts (filter (is_for k) parts))) is ∙ sym (ap (option_map (exchanged_node nodes)) is)
     by k (Some n) is =
         ap (option_map (after_parts (filter (is_for k) parts))) is

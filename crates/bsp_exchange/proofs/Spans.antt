@@ -16,9 +16,12 @@ IsSpanned s addr len = (s.low ≤ addr) × (addr + len ≤ s.end)
 
 -- those of the first of some patches do
 abbrev pub AreSpannedBelow : Span → List Patch → ℕ → Type 0
-AreSpannedBelow s patches i = (k : ℕ) (d : Patch) → k < i → k < length patches → IsSpanned s (get_or patches k d).addr (length (get_or patches k d).bytes)
+AreSpannedBelow s patches i =
+    (k : ℕ) (d : Patch) → k < i → k < length patches → IsSpanned s (get_or patches k d).addr (length (get_or patches k d).bytes)
 
-pub spanned_more : {patches : List Patch} {place addr : ℕ} {bytes : List ℕ} (old new : Span) → IsPatchAt patches place addr bytes → (new.low ≤ old.low) × (old.end ≤ new.end) → IsSpanned new addr (length bytes) → AreSpannedBelow old patches place → AreSpannedBelow new patches (place + 1)
+pub spanned_more : {patches : List Patch} {place addr : ℕ} {bytes : List ℕ} (old new : Span) → IsPatchAt patches place addr bytes
+    → (new.low ≤ old.low) × (old.end ≤ new.end) → IsSpanned new addr (length bytes) → AreSpannedBelow old patches place
+    → AreSpannedBelow new patches (place + 1)
 spanned_more {patches} {place} old new p more has below k d less within =
     elim (cases_eq k place) [
       | inl same ↦ rw (ap (λ (j : ℕ). get_or patches j d) same ∙ p.is d) has
@@ -28,11 +31,15 @@ spanned_more {patches} {place} old new p more has below k d less within =
     ]
 
 -- where each range within a span is own, patches within it are
-pub owns_spanned : (own : List Bool) (s : Span) (patches : List Patch) → ((addr len : ℕ) → s.low ≤ addr → addr + len ≤ s.end → Owns own addr len) → AreSpannedBelow s patches (length patches) → OwnsEach own patches
+pub owns_spanned : (own : List Bool) (s : Span) (patches : List Patch)
+    → ((addr len : ℕ) → s.low ≤ addr → addr + len ≤ s.end → Owns own addr len) → AreSpannedBelow s patches (length patches)
+    → OwnsEach own patches
 owns_spanned own s [] owned all = tt
 owns_spanned own s (p ∷ patches) owned all =
-    let first = all 0 p (omega arith) (omega arith) in
-    (owned p.addr (length p.bytes) first.0 first.1, owns_spanned own s patches owned (λ k d less within. all (suc k) d (omega arith) (omega arith)))
+    let first = all 0 p (omega arith) (omega arith) in (
+      owned p.addr (length p.bytes) first.0 first.1,
+      owns_spanned own s patches owned (λ k d less within. all (suc k) d (omega arith) (omega arith)),
+    )
 
 end_within : (size addr len : ℕ) → IsTrue (fits size addr len) → addr + len ≤ size
 end_within size addr len within = grind (arith, nat_tests)

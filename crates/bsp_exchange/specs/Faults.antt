@@ -1,7 +1,8 @@
 -- Why an exchange is refused. The nodes have to agree on the next tag size and on the sequence of registrations (BSPlib, Hill and
 -- others 1998: `bsp_set_tagsize`, `bsp_push_reg` and `bsp_pop_reg` are to be called alike by all processes), and puts and gets have
 -- to keep to the registered areas. That these are faults, and their order, is an own rule.
-use Rattle.std.specs.Prelude.{◌≡◌, ◌↔◌, ℕ, ◌+◌, ◌==◌, Bool, false, not, nat_le, List, [], ◌∷◌, ◌++◌, codes, length, find, Option, Some, None, Result, IsErrOf, option_map, nat_eq}
+use Rattle.std.specs.Prelude.{◌≡◌, ◌↔◌, ℕ, ◌+◌, ◌==◌, Bool, false, not, nat_le, List, [], ◌∷◌, ◌++◌, codes, length, find, Option, Some}
+use Rattle.std.specs.Prelude.{None, Result, IsErrOf, option_map, nat_eq}
 use Rattle.std.specs.Option.{option_or, option_map_or, option_eq}
 use Rattle.std.specs.Cmp.Lexicographic.{pointwise}
 use Rattle.std.specs.Fmt.{decimal}

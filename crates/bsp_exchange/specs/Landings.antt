@@ -1,7 +1,8 @@
 -- What puts and gets do to the memories (BSPlib, Hill and others 1998: `bsp_put` and `bsp_get` with their buffers, which take
 -- effect at `bsp_sync`: all gets read before any put or get writes). In which order they write where they overlap is an own rule:
 -- gets before puts, and then by the caller's rank and the order of issue; a later one counts.
-use Rattle.std.specs.Prelude.{◌≡◌, ℕ, ◌+◌, ◌-◌, ◌<◌, ◌≤◌, ◌⊎◌, ◌==◌, Bool, ◌&&◌, nat_le, nat_lt, List, [], ◌++◌, length, map, find, filter, filter_map, reverse, slice_get, slice_index, All, Contains, Option, Some, None}
+use Rattle.std.specs.Prelude.{◌≡◌, ℕ, ◌+◌, ◌-◌, ◌<◌, ◌≤◌, ◌⊎◌, ◌==◌, Bool, ◌&&◌, nat_le, nat_lt, List, [], ◌++◌, length, map, find, filter}
+use Rattle.std.specs.Prelude.{filter_map, reverse, slice_get, slice_index, All, Contains, Option, Some, None}
 use Rattle.std.specs.List.{range_with_len, AllPairs}
 use Rattle.std.specs.Option.{option_map_or}
 use Rattle.node_memory.specs.Bytes.{byte_at, bytes_at}

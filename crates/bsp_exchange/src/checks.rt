@@ -6,7 +6,8 @@ ghost use Rattle.node_core.specs.Node.{PreparedNode};
 ghost use Rattle.bsp_exchange.specs.Areas.{area_at};
 ghost use Rattle.bsp_exchange.specs.Exchange.{states};
 ghost use Rattle.bsp_exchange.specs.Issued.{issued, issued_by};
-ghost use Rattle.bsp_exchange.specs.Faults.{exchange_fault, disagreeing, have_same_tag_size, have_same_shape, first_outside, is_outside, leaves_area};
+ghost use Rattle.bsp_exchange.specs.Faults.{exchange_fault, disagreeing, have_same_tag_size, have_same_shape, first_outside, is_outside};
+ghost use Rattle.bsp_exchange.specs.Faults.{leaves_area};
 
 use crate::fault::ExchangeFault;
 use bsp_requests::Request;

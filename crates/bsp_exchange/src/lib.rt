@@ -1,9 +1,9 @@
 //! The exchange at the end of a superstep: where all nodes wait, what they asked of each other comes about (BSPlib's `bsp_sync`;
 //! Hill and others, 1998).
 //!
-//! [`exchange`] takes the nodes of a machine, each at the place of its rank, all of them waiting; [`are_at_sync`] is the test of that. The model is their list of `NodeState`s, and
-//! `exchanged` is the list after the exchange: a function of the list before it alone, so that the order in which the nodes came
-//! there does not matter.
+//! [`exchange`] takes the nodes of a machine, each at the place of its rank, all of them waiting; [`are_at_sync`] is the test of that. The
+//! model is their list of `NodeState`s, and `exchanged` is the list after the exchange: a function of the list before it alone, so that the
+//! order in which the nodes came there does not matter.
 //!
 //! [`plan`] is all of an exchange that takes memory or can be refused. It hands out a [`Part`] for each node, which lands once, by
 //! whichever thread and in whatever order of the nodes; the exchange is made when each has landed. [`draft`] is what of a plan reads

@@ -1,5 +1,6 @@
 -- What an environment call keeps of a hart.
-use Rattle.std.proofs.Common.{◌≡◌, ℕ, ◌+◌, ◌-◌, ◌<◌, ◌≤◌, ◌^◌, Bool, true, false, not, List, [], ◌∷◌, length, take, drop, Option, Some, None, refl, ◌∙◌, arith}
+use Rattle.std.proofs.Common.{◌≡◌, ℕ, ◌+◌, ◌-◌, ◌<◌, ◌≤◌, ◌^◌, Bool, true, false, not, List, [], ◌∷◌, length, take, drop, Option, Some}
+use Rattle.std.proofs.Common.{None, refl, ◌∙◌, arith}
 use Rattle.std.specs.Prelude.{IsTrue, is_some, unwrap_or, min, if◌then◌else◌}
 use Rattle.std.specs.Int.{w32, to_le_bytes}
 use Rattle.std.proofs.lemmas.Grind.{common_steps}
@@ -14,29 +15,38 @@ use Rattle.bsp_requests.specs.Message.{Message}
 use Rattle.bsp_requests.specs.Request.{asks_put, asks_get, asks_send, size_of}
 use Rattle.bsp_requests.specs.Inbox.{payload_bytes}
 use Rattle.node_core.specs.declared.call.Call.{Call}
-use Rattle.node_core.specs.declared.call.Call.TheVariants.{End, Nprocs, Pid, Sync, PushReg, PopReg, Put, Get, Hpput, Hpget, SetTagsize, Send, Qsize, GetTag, Move, Abort, Write, Read}
+use Rattle.node_core.specs.declared.call.Call.TheVariants.{End, Nprocs, Pid, Sync, PushReg, PopReg, Put, Get, Hpput, Hpget, SetTagsize}
+use Rattle.node_core.specs.declared.call.Call.TheVariants.{Send, Qsize, GetTag, Move, Abort, Write, Read}
 use Rattle.node_core.specs.declared.state.State.{State}
 use Rattle.node_core.specs.declared.state.State.TheVariants.{Running, Aborted}
 use Rattle.node_core.specs.Communication.{IsWellAddressed, max_tag_size}
 use Rattle.node_core.specs.Hart.{Hart, After, with_reg, with_memory, advanced}
-use Rattle.node_core.specs.Calls.{Check, HaveNoFault, checked, checks, performed, call_effect, ecall_effect, a0, a1, a2, a3, a4, put_checks, get_checks, send_checks, get_tag_checks, move_checks, output_checks, put_effect, get_effect, send_effect, get_tag_effect, move_effect, output_effect, set_tagsize_effect, qsize_effect, taken, moved, first_message, place, with_word}
+use Rattle.node_core.specs.Calls.{Check, HaveNoFault, checked, checks, performed, call_effect, ecall_effect, a0, a1, a2, a3, a4, put_checks}
+use Rattle.node_core.specs.Calls.{get_checks, send_checks, get_tag_checks, move_checks, output_checks, put_effect, get_effect, send_effect}
+use Rattle.node_core.specs.Calls.{get_tag_effect, move_effect, output_effect, set_tagsize_effect, qsize_effect, taken, moved, first_message}
+use Rattle.node_core.specs.Calls.{place, with_word}
 use Rattle.node_memory.proofs.Bytes.{fits-le, length-bytes_at}
-use Rattle.node_core.proofs.Harts.{Keeps, Keeps-same, Keeps-then, Keeps-pc, Keeps-cursor, Keeps-reg, Keeps-memory, Keeps-pushed, Keeps-popped, Keeps-requested, Keeps-written, Keeps-taken, Keeps-sized}
+use Rattle.node_core.proofs.Harts.{Keeps, Keeps-same, Keeps-then, Keeps-pc, Keeps-cursor, Keeps-reg, Keeps-memory, Keeps-pushed}
+use Rattle.node_core.proofs.Harts.{Keeps-popped, Keeps-requested, Keeps-written, Keeps-taken, Keeps-sized}
 
 -- a choice keeps what both of its sides keep
 pub Keeps-if : (h : Hart) (b : Bool) (x y : After) → (IsTrue b → Keeps h x.hart) → Keeps h y.hart → Keeps h (if b then x else y).hart
 Keeps-if h true x y if_so else_so = if_so refl
 Keeps-if h false x y if_so else_so = else_so
 
-Keeps-checked : (h : Hart) (checks : List Check) (after : After) → (HaveNoFault checks → Keeps h after.hart) → Keeps h (checked checks h after).hart
+Keeps-checked : (h : Hart) (checks : List Check) (after : After) → (HaveNoFault checks → Keeps h after.hart)
+    → Keeps h (checked checks h after).hart
 Keeps-checked h [] after keeps = keeps tt
-Keeps-checked h (check ∷ rest) after keeps = Keeps-if h check.passes (checked rest h after) _ (λ passes. Keeps-checked h rest after (λ more. keeps (passes, more))) (Keeps-same h)
+Keeps-checked h (check ∷ rest) after keeps =
+    Keeps-if h check.passes (checked rest h after) _ (λ passes. Keeps-checked h rest after (λ more. keeps (passes, more)))
+    (Keeps-same h)
 
 -- the same, where the instruction goes on afterwards
 pub Keeps-advanced : (h next : Hart) → Keeps h next → Keeps h (advanced next)
 Keeps-advanced h next keeps = Keeps-then h next (advanced next) keeps (Keeps-pc next _)
 
-length-stored : (m : List ℕ) (addr : ℕ) (bytes : List ℕ) → fits (length m) addr (length bytes) ≡ true → length (with_bytes m addr bytes) ≡ length m
+length-stored : (m : List ℕ) (addr : ℕ) (bytes : List ℕ) → fits (length m) addr (length bytes) ≡ true
+    → length (with_bytes m addr bytes) ≡ length m
 length-stored m addr bytes fit = length-with_bytes m addr bytes (fits-le (length m) addr (length bytes) fit)
 
 -- an area that is registered has a place
@@ -75,8 +85,10 @@ module _ (h : Hart) where
   Keeps-send = Keeps-checked h (send_checks h) (send_effect h) (λ pass.
       let tag_size = h.communication.tag_size in
       let target : a0 h < h.nprocs = grind (arith, nat_tests, pass.0) in
-      let request = asks_send (record { target = a0 h; tag = bytes_at h.memory (a1 h) tag_size; payload = bytes_at h.memory (a2 h) (a3 h) }) in
-      let counts : size_of request ≡ tag_size + a3 h = omega (arith, length-bytes_at h.memory (a1 h) tag_size pass.1.0, length-bytes_at h.memory (a2 h) (a3 h) pass.1.1.0) in
+      let request =
+      asks_send (record { target = a0 h; tag = bytes_at h.memory (a1 h) tag_size; payload = bytes_at h.memory (a2 h) (a3 h) }) in
+      let counts : size_of request ≡ tag_size + a3 h =
+      omega (arith, length-bytes_at h.memory (a1 h) tag_size pass.1.0, length-bytes_at h.memory (a2 h) (a3 h) pass.1.1.0) in
       Keeps-advanced h _ (Keeps-requested h request (tag_size + a3 h) counts (not-true _ pass.1.1.1.0) target))
 
   Keeps-set_tagsize : (input : List ℕ) → Keeps h (call_effect SetTagsize input h).hart
@@ -85,10 +97,13 @@ module _ (h : Hart) where
       let fits : size ≤ max_tag_size = grind (arith, nat_tests, pass.1.0) in
       let sized = record h { communication = record h.communication { next_tag_size = size } } in
       let len = length-stored h.memory (a0 h) (to_le_bytes w32 h.communication.tag_size) pass.0 in
-      Keeps-advanced h _ (Keeps-then h sized _ (Keeps-sized h size fits) (Keeps-memory sized (with_word h.memory (a0 h) h.communication.tag_size) len)))
+      Keeps-advanced h _
+      (Keeps-then h sized _ (Keeps-sized h size fits) (Keeps-memory sized (with_word h.memory (a0 h) h.communication.tag_size) len)))
 
   -- two ranges are stored, the second over the first
-  length-stored_twice : (addr addr' : ℕ) (bytes bytes' : List ℕ) → fits (length h.memory) addr (length bytes) ≡ true → fits (length h.memory) addr' (length bytes') ≡ true → length (with_bytes (with_bytes h.memory addr bytes) addr' bytes') ≡ length h.memory
+  length-stored_twice : (addr addr' : ℕ) (bytes bytes' : List ℕ) → fits (length h.memory) addr (length bytes) ≡ true
+      → fits (length h.memory) addr' (length bytes') ≡ true
+      → length (with_bytes (with_bytes h.memory addr bytes) addr' bytes') ≡ length h.memory
   length-stored_twice addr addr' bytes bytes' fit fit' =
       let len = length-stored h.memory addr bytes fit in
       let still : fits (length (with_bytes h.memory addr bytes)) addr' (length bytes') ≡ true = rw len fit' in
@@ -96,7 +111,9 @@ module _ (h : Hart) where
 
   Keeps-qsize : (input : List ℕ) → Keeps h (call_effect Qsize input h).hart
   Keeps-qsize input = Keeps-checked h (checks Qsize input h) (qsize_effect h) (λ pass.
-      Keeps-advanced h _ (Keeps-memory h _ (length-stored_twice (a0 h) (a1 h) (to_le_bytes w32 (length h.communication.queue)) (to_le_bytes w32 (min (payload_bytes h.communication.queue) (2 ^ 32 - 1))) pass.0 pass.1.0)))
+      Keeps-advanced h _ (Keeps-memory h _
+      (length-stored_twice (a0 h) (a1 h) (to_le_bytes w32 (length h.communication.queue))
+      (to_le_bytes w32 (min (payload_bytes h.communication.queue) (2 ^ 32 - 1))) pass.0 pass.1.0)))
 
   Keeps-get_tag : (first : Option Message) → Keeps h (checked (get_tag_checks first h) h (get_tag_effect first h)).hart
   Keeps-get_tag None = Keeps-checked h (get_tag_checks None h) (get_tag_effect None h) (λ pass.
@@ -111,11 +128,13 @@ module _ (h : Hart) where
       let rest = record h { communication = record h.communication { queue = drop 1 h.communication.queue } } in
       let len : length bytes ≡ moved (a1 h) m = grind (arith, common_steps) in
       let fit : fits (length h.memory) (a0 h) (length bytes) ≡ true = rw len pass.0 in
-      Keeps-advanced h _ (Keeps-then h rest _ (Keeps-taken h) (Keeps-memory rest (with_bytes h.memory (a0 h) bytes) (length-stored h.memory (a0 h) bytes fit))))
+      Keeps-advanced h _ (Keeps-then h rest _ (Keeps-taken h)
+      (Keeps-memory rest (with_bytes h.memory (a0 h) bytes) (length-stored h.memory (a0 h) bytes fit))))
 
   Keeps-output : (state : State) → Keeps h (checked (output_checks h) h (output_effect state h)).hart
   Keeps-output state = Keeps-checked h (output_checks h) (output_effect state h) (λ pass.
-      Keeps-advanced h _ (Keeps-written h (bytes_at h.memory (a0 h) (a1 h)) (a1 h) (length-bytes_at h.memory (a0 h) (a1 h) pass.0) (not-true _ pass.1.0)))
+      Keeps-advanced h _
+      (Keeps-written h (bytes_at h.memory (a0 h) (a1 h)) (a1 h) (length-bytes_at h.memory (a0 h) (a1 h) pass.0) (not-true _ pass.1.0)))
 
   Keeps-read : (input : List ℕ) → Keeps h (call_effect Read input h).hart
   Keeps-read input = Keeps-checked h (checks Read input h) (performed Read input h) (λ pass.
@@ -125,15 +144,23 @@ module _ (h : Hart) where
       let fit : fits (length h.memory) (a0 h) (length bytes) ≡ true = rw len pass.0 in
       let stored = with_memory (with_bytes h.memory (a0 h) bytes) h in
       let read = record stored { cursor = h.cursor + k } in
-      Keeps-advanced h _ (Keeps-then h stored _ (Keeps-memory h (with_bytes h.memory (a0 h) bytes) (length-stored h.memory (a0 h) bytes fit)) (Keeps-then stored read _ (Keeps-cursor stored (h.cursor + k)) (Keeps-reg read 10 k))))
+      Keeps-advanced h _ (Keeps-then h stored _
+      (Keeps-memory h (with_bytes h.memory (a0 h) bytes) (length-stored h.memory (a0 h) bytes fit))
+      (Keeps-then stored read _ (Keeps-cursor stored (h.cursor + k)) (Keeps-reg read 10 k))))
 
   pub Keeps-call : (call : Call) (input : List ℕ) → Keeps h (call_effect call input h).hart
   Keeps-call End input = Keeps-advanced h h (Keeps-same h)
   Keeps-call Nprocs input = Keeps-advanced h (with_reg 10 h.nprocs h) (Keeps-reg h 10 h.nprocs)
   Keeps-call Pid input = Keeps-advanced h (with_reg 10 h.rank h) (Keeps-reg h 10 h.rank)
   Keeps-call Sync input = Keeps-advanced h h (Keeps-same h)
-  Keeps-call PushReg input = Keeps-checked h (checks PushReg input h) (performed PushReg input h) (λ pass. Keeps-advanced h _ (Keeps-pushed h (record { addr = a0 h; size = a1 h }) (not-true _ pass.1.0) pass.0))
-  Keeps-call PopReg input = Keeps-checked h (checks PopReg input h) (performed PopReg input h) (λ pass. Keeps-advanced h _ (Keeps-popped h (a0 h) (place (next_list h.communication.registrations) (a0 h)) (found (next_list h.communication.registrations) (a0 h) pass.0)))
+  Keeps-call PushReg input =
+      Keeps-checked h (checks PushReg input h) (performed PushReg input h)
+      (λ pass. Keeps-advanced h _ (Keeps-pushed h (record { addr = a0 h; size = a1 h }) (not-true _ pass.1.0) pass.0))
+  Keeps-call PopReg input =
+      Keeps-checked h (checks PopReg input h) (performed PopReg input h)
+      (λ pass. Keeps-advanced h _
+      (Keeps-popped h (a0 h) (place (next_list h.communication.registrations) (a0 h))
+      (found (next_list h.communication.registrations) (a0 h) pass.0)))
   Keeps-call Put input = Keeps-put
   Keeps-call Get input = Keeps-get
   Keeps-call Hpput input = Keeps-put

@@ -16,7 +16,8 @@ Keeps-tells h time =
 pub Keeps-clocked : (h : Hart) (time : Option ℕ) (after : After) → Keeps h after.hart → Keeps h (clocked time after).hart
 Keeps-clocked h None after keeps = keeps
 Keeps-clocked h (Some time) after keeps =
-    Keeps-if h (asks_clock after) (tells time after.hart) after (λ asks. Keeps-then h after.hart _ keeps (Keeps-tells after.hart time)) keeps
+    Keeps-if h (asks_clock after) (tells time after.hart) after (λ asks. Keeps-then h after.hart _ keeps (Keeps-tells after.hart time))
+    keeps
 
 pub clocked-on : (time : Option ℕ) (h : Hart) → clocked time (goes_on h) ≡ goes_on h
 clocked-on None h = refl

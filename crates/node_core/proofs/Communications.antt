@@ -20,21 +20,28 @@ All-remove P xs n all = All-append P (take n xs) (drop (suc n) xs) (All-take P n
 pub All-one_more : {X : Type 0} (P : X → Type 0) (xs : List X) (x : X) → All P xs → P x → All P (xs ++ x ∷ [])
 All-one_more P xs x all this = All-append P xs (x ∷ []) all (All-cons P x [] this (All-nil P))
 
-IsWithinLimits-with_request : (r : Requests) (request : Asked) (n : ℕ) → size_of request ≡ n → IsWithinLimits r → is_full_for r n ≡ false → IsWithinLimits (with_request r request)
-IsWithinLimits-with_request r request n size within room = record { requests = grind (arith, common_steps, within.requests); bytes = grind (arith, common_steps, within.bytes) }
+IsWithinLimits-with_request : (r : Requests) (request : Asked) (n : ℕ) → size_of request ≡ n → IsWithinLimits r
+    → is_full_for r n ≡ false → IsWithinLimits (with_request r request)
+IsWithinLimits-with_request r request n size within room =
+    record { requests = grind (arith, common_steps, within.requests); bytes = grind (arith, common_steps, within.bytes) }
 
-IsWithinLimits-with_output : (r : Requests) (bytes : List ℕ) (n : ℕ) → length bytes ≡ n → IsWithinLimits r → are_too_many r n ≡ false → IsWithinLimits (with_output r bytes)
-IsWithinLimits-with_output r bytes n len within room = record { requests = within.requests; bytes = grind (arith, common_steps, within.bytes) }
+IsWithinLimits-with_output : (r : Requests) (bytes : List ℕ) (n : ℕ) → length bytes ≡ n → IsWithinLimits r → are_too_many r n ≡ false
+    → IsWithinLimits (with_output r bytes)
+IsWithinLimits-with_output r bytes n len within room =
+    record { requests = within.requests; bytes = grind (arith, common_steps, within.bytes) }
 
 module _ (nprocs size : ℕ) (c : Communication) (sound : IsCommunication nprocs size c) where
-  pub IsCommunication-pushed : (area : Area) → is_full c.registrations ≡ false → LiesIn size area → IsCommunication nprocs size (record c { registrations = pushed c.registrations area })
+  pub IsCommunication-pushed : (area : Area) → is_full c.registrations ≡ false → LiesIn size area
+      → IsCommunication nprocs size (record c { registrations = pushed c.registrations area })
   IsCommunication-pushed area room lies =
       let fits : length (next_list c.registrations) < max_entries = grind (arith, nat_tests) in
       let few : push_count c.registrations < max_pushes = grind (arith, nat_tests) in
       record {
         registrations = IsSound-pushed c.registrations area sound.registrations fits few;
         areas = sound.areas;
-        next_areas = rw (next_list-more c.registrations (Push area)) (All-one_more (LiesIn size) (next_list c.registrations) area sound.next_areas lies);
+        next_areas =
+            rw (next_list-more c.registrations (Push area))
+            (All-one_more (LiesIn size) (next_list c.registrations) area sound.next_areas lies);
         requests = sound.requests;
         targets = sound.targets;
         few = sound.few;
@@ -43,11 +50,14 @@ module _ (nprocs size : ℕ) (c : Communication) (sound : IsCommunication nprocs
         next_tag_size = sound.next_tag_size;
       }
 
-  pub IsCommunication-popped : (addr slot : ℕ) → last_position (next_list c.registrations) addr ≡ Some slot → IsCommunication nprocs size (record c { registrations = popped c.registrations addr slot })
+  pub IsCommunication-popped : (addr slot : ℕ) → last_position (next_list c.registrations) addr ≡ Some slot
+      → IsCommunication nprocs size (record c { registrations = popped c.registrations addr slot })
   IsCommunication-popped addr slot found = record {
     registrations = IsSound-popped c.registrations addr slot sound.registrations found;
     areas = sound.areas;
-    next_areas = rw (next_list-more c.registrations (Pop addr slot), found) (All-remove (LiesIn size) (next_list c.registrations) slot sound.next_areas);
+    next_areas =
+        rw (next_list-more c.registrations (Pop addr slot), found)
+        (All-remove (LiesIn size) (next_list c.registrations) slot sound.next_areas);
     requests = sound.requests;
     targets = sound.targets;
     few = sound.few;
@@ -56,7 +66,9 @@ module _ (nprocs size : ℕ) (c : Communication) (sound : IsCommunication nprocs
     next_tag_size = sound.next_tag_size;
   }
 
-  pub IsCommunication-requested : (request : Asked) (n : ℕ) → size_of request ≡ n → is_full_for c.requests n ≡ false → IsWellAddressed nprocs (length c.registrations.in_effect) size request → IsCommunication nprocs size (record c { requests = with_request c.requests request })
+  pub IsCommunication-requested : (request : Asked) (n : ℕ) → size_of request ≡ n → is_full_for c.requests n ≡ false
+      → IsWellAddressed nprocs (length c.registrations.in_effect) size request
+      → IsCommunication nprocs size (record c { requests = with_request c.requests request })
   IsCommunication-requested request n counts room met = record {
     registrations = sound.registrations;
     areas = sound.areas;
@@ -69,7 +81,8 @@ module _ (nprocs size : ℕ) (c : Communication) (sound : IsCommunication nprocs
     next_tag_size = sound.next_tag_size;
   }
 
-  pub IsCommunication-written : (bytes : List ℕ) (n : ℕ) → length bytes ≡ n → are_too_many c.requests n ≡ false → IsCommunication nprocs size (record c { requests = with_output c.requests bytes })
+  pub IsCommunication-written : (bytes : List ℕ) (n : ℕ) → length bytes ≡ n → are_too_many c.requests n ≡ false
+      → IsCommunication nprocs size (record c { requests = with_output c.requests bytes })
   IsCommunication-written bytes n len room = record {
     registrations = sound.registrations;
     areas = sound.areas;

@@ -21,7 +21,8 @@ use Rattle.float_unit.specs.declared.fault.FloatFault.{FloatFault}
 use Rattle.float_unit.specs.State.{FloatState}
 use Rattle.float_unit.specs.Effects.{Outcome, float_effect}
 use Rattle.node_core.specs.Effects.{address, effect_of, plain_effect, jumps, store_effect}
-use Rattle.node_core.specs.Floats.{size_of, pattern_at, integer_source, integer_target, with_integer, outcome_effect, float_load_effect, float_effect_of, on_unit}
+use Rattle.node_core.specs.Floats.{size_of, pattern_at, integer_source, integer_target, with_integer, outcome_effect, float_load_effect}
+use Rattle.node_core.specs.Floats.{float_effect_of, on_unit}
 use Rattle.node_core.specs.Executed.{effect_if_any, code_effect, executed, fetched, float_effect_if_any}
 use Rattle.node_memory.proofs.Bytes.{fits-le}
 use Rattle.node_core.proofs.Harts.{Keeps, Keeps-same, Keeps-then, Keeps-pc, Keeps-reg, Keeps-unit, Keeps-memory}
@@ -39,8 +40,10 @@ module _ (h : Hart) (n : ℕ) where
   put rd value = Keeps-past (with_reg rd value h) (Keeps-reg h rd value)
 
   Keeps-store : (bytes : List ℕ) (addr : ℕ) → Keeps h (store_effect bytes addr n h).hart
-  Keeps-store bytes addr = Keeps-if h (fits (length h.memory) addr (length bytes)) (goes_on (past n (with_memory (with_bytes h.memory addr bytes) h))) _
-      (λ fit. Keeps-past _ (Keeps-memory h _ (length-with_bytes h.memory addr bytes (fits-le (length h.memory) addr (length bytes) fit)))) (Keeps-same h)
+  Keeps-store bytes addr =
+      Keeps-if h (fits (length h.memory) addr (length bytes)) (goes_on (past n (with_memory (with_bytes h.memory addr bytes) h))) _
+      (λ fit. Keeps-past _ (Keeps-memory h _ (length-with_bytes h.memory addr bytes (fits-le (length h.memory) addr (length bytes) fit))))
+      (Keeps-same h)
 
   Keeps-plain : (op : PlainOp) (input : List ℕ) → Keeps h (plain_effect op n input h).hart
   Keeps-plain Fence input = Keeps-past h (Keeps-same h)
@@ -56,7 +59,8 @@ module _ (h : Hart) (n : ℕ) where
   Keeps-effect (Store op rs1 rs2 imm) input = Keeps-store _ _
   Keeps-effect (Branch op rs1 rs2 imm) input =
       let target = modulo (pos h.pc +ℤ imm) in
-      Keeps-if h (is_taken op (reg h rs1) (reg h rs2)) (jumps target h) (goes_on (past n h)) (λ taken. Keeps-jump h target h (Keeps-same h)) (Keeps-past h (Keeps-same h))
+      Keeps-if h (is_taken op (reg h rs1) (reg h rs2)) (jumps target h) (goes_on (past n h)) (λ taken. Keeps-jump h target h (Keeps-same h))
+      (Keeps-past h (Keeps-same h))
   Keeps-effect (Upper op rd imm) input = put _ _
   Keeps-effect (Jal rd imm) input = Keeps-jump h _ (with_reg rd (next_pc n h) h) (Keeps-reg h rd (next_pc n h))
   Keeps-effect (Jalr rd rs1 imm) input = Keeps-jump h _ (with_reg rd (next_pc n h) h) (Keeps-reg h rd (next_pc n h))
@@ -70,9 +74,11 @@ module _ (h : Hart) (n : ℕ) where
   Keeps-outcome rd (Ok outcome) has = Keeps-past _ (Keeps-integer rd outcome.integer _ (Keeps-unit h outcome.state has))
   Keeps-outcome rd (Err fault) has = Keeps-same h
 
-  Keeps-float_load : (i : FloatInstr) (format : Format) (addr : ℕ) (u : FloatState) → is_some h.unit ≡ true → Keeps h (float_load_effect i format addr u n h).hart
+  Keeps-float_load : (i : FloatInstr) (format : Format) (addr : ℕ) (u : FloatState) → is_some h.unit ≡ true
+      → Keeps h (float_load_effect i format addr u n h).hart
   Keeps-float_load i format addr u has =
-      Keeps-if h (fits (length h.memory) addr (size_of format)) (outcome_effect 0 (float_effect i 0 (pattern_at format h.memory addr) u) n h) _
+      Keeps-if h (fits (length h.memory) addr (size_of format))
+      (outcome_effect 0 (float_effect i 0 (pattern_at format h.memory addr) u) n h) _
       (λ fit. Keeps-outcome 0 (float_effect i 0 (pattern_at format h.memory addr) u) has) (Keeps-same h)
 
   Keeps-float : (i : FloatInstr) (u : FloatState) → is_some h.unit ≡ true → Keeps h (float_effect_of i u n h).hart
@@ -80,7 +86,8 @@ module _ (h : Hart) (n : ℕ) where
   Keeps-float (float.Store format rs1 rs2 imm) u has = Keeps-store _ _
   Keeps-float i u has = Keeps-outcome (integer_target i) (float_effect i (reg h (integer_source i)) 0 u) has
 
-  on-unit : (unit : Option FloatState) (effect : FloatState → After) → h.unit ≡ unit → ((u : FloatState) → is_some h.unit ≡ true → Keeps h (effect u).hart) → Keeps h (on_unit unit effect h).hart
+  on-unit : (unit : Option FloatState) (effect : FloatState → After) → h.unit ≡ unit
+      → ((u : FloatState) → is_some h.unit ≡ true → Keeps h (effect u).hart) → Keeps h (on_unit unit effect h).hart
   on-unit None effect is keeps = Keeps-same h
   on-unit (Some u) effect is keeps = keeps u (rw is refl)
 

@@ -1,5 +1,6 @@
 -- What the parts of an instruction keep of a hart.
-use Rattle.std.proofs.Common.{◌≡◌, ℕ, ◌≤◌, Bool, true, false, List, [], ◌∷◌, ◌++◌, length, drop, Option, Some, None, refl, sym, ap, ◌∙◌, arith, append_assoc}
+use Rattle.std.proofs.Common.{◌≡◌, ℕ, ◌≤◌, Bool, true, false, List, [], ◌∷◌, ◌++◌, length, drop, Option, Some, None, refl, sym, ap, ◌∙◌}
+use Rattle.std.proofs.Common.{arith, append_assoc}
 use Rattle.std.specs.Prelude.{IsSomeAnd, is_some, slice_index}
 use Rattle.std.proofs.lemmas.Grind.{common_steps}
 use Rattle.std.proofs.lemmas.List.{append-nil}
@@ -12,7 +13,8 @@ use Rattle.node_core.specs.Communication.{Communication, IsCommunication, LiesIn
 use Rattle.float_unit.specs.State.{FloatState}
 use Rattle.node_core.specs.Hart.{Hart, IsHart, room_after, with_reg, unit_becomes, with_memory, with_registrations, with_requests}
 use Rattle.node_core.specs.Node.{Extends}
-use Rattle.node_core.proofs.Communications.{IsCommunication-pushed, IsCommunication-popped, IsCommunication-requested, IsCommunication-written, IsCommunication-taken, IsCommunication-sized}
+use Rattle.node_core.proofs.Communications.{IsCommunication-pushed, IsCommunication-popped, IsCommunication-requested}
+use Rattle.node_core.proofs.Communications.{IsCommunication-written, IsCommunication-taken, IsCommunication-sized}
 
 pub Extends-same : {X : Type 0} (xs : List X) → Extends xs xs
 Extends-same xs = ([], sym (append-nil xs))
@@ -21,7 +23,8 @@ pub Extends-one_more : {X : Type 0} (xs : List X) (ys : List X) → Extends xs (
 Extends-one_more xs ys = (ys, refl)
 
 pub Extends-then : {X : Type 0} (xs ys zs : List X) → Extends xs ys → Extends ys zs → Extends xs zs
-Extends-then xs ys zs first second = (first.0 ++ second.0, second.1 ∙ ap (λ list. list ++ second.0) first.1 ∙ append_assoc xs first.0 second.0)
+Extends-then xs ys zs first second =
+    (first.0 ++ second.0, second.1 ∙ ap (λ list. list ++ second.0) first.1 ∙ append_assoc xs first.0 second.0)
 
 -- no call changes the areas in effect and the size of tags, and pushes, pops, requests and output are added at the end
 pub record KeepsCommunication (old new : Communication) : Type 0 where
@@ -32,7 +35,14 @@ pub record KeepsCommunication (old new : Communication) : Type 0 where
   pub output : Extends old.requests.output new.requests.output
 
 pub KeepsCommunication-same : (c : Communication) → KeepsCommunication c c
-KeepsCommunication-same c = record { in_effect = refl; tag_size = refl; changes = Extends-same c.registrations.changes; requests = Extends-same c.requests.requests; output = Extends-same c.requests.output }
+KeepsCommunication-same c =
+    record {
+      in_effect = refl;
+      tag_size = refl;
+      changes = Extends-same c.registrations.changes;
+      requests = Extends-same c.requests.requests;
+      output = Extends-same c.requests.output;
+    }
 
 pub KeepsCommunication-then : (a b c : Communication) → KeepsCommunication a b → KeepsCommunication b c → KeepsCommunication a c
 KeepsCommunication-then a b c first second = record {
@@ -63,14 +73,24 @@ Keeps-then a b c first second = record {
 }
 
 -- another pc, place in the input and registers
-with_rest : (h : Hart) (pc cursor : ℕ) (registers : List ℕ) → (length h.registers ≡ 32 → length registers ≡ 32) → (length h.registers ≡ 32 → slice_index h.registers 0 ≡ 0 → slice_index registers 0 ≡ 0) → Keeps h (record h { pc = pc; cursor = cursor; registers = registers })
+with_rest : (h : Hart) (pc cursor : ℕ) (registers : List ℕ) → (length h.registers ≡ 32 → length registers ≡ 32)
+    → (length h.registers ≡ 32 → slice_index h.registers 0 ≡ 0 → slice_index registers 0 ≡ 0)
+    → Keeps h (record h { pc = pc; cursor = cursor; registers = registers })
 with_rest h pc cursor registers len x0 = record {
   rank = refl;
   nprocs = refl;
   memory_size = refl;
   communication = KeepsCommunication-same h.communication;
   unit = refl;
-  sound = λ sound. record { ranked = sound.ranked; few = sound.few; thirty_two = len sound.thirty_two; x0 = x0 sound.thirty_two sound.x0; memory = sound.memory; communication = sound.communication };
+  sound =
+      λ sound. record {
+        ranked = sound.ranked;
+        few = sound.few;
+        thirty_two = len sound.thirty_two;
+        x0 = x0 sound.thirty_two sound.x0;
+        memory = sound.memory;
+        communication = sound.communication;
+      };
 }
 
 pub Keeps-pc : (h : Hart) (pc : ℕ) → Keeps h (record h { pc = pc })
@@ -83,7 +103,9 @@ pub Keeps-cursor : (h : Hart) (cursor : ℕ) → Keeps h (record h { cursor = cu
 Keeps-cursor h cursor = with_rest h h.pc cursor h.registers (λ len. len) (λ len x0. x0)
 
 pub Keeps-reg : (h : Hart) (rd value : ℕ) → Keeps h (with_reg rd value h)
-Keeps-reg h rd value = with_rest h h.pc h.cursor (with_reg rd value h).registers (λ len. grind (arith, common_steps)) (λ len x0. grind (arith, common_steps))
+Keeps-reg h rd value =
+    with_rest h h.pc h.cursor (with_reg rd value h).registers (λ len. grind (arith, common_steps))
+    (λ len x0. grind (arith, common_steps))
 
 pub Keeps-unit : (h : Hart) (u : FloatState) → is_some h.unit ≡ true → Keeps h (unit_becomes u h)
 Keeps-unit h u has = record {
@@ -92,7 +114,15 @@ Keeps-unit h u has = record {
   memory_size = refl;
   communication = KeepsCommunication-same h.communication;
   unit = sym has;
-  sound = λ sound. record { ranked = sound.ranked; few = sound.few; thirty_two = sound.thirty_two; x0 = sound.x0; memory = sound.memory; communication = sound.communication };
+  sound =
+      λ sound. record {
+        ranked = sound.ranked;
+        few = sound.few;
+        thirty_two = sound.thirty_two;
+        x0 = sound.x0;
+        memory = sound.memory;
+        communication = sound.communication;
+      };
 }
 
 pub Keeps-memory : (h : Hart) (bytes : List ℕ) → length bytes ≡ length h.memory → Keeps h (with_memory bytes h)
@@ -102,38 +132,110 @@ Keeps-memory h bytes len = record {
   memory_size = len;
   communication = KeepsCommunication-same h.communication;
   unit = refl;
-  sound = λ sound. record { ranked = sound.ranked; few = sound.few; thirty_two = sound.thirty_two; x0 = sound.x0; memory = rw len sound.memory; communication = rw len sound.communication };
+  sound =
+      λ sound. record {
+        ranked = sound.ranked;
+        few = sound.few;
+        thirty_two = sound.thirty_two;
+        x0 = sound.x0;
+        memory = rw len sound.memory;
+        communication = rw len sound.communication;
+      };
 }
 
 -- another communication
-with_communication : (h : Hart) (c : Communication) → KeepsCommunication h.communication c → (IsCommunication h.nprocs (length h.memory) h.communication → IsCommunication h.nprocs (length h.memory) c) → Keeps h (record h { communication = c })
+with_communication : (h : Hart) (c : Communication) → KeepsCommunication h.communication c
+    → (IsCommunication h.nprocs (length h.memory) h.communication → IsCommunication h.nprocs (length h.memory) c)
+    → Keeps h (record h { communication = c })
 with_communication h c keeps sound = record {
   rank = refl;
   nprocs = refl;
   memory_size = refl;
   communication = keeps;
   unit = refl;
-  sound = λ hart. record { ranked = hart.ranked; few = hart.few; thirty_two = hart.thirty_two; x0 = hart.x0; memory = hart.memory; communication = sound hart.communication };
+  sound =
+      λ hart. record {
+        ranked = hart.ranked;
+        few = hart.few;
+        thirty_two = hart.thirty_two;
+        x0 = hart.x0;
+        memory = hart.memory;
+        communication = sound hart.communication;
+      };
 }
 
 module _ (h : Hart) where
-  pub Keeps-pushed : (area : Area) → is_full h.communication.registrations ≡ false → LiesIn (length h.memory) area → Keeps h (with_registrations (pushed h.communication.registrations area) h)
-  Keeps-pushed area room lies = with_communication h (record h.communication { registrations = pushed h.communication.registrations area }) (record { in_effect = refl; tag_size = refl; changes = Extends-one_more h.communication.registrations.changes _; requests = Extends-same h.communication.requests.requests; output = Extends-same h.communication.requests.output }) (λ sound. IsCommunication-pushed h.nprocs (length h.memory) h.communication sound area room lies)
+  pub Keeps-pushed : (area : Area) → is_full h.communication.registrations ≡ false → LiesIn (length h.memory) area
+      → Keeps h (with_registrations (pushed h.communication.registrations area) h)
+  Keeps-pushed area room lies =
+      with_communication h (record h.communication { registrations = pushed h.communication.registrations area })
+      (record {
+        in_effect = refl;
+        tag_size = refl;
+        changes = Extends-one_more h.communication.registrations.changes _;
+        requests = Extends-same h.communication.requests.requests;
+        output = Extends-same h.communication.requests.output;
+      }) (λ sound. IsCommunication-pushed h.nprocs (length h.memory) h.communication sound area room lies)
 
-  pub Keeps-popped : (addr slot : ℕ) → last_position (next_list h.communication.registrations) addr ≡ Some slot → Keeps h (with_registrations (popped h.communication.registrations addr slot) h)
-  Keeps-popped addr slot found = with_communication h (record h.communication { registrations = popped h.communication.registrations addr slot }) (record { in_effect = refl; tag_size = refl; changes = Extends-one_more h.communication.registrations.changes _; requests = Extends-same h.communication.requests.requests; output = Extends-same h.communication.requests.output }) (λ sound. IsCommunication-popped h.nprocs (length h.memory) h.communication sound addr slot found)
+  pub Keeps-popped : (addr slot : ℕ) → last_position (next_list h.communication.registrations) addr ≡ Some slot
+      → Keeps h (with_registrations (popped h.communication.registrations addr slot) h)
+  Keeps-popped addr slot found =
+      with_communication h (record h.communication { registrations = popped h.communication.registrations addr slot })
+      (record {
+        in_effect = refl;
+        tag_size = refl;
+        changes = Extends-one_more h.communication.registrations.changes _;
+        requests = Extends-same h.communication.requests.requests;
+        output = Extends-same h.communication.requests.output;
+      }) (λ sound. IsCommunication-popped h.nprocs (length h.memory) h.communication sound addr slot found)
 
-  pub Keeps-requested : (request : Asked) (n : ℕ) → size_of request ≡ n → is_full_for h.communication.requests n ≡ false → IsWellAddressed h.nprocs (length h.communication.registrations.in_effect) (length h.memory) request → Keeps h (with_requests (with_request h.communication.requests request) h)
-  Keeps-requested request n counts room met = with_communication h (record h.communication { requests = with_request h.communication.requests request }) (record { in_effect = refl; tag_size = refl; changes = Extends-same h.communication.registrations.changes; requests = Extends-one_more h.communication.requests.requests (request ∷ []); output = Extends-same h.communication.requests.output }) (λ sound. IsCommunication-requested h.nprocs (length h.memory) h.communication sound request n counts room met)
+  pub Keeps-requested : (request : Asked) (n : ℕ) → size_of request ≡ n → is_full_for h.communication.requests n ≡ false
+      → IsWellAddressed h.nprocs (length h.communication.registrations.in_effect) (length h.memory) request
+      → Keeps h (with_requests (with_request h.communication.requests request) h)
+  Keeps-requested request n counts room met =
+      with_communication h (record h.communication { requests = with_request h.communication.requests request })
+      (record {
+        in_effect = refl;
+        tag_size = refl;
+        changes = Extends-same h.communication.registrations.changes;
+        requests = Extends-one_more h.communication.requests.requests (request ∷ []);
+        output = Extends-same h.communication.requests.output;
+      }) (λ sound. IsCommunication-requested h.nprocs (length h.memory) h.communication sound request n counts room met)
 
-  pub Keeps-written : (bytes : List ℕ) (n : ℕ) → length bytes ≡ n → are_too_many h.communication.requests n ≡ false → Keeps h (with_requests (with_output h.communication.requests bytes) h)
-  Keeps-written bytes n len room = with_communication h (record h.communication { requests = with_output h.communication.requests bytes }) (record { in_effect = refl; tag_size = refl; changes = Extends-same h.communication.registrations.changes; requests = Extends-same h.communication.requests.requests; output = Extends-one_more h.communication.requests.output bytes }) (λ sound. IsCommunication-written h.nprocs (length h.memory) h.communication sound bytes n len room)
+  pub Keeps-written : (bytes : List ℕ) (n : ℕ) → length bytes ≡ n → are_too_many h.communication.requests n ≡ false
+      → Keeps h (with_requests (with_output h.communication.requests bytes) h)
+  Keeps-written bytes n len room =
+      with_communication h (record h.communication { requests = with_output h.communication.requests bytes })
+      (record {
+        in_effect = refl;
+        tag_size = refl;
+        changes = Extends-same h.communication.registrations.changes;
+        requests = Extends-same h.communication.requests.requests;
+        output = Extends-one_more h.communication.requests.output bytes;
+      }) (λ sound. IsCommunication-written h.nprocs (length h.memory) h.communication sound bytes n len room)
 
   pub Keeps-taken : Keeps h (record h { communication = record h.communication { queue = drop 1 h.communication.queue } })
-  Keeps-taken = with_communication h (record h.communication { queue = drop 1 h.communication.queue }) (record { in_effect = refl; tag_size = refl; changes = Extends-same h.communication.registrations.changes; requests = Extends-same h.communication.requests.requests; output = Extends-same h.communication.requests.output }) (λ sound. IsCommunication-taken h.nprocs (length h.memory) h.communication sound)
+  Keeps-taken =
+      with_communication h (record h.communication { queue = drop 1 h.communication.queue })
+      (record {
+        in_effect = refl;
+        tag_size = refl;
+        changes = Extends-same h.communication.registrations.changes;
+        requests = Extends-same h.communication.requests.requests;
+        output = Extends-same h.communication.requests.output;
+      }) (λ sound. IsCommunication-taken h.nprocs (length h.memory) h.communication sound)
 
-  pub Keeps-sized : (size : ℕ) → size ≤ max_tag_size → Keeps h (record h { communication = record h.communication { next_tag_size = size } })
-  Keeps-sized size fits = with_communication h (record h.communication { next_tag_size = size }) (record { in_effect = refl; tag_size = refl; changes = Extends-same h.communication.registrations.changes; requests = Extends-same h.communication.requests.requests; output = Extends-same h.communication.requests.output }) (λ sound. IsCommunication-sized h.nprocs (length h.memory) h.communication sound size fits)
+  pub Keeps-sized : (size : ℕ) → size ≤ max_tag_size
+      → Keeps h (record h { communication = record h.communication { next_tag_size = size } })
+  Keeps-sized size fits =
+      with_communication h (record h.communication { next_tag_size = size })
+      (record {
+        in_effect = refl;
+        tag_size = refl;
+        changes = Extends-same h.communication.registrations.changes;
+        requests = Extends-same h.communication.requests.requests;
+        output = Extends-same h.communication.requests.output;
+      }) (λ sound. IsCommunication-sized h.nprocs (length h.memory) h.communication sound size fits)
 
 -- what holds of the value in a `Some`, with that value
 some_and : (o : Option ℕ) (P : ℕ → Type 0) → IsSomeAnd o P → (n : ℕ) × ((o ≡ Some n) × P n)
@@ -141,13 +243,19 @@ some_and (Some n) P holds = (n, (refl, holds))
 some_and None P holds = absurd holds
 
 -- what a pop that was not refused leaves
-module _ (h : Hart) (addr : ℕ) (slots : PreparedRegistrations) (pop : IsSomeAnd (last_position (next_list h.communication.registrations) addr) (λ slot. slots ≡ record { registrations = popped h.communication.registrations addr slot; ready = false })) where
+module _ (h : Hart) (addr : ℕ) (slots : PreparedRegistrations)
+    (pop : IsSomeAnd (last_position (next_list h.communication.registrations) addr)
+    (λ slot. slots ≡ record { registrations = popped h.communication.registrations addr slot; ready = false })) where
   pub IsHart-popped : IsHart h → IsHart (with_registrations slots.registrations h)
   IsHart-popped sound =
-      let made = some_and (last_position (next_list h.communication.registrations) addr) (λ slot. slots ≡ record { registrations = popped h.communication.registrations addr slot; ready = false }) pop in
+      let made =
+      some_and (last_position (next_list h.communication.registrations) addr)
+      (λ slot. slots ≡ record { registrations = popped h.communication.registrations addr slot; ready = false }) pop in
       rw made.1.1 ((Keeps-popped h addr made.0 made.1.0).sound sound)
 
   pub not_ready-popped : (ready : Bool) → slots.ready ≡ room_after ready h (with_registrations slots.registrations h)
   not_ready-popped ready =
-      let made = some_and (last_position (next_list h.communication.registrations) addr) (λ slot. slots ≡ record { registrations = popped h.communication.registrations addr slot; ready = false }) pop in
+      let made =
+      some_and (last_position (next_list h.communication.registrations) addr)
+      (λ slot. slots ≡ record { registrations = popped h.communication.registrations addr slot; ready = false }) pop in
       rw made.1.1 (grind (arith, common_steps))

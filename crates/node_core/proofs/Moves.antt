@@ -1,5 +1,6 @@
 -- What `move` does, by what it has read: the first message, and the bytes of it that it stores.
-use Rattle.std.proofs.Common.{◌≡◌, ℕ, ◌<◌, Bool, true, false, List, [], length, take, drop, Option, Some, None, refl, sym, subst, ap, ap₂, ◌∙◌, arith}
+use Rattle.std.proofs.Common.{◌≡◌, ℕ, ◌<◌, Bool, true, false, List, [], length, take, drop, Option, Some, None, refl, sym, subst, ap, ap₂}
+use Rattle.std.proofs.Common.{◌∙◌, arith}
 use Rattle.std.specs.Prelude.{min, nat_lt, if◌then◌else◌}
 use Rattle.std.specs.Option.{option_map_or}
 use Rattle.std.proofs.lemmas.Bool.{lt-ltb}
@@ -21,7 +22,8 @@ pub record IsMove (h : Hart) (m : Message) (addr : ℕ) (bytes : List ℕ) : Typ
   pub bytes_are : bytes ≡ take (moved (a1 h) m) m.payload
   pub count : length bytes ≡ moved (a1 h) m
 
-pub IsMove-read : (h : Hart) (m : Message) (addr most count : ℕ) (payload : List ℕ) → first_message h ≡ Some m → addr ≡ a0 h → most ≡ a1 h → payload ≡ m.payload → count ≡ min (length payload) most → IsMove h m addr (take count payload)
+pub IsMove-read : (h : Hart) (m : Message) (addr most count : ℕ) (payload : List ℕ) → first_message h ≡ Some m → addr ≡ a0 h
+    → most ≡ a1 h → payload ≡ m.payload → count ≡ min (length payload) most → IsMove h m addr (take count payload)
 IsMove-read h m addr most count payload first at asked is least =
     let len = ap length is in
     let same : count ≡ moved (a1 h) m = omega arith in
@@ -39,12 +41,17 @@ module _ (h : Hart) (m : Message) (addr : ℕ) (bytes : List ℕ) (move : IsMove
 
   pub move-refuses : fits (length h.memory) addr (length bytes) ≡ true → 0 < length bytes → MayRefuseCall Move [] h
   move-refuses in' some = record {
-    may_ask = ap (λ (first : Option Message). option_map_or (λ (x : Message). nat_lt 0 (moved (a1 h) x)) first false) move.first ∙ lt-ltb 0 (moved (a1 h) m) (rw (← move.count) some);
+    may_ask =
+        ap (λ (first : Option Message). option_map_or (λ (x : Message). nat_lt 0 (moved (a1 h) x)) first false) move.first
+        ∙ lt-ltb 0 (moved (a1 h) m) (rw (← move.count) some);
     no_fault = subst (λ (first : Option Message). HaveNoFault (move_checks first h)) (sym move.first) (fit true in', tt);
   }
 
-  pub move-done : fits (length h.memory) addr (length bytes) ≡ true → (stored : List ℕ) (queue : List Message) → stored ≡ with_bytes h.memory addr bytes → queue ≡ drop 1 h.communication.queue → call_effect Move [] h ≡ goes_on (advanced (record h { memory = stored; communication = record h.communication { queue = queue } }))
+  pub move-done : fits (length h.memory) addr (length bytes) ≡ true → (stored : List ℕ) (queue : List Message)
+      → stored ≡ with_bytes h.memory addr bytes → queue ≡ drop 1 h.communication.queue
+      → call_effect Move [] h ≡ goes_on (advanced (record h { memory = stored; communication = record h.communication { queue = queue } }))
   move-done in' stored queue is rest =
       let stores : with_bytes h.memory (a0 h) (take (moved (a1 h) m) m.payload) ≡ stored = rw (is, move.at, move.bytes_are) refl in
       effect ∙ ap (λ (b : Bool). if b then move_effect (Some m) h else faults RangeOutside h) (fit true in')
-      ∙ ap₂ (λ (bytes : List ℕ) (queue : List Message). goes_on (advanced (record h { memory = bytes; communication = record h.communication { queue = queue } }))) stores (sym rest)
+      ∙ ap₂ (λ (bytes : List ℕ) (queue : List Message). goes_on
+      (advanced (record h { memory = bytes; communication = record h.communication { queue = queue } }))) stores (sym rest)

@@ -76,9 +76,15 @@ IsLater-then a b c first second = record {
   clock = second.clock ∙ first.clock;
   in_effect = second.in_effect ∙ first.in_effect;
   tag_size = second.tag_size ∙ first.tag_size;
-  changes = Extends-then a.hart.communication.registrations.changes b.hart.communication.registrations.changes c.hart.communication.registrations.changes first.changes second.changes;
-  requests = Extends-then a.hart.communication.requests.requests b.hart.communication.requests.requests c.hart.communication.requests.requests first.requests second.requests;
-  output = Extends-then a.hart.communication.requests.output b.hart.communication.requests.output c.hart.communication.requests.output first.output second.output;
+  changes =
+      Extends-then a.hart.communication.registrations.changes b.hart.communication.registrations.changes
+      c.hart.communication.registrations.changes first.changes second.changes;
+  requests =
+      Extends-then a.hart.communication.requests.requests b.hart.communication.requests.requests c.hart.communication.requests.requests
+      first.requests second.requests;
+  output =
+      Extends-then a.hart.communication.requests.output b.hart.communication.requests.output c.hart.communication.requests.output
+      first.output second.output;
   unit = second.unit ∙ first.unit;
   ticks = omega (arith, first.ticks, second.ticks);
 }
@@ -98,7 +104,10 @@ IsLater-local_step input s = later_by (is_running s.state) input s refl
 
 pub IsLater-local_steps : (input : List ℕ) (n : ℕ) (s : NodeState) → IsLater s (local_steps input n s)
 IsLater-local_steps input zero s = rw (local_steps-zero input s) (IsLater-same s)
-IsLater-local_steps input (suc n) s = rw (local_steps-suc input n s) (IsLater-then s (local_step input s) (local_steps input n (local_step input s)) (IsLater-local_step input s) (IsLater-local_steps input n (local_step input s)))
+IsLater-local_steps input (suc n) s =
+    rw (local_steps-suc input n s)
+    (IsLater-then s (local_step input s) (local_steps input n (local_step input s)) (IsLater-local_step input s)
+    (IsLater-local_steps input n (local_step input s)))
 
 hart_by : (runs : Bool) (input : List ℕ) (s : NodeState) → is_running s.state ≡ runs → IsHart s.hart → IsHart (local_step input s).hart
 hart_by true input s is sound = rw (local_step-running input s is) ((Keeps-made input s).sound sound)
@@ -112,25 +121,31 @@ pub IsNode-local_step : (input : List ℕ) (s : NodeState) → IsNode s → IsNo
 IsNode-local_step input s sound = sound_by (is_running s.state) input s refl sound
 
 pub IsSoundNode-local_step : (input : List ℕ) (s : NodeState) → IsSoundNode s → IsSoundNode (local_step input s)
-IsSoundNode-local_step input s sound = record { node = IsNode-local_step input s sound.node; hart = hart_by (is_running s.state) input s refl sound.hart }
+IsSoundNode-local_step input s sound =
+    record { node = IsNode-local_step input s sound.node; hart = hart_by (is_running s.state) input s refl sound.hart }
 
 pub IsSoundNode-local_steps : (input : List ℕ) (n : ℕ) (s : NodeState) → IsSoundNode s → IsSoundNode (local_steps input n s)
 IsSoundNode-local_steps input zero s sound = rw (local_steps-zero input s) sound
-IsSoundNode-local_steps input (suc n) s sound = rw (local_steps-suc input n s) (IsSoundNode-local_steps input n (local_step input s) (IsSoundNode-local_step input s sound))
+IsSoundNode-local_steps input (suc n) s sound =
+    rw (local_steps-suc input n s) (IsSoundNode-local_steps input n (local_step input s) (IsSoundNode-local_step input s sound))
 
 -- a step of a node that runs leaves it one tick less
-ticks_left : (input : List ℕ) (s : NodeState) (n : ℕ) → is_running s.state ≡ true → s.limit - s.ticks ≤ suc n → (local_step input s).limit - (local_step input s).ticks ≤ n
+ticks_left : (input : List ℕ) (s : NodeState) (n : ℕ) → is_running s.state ≡ true → s.limit - s.ticks ≤ suc n
+    → (local_step input s).limit - (local_step input s).ticks ≤ n
 ticks_left input s n runs left = rw (local_step-running input s runs) (omega arith)
 
-end_by : (runs : Bool) (input : List ℕ) (n : ℕ) (s : NodeState) → is_running s.state ≡ runs → IsNode s → s.limit - s.ticks ≤ n → is_running (local_steps input n s).state ≡ false
+end_by : (runs : Bool) (input : List ℕ) (n : ℕ) (s : NodeState) → is_running s.state ≡ runs → IsNode s → s.limit - s.ticks ≤ n
+    → is_running (local_steps input n s).state ≡ false
 end_by false input n s is sound left = rw (local_steps-stopped input n s is) is
 end_by true input zero s is sound left = absurd (omega (arith, sound.has_ticks_left is))
 end_by true input (suc n) s is sound left =
     rw (local_steps-suc input n s)
-    (end_by (is_running (local_step input s).state) input n (local_step input s) refl (IsNode-local_step input s sound) (ticks_left input s n is left))
+    (end_by (is_running (local_step input s).state) input n (local_step input s) refl (IsNode-local_step input s sound)
+    (ticks_left input s n is left))
 
 -- n steps are enough for a node that has at most n ticks left
-pub local_steps-end : (input : List ℕ) (n : ℕ) (s : NodeState) → IsNode s → s.limit - s.ticks ≤ n → is_running (local_steps input n s).state ≡ false
+pub local_steps-end : (input : List ℕ) (n : ℕ) (s : NodeState) → IsNode s → s.limit - s.ticks ≤ n
+    → is_running (local_steps input n s).state ≡ false
 local_steps-end input n s sound left = end_by (is_running s.state) input n s refl sound left
 
 -- after its local part a node does not run, so that another one changes nothing

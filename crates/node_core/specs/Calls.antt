@@ -5,7 +5,8 @@
 -- and limits; that `hpput` and `hpget` are `put` and `get`, and copy their bytes at the call; that `abort` stops its own node
 -- alone; that pc goes on at `end`, `sync` and `abort` too; that of two stores of one call that overlap the later named lands
 -- over the earlier.
-use Rattle.std.specs.Prelude.{◌≡◌, ℕ, ◌+◌, ◌-◌, ◌^◌, ◌==◌, Bool, true, false, not, List, [], ◌∷◌, length, min, nat_lt, nat_le, take, drop, find, IsTrue, slice_get, Option, Some, None, is_some, unwrap_or, if◌then◌else◌}
+use Rattle.std.specs.Prelude.{◌≡◌, ℕ, ◌+◌, ◌-◌, ◌^◌, ◌==◌, Bool, true, false, not, List, [], ◌∷◌, length, min, nat_lt, nat_le, take, drop}
+use Rattle.std.specs.Prelude.{find, IsTrue, slice_get, Option, Some, None, is_some, unwrap_or, if◌then◌else◌}
 use Rattle.std.specs.Int.{w32, to_le_bytes}
 use Rattle.std.specs.Option.{option_map_or}
 use Rattle.node_memory.specs.Bytes.{fits, bytes_at, with_bytes, word_at}
@@ -17,7 +18,8 @@ use Rattle.bsp_requests.specs.Message.{Message}
 use Rattle.bsp_requests.specs.Request.{Asked, asks_put, asks_get, asks_send}
 use Rattle.bsp_requests.specs.Requests.{with_request, with_output, are_too_many, is_full_for}
 use Rattle.node_core.specs.declared.call.Call.{Call}
-use Rattle.node_core.specs.declared.call.Call.TheVariants.{End, Nprocs, Pid, Sync, PushReg, PopReg, Put, Get, Hpput, Hpget, SetTagsize, Send, Qsize, GetTag, Move, Abort, Write, Read}
+use Rattle.node_core.specs.declared.call.Call.TheVariants.{End, Nprocs, Pid, Sync, PushReg, PopReg, Put, Get, Hpput, Hpget, SetTagsize}
+use Rattle.node_core.specs.declared.call.Call.TheVariants.{Send, Qsize, GetTag, Move, Abort, Write, Read}
 use Rattle.node_core.specs.declared.state.State.{State}
 use Rattle.node_core.specs.declared.state.State.TheVariants.{Running, Synced, Ended, Aborted}
 use Rattle.node_core.specs.declared.state.Fault.{Fault}

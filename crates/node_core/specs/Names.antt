@@ -1,7 +1,8 @@
 -- What faults and states are called in texts for users (own names).
 use Rattle.std.specs.Prelude.{ℕ, List, ◌++◌, codes}
 use Rattle.node_core.specs.declared.state.Fault.{Fault}
-use Rattle.node_core.specs.declared.state.Fault.TheVariants.{IllegalInstruction, FetchOutside, Misaligned, LoadOutside, StoreOutside, Break, UnknownCall, BadRank, RangeOutside, NotRegistered, TooMuch, BadSize}
+use Rattle.node_core.specs.declared.state.Fault.TheVariants.{IllegalInstruction, FetchOutside, Misaligned, LoadOutside, StoreOutside, Break}
+use Rattle.node_core.specs.declared.state.Fault.TheVariants.{UnknownCall, BadRank, RangeOutside, NotRegistered, TooMuch, BadSize}
 use Rattle.node_core.specs.declared.state.State.{State}
 use Rattle.node_core.specs.declared.state.State.TheVariants.{Running, Synced, Ended, Aborted, Exhausted, Faulted}
 

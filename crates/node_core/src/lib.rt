@@ -1,20 +1,22 @@
-//! A node of the machine: a hart of RV32IMC with a memory of its own, which makes environment calls by ECALL. It may have a unit of floating
-//! point, and then has the instructions of F and D.
+//! A node of the machine: a hart of RV32IMC with a memory of its own, which makes environment calls by ECALL. It may have a unit of
+//! floating point, and then has the instructions of F and D.
 //!
 //! The model of a [`Node`] is one record, a `NodeState`, with two notes beside it: whether room is made for the turn of its
-//! registrations, and which pages of its memory are its own and not shared with other nodes. The record has the hart (rank, number of nodes, registers, pc, memory, place in the input, and what the node communicates:
-//! registrations, requests with the output of this superstep, queue of messages, sizes of tags), the state, the ticks and
-//! their limit. [`Node::step`] is `local_step` of that record, and [`Node::run`] is `local_steps`, so many steps one after
-//! another. The input is the same text at each step, and no step looks at another node or at the notes.
+//! registrations, and which pages of its memory are its own and not shared with other nodes. The record has the hart (rank, number of
+//! nodes, registers, pc, memory, place in the input, and what the node communicates: registrations, requests with the output of this
+//! superstep, queue of messages, sizes of tags), the state, the ticks and their limit. [`Node::step`] is `local_step` of that record, and
+//! [`Node::run`] is `local_steps`, so many steps one after another. The input is the same text at each step, and no step looks at another
+//! node or at the notes.
 //!
 //! What callers may rely on:
 //!
 //! - Each step of a running node is one tick, also where it ends in a fault. It executes the instruction at pc, or else
 //!   it ends in the first fault of this order: `Misaligned` where pc is odd, `FetchOutside` where the two bytes at
 //!   pc do not lie in the memory, or the four where the low bits of these two are 11, `IllegalInstruction` where no instruction
-//!   has that code, or one of floating point and the node has no unit, and then the instruction's own. Then pc is past the instruction's 2 or 4 bytes, or where a jump goes.
-//! - [`Node::set_unit`] gives a node a unit of floating point. What its instructions do to it is what `float_unit` says; loads and stores of its
-//!   registers are as others. Nothing else changes it, and no step gives a node a unit or takes it away.
+//!   has that code, or one of floating point and the node has no unit, and then the instruction's own. Then pc is past the instruction's 2
+//!   or 4 bytes, or where a jump goes.
+//! - [`Node::set_unit`] gives a node a unit of floating point. What its instructions do to it is what `float_unit` says; loads and stores
+//!   of its registers are as others. Nothing else changes it, and no step gives a node a unit or takes it away.
 //! - A fault leaves the hart as it was, pc too: only state and ticks differ. No jump is a fault. Loads and stores work at any
 //!   address, with the least significant byte first.
 //! - A node that has made its last tick and still runs is [`Exhausted`](State::Exhausted); one that stops by that very
@@ -72,7 +74,8 @@
 //! - k is n, or what is left where that is less: of the first payload, or of the input, which has 0 bytes left where the
 //!   cursor is past its end.
 //!
-//! Any other number is `UnknownCall`, and so is 19 on a node without a clock. Where two stores of one call overlap, the later named lands over the earlier.
+//! Any other number is `UnknownCall`, and so is 19 on a node without a clock. Where two stores of one call overlap, the later named lands
+//! over the earlier.
 //!
 //! Sources: The RISC-V Instruction Set Manual, Volume I: Unprivileged ISA, 20191213, chapters 2, 3, 7, 9, 11, 12 and 16, for
 //! the instructions; BSPlib (Hill and others, 1998) for the calls but `write` and `read`; `abort` stops its own node alone, and

@@ -1,3 +1,5 @@
+-- When the parts of the plan have landed, the row is the one after the exchange; if the plan is refused, so is the exchange, for the same
+-- reason.
 use Rattle.std.proofs.Common.{◌≡◌, List, ap₂, ◌∙◌, rules}
 use Rattle.std.proofs.lemmas.Result.{IfOk-from_err, err_from_is_err_and}
 use Rattle.node_core.specs.Node.{NodeState}
@@ -13,16 +15,19 @@ pub returns-in_err-traffic-clause-fault : goal.returns-in_err-traffic-clause-fau
 returns-in_err-traffic-clause-fault g c f =
     let refused = err_from_is_err_and c.from_residual.result c.from_residual.ensures.1 in
     let same : refused.0 ≡ c.in_err-traffic.field-0.0 = refused.2 in
-    rw refused.1 (rw same (NamesFault-handed c.in_err-traffic.field-0.0 (exchange_fault (states c.args.nodes.now)) c.in_err-traffic.ensures.fault f))
+    rw refused.1
+    (rw same (NamesFault-handed c.in_err-traffic.field-0.0 (exchange_fault (states c.args.nodes.now)) c.in_err-traffic.ensures.fault f))
 
 pub returns-clause-ok : goal.returns-clause-ok
 returns-clause-ok g c =
     c.land_all.ensures.nodes
-    ∙ ap₂ (λ (parts : List PartState) (nodes : List NodeState). landed parts nodes) (c.deref_mut.ensures.value ∙ c.in_ok-traffic.ensures.parts) c.in_ok-traffic.ensures.same
+    ∙ ap₂ (λ (parts : List PartState) (nodes : List NodeState). landed parts nodes)
+    (c.deref_mut.ensures.value ∙ c.in_ok-traffic.ensures.parts) c.in_ok-traffic.ensures.same
     ∙ landed_whole (states c.args.nodes.now) c.in_ok-traffic.ensures.exchanges
 
 pub returns-clause-own : goal.returns-clause-own
-returns-clause-own g c = EachKeepsOwn-then c.args.nodes.now c.plan.new.nodes c.land_all.new.nodes c.in_ok-traffic.ensures.own c.land_all.ensures.own
+returns-clause-own g c =
+    EachKeepsOwn-then c.args.nodes.now c.plan.new.nodes c.land_all.new.nodes c.in_ok-traffic.ensures.own c.land_all.ensures.own
 
 pub returns-clause-err : goal.returns-clause-err
 returns-clause-err g c = search rules

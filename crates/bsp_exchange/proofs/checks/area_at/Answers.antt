@@ -1,3 +1,4 @@
+-- The area is the one that the rank's node has in effect at the place, and there is none if there is no such node.
 use Rattle.std.proofs.Common.{ap, sym, ◌∙◌, option_copied, slice_get}
 use Rattle.bsp_slots.specs.Registrations.{Registrations}
 use Rattle.bsp_exchange.proofs.Finds.{no_area, area_of}

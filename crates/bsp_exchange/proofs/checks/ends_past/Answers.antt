@@ -1,3 +1,4 @@
+-- If the offset is past the size, the bytes end past it too, however many they are.
 use Rattle.std.proofs.Common.{◌≡◌, ℕ, ◌+◌, ◌<◌, not, leb, ltb, arith}
 use Rattle.std.proofs.lemmas.Bool.Decides.{nat_tests}
 use Rattle.bsp_exchange.proofs.checks.ends_past.Goals as goal

@@ -1,3 +1,4 @@
+-- The iterator's `find` yields the first node of the list that made other pushes and pops than `first`.
 use Rattle.std.proofs.Common.{rules, tests, not}
 use Rattle.std.proofs.lemmas.Iterator.{YieldsList-from_slice}
 use Rattle.std.proofs.lemmas.Iterator.Search.{find_from_yields_List}

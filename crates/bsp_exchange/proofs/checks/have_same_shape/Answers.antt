@@ -1,3 +1,4 @@
+-- The registrations that are compared are those of the two nodes, so the nodes have the same shape if the comparison says so.
 use Rattle.bsp_exchange.proofs.Lookups.{shapes_compared}
 use Rattle.bsp_exchange.proofs.checks.have_same_shape.Goals as goal
 

@@ -1,3 +1,4 @@
+-- For a put, `is_outside` is asked with its own target, slot, offset and length, as the definition does.
 use Rattle.std.proofs.Common.{ap, sym, ◌∙◌}
 use Rattle.bsp_requests.specs.Put.{Put}
 use Rattle.bsp_requests.specs.Request.{asked, asks_put}

@@ -1,3 +1,4 @@
+-- What `get` returns for a rank is the element at that place of the list, if there is one.
 use Rattle.bsp_exchange.proofs.Lookups.{element_got}
 use Rattle.bsp_exchange.proofs.checks.node_at.Goals as goal
 

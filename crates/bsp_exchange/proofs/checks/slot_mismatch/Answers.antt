@@ -1,3 +1,5 @@
+-- The rank is that of the first node whose pushes and pops differ from those of the node at place 0; if there is no such node, there is
+-- none.
 use Rattle.std.proofs.Common.{ap, sym, ◌∙◌, Some, option_copied}
 use Rattle.bsp_exchange.specs.Faults.{have_same_shape}
 use Rattle.bsp_exchange.proofs.Finds.{none_disagrees, who_disagrees}

@@ -1,3 +1,4 @@
+-- The rank is that of the first node whose next tag size differs from that of the node at place 0; if there is no such node, there is none.
 use Rattle.std.proofs.Common.{ap, sym, ◌∙◌, Some, option_copied}
 use Rattle.bsp_exchange.specs.Faults.{have_same_tag_size}
 use Rattle.bsp_exchange.proofs.Finds.{none_disagrees, who_disagrees}

@@ -1,3 +1,4 @@
+-- The target's part is there, and is put back with the message added.
 use Rattle.std.proofs.Common.{◌≡◌, ◌<◌, length, set, subst, sym}
 use Rattle.std.specs.Prelude.{OnOk}
 use Rattle.bsp_requests.specs.Outgoing.{Outgoing}
@@ -13,8 +14,10 @@ returns g c =
     let sent : Outgoing = record { target = c.message.inside.target; tag = c.message.inside.tag; payload = c.message.inside.payload } in
     let f : Outgoing → Received → Received = λ m. with_message (message_of c.args.sender m) in
     let within = subst (λ (m : Outgoing). m.target < length parts) (sym c.message.view_is) c.requires.target in
-    subst (λ (m : Outgoing). OnOk c.add_message.result (set parts sent.target c.add_message.new.self ≡ changed_at (f m) m.target parts)) c.message.view_is
-    (put_back (f sent) sent.target parts c.index-parts-message.result c.add_message.new.self c.add_message.result within c.index-parts-message.is (rw c.index-parts-message.is c.add_message.ensures.ok))
+    subst (λ (m : Outgoing). OnOk c.add_message.result (set parts sent.target c.add_message.new.self ≡ changed_at (f m) m.target parts))
+    c.message.view_is
+    (put_back (f sent) sent.target parts c.index-parts-message.result c.add_message.new.self c.add_message.result within
+    c.index-parts-message.is (rw c.index-parts-message.is c.add_message.ensures.ok))
 
 pub bounds-parts-message-inside : goal.bounds-parts-message-inside
 bounds-parts-message-inside g c = subst (λ (m : Outgoing). m.target < length c.args.parts.now) (sym c.message.view_is) c.requires.target

@@ -1,3 +1,4 @@
+-- A put, a get and a send each change the parts and the loads as the definitions say, and a put or get that is added keeps to its area.
 use Rattle.std.proofs.Common.{◌≡◌, ℕ, ◌+◌, ◌<◌, ◌≤◌, ◌^◌, List, length, Fits, w16, w64, ap, sym, subst, ◌∙◌, arith}
 use Rattle.std.specs.Prelude.{is_none}
 use Rattle.std.proofs.lemmas.Result.{IfOk-from_err}
@@ -37,10 +38,12 @@ fits_16 : (k n : ℕ) → k < n → n ≤ max_nodes → Fits w16 k
 fits_16 k n less few = omega (arith, less, few)
 
 -- loads and parts to which what is asked for is added
-loads_is : (p a : Asked) (caller : ℕ) (old new : List Load) → p ≡ a → new ≡ with_transfer old (transfer caller p) → new ≡ with_transfer old (transfer caller a)
+loads_is : (p a : Asked) (caller : ℕ) (old new : List Load) → p ≡ a → new ≡ with_transfer old (transfer caller p)
+    → new ≡ with_transfer old (transfer caller a)
 loads_is p a caller old new is added = subst (λ (x : Asked). new ≡ with_transfer old (transfer caller x)) is added
 
-parts_is : (nodes : List NodeState) (p a : Asked) (caller : ℕ) (old new : List Received) → p ≡ a → new ≡ with_asked nodes caller old p → new ≡ with_asked nodes caller old a
+parts_is : (nodes : List NodeState) (p a : Asked) (caller : ℕ) (old new : List Received) → p ≡ a → new ≡ with_asked nodes caller old p
+    → new ≡ with_asked nodes caller old a
 parts_is nodes p a caller old new is added = subst (λ (x : Asked). new ≡ with_asked nodes caller old x) is added
 
 pub returns-in_ok-add_put-in-Put-clause-inside : goal.returns-in_ok-add_put-in-Put-clause-inside
@@ -56,13 +59,15 @@ pub returns-in_ok-add_put-in-Put-clause-ok : goal.returns-in_ok-add_put-in-Put-c
 returns-in_ok-add_put-in-Put-clause-ok g c =
     let nodes = states c.args.nodes.now in
     c.in_ok-add_put-in-Put.ensures
-    ∙ ap (λ (addr : ℕ). changed_at (with_put (record { addr = addr; bytes = c.put.inside.bytes })) c.put.inside.target c.args.parts.now) c.in-Some.ensures.value
+    ∙ ap (λ (addr : ℕ). changed_at (with_put (record { addr = addr; bytes = c.put.inside.bytes })) c.put.inside.target c.args.parts.now)
+    c.in-Some.ensures.value
     ∙ ap (λ (p : Put). with_asked nodes c.args.caller c.args.parts.now (asks_put p)) c.put.view_is
     ∙ ap (λ r. with_asked nodes c.args.caller c.args.parts.now (asked r)) (sym c.in-Put.is)
 
 pub add_put-requires : goal.add_put-requires
 add_put-requires g c =
-    let p : Put = record { target = c.put.inside.target; slot = c.put.inside.slot; offset = c.put.inside.offset; bytes = c.put.inside.bytes } in
+    let p : Put =
+    record { target = c.put.inside.target; slot = c.put.inside.slot; offset = c.put.inside.offset; bytes = c.put.inside.bytes } in
     let is : asks_put p ≡ asked c.args.request.now = ap asks_put c.put.view_is ∙ ap asked (sym c.in-Put.is) in
     target_there (asks_put p) (asked c.args.request.now) _ _ is c.requires.target c.requires.parts
 
@@ -71,13 +76,15 @@ add_transfer-requires-clause-from g c = there _ _ _ c.requires.caller c.requires
 
 pub add_transfer-requires-clause-to : goal.add_transfer-requires-clause-to
 add_transfer-requires-clause-to g c =
-    let p : Put = record { target = c.put.inside.target; slot = c.put.inside.slot; offset = c.put.inside.offset; bytes = c.put.inside.bytes } in
+    let p : Put =
+    record { target = c.put.inside.target; slot = c.put.inside.slot; offset = c.put.inside.offset; bytes = c.put.inside.bytes } in
     let is : asks_put p ≡ asked c.args.request.now = ap asks_put c.put.view_is ∙ ap asked (sym c.in-Put.is) in
     target_there (asks_put p) (asked c.args.request.now) _ _ is c.requires.target c.requires.ranks
 
 pub add_transfer-requires-clause-limit : goal.add_transfer-requires-clause-limit
 add_transfer-requires-clause-limit g c =
-    let p : Put = record { target = c.put.inside.target; slot = c.put.inside.slot; offset = c.put.inside.offset; bytes = c.put.inside.bytes } in
+    let p : Put =
+    record { target = c.put.inside.target; slot = c.put.inside.slot; offset = c.put.inside.offset; bytes = c.put.inside.bytes } in
     let is : asks_put p ≡ asked c.args.request.now = ap asks_put c.put.view_is ∙ ap asked (sym c.in-Put.is) in
     size_within (asks_put p) (asked c.args.request.now) c.len-len.result (2 ^ 32) is c.len-len.ensures c.requires.limit
 
@@ -86,10 +93,13 @@ add_transfer-requires-clause-room g c = c.requires.room
 
 pub returns-in_ok-add_put-in-Put-clause-loads : goal.returns-in_ok-add_put-in-Put-clause-loads
 returns-in_ok-add_put-in-Put-clause-loads g c =
-    let p : Put = record { target = c.put.inside.target; slot = c.put.inside.slot; offset = c.put.inside.offset; bytes = c.put.inside.bytes } in
+    let p : Put =
+    record { target = c.put.inside.target; slot = c.put.inside.slot; offset = c.put.inside.offset; bytes = c.put.inside.bytes } in
     let is : asks_put p ≡ asked c.args.request.now = ap asks_put c.put.view_is ∙ ap asked (sym c.in-Put.is) in
-    let added = λ (bytes : ℕ). with_transfer c.args.loads.now (record { from = c.args.caller; to = p.target; bytes = bytes; messages = 0 }) in
-    loads_is (asks_put p) (asked c.args.request.now) c.args.caller c.args.loads.now c.add_transfer.new.loads is (c.add_transfer.ensures ∙ ap added c.len-len.ensures)
+    let added =
+    λ (bytes : ℕ). with_transfer c.args.loads.now (record { from = c.args.caller; to = p.target; bytes = bytes; messages = 0 }) in
+    loads_is (asks_put p) (asked c.args.request.now) c.args.caller c.args.loads.now c.add_transfer.new.loads is
+    (c.add_transfer.ensures ∙ ap added c.len-len.ensures)
 
 pub add_get-requires-clause-parts : goal.add_get-requires-clause-parts
 add_get-requires-clause-parts g c = c.requires.parts
@@ -131,19 +141,24 @@ returns-in_ok-add_get-in-Get-clause-inside g c =
 pub returns-in_ok-add_get-in-Get-clause-ok : goal.returns-in_ok-add_get-in-Get-clause-ok
 returns-in_ok-add_get-in-Get-clause-ok g c =
     let is : asks_get c.in-Get.get ≡ asked c.args.request.now = ap asked (sym c.in-Get.is) in
-    parts_is (states c.args.nodes.now) (asks_get c.in-Get.get) (asked c.args.request.now) c.args.caller c.args.parts.now c.add_get.new.parts is c.in_ok-add_get-in-Get.ensures
+    parts_is (states c.args.nodes.now) (asks_get c.in-Get.get) (asked c.args.request.now) c.args.caller c.args.parts.now c.add_get.new.parts
+    is c.in_ok-add_get-in-Get.ensures
 
 pub returns-in_ok-add_get-in-Get-clause-loads : goal.returns-in_ok-add_get-in-Get-clause-loads
 returns-in_ok-add_get-in-Get-clause-loads g c =
     let is : asks_get c.in-Get.get ≡ asked c.args.request.now = ap asked (sym c.in-Get.is) in
-    let added = λ (bytes : ℕ). with_transfer c.args.loads.now (record { from = c.in-Get.get.target; to = c.args.caller; bytes = bytes; messages = 0 }) in
-    loads_is (asks_get c.in-Get.get) (asked c.args.request.now) c.args.caller c.args.loads.now c.add_transfer-in-Get.new.loads is (c.add_transfer-in-Get.ensures ∙ ap added c.from.ensures)
+    let added =
+    λ (bytes : ℕ). with_transfer c.args.loads.now
+    (record { from = c.in-Get.get.target; to = c.args.caller; bytes = bytes; messages = 0 }) in
+    loads_is (asks_get c.in-Get.get) (asked c.args.request.now) c.args.caller c.args.loads.now c.add_transfer-in-Get.new.loads is
+    (c.add_transfer-in-Get.ensures ∙ ap added c.from.ensures)
 
 pub overflow_add-len : goal.overflow_add-len
 overflow_add-len g c =
     let m : Outgoing = record { target = c.message.inside.target; tag = c.message.inside.tag; payload = c.message.inside.payload } in
     let is : asks_send m ≡ asked c.args.request.now = ap asks_send c.message.view_is ∙ ap asked (sym c.in-Send.is) in
-    fits_64 _ (size_within (asks_send m) (asked c.args.request.now) _ (2 ^ 32) is (both _ _ _ _ c.len.ensures c.len-in-Send.ensures) c.requires.limit)
+    fits_64 _ (size_within (asks_send m) (asked c.args.request.now) _ (2 ^ 32) is (both _ _ _ _ c.len.ensures c.len-in-Send.ensures)
+    c.requires.limit)
 
 pub overflow_cast-caller-in-Send : goal.overflow_cast-caller-in-Send
 overflow_cast-caller-in-Send g c = fits_16 _ _ c.requires.caller c.requires.few
@@ -179,14 +194,17 @@ returns-in_ok-add_message-in-Send-clause-inside g c =
 pub returns-in_ok-add_message-in-Send-clause-ok : goal.returns-in_ok-add_message-in-Send-clause-ok
 returns-in_ok-add_message-in-Send-clause-ok g c =
     let is : asks_send c.in-Send.message ≡ asked c.args.request.now = ap asked (sym c.in-Send.is) in
-    parts_is (states c.args.nodes.now) (asks_send c.in-Send.message) (asked c.args.request.now) c.args.caller c.args.parts.now c.add_message.new.parts is c.in_ok-add_message-in-Send.ensures
+    parts_is (states c.args.nodes.now) (asks_send c.in-Send.message) (asked c.args.request.now) c.args.caller c.args.parts.now
+    c.add_message.new.parts is c.in_ok-add_message-in-Send.ensures
 
 pub returns-in_ok-add_message-in-Send-clause-loads : goal.returns-in_ok-add_message-in-Send-clause-loads
 returns-in_ok-add_message-in-Send-clause-loads g c =
     let m : Outgoing = record { target = c.message.inside.target; tag = c.message.inside.tag; payload = c.message.inside.payload } in
     let is : asks_send m ≡ asked c.args.request.now = ap asks_send c.message.view_is ∙ ap asked (sym c.in-Send.is) in
-    let added = λ (bytes : ℕ). with_transfer c.args.loads.now (record { from = c.args.caller; to = m.target; bytes = bytes; messages = 1 }) in
-    loads_is (asks_send m) (asked c.args.request.now) c.args.caller c.args.loads.now c.add_transfer-in-Send.new.loads is (c.add_transfer-in-Send.ensures ∙ ap added (both _ _ _ _ c.len.ensures c.len-in-Send.ensures))
+    let added =
+    λ (bytes : ℕ). with_transfer c.args.loads.now (record { from = c.args.caller; to = m.target; bytes = bytes; messages = 1 }) in
+    loads_is (asks_send m) (asked c.args.request.now) c.args.caller c.args.loads.now c.add_transfer-in-Send.new.loads is
+    (c.add_transfer-in-Send.ensures ∙ ap added (both _ _ _ _ c.len.ensures c.len-in-Send.ensures))
 
 pub returns-in_err-add_put-in-Put-clause-inside : goal.returns-in_err-add_put-in-Put-clause-inside
 returns-in_err-add_put-in-Put-clause-inside g c = IfOk-from_err c.from_residual.result _ c.from_residual.ensures.0
@@ -198,19 +216,25 @@ pub returns-in_err-add_put-in-Put-clause-loads : goal.returns-in_err-add_put-in-
 returns-in_err-add_put-in-Put-clause-loads g c = IfOk-from_err c.from_residual.result _ c.from_residual.ensures.0
 
 pub returns-in_err-add_get-in-Get-clause-inside : goal.returns-in_err-add_get-in-Get-clause-inside
-returns-in_err-add_get-in-Get-clause-inside g c = IfOk-from_err c.from_residual-in_err-add_get-in-Get.result _ c.from_residual-in_err-add_get-in-Get.ensures.0
+returns-in_err-add_get-in-Get-clause-inside g c =
+    IfOk-from_err c.from_residual-in_err-add_get-in-Get.result _ c.from_residual-in_err-add_get-in-Get.ensures.0
 
 pub returns-in_err-add_get-in-Get-clause-ok : goal.returns-in_err-add_get-in-Get-clause-ok
-returns-in_err-add_get-in-Get-clause-ok g c = IfOk-from_err c.from_residual-in_err-add_get-in-Get.result _ c.from_residual-in_err-add_get-in-Get.ensures.0
+returns-in_err-add_get-in-Get-clause-ok g c =
+    IfOk-from_err c.from_residual-in_err-add_get-in-Get.result _ c.from_residual-in_err-add_get-in-Get.ensures.0
 
 pub returns-in_err-add_get-in-Get-clause-loads : goal.returns-in_err-add_get-in-Get-clause-loads
-returns-in_err-add_get-in-Get-clause-loads g c = IfOk-from_err c.from_residual-in_err-add_get-in-Get.result _ c.from_residual-in_err-add_get-in-Get.ensures.0
+returns-in_err-add_get-in-Get-clause-loads g c =
+    IfOk-from_err c.from_residual-in_err-add_get-in-Get.result _ c.from_residual-in_err-add_get-in-Get.ensures.0
 
 pub returns-in_err-add_message-in-Send-clause-inside : goal.returns-in_err-add_message-in-Send-clause-inside
-returns-in_err-add_message-in-Send-clause-inside g c = IfOk-from_err c.from_residual-in_err-add_message-in-Send.result _ c.from_residual-in_err-add_message-in-Send.ensures.0
+returns-in_err-add_message-in-Send-clause-inside g c =
+    IfOk-from_err c.from_residual-in_err-add_message-in-Send.result _ c.from_residual-in_err-add_message-in-Send.ensures.0
 
 pub returns-in_err-add_message-in-Send-clause-ok : goal.returns-in_err-add_message-in-Send-clause-ok
-returns-in_err-add_message-in-Send-clause-ok g c = IfOk-from_err c.from_residual-in_err-add_message-in-Send.result _ c.from_residual-in_err-add_message-in-Send.ensures.0
+returns-in_err-add_message-in-Send-clause-ok g c =
+    IfOk-from_err c.from_residual-in_err-add_message-in-Send.result _ c.from_residual-in_err-add_message-in-Send.ensures.0
 
 pub returns-in_err-add_message-in-Send-clause-loads : goal.returns-in_err-add_message-in-Send-clause-loads
-returns-in_err-add_message-in-Send-clause-loads g c = IfOk-from_err c.from_residual-in_err-add_message-in-Send.result _ c.from_residual-in_err-add_message-in-Send.ensures.0
+returns-in_err-add_message-in-Send-clause-loads g c =
+    IfOk-from_err c.from_residual-in_err-add_message-in-Send.result _ c.from_residual-in_err-add_message-in-Send.ensures.0

@@ -1,3 +1,4 @@
+-- Each push adds one part with nothing in it, so past the last node there are as many of them as nodes.
 use Rattle.std.proofs.Common.{◌≡◌, List, ◌++◌, ◌∷◌, [], length, replicate, ap, ap₂, ◌∙◌, arith}
 use Rattle.std.proofs.lemmas.List.{replicate_more}
 use Rattle.std.proofs.lemmas.Result.{IfOk-from_err}

@@ -1,3 +1,4 @@
+-- Since the transfer keeps to its area, `start_inside` finds its start, and what that contract says holds of the result.
 use Rattle.std.proofs.Common.{◌≡◌, ◌∙◌, ℕ, Option, Some, None, false, sym, subst}
 use Rattle.std.specs.Prelude.{IfSome, is_none, unwrap_or}
 use Rattle.std.proofs.lemmas.Bool.{true≢false}

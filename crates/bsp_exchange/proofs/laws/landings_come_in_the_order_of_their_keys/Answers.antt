@@ -1,3 +1,4 @@
+-- The two parts of the law: keys do not fall along the landings, and landings with the same key are the same landing.
 use Rattle.bsp_exchange.proofs.KeyOrder.{keys_do_not_fall, have_own_keys}
 use Rattle.bsp_exchange.proofs.laws.landings_come_in_the_order_of_their_keys.Goals as goal
 

@@ -12,7 +12,9 @@ loop-place-init g c = record { synced = c.requires.synced; own = c.requires.own;
 pub land-requires : goal.land-requires
 land-requires g c =
     let patches = g.P.PatchList.patches c.args.patches.now in
-    let patch = patch_read patches c.loop-place.place _ c.addr.result c.bytes.result.now c.count-place-end.ensures c.loop-place-test.true c.addr.ensures c.bytes.ensures in
+    let patch =
+    patch_read patches c.loop-place.place _ c.addr.result c.bytes.result.now c.count-place-end.ensures c.loop-place-test.true
+    c.addr.ensures c.bytes.ensures in
     let left = subst (OwnsEach c.loop-place.node.own) (patches_from patch) c.loop-place.invariant.own in
     record { synced = c.loop-place.invariant.synced; own = left.0 }
 
@@ -21,13 +23,18 @@ loop-place-preserved g c =
     let patches = g.P.PatchList.patches c.args.patches.now in
     let node = c.loop-place.node in
     let before = c.loop-place.invariant in
-    let patch = patch_read patches c.loop-place.place _ c.addr.result c.bytes.result.now c.count-place-end.ensures c.loop-place-test.true c.addr.ensures c.bytes.ensures in
+    let patch =
+    patch_read patches c.loop-place.place _ c.addr.result c.bytes.result.now c.count-place-end.ensures c.loop-place-test.true
+    c.addr.ensures c.bytes.ensures in
     let left = subst (OwnsEach node.own) (patches_from patch) before.own in
     let with_rest : PreparedNode → PreparedNode = λ p. record p { node = with_patches (drop (c.loop-place.place + 1) patches) p.node } in
     record {
       synced = ap (λ (p : PreparedNode). p.node.state) c.land.ensures ∙ before.synced;
       own = rw (ap (λ (p : PreparedNode). p.own) c.land.ensures) left.1;
-      same = ap with_rest c.land.ensures ∙ ap (λ (ps : List Patch). record node { node = with_patches ps node.node }) (sym (patches_from patch)) ∙ before.same;
+      same =
+          ap with_rest c.land.ensures
+          ∙ ap (λ (ps : List Patch). record node { node = with_patches ps node.node }) (sym (patches_from patch))
+          ∙ before.same;
     }
 
 pub returns : goal.returns

@@ -9,7 +9,9 @@ pub overflow_cast-bytes : goal.overflow_cast-bytes
 overflow_cast-bytes g c =
     let patches = g.P.PatchList.patches c.args.patches.now in
     let size = length c.args.memory.now.bytes in
-    let patch = patch_read patches c.loop-place.place _ c.addr.result c.bytes.result.now c.count-place-end.ensures c.loop-place-test.true c.addr.ensures c.bytes.ensures in
+    let patch =
+    patch_read patches c.loop-place.place _ c.addr.result c.bytes.result.now c.count-place-end.ensures c.loop-place-test.true
+    c.addr.ensures c.bytes.ensures in
     let short = len_within size c.addr.result (length c.bytes.result.now) (patch_fits size patch c.requires.within) in
     omega (arith, short, c.requires.most)
 
@@ -17,13 +19,17 @@ pub with-span-requires : goal.with-span-requires
 with-span-requires g c =
     let patches = g.P.PatchList.patches c.args.patches.now in
     let size = length c.args.memory.now.bytes in
-    let patch = patch_read patches c.loop-place.place _ c.addr.result c.bytes.result.now c.count-place-end.ensures c.loop-place-test.true c.addr.ensures c.bytes.ensures in
+    let patch =
+    patch_read patches c.loop-place.place _ c.addr.result c.bytes.result.now c.count-place-end.ensures c.loop-place-test.true
+    c.addr.ensures c.bytes.ensures in
     ends_below size c.addr.result (length c.bytes.result.now) c.requires.most (patch_fits size patch c.requires.within)
 
 pub loop-place-preserved : goal.loop-place-preserved
 loop-place-preserved g c =
     let patches = g.P.PatchList.patches c.args.patches.now in
-    let patch = patch_read patches c.loop-place.place _ c.addr.result c.bytes.result.now c.count-place-end.ensures c.loop-place-test.true c.addr.ensures c.bytes.ensures in
+    let patch =
+    patch_read patches c.loop-place.place _ c.addr.result c.bytes.result.now c.count-place-end.ensures c.loop-place-test.true
+    c.addr.ensures c.bytes.ensures in
     spanned_more c.loop-place.span c.with-span.result patch c.with-span.ensures.more c.with-span.ensures.has c.loop-place.invariant
 
 pub returns : goal.returns

@@ -20,15 +20,22 @@ pub overflow_cast-bytes : goal.overflow_cast-bytes
 overflow_cast-bytes g c =
     let patches = g.P.PatchList.patches c.args.patches.now in
     let hart = c.args.node.now.node.hart in
-    let patch = patch_read patches c.loop-place.place _ c.addr.result c.bytes.result.now c.count-place-end.ensures c.loop-place-test.true c.addr.ensures c.bytes.ensures in
-    let short = len_within (length hart.memory) c.addr.result (length c.bytes.result.now) (patch_fits (length hart.memory) patch c.requires.within) in
+    let patch =
+    patch_read patches c.loop-place.place _ c.addr.result c.bytes.result.now c.count-place-end.ensures c.loop-place-test.true
+    c.addr.ensures c.bytes.ensures in
+    let short =
+    len_within (length hart.memory) c.addr.result (length c.bytes.result.now)
+    (patch_fits (length hart.memory) patch c.requires.within) in
     omega (arith, short, memory_most hart c.memory.ensures.sound)
 
 pub prepare_land-requires : goal.prepare_land-requires
 prepare_land-requires g c =
     let patches = g.P.PatchList.patches c.args.patches.now in
-    let same_size : length c.loop-place.node.node.hart.memory ≡ length c.args.node.now.node.hart.memory = ap (λ (n : NodeState). length n.hart.memory) c.loop-place.invariant.node in
-    let patch = patch_read patches c.loop-place.place _ c.addr.result c.bytes.result.now c.count-place-end.ensures c.loop-place-test.true c.addr.ensures c.bytes.ensures in
+    let same_size : length c.loop-place.node.node.hart.memory ≡ length c.args.node.now.node.hart.memory =
+    ap (λ (n : NodeState). length n.hart.memory) c.loop-place.invariant.node in
+    let patch =
+    patch_read patches c.loop-place.place _ c.addr.result c.bytes.result.now c.count-place-end.ensures c.loop-place-test.true
+    c.addr.ensures c.bytes.ensures in
     rw same_size (patch_fits (length c.args.node.now.node.hart.memory) patch c.requires.within)
 
 pub loop-place-preserved : goal.loop-place-preserved
@@ -36,7 +43,9 @@ loop-place-preserved g c =
     let patches = g.P.PatchList.patches c.args.patches.now in
     let before = c.loop-place.invariant in
     let made = c.in_ok-prepare_land.ensures in
-    let patch = patch_read patches c.loop-place.place _ c.addr.result c.bytes.result.now c.count-place-end.ensures c.loop-place-test.true c.addr.ensures c.bytes.ensures in
+    let patch =
+    patch_read patches c.loop-place.place _ c.addr.result c.bytes.result.now c.count-place-end.ensures c.loop-place-test.true
+    c.addr.ensures c.bytes.ensures in
     record {
       node = made.node ∙ before.node;
       ready = made.ready ∙ before.ready;
@@ -47,4 +56,5 @@ loop-place-preserved g c =
 pub returns-clause-ok : goal.returns-clause-ok
 returns-clause-ok g c =
     let patches = g.P.PatchList.patches c.args.patches.now in
-    owns_whole c.loop-place.node.own patches c.loop-place.place (omega (arith, c.loop-place-test.false, c.count-place-end.ensures)) c.loop-place.invariant.owned
+    owns_whole c.loop-place.node.own patches c.loop-place.place (omega (arith, c.loop-place-test.false, c.count-place-end.ensures))
+    c.loop-place.invariant.owned

@@ -1,3 +1,5 @@
+-- The drafted parts can land when all nodes are prepared; if a step is refused, the nodes' states are as they were, and the error is handed
+-- on.
 use Rattle.std.proofs.Common.{◌≡◌, refl}
 use Rattle.std.proofs.lemmas.Result.{IfOk-from_err, err_from_is_err_and}
 use Rattle.bsp_exchange.specs.Exchange.{states}
@@ -13,7 +15,8 @@ pub returns-in_err-drafted-clause-fault : goal.returns-in_err-drafted-clause-fau
 returns-in_err-drafted-clause-fault g c f =
     let refused = err_from_is_err_and c.from_residual.result c.from_residual.ensures.1 in
     let same : refused.0 ≡ c.in_err-drafted.field-0.0 = refused.2 in
-    rw refused.1 (rw same (NamesFault-handed c.in_err-drafted.field-0.0 (exchange_fault (states c.args.nodes.now)) c.in_err-drafted.ensures.fault f))
+    rw refused.1
+    (rw same (NamesFault-handed c.in_err-drafted.field-0.0 (exchange_fault (states c.args.nodes.now)) c.in_err-drafted.ensures.fault f))
 
 pub prepare_all-requires : goal.prepare_all-requires
 prepare_all-requires g c = rw c.deref.ensures.value c.in_ok-drafted.ensures.ready
@@ -64,7 +67,8 @@ returns-in_err-prepare_all-clause-bounded g c =
 
 pub returns-in_err-prepare_all-clause-fault : goal.returns-in_err-prepare_all-clause-fault
 returns-in_err-prepare_all-clause-fault g c =
-    NamesFault-refused c.from_residual-in_err-prepare_all.result (exchange_fault (states c.args.nodes.now)) c.from_residual-in_err-prepare_all.ensures.1 c.in_ok-drafted.ensures.exchanges.faultless
+    NamesFault-refused c.from_residual-in_err-prepare_all.result (exchange_fault (states c.args.nodes.now))
+    c.from_residual-in_err-prepare_all.ensures.1 c.in_ok-drafted.ensures.exchanges.faultless
 
 pub returns-clause-same : goal.returns-clause-same
 returns-clause-same g c = c.in_ok-prepare_all.ensures.same

@@ -1,3 +1,4 @@
+-- The most so far is the greatest of the loads before this one.
 use Rattle.std.proofs.Common.{◌≡◌, take}
 use Rattle.bsp_exchange.specs.Loads.{greatest}
 use Rattle.bsp_exchange.proofs.traffic.greatest.Given as goal

@@ -1,3 +1,5 @@
+-- The bytes of small gets and of other gets add up to those of all gets, as do those of puts; so no sum overflows, and the last sum is
+-- the result.
 use Rattle.std.proofs.Common.{◌≡◌, ◌+◌, ◌++◌, List, length, sym, ap, ◌∙◌, arith}
 use Rattle.std.proofs.lemmas.List.Sums.{sum_by-append}
 use Rattle.bsp_exchange.specs.Arrivals.{Received}

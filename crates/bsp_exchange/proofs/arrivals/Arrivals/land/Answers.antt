@@ -1,3 +1,4 @@
+-- The four lists lie in pages that the node owns, and landing them one after another lands all gets and then all puts.
 use Rattle.std.proofs.Common.{◌≡◌, ◌++◌, ℕ, List, Vec, false, sym, subst, ap, ◌∙◌}
 use Rattle.bsp_requests.specs.Message.{Message}
 use Rattle.node_core.specs.Hart.{with_memory}
@@ -28,14 +29,18 @@ land-requires-3-clause-own g c =
     let part = c.self.inside in
     let own = c.args.node.now.own in
     let owns = subst (λ (r : Received). OwnsEach own r.puts) (sym c.self.view_is) c.requires.prepared.puts in
-    rw (ap (λ (p : PreparedNode). p.own) c.land-2.ensures ∙ ap (λ (p : PreparedNode). p.own) c.land.ensures) (owns_first own part.small_puts part.puts owns)
+    rw (ap (λ (p : PreparedNode). p.own) c.land-2.ensures ∙ ap (λ (p : PreparedNode). p.own) c.land.ensures)
+    (owns_first own part.small_puts part.puts owns)
 
 pub land-requires-4-clause-own : goal.land-requires-4-clause-own
 land-requires-4-clause-own g c =
     let part = c.self.inside in
     let own = c.args.node.now.own in
     let owns = subst (λ (r : Received). OwnsEach own r.puts) (sym c.self.view_is) c.requires.prepared.puts in
-    let same = ap (λ (p : PreparedNode). p.own) c.land-3.ensures ∙ ap (λ (p : PreparedNode). p.own) c.land-2.ensures ∙ ap (λ (p : PreparedNode). p.own) c.land.ensures in
+    let same =
+    ap (λ (p : PreparedNode). p.own) c.land-3.ensures
+    ∙ ap (λ (p : PreparedNode). p.own) c.land-2.ensures
+    ∙ ap (λ (p : PreparedNode). p.own) c.land.ensures in
     rw same (owns_second own part.small_puts part.puts owns)
 
 pub returns-clause-node : goal.returns-clause-node
@@ -45,7 +50,8 @@ returns-clause-node g c =
     let n = start.node in
     let turn : List Message → PreparedNode → PreparedNode = λ queue p. record p { node = next_superstep queue p.node; ready = false } in
     let lay : List Patch → PreparedNode → PreparedNode = λ patches p. record p { node = with_patches patches p.node } in
-    let over : List ℕ → PreparedNode = λ m. record start { node = next_superstep part.messages.items (record n { hart = with_memory m n.hart }); ready = false } in
+    let over : List ℕ → PreparedNode =
+    λ m. record start { node = next_superstep part.messages.items (record n { hart = with_memory m n.hart }); ready = false } in
     let gets = c.land-2.ensures ∙ ap (lay part.gets) c.land.ensures in
     let all = c.land-4.ensures ∙ ap (lay part.puts) (c.land-3.ensures ∙ ap (lay part.small_puts) gets) in
     let queue : c.of.result ≡ part.messages.items = c.of.ensures ∙ ap (λ (v : Vec _ _). v.items) c.replace-messages.ensures.value in

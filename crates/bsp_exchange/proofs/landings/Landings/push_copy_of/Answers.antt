@@ -16,5 +16,10 @@ invariant_of-self-2 g c =
     let start : c.len-start.result ≡ length old.bytes.items = c.len-start.ensures ∙ old.bytes.ok.0 in
     let copied = bytes_at c.args.memory.now.bytes c.args.from c.args.len in
     let long : length copied ≡ c.args.len = length-range c.args.memory.now.bytes c.args.from c.args.len c.requires in
-    let end : length c.append_range.new.bytes.items ≡ length old.bytes.items + c.args.len = ap length c.in_ok-append_range.ensures.ok ∙ length-append old.bytes.items copied ∙ ap (λ (n : ℕ). length old.bytes.items + n) long in
-    rw c.push_reserved.ensures.items (in_turn-push old.ranges.items 0 (length old.bytes.items) _ (record { addr = c.args.addr; len = c.args.len; start = c.len-start.result }) turn start end)
+    let end : length c.append_range.new.bytes.items ≡ length old.bytes.items + c.args.len =
+    ap length c.in_ok-append_range.ensures.ok
+    ∙ length-append old.bytes.items copied
+    ∙ ap (λ (n : ℕ). length old.bytes.items + n) long in
+    rw c.push_reserved.ensures.items
+    (in_turn-push old.ranges.items 0 (length old.bytes.items) _
+    (record { addr = c.args.addr; len = c.args.len; start = c.len-start.result }) turn start end)

@@ -1,3 +1,4 @@
+-- The patches of a part are its gets and then its puts, so their bytes add up to those of both.
 use Rattle.std.proofs.Common.{sym, ap, ◌∙◌}
 use Rattle.std.proofs.lemmas.List.Sums.{sum_by-append}
 use Rattle.std.specs.Prelude.{length}

@@ -1,3 +1,4 @@
+-- The patches of a part are its gets and then its puts, so what arrives lands as the part does, and the part is spent.
 use Rattle.std.proofs.Common.{List, ◌++◌, ℕ, false, true, sym, ap, ◌∙◌}
 use Rattle.node_core.specs.Hart.{with_memory}
 use Rattle.node_core.specs.Turn.{next_superstep}
@@ -15,7 +16,12 @@ land-requires g c =
     record {
       waiting = can.waiting;
       queue = c.self.invariant.0;
-      prepared = record { ready = can.ready; gets = owns_first p.own part.gets part.puts can.own; puts = owns_second p.own part.gets part.puts can.own };
+      prepared =
+          record {
+            ready = can.ready;
+            gets = owns_first p.own part.gets part.puts can.own;
+            puts = owns_second p.own part.gets part.puts can.own;
+          };
     }
 
 pub returns-clause-node : goal.returns-clause-node
@@ -24,10 +30,12 @@ returns-clause-node g c =
     let p = c.args.node.now in
     let n = p.node in
     c.land.ensures.node
-    ∙ ap (λ (m : List ℕ). record p { node = next_superstep part.messages (record n { hart = with_memory m n.hart }); ready = false }) (sym (laid-append n.hart.memory part.gets part.puts))
+    ∙ ap (λ (m : List ℕ). record p { node = next_superstep part.messages (record n { hart = with_memory m n.hart }); ready = false })
+    (sym (laid-append n.hart.memory part.gets part.puts))
     ∙ ap (λ (q : PartState). landed_as q p) c.self.view_is
 
 pub returns-clause-spent : goal.returns-clause-spent
 returns-clause-spent g c =
-    let landed : Received → PartState = λ r. record { rank = c.self.inside.rank; spent = true; patches = r.gets ++ r.puts; queue = r.messages } in
+    let landed : Received → PartState =
+    λ r. record { rank = c.self.inside.rank; spent = true; patches = r.gets ++ r.puts; queue = r.messages } in
     ap landed c.land.ensures.rest ∙ ap spent_part c.self.view_is

@@ -1,3 +1,4 @@
+-- The gets and the puts fit in the node's memory because the part's patches do, and once their pages are own the part can land.
 use Rattle.std.proofs.Common.{length, subst, ap, ◌∙◌}
 use Rattle.std.proofs.lemmas.Result.{on_ok_weaker}
 use Rattle.node_core.specs.Node.{NodeState}
@@ -10,7 +11,13 @@ prepare-requires g c =
     let part = c.self.inside.arrivals in
     let size = length c.args.node.now.node.hart.memory in
     let within = rw (← c.self.view_is) at c.requires.within in
-    record { within = record { gets = lie_first size part.gets part.puts within; puts = lie_second size part.gets part.puts within; queue = c.self.invariant.0 } }
+    record {
+      within = record {
+        gets = lie_first size part.gets part.puts within;
+        puts = lie_second size part.gets part.puts within;
+        queue = c.self.invariant.0;
+      };
+    }
 
 pub returns-clause-ok : goal.returns-clause-ok
 returns-clause-ok g c =
@@ -23,6 +30,8 @@ returns-clause-ok g c =
       rank = ap (λ (n : NodeState). n.hart.rank) same ∙ c.requires.rank;
       waiting = ap (λ (n : NodeState). n.state) same ∙ c.requires.waiting;
       ready = prepared.ready;
-      own = subst (λ (p : PartState). OwnsEach new.own p.patches) c.self.view_is (owns_both new.own part.gets part.puts prepared.gets prepared.puts);
+      own =
+          subst (λ (p : PartState). OwnsEach new.own p.patches) c.self.view_is
+          (owns_both new.own part.gets part.puts prepared.gets prepared.puts);
     })
     c.prepare.ensures.ok

@@ -1,3 +1,4 @@
+-- The patch is pushed without bytes and then filled in, so the list ends with the address and the bytes that were put.
 use Rattle.std.proofs.Common.{◌≡◌, List, [], ◌∷◌, ◌++◌, length, get_or, ap, sym, ◌∙◌}
 use Rattle.std.proofs.lemmas.List.{get_or_push}
 use Rattle.bsp_exchange.specs.Parts.{Patch}
@@ -16,9 +17,14 @@ returns g c =
     let items : List Patch = c.push_reserved.new.self.items in
     let place = c.len-place.ensures ∙ old.ok.0 in
     let pushed : items ≡ old.items ++ p ∷ [] = c.push_reserved.ensures.items in
-    let at : get_or items c.len-place.result c.index_mut.result.now ≡ p = ap (λ (ps : List Patch). get_or ps c.len-place.result c.index_mut.result.now) pushed ∙ get_or_push old.items p c.index_mut.result.now c.len-place.result (sym place) in
+    let at : get_or items c.len-place.result c.index_mut.result.now ≡ p =
+    ap (λ (ps : List Patch). get_or ps c.len-place.result c.index_mut.result.now) pushed
+    ∙ get_or_push old.items p c.index_mut.result.now c.len-place.result (sym place) in
     let there = c.behind-self.view_is ∙ c.index_mut.ensures.value ∙ at in
     record {
-      ok = filled_in c.try_clone_from.result c.args.self.now items c.len-place.result p (record { addr = c.behind-self.inside.addr; bytes = c.try_clone_from.new.self }) c.args.addr c.args.bytes.now
-          (pushed ∙ ap (λ (ps : List Patch). ps ++ p ∷ []) before) (place ∙ ap length before) (ap (λ (q : Patch). q.addr) there) c.try_clone_from.ensures.ok;
+      ok =
+          filled_in c.try_clone_from.result c.args.self.now items c.len-place.result p
+          (record { addr = c.behind-self.inside.addr; bytes = c.try_clone_from.new.self }) c.args.addr c.args.bytes.now
+          (pushed ∙ ap (λ (ps : List Patch). ps ++ p ∷ []) before) (place ∙ ap length before) (ap (λ (q : Patch). q.addr) there)
+          c.try_clone_from.ensures.ok;
     }

@@ -100,7 +100,10 @@ jump_and_link-state-requires-in-Jalr g c =
     encodable.0
 
 pub returns-in_err-state-in-Store-clause-ready : goal.returns-in_err-state-in-Store-clause-ready
-returns-in_err-state-in-Store-clause-ready g c = c.store.ensures.ready ∙ room_after-still c.args.self.now.ready c.args.self.now.hart c.store.new.self.hart (sym (ap (λ (m : Communication). m.registrations) c.store.ensures.registrations))
+returns-in_err-state-in-Store-clause-ready g c =
+    c.store.ensures.ready
+    ∙ room_after-still c.args.self.now.ready c.args.self.now.hart c.store.new.self.hart
+    (sym (ap (λ (m : Communication). m.registrations) c.store.ensures.registrations))
 
 pub returns-in_err-state-in-Store-clause-own : goal.returns-in_err-state-in-Store-clause-own
 returns-in_err-state-in-Store-clause-own g c = c.store.ensures.own
@@ -125,7 +128,8 @@ returns-in-R-clause-ok g c =
 
 pub returns-in-R-clause-ready : goal.returns-in-R-clause-ready
 returns-in-R-clause-ready g c =
-    room_after-held c.args.self.now.ready c.args.self.now.own c.args.self.now.hart c.put-state.new.self (ap (λ (a : After). a.hart.communication.registrations) c.put-state.ensures.hart) c.put-state.ensures.rest
+    room_after-held c.args.self.now.ready c.args.self.now.own c.args.self.now.hart c.put-state.new.self
+    (ap (λ (a : After). a.hart.communication.registrations) c.put-state.ensures.hart) c.put-state.ensures.rest
 
 pub returns-in-R-clause-own : goal.returns-in-R-clause-own
 returns-in-R-clause-own g c =
@@ -133,7 +137,8 @@ returns-in-R-clause-own g c =
 
 pub returns-in-I-clause-ready : goal.returns-in-I-clause-ready
 returns-in-I-clause-ready g c =
-    room_after-held c.args.self.now.ready c.args.self.now.own c.args.self.now.hart c.put-state-in-I.new.self (ap (λ (a : After). a.hart.communication.registrations) c.put-state-in-I.ensures.hart) c.put-state-in-I.ensures.rest
+    room_after-held c.args.self.now.ready c.args.self.now.own c.args.self.now.hart c.put-state-in-I.new.self
+    (ap (λ (a : After). a.hart.communication.registrations) c.put-state-in-I.ensures.hart) c.put-state-in-I.ensures.rest
 
 pub returns-in-I-clause-own : goal.returns-in-I-clause-own
 returns-in-I-clause-own g c =
@@ -145,7 +150,8 @@ returns-in-Shift-clause-ok g c =
 
 pub returns-in-Shift-clause-ready : goal.returns-in-Shift-clause-ready
 returns-in-Shift-clause-ready g c =
-    room_after-held c.args.self.now.ready c.args.self.now.own c.args.self.now.hart c.put-state-in-Shift.new.self (ap (λ (a : After). a.hart.communication.registrations) c.put-state-in-Shift.ensures.hart) c.put-state-in-Shift.ensures.rest
+    room_after-held c.args.self.now.ready c.args.self.now.own c.args.self.now.hart c.put-state-in-Shift.new.self
+    (ap (λ (a : After). a.hart.communication.registrations) c.put-state-in-Shift.ensures.hart) c.put-state-in-Shift.ensures.rest
 
 pub returns-in-Shift-clause-own : goal.returns-in-Shift-clause-own
 returns-in-Shift-clause-own g c =
@@ -156,14 +162,18 @@ returns-in-Load-clause-own g c =
     KeepsOwn-held c.args.self.now c.load-state.new.self c.load-state.ensures.rest
 
 pub returns-in_ok-state-in-Store-clause-ready : goal.returns-in_ok-state-in-Store-clause-ready
-returns-in_ok-state-in-Store-clause-ready g c = c.store.ensures.ready ∙ room_after-still c.args.self.now.ready c.args.self.now.hart c.store.new.self.hart (sym (ap (λ (m : Communication). m.registrations) c.store.ensures.registrations))
+returns-in_ok-state-in-Store-clause-ready g c =
+    c.store.ensures.ready
+    ∙ room_after-still c.args.self.now.ready c.args.self.now.hart c.store.new.self.hart
+    (sym (ap (λ (m : Communication). m.registrations) c.store.ensures.registrations))
 
 pub returns-in_ok-state-in-Store-clause-own : goal.returns-in_ok-state-in-Store-clause-own
 returns-in_ok-state-in-Store-clause-own g c = c.store.ensures.own
 
 pub returns-then-is_taken-clause-ready : goal.returns-then-is_taken-clause-ready
 returns-then-is_taken-clause-ready g c =
-    room_after-held c.args.self.now.ready c.args.self.now.own c.args.self.now.hart c.jump-then-is_taken.new.self (ap (λ (a : After). a.hart.communication.registrations) c.jump-then-is_taken.ensures.hart) c.jump-then-is_taken.ensures.rest
+    room_after-held c.args.self.now.ready c.args.self.now.own c.args.self.now.hart c.jump-then-is_taken.new.self
+    (ap (λ (a : After). a.hart.communication.registrations) c.jump-then-is_taken.ensures.hart) c.jump-then-is_taken.ensures.rest
 
 pub returns-then-is_taken-clause-own : goal.returns-then-is_taken-clause-own
 returns-then-is_taken-clause-own g c =
@@ -171,11 +181,13 @@ returns-then-is_taken-clause-own g c =
 
 pub returns-else-is_taken-clause-ok : goal.returns-else-is_taken-clause-ok
 returns-else-is_taken-clause-ok g c =
-    rw (c.in-Branch.is, ← c.reg-in-Branch.ensures, ← c.reg-in-Branch-2.ensures, ← c.is_taken.ensures, c.if-is_taken.false) c.pass.ensures.hart
+    rw (c.in-Branch.is, ← c.reg-in-Branch.ensures, ← c.reg-in-Branch-2.ensures, ← c.is_taken.ensures, c.if-is_taken.false)
+    c.pass.ensures.hart
 
 pub returns-else-is_taken-clause-ready : goal.returns-else-is_taken-clause-ready
 returns-else-is_taken-clause-ready g c =
-    room_after-held c.args.self.now.ready c.args.self.now.own c.args.self.now.hart c.pass.new.self (ap (λ (a : After). a.hart.communication.registrations) c.pass.ensures.hart) c.pass.ensures.rest
+    room_after-held c.args.self.now.ready c.args.self.now.own c.args.self.now.hart c.pass.new.self
+    (ap (λ (a : After). a.hart.communication.registrations) c.pass.ensures.hart) c.pass.ensures.rest
 
 pub returns-else-is_taken-clause-own : goal.returns-else-is_taken-clause-own
 returns-else-is_taken-clause-own g c =
@@ -187,7 +199,8 @@ returns-in-Upper-clause-ok g c =
 
 pub returns-in-Upper-clause-ready : goal.returns-in-Upper-clause-ready
 returns-in-Upper-clause-ready g c =
-    room_after-held c.args.self.now.ready c.args.self.now.own c.args.self.now.hart c.upper-state.new.self (ap (λ (a : After). a.hart.communication.registrations) c.upper-state.ensures.hart) c.upper-state.ensures.rest
+    room_after-held c.args.self.now.ready c.args.self.now.own c.args.self.now.hart c.upper-state.new.self
+    (ap (λ (a : After). a.hart.communication.registrations) c.upper-state.ensures.hart) c.upper-state.ensures.rest
 
 pub returns-in-Upper-clause-own : goal.returns-in-Upper-clause-own
 returns-in-Upper-clause-own g c =
@@ -195,7 +208,8 @@ returns-in-Upper-clause-own g c =
 
 pub returns-in-Jal-clause-ready : goal.returns-in-Jal-clause-ready
 returns-in-Jal-clause-ready g c =
-    room_after-held c.args.self.now.ready c.args.self.now.own c.args.self.now.hart c.jump_and_link-state.new.self (ap (λ (a : After). a.hart.communication.registrations) c.jump_and_link-state.ensures.hart) c.jump_and_link-state.ensures.rest
+    room_after-held c.args.self.now.ready c.args.self.now.own c.args.self.now.hart c.jump_and_link-state.new.self
+    (ap (λ (a : After). a.hart.communication.registrations) c.jump_and_link-state.ensures.hart) c.jump_and_link-state.ensures.rest
 
 pub returns-in-Jal-clause-own : goal.returns-in-Jal-clause-own
 returns-in-Jal-clause-own g c =
@@ -203,7 +217,9 @@ returns-in-Jal-clause-own g c =
 
 pub returns-in-Jalr-clause-ready : goal.returns-in-Jalr-clause-ready
 returns-in-Jalr-clause-ready g c =
-    room_after-held c.args.self.now.ready c.args.self.now.own c.args.self.now.hart c.jump_and_link-state-in-Jalr.new.self (ap (λ (a : After). a.hart.communication.registrations) c.jump_and_link-state-in-Jalr.ensures.hart) c.jump_and_link-state-in-Jalr.ensures.rest
+    room_after-held c.args.self.now.ready c.args.self.now.own c.args.self.now.hart c.jump_and_link-state-in-Jalr.new.self
+    (ap (λ (a : After). a.hart.communication.registrations) c.jump_and_link-state-in-Jalr.ensures.hart)
+    c.jump_and_link-state-in-Jalr.ensures.rest
 
 pub returns-in-Jalr-clause-own : goal.returns-in-Jalr-clause-own
 returns-in-Jalr-clause-own g c =
@@ -219,13 +235,15 @@ pub returns-in_err-state-in-Store-clause-refuses : goal.returns-in_err-state-in-
 returns-in_err-state-in-Store-clause-refuses g c =
     let fits : SFits w32 c.in-Store.imm = search rules in
     let addr = rw (to_z-of_z w32 c.in-Store.imm fits) at c.offset_by-addr-in-Store.ensures in
-    on_err c.from_residual.result _ (rw (c.in-Store.is, ← c.reg-in-Store.ensures, ← addr, ← c.reg-value.ensures) c.in_err-state-in-Store.ensures.refuses)
+    on_err c.from_residual.result _
+    (rw (c.in-Store.is, ← c.reg-in-Store.ensures, ← addr, ← c.reg-value.ensures) c.in_err-state-in-Store.ensures.refuses)
 
 pub returns-in_err-state-in-Store-clause-shared : goal.returns-in_err-state-in-Store-clause-shared
 returns-in_err-state-in-Store-clause-shared g c =
     let fits : SFits w32 c.in-Store.imm = search rules in
     let addr = rw (to_z-of_z w32 c.in-Store.imm fits) at c.offset_by-addr-in-Store.ensures in
-    on_err c.from_residual.result _ (rw (c.in-Store.is, ← c.reg-in-Store.ensures, ← addr, ← c.reg-value.ensures) c.in_err-state-in-Store.ensures.shared)
+    on_err c.from_residual.result _
+    (rw (c.in-Store.is, ← c.reg-in-Store.ensures, ← addr, ← c.reg-value.ensures) c.in_err-state-in-Store.ensures.shared)
 
 pub returns-in_ok-state-in-Store-clause-ok : goal.returns-in_ok-state-in-Store-clause-ok
 returns-in_ok-state-in-Store-clause-ok g c =
@@ -256,7 +274,8 @@ returns-then-is_taken-clause-ok g c =
     let fits : SFits w32 c.in-Branch.imm = search rules in
     let at = rw (to_z-of_z w32 c.in-Branch.imm fits) at c.offset_by.ensures in
     let target = at ∙ ap (λ (p : PreparedHart). modulo (pos p.hart.pc +ℤ c.in-Branch.imm)) c.jump.view_is in
-    rw (c.in-Branch.is, ← c.reg-in-Branch.ensures, ← c.reg-in-Branch-2.ensures, ← c.is_taken.ensures, c.if-is_taken.true, ← target) c.jump-then-is_taken.ensures.hart
+    rw (c.in-Branch.is, ← c.reg-in-Branch.ensures, ← c.reg-in-Branch-2.ensures, ← c.is_taken.ensures, c.if-is_taken.true, ← target)
+    c.jump-then-is_taken.ensures.hart
 
 pub returns-in-Jal-clause-ok : goal.returns-in-Jal-clause-ok
 returns-in-Jal-clause-ok g c =

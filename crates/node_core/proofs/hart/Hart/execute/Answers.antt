@@ -19,11 +19,14 @@ returns-clause-refuses g c =
     let view = ap (λ (p : PreparedHart). fetched p.hart) c.self.view_is in
     let word = c.match-load32_in_page.word in
     let code : Some (code_in word) ≡ fetched h = elim c.match-load32_in_page.branch [
-      | in-Some w ↦ rw w.word-is (code_at_word c.self.inside.memory.bytes c.self.inside.pc w.in-Some.word w.in-Some.ensures.value w.in-Some.ensures.low ∙ view)
+      | in-Some w ↦
+          rw w.word-is
+          (code_at_word c.self.inside.memory.bytes c.self.inside.pc w.in-Some.word w.in-Some.ensures.value w.in-Some.ensures.low ∙ view)
       | in-None+in-Some-fetch w ↦ rw w.word-is (ap (option_map code_in) (sym w.in-Some-fetch.is) ∙ w.fetch.ensures)
     ] in
     let four : code_length word ≡ 4 = sym c.code_length.ensures ∙ c.if-code_length-ne4.false in
-    may_refuse c.effect.result c.args.input.now h (Word word) c.in-Some-decode.instr aligned (fetched-word h word code four) (sym c.decode.ensures.value ∙ c.in-Some-decode.is) c.effect.ensures.refuses
+    may_refuse c.effect.result c.args.input.now h (Word word) c.in-Some-decode.instr aligned (fetched-word h word code four)
+    (sym c.decode.ensures.value ∙ c.in-Some-decode.is) c.effect.ensures.refuses
 
 pub returns-in_default-clause-refuses : goal.returns-in_default-clause-refuses
 returns-in_default-clause-refuses g c =
@@ -33,8 +36,11 @@ returns-in_default-clause-refuses g c =
     let view = ap (λ (p : PreparedHart). fetched p.hart) c.self.view_is in
     let word = c.match-load32_in_page.word in
     let code : Some (code_in word) ≡ fetched h = elim c.match-load32_in_page.branch [
-      | in-Some w ↦ rw w.word-is (code_at_word c.self.inside.memory.bytes c.self.inside.pc w.in-Some.word w.in-Some.ensures.value w.in-Some.ensures.low ∙ view)
+      | in-Some w ↦
+          rw w.word-is
+          (code_at_word c.self.inside.memory.bytes c.self.inside.pc w.in-Some.word w.in-Some.ensures.value w.in-Some.ensures.low ∙ view)
       | in-None+in-Some-fetch w ↦ rw w.word-is (ap (option_map code_in) (sym w.in-Some-fetch.is) ∙ w.fetch.ensures)
     ] in
     let four : code_length word ≡ 4 = sym c.code_length.ensures ∙ c.if-code_length-ne4.false in
-    may_refuse-float c.execute_float.result c.args.input.now h (Word word) aligned (fetched-word h word code four) (sym c.decode.ensures.value ∙ c.in_default.is) c.execute_float.ensures.refuses
+    may_refuse-float c.execute_float.result c.args.input.now h (Word word) aligned (fetched-word h word code four)
+    (sym c.decode.ensures.value ∙ c.in_default.is) c.execute_float.ensures.refuses

@@ -8,5 +8,6 @@ use Rattle.node_core.proofs.hart.Hart.fetch.Goals as goal
 pub returns-in-Some : goal.returns-in-Some
 returns-in-Some g c =
     let h = c.self.inside in
-    code_at_word h.memory.bytes h.pc c.in-Some.word (rw c.plain.ensures at c.in-Some.ensures.value) (rw c.plain.ensures at c.in-Some.ensures.low)
+    code_at_word h.memory.bytes h.pc c.in-Some.word (rw c.plain.ensures at c.in-Some.ensures.value)
+    (rw c.plain.ensures at c.in-Some.ensures.low)
     ∙ ap (λ (p : PreparedHart). fetched p.hart) c.self.view_is

@@ -24,6 +24,14 @@ invariant_of-self g c =
     let tag_is = ap length {y = tag_bytes} (rw c.plain-2.ensures at c.in-Ok.ensures.ok) in
     let payload_bytes = bytes_at h.memory c.reg-payload.result c.reg-len.result in
     let payload_is = ap length {y = payload_bytes} (rw c.plain-3.ensures at c.in-Ok-read_range.ensures.ok) in
-    let counts : size_of request ≡ tag_len + c.reg-len.result = omega (arith, tag_is, payload_is, length-bytes_at h.memory c.reg-tag.result tag_len tag_fits, length-bytes_at h.memory c.reg-payload.result c.reg-len.result payload_fits) in
+    let counts : size_of request ≡ tag_len + c.reg-len.result =
+    omega (
+      arith,
+      tag_is,
+      payload_is,
+      length-bytes_at h.memory c.reg-tag.result tag_len tag_fits,
+      length-bytes_at h.memory c.reg-payload.result c.reg-len.result payload_fits,
+    ) in
     let room : is_full_for h.communication.requests (tag_len + c.reg-len.result) ≡ false = grind (arith, common_steps) in
-    rw c.in-Ok-add_send.ensures.ok ((Keeps-requested h request (tag_len + c.reg-len.result) counts room c.if-target-self.false).sound c.self.invariant)
+    rw c.in-Ok-add_send.ensures.ok
+    ((Keeps-requested h request (tag_len + c.reg-len.result) counts room c.if-target-self.false).sound c.self.invariant)

@@ -12,5 +12,12 @@ write_owned-requires g c =
 
 pub returns : goal.returns
 returns g c =
-    let there : List ℕ → List Bool → PreparedHart = λ bytes pages. record { hart = with_memory bytes (hart_view c.self.inside).hart; ready = c.self.inside.communication.slots.ready; own = pages } in
-    ap₂ there c.write_owned.ensures.bytes c.write_owned.ensures.same_own ∙ ap (λ (h : PreparedHart). record h { hart = with_memory (with_bytes h.hart.memory c.args.addr c.args.bytes.now) h.hart }) c.self.view_is
+    let there : List ℕ → List Bool → PreparedHart =
+    λ bytes pages. record {
+      hart = with_memory bytes (hart_view c.self.inside).hart;
+      ready = c.self.inside.communication.slots.ready;
+      own = pages;
+    } in
+    ap₂ there c.write_owned.ensures.bytes c.write_owned.ensures.same_own
+    ∙ ap (λ (h : PreparedHart). record h { hart = with_memory (with_bytes h.hart.memory c.args.addr c.args.bytes.now) h.hart })
+    c.self.view_is

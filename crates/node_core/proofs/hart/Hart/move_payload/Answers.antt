@@ -19,7 +19,8 @@ returns-in_default-clause-ok g c =
 
 pub returns-in_default-clause-ready : goal.returns-in_default-clause-ready
 returns-in_default-clause-ready g c =
-    room_after-held c.args.self.now.ready c.args.self.now.own c.args.self.now.hart c.advance.new.self (ap (λ (a : After). a.hart.communication.registrations) c.advance.ensures.hart) c.advance.ensures.rest
+    room_after-held c.args.self.now.ready c.args.self.now.own c.args.self.now.hart c.advance.new.self
+    (ap (λ (a : After). a.hart.communication.registrations) c.advance.ensures.hart) c.advance.ensures.rest
 
 pub invariant_of-self : goal.invariant_of-self
 invariant_of-self g c = (Keeps-memory (hart_view c.self.inside).hart _ c.write_range.ensures.same_size).sound c.self.invariant
@@ -30,11 +31,16 @@ returns-in-Err-clause-ok g c =
     let read = rw (← c.self.view_is) at c.reg-addr.ensures in
     let asked = rw (← c.self.view_is) at c.reg.ensures in
     let bytes = take c.min-count.result c.as_slice-payload.result.now in
-    let move : IsMove h c.in-Some.message.now c.reg-addr.result bytes = IsMove-read h c.in-Some.message.now c.reg-addr.result c.reg.result c.min-count.result c.as_slice-payload.result.now (sym c.first.ensures ∙ ap option_copied c.in-Some.is) read asked (rw (← c.message.view_is) c.as_slice-payload.ensures) c.min-count.ensures in
-    rw (← c.self.view_is) (not_written-ok h _ _ c.in-Err.error c.not_written.result c.not_written.ensures.ok c.in-Err.ensures.err (λ outside. move-outside h c.in-Some.message.now c.reg-addr.result bytes move (c.in-Err.ensures.outside.0 (ap Err outside))))
+    let move : IsMove h c.in-Some.message.now c.reg-addr.result bytes =
+    IsMove-read h c.in-Some.message.now c.reg-addr.result c.reg.result c.min-count.result c.as_slice-payload.result.now
+    (sym c.first.ensures ∙ ap option_copied c.in-Some.is) read asked (rw (← c.message.view_is) c.as_slice-payload.ensures)
+    c.min-count.ensures in
+    rw (← c.self.view_is) (not_written-ok h _ _ c.in-Err.error c.not_written.result c.not_written.ensures.ok c.in-Err.ensures.err
+    (λ outside. move-outside h c.in-Some.message.now c.reg-addr.result bytes move (c.in-Err.ensures.outside.0 (ap Err outside))))
 
 pub returns-in-Err-clause-ready : goal.returns-in-Err-clause-ready
-returns-in-Err-clause-ready g c = rw (← c.self.view_is) (sym (room_after-same c.self.inside.communication.slots.ready (hart_view c.self.inside).hart))
+returns-in-Err-clause-ready g c =
+    rw (← c.self.view_is) (sym (room_after-same c.self.inside.communication.slots.ready (hart_view c.self.inside).hart))
 
 pub returns-in-Err-clause-own : goal.returns-in-Err-clause-own
 returns-in-Err-clause-own g c = rw (← c.self.view_is) c.write_range.ensures.more.keeps
@@ -45,9 +51,13 @@ returns-in-Err-clause-refuses g c =
     let read = rw (← c.self.view_is) at c.reg-addr.ensures in
     let asked = rw (← c.self.view_is) at c.reg.ensures in
     let bytes = take c.min-count.result c.as_slice-payload.result.now in
-    let move : IsMove h c.in-Some.message.now c.reg-addr.result bytes = IsMove-read h c.in-Some.message.now c.reg-addr.result c.reg.result c.min-count.result c.as_slice-payload.result.now (sym c.first.ensures ∙ ap option_copied c.in-Some.is) read asked (rw (← c.message.view_is) c.as_slice-payload.ensures) c.min-count.ensures in
+    let move : IsMove h c.in-Some.message.now c.reg-addr.result bytes =
+    IsMove-read h c.in-Some.message.now c.reg-addr.result c.reg.result c.min-count.result c.as_slice-payload.result.now
+    (sym c.first.ensures ∙ ap option_copied c.in-Some.is) read asked (rw (← c.message.view_is) c.as_slice-payload.ensures)
+    c.min-count.ensures in
     rw (← c.self.view_is) (not_written-refuses _ c.in-Err.error c.not_written.result c.not_written.ensures.err (λ refused.
-    let fit : fits (length h.memory) c.reg-addr.result (length bytes) ≡ true = true-unless _ (λ out. let outside = c.in-Err.ensures.outside.1 out in cc) in
+    let fit : fits (length h.memory) c.reg-addr.result (length bytes) ≡ true =
+    true-unless _ (λ out. let outside = c.in-Err.ensures.outside.1 out in cc) in
     move-refuses h c.in-Some.message.now c.reg-addr.result bytes move fit (c.in-Err.ensures.some (ap Err refused))))
 
 pub invariant_of-self-2 : goal.invariant_of-self-2
@@ -61,13 +71,19 @@ returns-clause-ok g c =
     let read = rw (← c.self.view_is) at c.reg-addr.ensures in
     let asked = rw (← c.self.view_is) at c.reg.ensures in
     let bytes = take c.min-count.result c.as_slice-payload.result.now in
-    let move : IsMove h c.in-Some.message.now c.reg-addr.result bytes = IsMove-read h c.in-Some.message.now c.reg-addr.result c.reg.result c.min-count.result c.as_slice-payload.result.now (sym c.first.ensures ∙ ap option_copied c.in-Some.is) read asked (rw (← c.message.view_is) c.as_slice-payload.ensures) c.min-count.ensures in
-    let fit : fits (length h.memory) c.reg-addr.result (length bytes) ≡ true = true-unless _ (λ out. let outside = c.in-Ok.ensures.outside.1 out in cc) in
-    rw (← c.self.view_is) (move-done h c.in-Some.message.now c.reg-addr.result bytes move fit _ _ c.in-Ok.ensures.ok c.drop_first.ensures ∙ c.advance-2.ensures.hart)
+    let move : IsMove h c.in-Some.message.now c.reg-addr.result bytes =
+    IsMove-read h c.in-Some.message.now c.reg-addr.result c.reg.result c.min-count.result c.as_slice-payload.result.now
+    (sym c.first.ensures ∙ ap option_copied c.in-Some.is) read asked (rw (← c.message.view_is) c.as_slice-payload.ensures)
+    c.min-count.ensures in
+    let fit : fits (length h.memory) c.reg-addr.result (length bytes) ≡ true =
+    true-unless _ (λ out. let outside = c.in-Ok.ensures.outside.1 out in cc) in
+    rw (← c.self.view_is) (move-done h c.in-Some.message.now c.reg-addr.result bytes move fit _ _ c.in-Ok.ensures.ok c.drop_first.ensures
+    ∙ c.advance-2.ensures.hart)
 
 pub returns-clause-ready : goal.returns-clause-ready
 returns-clause-ready g c =
-    rw (← c.self.view_is) (room_after-held c.self.inside.communication.slots.ready c.write_range.new.self.own (hart_view c.self.inside).hart c.advance-2.new.self (ap (λ (a : After). a.hart.communication.registrations) c.advance-2.ensures.hart) c.advance-2.ensures.rest)
+    rw (← c.self.view_is) (room_after-held c.self.inside.communication.slots.ready c.write_range.new.self.own (hart_view c.self.inside).hart
+    c.advance-2.new.self (ap (λ (a : After). a.hart.communication.registrations) c.advance-2.ensures.hart) c.advance-2.ensures.rest)
 
 pub returns-clause-own : goal.returns-clause-own
 returns-clause-own g c = rw (← c.self.view_is, c.advance-2.ensures.rest) c.write_range.ensures.more.keeps

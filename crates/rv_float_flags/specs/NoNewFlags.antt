@@ -1,6 +1,6 @@
 -- Which sums, products, quotients and roots are known at once to raise no new flags, which are those that are not there, without
--- rounding them once more: finite ones, not tiny, that may be inexact, or cannot be. These are no words of the manual. They say for whom
--- an operation is quick, and change no result.
+-- rounding them once more: finite ones, tiny only if they are exact, that may be inexact, or cannot be. These are no words of the manual. They say
+-- for whom an operation is quick, and change no result: another one may raise nothing either.
 use Rattle.std.specs.Prelude.{ℕ, ◌+◌, ◌%◌, ◌^◌, ◌==◌, Bool, not, ◌&&◌, ◌||◌, nat_lt, nat_le}
 use Rattle.rv_float_flags.specs.declared.flags.Flags.{Flags}
 use Rattle.std.specs.Float.{float_zero}
@@ -17,8 +17,8 @@ is_finite a = nat_lt (exponent a) 2047
 abbrev pub is_moderate : ℕ → Bool
 is_moderate a = nat_lt (exponent a) 2045
 
--- By their exponents, which are 1023 above the powers of two, the product of two is neither tiny nor infinite: it is at least 2 ^ -970, and
--- less than 2 ^ 1022.
+-- By their exponents, which are 1023 above the powers of two, the product of two is neither tiny nor infinite: it is at least
+-- 2 ^ -1021, if both are normal 2 ^ -970, and less than 2 ^ 1022.
 abbrev pub is_product_moderate : ℕ → ℕ → Bool
 is_product_moderate a b = nat_le 1076 (exponent a + exponent b) && nat_le (exponent a + exponent b) 3066
 

@@ -5,7 +5,7 @@ ghost use Rattle.rv_tables.specs.Tables.{AreRowsOf};
 
 use crate::instr::{Form, Row};
 
-/// The list of the rows, from which the table, the decoder, the encoder and the names follow.
+/// The list of the rows, from which the table and the names follow, and most of the decoder and the encoder.
 ///
 /// `listing!(GROUP..; MACRO [ARGUMENT])` calls a macro with the rows of these groups, or of `all`. After the argument come, for each group,
 /// its form and its mask, and for each row the value under the mask, the instruction and its name.

@@ -1,23 +1,21 @@
 -- The statements of floating point (RISC-V Unprivileged ISA 20191213, the listings of chapter 24, and the names and pseudo-instructions
 -- of chapter 25): the mnemonic of each, the kinds of its operands in the order in which they are written, and the instruction that it
 -- makes. A rounding mode may be left out; what it is then is that of assemblers.
-use Rattle.std.specs.Prelude.{ℕ, ◌+◌, ◌==◌, if◌then◌else◌, pos, List, [], ◌∷◌, length, take, drop, codes, find, Option, Some, None}
+use Rattle.std.specs.Prelude.{ℕ, ◌+◌, ◌==◌, if◌then◌else◌, pos, List, [], ◌∷◌, ◌++◌, length, take, drop, codes, find, Option, Some, None}
+use Rattle.std.specs.List.{flat_map}
 use Rattle.std.specs.Str.{bytes_eq}
 use Rattle.rv_float_tables.specs.declared.instr.FloatInstr.{FloatInstr}
 use Rattle.rv_float_tables.specs.declared.instr.FloatInstr.TheVariants as instr
 use Rattle.rv_float_tables.specs.declared.instr.Format.TheVariants.{Single, Double}
 use Rattle.rv_float_tables.specs.declared.instr.RoundingField.{RoundingField}
 use Rattle.rv_float_tables.specs.declared.instr.RoundingField.TheVariants.{Rne, Dyn}
-use Rattle.rv_float_tables.specs.declared.instr.ArithmeticOp.TheVariants.{Add, Sub, Mul, Div}
-use Rattle.rv_float_tables.specs.declared.instr.FusedOp.TheVariants.{Madd, Msub, Nmsub, Nmadd}
 use Rattle.rv_float_tables.specs.declared.instr.SignOp.TheVariants.{Sgnj, Sgnjn, Sgnjx}
-use Rattle.rv_float_tables.specs.declared.instr.MinMaxOp.TheVariants.{Min, Max}
-use Rattle.rv_float_tables.specs.declared.instr.CompareOp.TheVariants.{Feq, Flt, Fle}
-use Rattle.rv_float_tables.specs.declared.instr.WordKind.TheVariants.{Signed, Unsigned}
+use Rattle.rv_float_tables.specs.declared.instr.CompareOp.TheVariants.{Flt, Fle}
 use Rattle.rv_float_tables.specs.declared.instr.CsrOp.TheVariants.{Write, Set, Clear}
 use Rattle.rv_float_tables.specs.declared.instr.FloatCsr.{FloatCsr}
 use Rattle.rv_float_tables.specs.declared.instr.FloatCsr.TheVariants.{Fflags, Frm, Fcsr}
-use Rattle.rv_float_tables.specs.Mnemonics.{float_mnemonic_of, of_format}
+use Rattle.rv_float_tables.specs.Mnemonics.{float_mnemonic_of, of_format, sample}
+use Rattle.rv_float_tables.specs.Rows.{float_encodings}
 use Rattle.asm_syntax.specs.declared.float_form.FloatForm.{FloatForm}
 use Rattle.asm_syntax.specs.declared.float_form.FloatForm.TheVariants.{Row, Move, Negate, Absolute, Greater, GreaterOrEqual, ReadFloatCsr}
 use Rattle.asm_syntax.specs.declared.float_form.FloatForm.TheVariants.{WriteFloatCsr, WriteFloatCsrImmediate, ReadCsr, ChangeCsr}
@@ -150,29 +148,42 @@ kinds_of ReadCsr = exactly (IntegerRd ∷ Csr ∷ [])
 kinds_of (ChangeCsr op) = exactly (Csr ∷ IntegerRs1 ∷ [])
 kinds_of (ChangeCsrImmediate op) = exactly (Csr ∷ Immediate ∷ [])
 
--- the statements of floating point
-unfoldable pub float_forms : List FloatForm
-float_forms =
-    Row (row.Load Single) ∷ Row (row.Load Double) ∷ Row (row.Store Single) ∷ Row (row.Store Double) ∷ Row (row.Fused Madd Single)
-    ∷ Row (row.Fused Madd Double) ∷ Row (row.Fused Msub Single) ∷ Row (row.Fused Msub Double) ∷ Row (row.Fused Nmsub Single)
-    ∷ Row (row.Fused Nmsub Double) ∷ Row (row.Fused Nmadd Single) ∷ Row (row.Fused Nmadd Double) ∷ Row (row.Arithmetic Add Single)
-    ∷ Row (row.Arithmetic Add Double) ∷ Row (row.Arithmetic Sub Single) ∷ Row (row.Arithmetic Sub Double)
-    ∷ Row (row.Arithmetic Mul Single) ∷ Row (row.Arithmetic Mul Double) ∷ Row (row.Arithmetic Div Single)
-    ∷ Row (row.Arithmetic Div Double) ∷ Row (row.SquareRoot Single) ∷ Row (row.SquareRoot Double) ∷ Row (row.Sign Sgnj Single)
-    ∷ Row (row.Sign Sgnj Double) ∷ Row (row.Sign Sgnjn Single) ∷ Row (row.Sign Sgnjn Double) ∷ Row (row.Sign Sgnjx Single)
-    ∷ Row (row.Sign Sgnjx Double) ∷ Row (row.MinMax Min Single) ∷ Row (row.MinMax Min Double) ∷ Row (row.MinMax Max Single)
-    ∷ Row (row.MinMax Max Double) ∷ Row (row.Compare Feq Single) ∷ Row (row.Compare Feq Double) ∷ Row (row.Compare Flt Single)
-    ∷ Row (row.Compare Flt Double) ∷ Row (row.Compare Fle Single) ∷ Row (row.Compare Fle Double) ∷ Row (row.Class Single)
-    ∷ Row (row.Class Double) ∷ Row (row.ToWord Signed Single) ∷ Row (row.ToWord Signed Double) ∷ Row (row.ToWord Unsigned Single)
-    ∷ Row (row.ToWord Unsigned Double) ∷ Row (row.FromWord Signed Single) ∷ Row (row.FromWord Signed Double)
-    ∷ Row (row.FromWord Unsigned Single) ∷ Row (row.FromWord Unsigned Double) ∷ Row (row.ToFormat Single)
-    ∷ Row (row.ToFormat Double) ∷ Row row.MoveToInteger ∷ Row row.MoveFromInteger ∷ Row (row.Csr Write) ∷ Row (row.Csr Set)
-    ∷ Row (row.Csr Clear) ∷ Row (row.CsrImmediate Write) ∷ Row (row.CsrImmediate Set) ∷ Row (row.CsrImmediate Clear) ∷ Move Single
-    ∷ Move Double ∷ Negate Single ∷ Negate Double ∷ Absolute Single ∷ Absolute Double ∷ Greater Single ∷ Greater Double
+-- the row of an instruction
+abbrev pub form_of_row : FloatInstr → RowForm
+form_of_row (instr.Load format rd rs1 imm) = row.Load format
+form_of_row (instr.Store format rs1 rs2 imm) = row.Store format
+form_of_row (instr.Fused op format rd rs1 rs2 rs3 rm) = row.Fused op format
+form_of_row (instr.Arithmetic op format rd rs1 rs2 rm) = row.Arithmetic op format
+form_of_row (instr.SquareRoot format rd rs1 rm) = row.SquareRoot format
+form_of_row (instr.Sign op format rd rs1 rs2) = row.Sign op format
+form_of_row (instr.MinMax op format rd rs1 rs2) = row.MinMax op format
+form_of_row (instr.Compare op format rd rs1 rs2) = row.Compare op format
+form_of_row (instr.Class format rd rs1) = row.Class format
+form_of_row (instr.ToWord kind format rd rs1 rm) = row.ToWord kind format
+form_of_row (instr.FromWord kind format rd rs1 rm) = row.FromWord kind format
+form_of_row (instr.ToFormat format rd rs1 rm) = row.ToFormat format
+form_of_row (instr.MoveToInteger rd rs1) = row.MoveToInteger
+form_of_row (instr.MoveFromInteger rd rs1) = row.MoveFromInteger
+form_of_row (instr.Csr op csr rd rs1) = row.Csr op
+form_of_row (instr.CsrImmediate op csr rd imm) = row.CsrImmediate op
+
+-- the statement of what a row reads off a word
+abbrev pub statement_of_row : Option FloatInstr → List FloatForm
+statement_of_row None = []
+statement_of_row (Some i) = Row (form_of_row i) ∷ []
+
+-- the pseudo-instructions
+unfoldable pub own_float_forms : List FloatForm
+own_float_forms =
+    Move Single ∷ Move Double ∷ Negate Single ∷ Negate Double ∷ Absolute Single ∷ Absolute Double ∷ Greater Single ∷ Greater Double
     ∷ GreaterOrEqual Single ∷ GreaterOrEqual Double ∷ ReadFloatCsr Fcsr ∷ ReadFloatCsr Frm ∷ ReadFloatCsr Fflags
     ∷ WriteFloatCsr Fcsr ∷ WriteFloatCsr Frm ∷ WriteFloatCsr Fflags ∷ WriteFloatCsrImmediate Frm ∷ WriteFloatCsrImmediate Fflags
     ∷ ReadCsr ∷ ChangeCsr Write ∷ ChangeCsr Set ∷ ChangeCsr Clear ∷ ChangeCsrImmediate Write ∷ ChangeCsrImmediate Set
     ∷ ChangeCsrImmediate Clear ∷ []
+
+-- the statements of floating point: one for each row of the instruction set, and the pseudo-instructions
+unfoldable pub float_forms : List FloatForm
+float_forms = flat_map (λ e. statement_of_row (e.read sample)) float_encodings ++ own_float_forms
 
 -- the statement with a mnemonic
 unfoldable pub float_form_named : List ℕ → Option FloatForm

@@ -6,8 +6,8 @@ ghost use Rattle.asm_syntax.specs.FloatForms.{kinds_of, row_kinds, exactly, but_
 
 use crate::float_operands::{FloatOperands, Kind};
 use rv_float_tables::{
-    ArithmeticOp, CompareOp, CsrOp, FloatCsr, FloatInstr, Format, FusedOp, MinMaxOp, RoundingField,
-    SignOp, WordKind, mnemonic,
+    ArithmeticOp, CompareOp, CsrOp, FLOAT_ROW_COUNT, FloatCsr, FloatInstr, Format, FusedOp,
+    MinMaxOp, RoundingField, SignOp, WordKind, listing, mnemonic,
 };
 
 /// A row of the listings, by what is no operand of it.
@@ -59,92 +59,49 @@ pub(crate) enum FloatForm {
     ChangeCsrImmediate(CsrOp),
 }
 
+// The row of a listing, by what tells it from the others of its form.
+macro_rules! row_form {
+    ($form:ident ()) => { RowForm::$form };
+    ($form:ident ($($which:tt)*)) => { RowForm::$form($($which)*) };
+}
+
+// A statement for each row, and the pseudo-instructions.
+macro_rules! with_pseudo_instructions {
+    ([] $($mask:literal $value:literal $form:ident $which:tt $name:literal,)*) => {
+        [
+            $(FloatForm::Row(row_form!($form $which)),)*
+            FloatForm::Move(Format::Single),
+            FloatForm::Move(Format::Double),
+            FloatForm::Negate(Format::Single),
+            FloatForm::Negate(Format::Double),
+            FloatForm::Absolute(Format::Single),
+            FloatForm::Absolute(Format::Double),
+            FloatForm::Greater(Format::Single),
+            FloatForm::Greater(Format::Double),
+            FloatForm::GreaterOrEqual(Format::Single),
+            FloatForm::GreaterOrEqual(Format::Double),
+            FloatForm::ReadFloatCsr(FloatCsr::Fcsr),
+            FloatForm::ReadFloatCsr(FloatCsr::Frm),
+            FloatForm::ReadFloatCsr(FloatCsr::Fflags),
+            FloatForm::WriteFloatCsr(FloatCsr::Fcsr),
+            FloatForm::WriteFloatCsr(FloatCsr::Frm),
+            FloatForm::WriteFloatCsr(FloatCsr::Fflags),
+            FloatForm::WriteFloatCsrImmediate(FloatCsr::Frm),
+            FloatForm::WriteFloatCsrImmediate(FloatCsr::Fflags),
+            FloatForm::ReadCsr,
+            FloatForm::ChangeCsr(CsrOp::Write),
+            FloatForm::ChangeCsr(CsrOp::Set),
+            FloatForm::ChangeCsr(CsrOp::Clear),
+            FloatForm::ChangeCsrImmediate(CsrOp::Write),
+            FloatForm::ChangeCsrImmediate(CsrOp::Set),
+            FloatForm::ChangeCsrImmediate(CsrOp::Clear),
+        ]
+    };
+}
+
 /// All statements of floating point.
-static FLOAT_FORMS: [FloatForm; 83] = [
-    FloatForm::Row(RowForm::Load(Format::Single)),
-    FloatForm::Row(RowForm::Load(Format::Double)),
-    FloatForm::Row(RowForm::Store(Format::Single)),
-    FloatForm::Row(RowForm::Store(Format::Double)),
-    FloatForm::Row(RowForm::Fused(FusedOp::Madd, Format::Single)),
-    FloatForm::Row(RowForm::Fused(FusedOp::Madd, Format::Double)),
-    FloatForm::Row(RowForm::Fused(FusedOp::Msub, Format::Single)),
-    FloatForm::Row(RowForm::Fused(FusedOp::Msub, Format::Double)),
-    FloatForm::Row(RowForm::Fused(FusedOp::Nmsub, Format::Single)),
-    FloatForm::Row(RowForm::Fused(FusedOp::Nmsub, Format::Double)),
-    FloatForm::Row(RowForm::Fused(FusedOp::Nmadd, Format::Single)),
-    FloatForm::Row(RowForm::Fused(FusedOp::Nmadd, Format::Double)),
-    FloatForm::Row(RowForm::Arithmetic(ArithmeticOp::Add, Format::Single)),
-    FloatForm::Row(RowForm::Arithmetic(ArithmeticOp::Add, Format::Double)),
-    FloatForm::Row(RowForm::Arithmetic(ArithmeticOp::Sub, Format::Single)),
-    FloatForm::Row(RowForm::Arithmetic(ArithmeticOp::Sub, Format::Double)),
-    FloatForm::Row(RowForm::Arithmetic(ArithmeticOp::Mul, Format::Single)),
-    FloatForm::Row(RowForm::Arithmetic(ArithmeticOp::Mul, Format::Double)),
-    FloatForm::Row(RowForm::Arithmetic(ArithmeticOp::Div, Format::Single)),
-    FloatForm::Row(RowForm::Arithmetic(ArithmeticOp::Div, Format::Double)),
-    FloatForm::Row(RowForm::SquareRoot(Format::Single)),
-    FloatForm::Row(RowForm::SquareRoot(Format::Double)),
-    FloatForm::Row(RowForm::Sign(SignOp::Sgnj, Format::Single)),
-    FloatForm::Row(RowForm::Sign(SignOp::Sgnj, Format::Double)),
-    FloatForm::Row(RowForm::Sign(SignOp::Sgnjn, Format::Single)),
-    FloatForm::Row(RowForm::Sign(SignOp::Sgnjn, Format::Double)),
-    FloatForm::Row(RowForm::Sign(SignOp::Sgnjx, Format::Single)),
-    FloatForm::Row(RowForm::Sign(SignOp::Sgnjx, Format::Double)),
-    FloatForm::Row(RowForm::MinMax(MinMaxOp::Min, Format::Single)),
-    FloatForm::Row(RowForm::MinMax(MinMaxOp::Min, Format::Double)),
-    FloatForm::Row(RowForm::MinMax(MinMaxOp::Max, Format::Single)),
-    FloatForm::Row(RowForm::MinMax(MinMaxOp::Max, Format::Double)),
-    FloatForm::Row(RowForm::Compare(CompareOp::Feq, Format::Single)),
-    FloatForm::Row(RowForm::Compare(CompareOp::Feq, Format::Double)),
-    FloatForm::Row(RowForm::Compare(CompareOp::Flt, Format::Single)),
-    FloatForm::Row(RowForm::Compare(CompareOp::Flt, Format::Double)),
-    FloatForm::Row(RowForm::Compare(CompareOp::Fle, Format::Single)),
-    FloatForm::Row(RowForm::Compare(CompareOp::Fle, Format::Double)),
-    FloatForm::Row(RowForm::Class(Format::Single)),
-    FloatForm::Row(RowForm::Class(Format::Double)),
-    FloatForm::Row(RowForm::ToWord(WordKind::Signed, Format::Single)),
-    FloatForm::Row(RowForm::ToWord(WordKind::Signed, Format::Double)),
-    FloatForm::Row(RowForm::ToWord(WordKind::Unsigned, Format::Single)),
-    FloatForm::Row(RowForm::ToWord(WordKind::Unsigned, Format::Double)),
-    FloatForm::Row(RowForm::FromWord(WordKind::Signed, Format::Single)),
-    FloatForm::Row(RowForm::FromWord(WordKind::Signed, Format::Double)),
-    FloatForm::Row(RowForm::FromWord(WordKind::Unsigned, Format::Single)),
-    FloatForm::Row(RowForm::FromWord(WordKind::Unsigned, Format::Double)),
-    FloatForm::Row(RowForm::ToFormat(Format::Single)),
-    FloatForm::Row(RowForm::ToFormat(Format::Double)),
-    FloatForm::Row(RowForm::MoveToInteger),
-    FloatForm::Row(RowForm::MoveFromInteger),
-    FloatForm::Row(RowForm::Csr(CsrOp::Write)),
-    FloatForm::Row(RowForm::Csr(CsrOp::Set)),
-    FloatForm::Row(RowForm::Csr(CsrOp::Clear)),
-    FloatForm::Row(RowForm::CsrImmediate(CsrOp::Write)),
-    FloatForm::Row(RowForm::CsrImmediate(CsrOp::Set)),
-    FloatForm::Row(RowForm::CsrImmediate(CsrOp::Clear)),
-    FloatForm::Move(Format::Single),
-    FloatForm::Move(Format::Double),
-    FloatForm::Negate(Format::Single),
-    FloatForm::Negate(Format::Double),
-    FloatForm::Absolute(Format::Single),
-    FloatForm::Absolute(Format::Double),
-    FloatForm::Greater(Format::Single),
-    FloatForm::Greater(Format::Double),
-    FloatForm::GreaterOrEqual(Format::Single),
-    FloatForm::GreaterOrEqual(Format::Double),
-    FloatForm::ReadFloatCsr(FloatCsr::Fcsr),
-    FloatForm::ReadFloatCsr(FloatCsr::Frm),
-    FloatForm::ReadFloatCsr(FloatCsr::Fflags),
-    FloatForm::WriteFloatCsr(FloatCsr::Fcsr),
-    FloatForm::WriteFloatCsr(FloatCsr::Frm),
-    FloatForm::WriteFloatCsr(FloatCsr::Fflags),
-    FloatForm::WriteFloatCsrImmediate(FloatCsr::Frm),
-    FloatForm::WriteFloatCsrImmediate(FloatCsr::Fflags),
-    FloatForm::ReadCsr,
-    FloatForm::ChangeCsr(CsrOp::Write),
-    FloatForm::ChangeCsr(CsrOp::Set),
-    FloatForm::ChangeCsr(CsrOp::Clear),
-    FloatForm::ChangeCsrImmediate(CsrOp::Write),
-    FloatForm::ChangeCsrImmediate(CsrOp::Set),
-    FloatForm::ChangeCsrImmediate(CsrOp::Clear),
-];
+static FLOAT_FORMS: [FloatForm; FLOAT_ROW_COUNT + 25] =
+    listing!(in_order; with_pseudo_instructions []);
 
 static LOAD: [Kind; 2] = [Kind::Rd, Kind::Address];
 

@@ -4,13 +4,16 @@ use Rattle.std.specs.Prelude.{bytes_eq, codes}
 use Rattle.std.specs.Option.{option_and_then, option_map_or, option_or}
 use Rattle.bsp_debug.specs.declared.command.Command.TheVariants.{Step, Run}
 use Rattle.debug_lines.specs.declared.form.Form.{Form}
+use Rattle.debug_lines.specs.declared.help.Audience.{Audience}
+use Rattle.debug_lines.specs.declared.help.Audience.TheVariants.{Person, Program}
 use Rattle.debug_lines.specs.declared.topic.Topic.{Topic}
 use Rattle.debug_lines.specs.declared.line.Line.{Line}
 use Rattle.debug_lines.specs.declared.line.Line.TheVariants.{Command, Keep, Back, Forget, Kept, Points, Shown, Areas, Requests, StepNext}
 use Rattle.debug_lines.specs.declared.line.Line.TheVariants.{Over, Nodes, Place, Places, OutputFrom, CostsFrom, Help, HelpOn, Quit, Misused}
 use Rattle.debug_lines.specs.declared.line.Line.TheVariants.{NoLine}
 use Rattle.debug_lines.specs.Lines.{asks_help, line_of, line_of_words, dialogue_line_of, dialogue_of_words, form_named, framed_line_of}
-use Rattle.debug_lines.specs.Lines.{framed_of_words, help_line_of, mistake_of, or_mistake, or_unknown, rank_line_of, state_line_of}
+use Rattle.debug_lines.specs.Lines.{framed_of_words, from_line_of, help_line_of, mistake_of, or_mistake, or_unknown, rank_line_of}
+use Rattle.debug_lines.specs.Lines.{state_line_of}
 use Rattle.numerals.specs.Numbers.{number_in}
 use Rattle.debug_lines.specs.Topics.{topic_named}
 use Rattle.debug_lines.specs.Words.{words}
@@ -31,7 +34,7 @@ either-no_quit None other never none e = none e
 -- no line that scripts do not have is `quit`
 dialogue_one-no_quit : (keep kept where_all points help step : Bool)
     → or_unknown
-    (cond keep (Some Keep) (cond kept (Some Kept) (cond where_all (Some Places) (cond points (Some Points) (cond help (Some Help)
+    (cond keep (Some Keep) (cond kept (Some Kept) (cond where_all (Some Places) (cond points (Some Points) (cond help (Some (Help Person))
     (cond step (Some StepNext) None)))))) ≡ Quit → ⊥
 dialogue_one-no_quit true k w p h s e = cc
 dialogue_one-no_quit false true w p h s e = cc
@@ -57,10 +60,11 @@ rank_line-no_quit false false false true step narrow e = mapped-no_quit Over (λ
 rank_line-no_quit false false false false true narrow e = mapped-no_quit (λ r. Command (Step r 1)) (λ n is. cc) narrow e
 rank_line-no_quit false false false false false narrow e = cc
 
-help_line-no_quit : (help : Bool) (topic : Option Topic) → or_unknown (cond help (option_map HelpOn topic) None) ≡ Quit → ⊥
-help_line-no_quit true (Some t) e = cc
-help_line-no_quit true None e = cc
-help_line-no_quit false topic e = cc
+help_line-no_quit : (audience : Audience) (help : Bool) (topic : Option Topic)
+    → or_unknown (cond help (option_map (HelpOn audience) topic) None) ≡ Quit → ⊥
+help_line-no_quit audience true (Some t) e = cc
+help_line-no_quit audience true None e = cc
+help_line-no_quit audience false topic e = cc
 
 shown-no_quit : (form : Option Form) (rank addr count : Option ℕ)
     → or_unknown
@@ -79,13 +83,13 @@ dialogue-no_quit (word ∷ []) e =
     (bytes_eq word (codes "points")) (bytes_eq word (codes "help"))
     (bytes_eq word (codes "step")) e
 dialogue-no_quit (word ∷ a ∷ []) e =
-    either-no_quit (state_line_of word a) (option_or (rank_line_of word a) (help_line_of word a))
+    either-no_quit (state_line_of word a) (option_or (rank_line_of word a) (help_line_of Person word a))
     (state_line-no_quit (bytes_eq word (codes "back")) (bytes_eq word (codes "forget")) (number_in 64 a))
-    (either-no_quit (rank_line_of word a) (help_line_of word a)
+    (either-no_quit (rank_line_of word a) (help_line_of Person word a)
     (rank_line-no_quit (bytes_eq word (codes "where")) (bytes_eq word (codes "areas")) (bytes_eq word (codes "requests"))
     (bytes_eq word (codes "over"))
     (bytes_eq word (codes "step")) (number_in 32 a))
-    (help_line-no_quit (bytes_eq word (codes "help")) (topic_named a)))
+    (help_line-no_quit Person (bytes_eq word (codes "help")) (topic_named a)))
     e
 dialogue-no_quit (word ∷ a ∷ b ∷ []) e = cc
 dialogue-no_quit (word ∷ a ∷ b ∷ c ∷ []) e = shown-no_quit (form_named word) (number_in 32 a) (number_in 32 b) (number_in 32 c) e
@@ -112,16 +116,17 @@ told-any : (known : Option Line) (ws : List (List ℕ)) → or_unknown known ≡
 told-any (Some l) ws quits = quits
 told-any None ws quits = absurd cc
 
--- nor is one that only framed sessions have
-framed_one-no_quit : (nodes : Bool) → or_unknown (cond nodes (Some Nodes) None) ≡ Quit → ⊥
-framed_one-no_quit true e = cc
-framed_one-no_quit false e = cc
+-- nor is one that framed sessions have in their own way
+framed_one-no_quit : (nodes help : Bool) → or_unknown (cond nodes (Some Nodes) (cond help (Some (Help Program)) None)) ≡ Quit → ⊥
+framed_one-no_quit true help e = cc
+framed_one-no_quit false true e = cc
+framed_one-no_quit false false e = cc
 
-framed_two-no_quit : (output costs : Bool) (wide : Option ℕ)
+from_line-no_quit : (output costs : Bool) (wide : Option ℕ)
     → or_unknown (cond output (option_map OutputFrom wide) (cond costs (option_map CostsFrom wide) None)) ≡ Quit → ⊥
-framed_two-no_quit true costs wide e = mapped-no_quit OutputFrom (λ n is. cc) wide e
-framed_two-no_quit false true wide e = mapped-no_quit CostsFrom (λ n is. cc) wide e
-framed_two-no_quit false false wide e = cc
+from_line-no_quit true costs wide e = mapped-no_quit OutputFrom (λ n is. cc) wide e
+from_line-no_quit false true wide e = mapped-no_quit CostsFrom (λ n is. cc) wide e
+from_line-no_quit false false wide e = cc
 
 framed_three-no_quit : (go : Bool) (rank count : Option ℕ)
     → or_unknown (cond go (option_and_then (λ r. option_map (λ n. Command (Run r n)) count) rank) None) ≡ Quit → ⊥
@@ -132,8 +137,12 @@ framed_three-no_quit false rank count e = cc
 
 framed-no_quit : (ws : List (List ℕ)) → or_unknown (framed_of_words ws) ≡ Quit → ⊥
 framed-no_quit [] e = cc
-framed-no_quit (word ∷ []) e = framed_one-no_quit (bytes_eq word (codes "nodes")) e
-framed-no_quit (word ∷ a ∷ []) e = framed_two-no_quit (bytes_eq word (codes "output")) (bytes_eq word (codes "costs")) (number_in 64 a) e
+framed-no_quit (word ∷ []) e = framed_one-no_quit (bytes_eq word (codes "nodes")) (bytes_eq word (codes "help")) e
+framed-no_quit (word ∷ a ∷ []) e =
+    either-no_quit (from_line_of word a) (help_line_of Program word a)
+    (from_line-no_quit (bytes_eq word (codes "output")) (bytes_eq word (codes "costs")) (number_in 64 a))
+    (help_line-no_quit Program (bytes_eq word (codes "help")) (topic_named a))
+    e
 framed-no_quit (word ∷ a ∷ b ∷ []) e = framed_three-no_quit (bytes_eq word (codes "go")) (number_in 32 a) (number_in 64 b) e
 framed-no_quit (word ∷ a ∷ b ∷ c ∷ more) e = cc
 
@@ -152,9 +161,9 @@ quit_in-plain Dialogue line quits =
     or-plain (line_of_words (words line)) (dialogue_of_words (words line)) (dialogue-no_quit (words line))
     (told-plain (option_or (line_of_words (words line)) (dialogue_of_words (words line))) (words line) quits)
 quit_in-plain Framed line quits =
-    or-plain (line_of_words (words line)) (dialogue_of_words (words line)) (dialogue-no_quit (words line))
-    (or-plain (option_or (line_of_words (words line)) (dialogue_of_words (words line))) (framed_of_words (words line))
-    (framed-no_quit (words line)) quits)
+    or-plain (line_of_words (words line)) (framed_of_words (words line)) (framed-no_quit (words line))
+    (or-plain (option_or (line_of_words (words line)) (framed_of_words (words line))) (dialogue_of_words (words line))
+    (dialogue-no_quit (words line)) quits)
 
 pub quit_in-any : (manner : Manner) (line : List ℕ) → line_of line ≡ Quit → line_in manner line ≡ Quit
 unfolding line_of dialogue_line_of framed_line_of
@@ -163,5 +172,5 @@ quit_in-any Dialogue line quits =
     told-any (option_or (line_of_words (words line)) (dialogue_of_words (words line))) (words line)
     (or-any (line_of_words (words line)) (dialogue_of_words (words line)) quits)
 quit_in-any Framed line quits =
-    or-any (option_or (line_of_words (words line)) (dialogue_of_words (words line))) (framed_of_words (words line))
-    (or-any (line_of_words (words line)) (dialogue_of_words (words line)) quits)
+    or-any (option_or (line_of_words (words line)) (framed_of_words (words line))) (dialogue_of_words (words line))
+    (or-any (line_of_words (words line)) (framed_of_words (words line)) quits)

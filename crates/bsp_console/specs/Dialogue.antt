@@ -12,7 +12,8 @@ use Rattle.debug_lines.specs.Lines.{line_of, dialogue_line_of, framed_line_of}
 use Rattle.bsp_session.specs.declared.job.Job.{Job}
 use Rattle.bsp_console.specs.declared.manner.Manner.{Manner}
 use Rattle.bsp_console.specs.declared.manner.Manner.TheVariants.{Script, Dialogue, Framed}
-use Rattle.bsp_console.specs.Talk.{Answered, AnsweredFramed, HasQuit, LacksQuit, Says, Telling, answered_one_by_one, ended_lines, framed}
+use Rattle.bsp_console.specs.Talk.{Answered, AnsweredFramed, HasQuit, LacksQuit, Says, AnswerFormat, answered_one_by_one, ended_lines}
+use Rattle.bsp_console.specs.Talk.{framed}
 use Rattle.bsp_console.specs.Talk.{given_lines, in_person, plainly, spoken, until_quit}
 use Rattle.bsp_console.specs.Console.{Console, BeginsTo, CutsReply, StopsAtFiles, HasNoDebugger, StopsBefore, WritesReplies, most_script}
 
@@ -131,7 +132,7 @@ line_in Dialogue line = dialogue_line_of line
 line_in Framed line = framed_line_of line
 
 -- how replies are told
-abbrev pub tells_in : Manner → Job → Telling
+abbrev pub tells_in : Manner → Job → AnswerFormat
 tells_in Script job = plainly job
 tells_in Dialogue job = in_person job
 tells_in Framed job = plainly job

@@ -30,12 +30,12 @@ use Rattle.debug_lines.specs.declared.verdict.Verdict.TheVariants.{BadCommand, M
 use Rattle.debug_lines.specs.declared.form.Form.{Form}
 use Rattle.debug_lines.specs.Floats.{named_float_registers}
 use Rattle.debug_lines.specs.Framed.{cost_lines_from, place_text, setup_text}
+use Rattle.debug_lines.specs.Help.{help_on, help_text}
 use Rattle.debug_lines.specs.Kept.{kept_text}
 use Rattle.debug_lines.specs.Lines.{line_of, dialogue_line_of, framed_line_of}
 use Rattle.debug_lines.specs.Named.{named_registers}
 use Rattle.debug_lines.specs.Replies.{reply_text}
 use Rattle.debug_lines.specs.Shown.{area_lines, point_lines, request_lines, shown_len, shown_text}
-use Rattle.debug_lines.specs.Topics.{help_line, help_lines}
 use Rattle.debug_lines.specs.Verdicts.{verdict_text}
 use Rattle.debug_lines.specs.Words.{has_bytes}
 use Rattle.counted_io.specs.Framed.{framed_text}
@@ -77,22 +77,22 @@ places_at (Desync ended synced) m = first_places m
 places_at (refused_exchange fault) m = first_places m
 
 -- how the reply of a command is told, which left a machine so
-abbrev pub Telling : Type 0
-Telling = MachineState → Answer → List ℕ
+abbrev pub AnswerFormat : Type 0
+AnswerFormat = MachineState → Answer → List ℕ
 
 -- to a script or a program
-abbrev pub plainly : Job → Telling
+abbrev pub plainly : Job → AnswerFormat
 plainly job m reply = reply_text job.ledger job.g job.l reply
 
 -- to a person: the same, but that registers have their names too, and behind the outcome stands where the nodes are
-abbrev pub in_person : Job → Telling
+abbrev pub in_person : Job → AnswerFormat
 in_person job m (registers rank pc ticks state x) = named_registers rank pc ticks state x
 in_person job m (floats rank fcsr f) = named_float_registers rank fcsr f
 in_person job m (finished outcome) = reply_text job.ledger job.g job.l (finished outcome) ++ places_at outcome m
 in_person job m reply = reply_text job.ledger job.g job.l reply
 
 -- a debugger that did what a command says, and the text of its reply
-pub record Replies (tells : Telling) (c : Asked) (old new : DebuggerState) (text : List ℕ) : Type 0 where
+pub record Replies (tells : AnswerFormat) (c : Asked) (old new : DebuggerState) (text : List ℕ) : Type 0 where
   pub reply : Answer
   pub makes : Makes old.points old.machine c (events_of new.last) reply
   pub machine : new.machine ≡ after old.machine (events_of new.last)
@@ -109,13 +109,13 @@ abbrev pub place_or_refusal : MachineState → (rank : ℕ) → List ℕ
 place_or_refusal m rank = option_map_or (place_line m) (slice_get m.nodes rank) (verdict_text (Refused BadRank))
 
 -- a debugger that did what a command says, and the text of its reply, behind which stands where the node of a rank is then
-pub record RepliesThere (tells : Telling) (rank : ℕ) (c : Asked) (old new : DebuggerState) (text : List ℕ) : Type 0 where
+pub record RepliesThere (tells : AnswerFormat) (rank : ℕ) (c : Asked) (old new : DebuggerState) (text : List ℕ) : Type 0 where
   pub reply : List ℕ
   pub does : Replies tells c old new reply
   pub told : text ≡ reply ++ place_or_refusal new.machine rank
 
 -- and where the command may be refused
-abbrev pub DoesThere : Telling → (rank : ℕ) → Asked → (old : DebuggerState) → (text : List ℕ) → (new : DebuggerState) → Type 0
+abbrev pub DoesThere : AnswerFormat → (rank : ℕ) → Asked → (old : DebuggerState) → (text : List ℕ) → (new : DebuggerState) → Type 0
 DoesThere tells rank c old text new =
     DoesOrRefuses (command_fault old.machine c) (RepliesThere tells rank c old new text) (record old { last = [] }) new text
 
@@ -164,7 +164,7 @@ abbrev pub requests_or_refusal : MachineState → (rank : ℕ) → List ℕ
 requests_or_refusal m rank = of_node_or_refusal (λ (n : NodeState). request_lines n.hart.communication.requests.requests) m rank
 
 -- what a line is answered where replies are told so: a text, and the debugger after it. A command that is refused has made no event
-abbrev pub Answered : Telling → Job → Line → (old : DebuggerState) → (text : List ℕ) → (new : DebuggerState) → Type 0
+abbrev pub Answered : AnswerFormat → Job → Line → (old : DebuggerState) → (text : List ℕ) → (new : DebuggerState) → Type 0
 Answered tells job (Break p) old text new =
     DoesOrRefuses (add_fault old.points old.machine p) (HasPoint p old new × (text ≡ verdict_text Done)) old new text
 Answered tells job (Clear p) old text new =
@@ -189,8 +189,8 @@ Answered tells job (Place rank) old text new = (new ≡ old) × (text ≡ place_
 Answered tells job Places old text new = (new ≡ old) × (text ≡ flat_map (place_line old.machine) old.machine.nodes)
 Answered tells job (OutputFrom from) old text new = (new ≡ old) × (text ≡ output_or_refusal old.machine from)
 Answered tells job (CostsFrom from) old text new = (new ≡ old) × (text ≡ costs_or_refusal job old.machine from)
-Answered tells job Help old text new = (new ≡ old) × (text ≡ help_lines)
-Answered tells job (HelpOn topic) old text new = (new ≡ old) × (text ≡ help_line topic)
+Answered tells job (Help audience) old text new = (new ≡ old) × (text ≡ help_text audience)
+Answered tells job (HelpOn audience topic) old text new = (new ≡ old) × (text ≡ help_on audience topic)
 Answered tells job Quit old text new = (new ≡ old) × (text ≡ [])
 Answered tells job Empty old text new = (new ≡ old) × (text ≡ [])
 Answered tells job Unknown old text new = (new ≡ old) × (text ≡ verdict_text BadCommand)
@@ -218,8 +218,8 @@ is_refused (Place rank) d = not (has_rank d.machine rank)
 is_refused Places d = false
 is_refused (OutputFrom from) d = nat_lt (length d.machine.output) from
 is_refused (CostsFrom from) d = nat_lt (length d.machine.ledger) from
-is_refused Help d = false
-is_refused (HelpOn topic) d = false
+is_refused (Help audience) d = false
+is_refused (HelpOn audience topic) d = false
 is_refused Quit d = false
 is_refused Empty d = false
 is_refused Unknown d = true

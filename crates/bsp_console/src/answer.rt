@@ -11,8 +11,8 @@ ghost use Rattle.bsp_debug.specs.Kept.{kept_fault, keeping, back_at, without};
 ghost use Rattle.debug_lines.specs.declared.verdict.Verdict.TheVariants.{Done as done_verdict, Kept as kept_verdict};
 ghost use Rattle.debug_lines.specs.declared.verdict.Verdict.TheVariants.{Refused as refused_verdict};
 ghost use Rattle.debug_lines.specs.Framed.{setup_text};
+ghost use Rattle.debug_lines.specs.Help.{help_on, help_text as help_text_of};
 ghost use Rattle.debug_lines.specs.Shown.{point_lines as point_lines_of};
-ghost use Rattle.debug_lines.specs.Topics.{help_line, help_lines as help_lines_of};
 ghost use Rattle.debug_lines.specs.Verdicts.{verdict_text};
 ghost use Rattle.counted_io.specs.Counted.{HasRisen};
 ghost use Rattle.counted_io.specs.Transfers.{AppendsPrefix};
@@ -29,7 +29,7 @@ use bsp_debug::{Command, DebugError, Debugger, Point};
 use bsp_session::{Job, SessionError};
 use counted_io::{Counted, framed_text, write_whole};
 use debug_lines::{
-    Form, Line, Topic, Verdict, add_help, add_kept, area_lines, costs_from, help_lines,
+    Audience, Form, Line, Topic, Verdict, add_help, add_kept, area_lines, costs_from, help_text,
     point_lines, request_lines, setup_line, shown_len, shown_text,
 };
 use machine_core::Machine;
@@ -130,8 +130,8 @@ fn answer_line<A: Allocator + Copy>(
         Line::Places => places(alloc, debugger.machine()),
         Line::OutputFrom(from) => output_from(alloc, debugger.machine(), from),
         Line::CostsFrom(from) => rows_from(alloc, debugger.machine(), from, job),
-        Line::Help => all_help(alloc),
-        Line::HelpOn(topic) => help_on(alloc, topic),
+        Line::Help(audience) => all_help(alloc, audience),
+        Line::HelpOn(audience, topic) => help_on(alloc, audience, topic),
         Line::Unknown => refusal(alloc, Verdict::BadCommand),
         Line::Misused(topic) => refusal(alloc, Verdict::Misused(topic)),
         Line::NoLine => refusal(alloc, Verdict::NoLine),
@@ -383,19 +383,23 @@ fn requests_of<A: Allocator + Copy>(
 }
 
 /// What is told of all lines.
-fn all_help<A: Allocator>(alloc: A) -> Result<Answer<A>, AllocError>
-    ensures { IfOk result (λ a. (a.text.items ≡ help_lines_of) × (a.refused ≡ false)) }
+fn all_help<A: Allocator>(alloc: A, audience: Audience) -> Result<Answer<A>, AllocError>
+    ensures { IfOk result (λ a. (a.text.items ≡ help_text_of audience) × (a.refused ≡ false)) }
 {
-    let text = help_lines(alloc)?;
+    let text = help_text(alloc, audience)?;
     Ok(done(text.into_bytes()))
 }
 
 /// What is told of the lines with one first word.
-fn help_on<A: Allocator>(alloc: A, topic: Topic) -> Result<Answer<A>, AllocError>
-    ensures { IfOk result (λ a. (a.text.items ≡ help_line topic) × (a.refused ≡ false)) }
+fn help_on<A: Allocator>(
+    alloc: A,
+    audience: Audience,
+    topic: Topic,
+) -> Result<Answer<A>, AllocError>
+    ensures { IfOk result (λ a. (a.text.items ≡ help_on audience topic) × (a.refused ≡ false)) }
 {
     let mut text = String::new(alloc);
-    add_help(&mut text, topic)?;
+    add_help(&mut text, audience, topic)?;
     Ok(done(text.into_bytes()))
 }
 

@@ -143,10 +143,10 @@ impl<A: Allocator + Copy> Debugger<A> {
     /// Does what a command says, and answers it. The events that it made are those of [`Debugger::events_of_last`].
     ///
     /// # Errors
-    /// The first that applies of [`DebugError::BadRank`], [`DebugError::BadRange`], [`DebugError::NoFloatUnit`] and [`DebugError::Over`], at
-    /// which no event was made; then [`DebugError::NoMemory`], after some first of the command's events, of [`Command::Return`], [`Command::Turn`]
-    /// and [`Command::Go`] not all of them. The command given again goes on from there: it leaves what it would have left,
-    /// [`Command::Step`] and [`Command::Run`] with as many steps less as were made.
+    /// The first that applies of [`DebugError::BadRank`], [`DebugError::BadRange`], [`DebugError::NoFloatUnit`] and [`DebugError::Over`],
+    /// at which no event was made; then [`DebugError::NoMemory`], after some first of the command's events, of [`Command::Return`],
+    /// [`Command::Turn`] and [`Command::Go`] not all of them. The command given again goes on from there: it leaves what it would have
+    /// left, [`Command::Step`] and [`Command::Run`] with as many steps less as were made.
     pub fn command(&mut self, command: Command) -> Result<Reply<A>, DebugError>
         ensures machine { self.new.machine ≡ after self.old.machine (events_of self.new.last) }
         ensures few { AreFew self.new.last }

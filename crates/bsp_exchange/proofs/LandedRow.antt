@@ -6,11 +6,11 @@ use Rattle.std.specs.List.{AllZip}
 use Rattle.std.proofs.lemmas.List.{take_all}
 use Rattle.std.proofs.lemmas.List.Elements.{All-nil, All-cons}
 use Rattle.std.proofs.lemmas.Option.{none-some, same_Some}
-use Rattle.node_memory.proofs.Owned.{KeepsOwn-same}
+use Rattle.node_memory.proofs.Owned.{KeepsPrivate-same}
 use Rattle.node_core.specs.Node.{PreparedNode}
 use Rattle.bsp_exchange.specs.Exchange.{AreUnready, states}
-use Rattle.bsp_exchange.specs.Parts.{PartState, CanLand, EachKeepsOwn, landed, landed_as}
-use Rattle.bsp_exchange.proofs.KeepsOwn.{EachKeepsOwn-same}
+use Rattle.bsp_exchange.specs.Parts.{PartState, CanLand, EachKeepsPrivate, landed, landed_as}
+use Rattle.bsp_exchange.proofs.KeepsPrivate.{EachKeepsPrivate-same}
 
 -- prepared nodes, the part at the place of each landed in it
 abbrev pub row_landed : List PartState → List PreparedNode → List PreparedNode
@@ -23,10 +23,10 @@ row_states [] ps = refl
 row_states (part ∷ parts) [] = refl
 row_states (part ∷ parts) (p ∷ ps) = ap (λ ns. (landed_as part p).node ∷ ns) (row_states parts ps)
 
-pub row_keeps : (parts : List PartState) (ps : List PreparedNode) → EachKeepsOwn ps (row_landed parts ps)
-row_keeps [] ps = EachKeepsOwn-same ps
+pub row_keeps : (parts : List PartState) (ps : List PreparedNode) → EachKeepsPrivate ps (row_landed parts ps)
+row_keeps [] ps = EachKeepsPrivate-same ps
 row_keeps (part ∷ parts) [] = tt
-row_keeps (part ∷ parts) (p ∷ ps) = (KeepsOwn-same p.own, row_keeps parts ps)
+row_keeps (part ∷ parts) (p ∷ ps) = (KeepsPrivate-same p.private, row_keeps parts ps)
 
 pub row_unready : (parts : List PartState) (ps : List PreparedNode) → AllZip CanLand parts ps → AreUnready (row_landed parts ps)
 row_unready [] [] can = All-nil (λ (q : PreparedNode). q.ready ≡ false)

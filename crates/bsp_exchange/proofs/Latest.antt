@@ -90,12 +90,12 @@ both_at_most a b there back = elim there [
 byte_of : (all : List Landing) (addr kept : ℕ) (l : Landing) (o : Option Landing) → HaveOwnKeys all → Contains all l
     → covers addr l ≡ true → All (λ x. covers addr x ≡ true → IsAtMost x.key l.key) all → IsLatest (covers addr) all o
     → option_map_or (landing_byte addr) o kept ≡ landing_byte addr l
-byte_of all addr kept l None own there covering greatest is =
+byte_of all addr kept l None private there covering greatest is =
     absurd (both_ways (covers addr l) (All-contains (λ x. covers addr x ≡ false) all l is there) covering)
-byte_of all addr kept l (Some m) own there covering greatest is =
+byte_of all addr kept l (Some m) private there covering greatest is =
     let up : IsAtMost m.key l.key = All-contains (λ x. covers addr x ≡ true → IsAtMost x.key l.key) all m greatest is.0 is.1 in
     let down : IsAtMost l.key m.key = All-contains (λ x. covers addr x ≡ true → IsAtMost x.key m.key) all l is.2 there covering in
-    ap (landing_byte addr) (own m l is.0 there (both_at_most m.key l.key up down))
+    ap (landing_byte addr) (private m l is.0 there (both_at_most m.key l.key up down))
 
 pub greatest_lands : (nodes : List NodeState) (rank addr : ℕ) (memory : List ℕ) (l : Landing) → AreAtSync nodes
     → Contains (landings_at nodes rank) l → IsTrue (covers addr l)
@@ -129,10 +129,11 @@ all-same_landings P others all same holds = All-weaker (Contains others) P (λ l
 byte_of_others : (others all : List Landing) (memory : List ℕ) (addr : ℕ) (o : Option Landing) → AreSameLandings others all
     → KeysDoNotFall all → HaveOwnKeys all → IsLatest (covers addr) others o
     → option_map_or (landing_byte addr) o (byte_at memory addr) ≡ landed_byte all memory addr
-byte_of_others others all memory addr None same order own is =
+byte_of_others others all memory addr None same order private is =
     sym (uncovered all addr memory (all-same_landings (λ l. covers addr l ≡ false) others all same.0 is))
-byte_of_others others all memory addr (Some m) same order own is =
-    sym (byte_of all addr (byte_at memory addr) m (find (covers addr) (reverse all)) own (All-contains (Contains all) others m same.1 is.0)
+byte_of_others others all memory addr (Some m) same order private is =
+    sym (byte_of all addr (byte_at memory addr) m (find (covers addr) (reverse all)) private
+    (All-contains (Contains all) others m same.1 is.0)
     is.1
     (all-same_landings (λ l. covers addr l ≡ true → IsAtMost l.key m.key) others all same.0 is.2)
     (latest (covers addr) all order))

@@ -2,7 +2,7 @@ pub mod Bounds
 pub mod Finds
 pub mod Gathered
 pub mod Gathering
-pub mod KeepsOwn
+pub mod KeepsPrivate
 pub mod Kept
 pub mod KeyOrder
 pub mod Landed

@@ -118,7 +118,7 @@ pub stays_apart : (nodes : List NodeState) (parts : List PartState) (k : ℕ) �
     → slice_get (landed_in_turn nodes parts) k ≡ slice_get nodes k
 stays_apart nodes parts k others =
     by_its_own nodes parts k
-    ∙ ap (λ (own : List PartState). option_map (after_parts own) (slice_get nodes k)) (none_for k parts others)
+    ∙ ap (λ (private : List PartState). option_map (after_parts private) (slice_get nodes k)) (none_for k parts others)
     ∙ sym (option_map-same (slice_get nodes k))
 
 -- of the parts of a row, one is for each rank
@@ -184,6 +184,6 @@ landed_in_any_order nodes parts can shuffled =
     by k None is = ap (option_map (after_parts (filter (is_for k) parts))) is ∙ sym (ap (option_map (exchanged_node nodes)) is)
     by k (Some n) is =
         ap (option_map (after_parts (filter (is_for k) parts))) is
-        ∙ ap (λ (own : List PartState). Some (after_parts own n)) (its_own nodes parts k shuffled (slice_get_within nodes k n is))
+        ∙ ap (λ (private : List PartState). Some (after_parts private n)) (its_own nodes parts k shuffled (slice_get_within nodes k n is))
         ∙ ap (λ (m : NodeState). Some m) (lands_as_exchanged nodes k n can is)
         ∙ sym (ap (option_map (exchanged_node nodes)) is)

@@ -6,7 +6,7 @@ use Rattle.std.proofs.lemmas.List.{take_all}
 use Rattle.std.proofs.lemmas.Option.{slice_get-get_or}
 use Rattle.std.proofs.Math.Seq.{drop-cons, set-append_seam}
 use Rattle.node_memory.specs.Bytes.{fits}
-use Rattle.node_memory.specs.Pages.{Owns, KeepsOwn}
+use Rattle.node_memory.specs.Pages.{Owns, KeepsPrivate}
 use Rattle.bsp_exchange.specs.Arrivals.{LieIn}
 use Rattle.bsp_exchange.specs.Parts.{Patch, OwnsEach}
 use Rattle.bsp_exchange.proofs.Patches.{owns_each_kept}
@@ -49,16 +49,16 @@ patches_from {patches} {place} {addr} {bytes} p =
     let next : suc place ≡ place + 1 = omega arith in
     drop-cons patches place patch p.within ∙ ap₂ (λ (q : Patch) (n : ℕ). q ∷ drop n patches) (p.is patch) next
 
-owns_next : (own : List Bool) (patches : List Patch) (place : ℕ) (d : Patch) → place < length patches
-    → OwnsEach own (take place patches) → Owns own (get_or patches place d).addr (length (get_or patches place d).bytes)
-    → OwnsEach own (take (suc place) patches)
-owns_next own [] place d within before here = absurd (omega arith)
-owns_next own (p ∷ patches) zero d within before here = (here, tt)
-owns_next own (p ∷ patches) (suc place) d within before here = (before.0, owns_next own patches place d (omega arith) before.1 here)
+owns_next : (private : List Bool) (patches : List Patch) (place : ℕ) (d : Patch) → place < length patches
+    → OwnsEach private (take place patches) → Owns private (get_or patches place d).addr (length (get_or patches place d).bytes)
+    → OwnsEach private (take (suc place) patches)
+owns_next private [] place d within before here = absurd (omega arith)
+owns_next private (p ∷ patches) zero d within before here = (here, tt)
+owns_next private (p ∷ patches) (suc place) d within before here = (before.0, owns_next private patches place d (omega arith) before.1 here)
 
--- where the pages of the first patches are own, and those of the next, those of one patch more are
+-- where the pages of the first patches are private, and those of the next, those of one patch more are
 pub owns_more : {patches : List Patch} {place addr : ℕ} {bytes : List ℕ} (old new : List Bool) → IsPatchAt patches place addr bytes
-    → KeepsOwn old new → Owns new addr (length bytes) → OwnsEach old (take place patches) → OwnsEach new (take (place + 1) patches)
+    → KeepsPrivate old new → Owns new addr (length bytes) → OwnsEach old (take place patches) → OwnsEach new (take (place + 1) patches)
 owns_more {patches} {place} {addr} {bytes} old new p keeps owns before =
     let patch : Patch = record { addr = addr; bytes = bytes } in
     let next : suc place ≡ place + 1 = omega arith in
@@ -67,9 +67,9 @@ owns_more {patches} {place} {addr} {bytes} old new p keeps owns before =
     (owns_next new patches place patch p.within (owns_each_kept old new (take place patches) keeps before) here)
 
 -- where the pages of all of them are
-pub owns_whole : (own : List Bool) (patches : List Patch) (place : ℕ) → length patches ≤ place → OwnsEach own (take place patches)
-    → OwnsEach own patches
-owns_whole own patches place past before = subst (OwnsEach own) (take_all place patches past) before
+pub owns_whole : (private : List Bool) (patches : List Patch) (place : ℕ) → length patches ≤ place → OwnsEach private (take place patches)
+    → OwnsEach private patches
+owns_whole private patches place past before = subst (OwnsEach private) (take_all place patches past) before
 
 -- a patch with other bytes in the place of the last one, which was pushed without any
 pub filled_in : {T E : Type 0} (answer : Result T E) (old items : List Patch) (place : ℕ) (p q : Patch) (addr : ℕ) (bytes : List ℕ)

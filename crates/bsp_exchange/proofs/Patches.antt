@@ -7,7 +7,7 @@ use Rattle.std.proofs.lemmas.Grind.{same_number_lists}
 use Rattle.std.proofs.lemmas.List.{places, length-map, map-append}
 use Rattle.std.proofs.lemmas.List.Sums.{sum_by-cons}
 use Rattle.node_memory.specs.Bytes.{fits, bytes_at, with_bytes}
-use Rattle.node_memory.specs.Pages.{KeepsOwn}
+use Rattle.node_memory.specs.Pages.{KeepsPrivate}
 use Rattle.node_memory.proofs.Owned.{Owns-kept}
 use Rattle.bsp_exchange.specs.declared.landings.Range.{Range}
 use Rattle.bsp_exchange.specs.Arrivals.{patches_of, StandInTurn}
@@ -112,8 +112,8 @@ length-patched m addr bytes within = grind (arith, places, nat_tests)
 pub len_within : (size addr len : ℕ) → IsTrue (fits size addr len) → len ≤ size
 len_within size addr len within = grind (arith, nat_tests)
 
--- pages of patches that were own stay so
-pub owns_each_kept : (old new : List Bool) (patches : List Patch) → KeepsOwn old new → OwnsEach old patches → OwnsEach new patches
+-- pages of patches that were private stay so
+pub owns_each_kept : (old new : List Bool) (patches : List Patch) → KeepsPrivate old new → OwnsEach old patches → OwnsEach new patches
 owns_each_kept old new [] keeps owns = tt
 owns_each_kept old new (p ∷ patches) keeps owns =
     (Owns-kept old new p.addr (length p.bytes) keeps owns.0, owns_each_kept old new patches keeps owns.1)

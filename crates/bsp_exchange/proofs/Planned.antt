@@ -70,17 +70,17 @@ bytes_planned ps arrivals can planned =
     rw planned (All-map (λ (r : Received). bytes_in r.gets + bytes_in r.puts < 2 ^ 63) (received_at nodes) (range_with_len 0 (length ps))
     (λ k d below. moved_bounded nodes (get_or (range_with_len 0 (length ps)) k d) few can.sound))
 
-pub owns_both : (own : List Bool) (a b : List Patch) → OwnsEach own a → OwnsEach own b → OwnsEach own (a ++ b)
-owns_both own [] b first second = second
-owns_both own (p ∷ a) b first second = (first.0, owns_both own a b first.1 second)
+pub owns_both : (private : List Bool) (a b : List Patch) → OwnsEach private a → OwnsEach private b → OwnsEach private (a ++ b)
+owns_both private [] b first second = second
+owns_both private (p ∷ a) b first second = (first.0, owns_both private a b first.1 second)
 
-pub owns_first : (own : List Bool) (a b : List Patch) → OwnsEach own (a ++ b) → OwnsEach own a
-owns_first own [] b all = tt
-owns_first own (p ∷ a) b all = (all.0, owns_first own a b all.1)
+pub owns_first : (private : List Bool) (a b : List Patch) → OwnsEach private (a ++ b) → OwnsEach private a
+owns_first private [] b all = tt
+owns_first private (p ∷ a) b all = (all.0, owns_first private a b all.1)
 
-pub owns_second : (own : List Bool) (a b : List Patch) → OwnsEach own (a ++ b) → OwnsEach own b
-owns_second own [] b all = all
-owns_second own (p ∷ a) b all = owns_second own a b all.1
+pub owns_second : (private : List Bool) (a b : List Patch) → OwnsEach private (a ++ b) → OwnsEach private b
+owns_second private [] b all = all
+owns_second private (p ∷ a) b all = owns_second private a b all.1
 
 lie_both : (size : ℕ) (a b : List Patch) → LieIn size a → LieIn size b → LieIn size (a ++ b)
 lie_both size [] b first second = second

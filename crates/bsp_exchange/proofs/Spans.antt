@@ -30,15 +30,15 @@ spanned_more {patches} {place} old new p more has below k d less within =
           (omega (arith, before.0, more.0), omega (arith, before.1, more.1))
     ]
 
--- where each range within a span is own, patches within it are
-pub owns_spanned : (own : List Bool) (s : Span) (patches : List Patch)
-    → ((addr len : ℕ) → s.low ≤ addr → addr + len ≤ s.end → Owns own addr len) → AreSpannedBelow s patches (length patches)
-    → OwnsEach own patches
-owns_spanned own s [] owned all = tt
-owns_spanned own s (p ∷ patches) owned all =
+-- where each range within a span is private, patches within it are
+pub owns_spanned : (private : List Bool) (s : Span) (patches : List Patch)
+    → ((addr len : ℕ) → s.low ≤ addr → addr + len ≤ s.end → Owns private addr len) → AreSpannedBelow s patches (length patches)
+    → OwnsEach private patches
+owns_spanned private s [] owned all = tt
+owns_spanned private s (p ∷ patches) owned all =
     let first = all 0 p (omega arith) (omega arith) in (
       owned p.addr (length p.bytes) first.0 first.1,
-      owns_spanned own s patches owned (λ k d less within. all (suc k) d (omega arith) (omega arith)),
+      owns_spanned private s patches owned (λ k d less within. all (suc k) d (omega arith) (omega arith)),
     )
 
 end_within : (size addr len : ℕ) → IsTrue (fits size addr len) → addr + len ≤ size

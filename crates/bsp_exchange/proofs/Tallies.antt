@@ -129,10 +129,10 @@ weight_limited (n ∷ ns) harts =
     let rs = n.hart.communication.requests.requests in
     let hart : IsHart n.hart = All-head (λ (m : NodeState). IsHart m.hart) n ns harts in
     let rest = weight_limited ns (All-tail (λ (m : NodeState). IsHart m.hart) n ns harts) in
-    let own : weight_of (asked_by n) ≤ sum_by size_of rs + length rs = sizes_moved n.hart.rank rs in
+    let private : weight_of (asked_by n) ≤ sum_by size_of rs + length rs = sizes_moved n.hart.rank rs in
     let parts : weight_of (transfers (n ∷ ns)) ≡ weight_of (asked_by n) + weight_of (transfers ns) =
     ap weight_of (transfers-cons n ns) ∙ sum_by-append weight (asked_by n) (transfers ns) in
-    omega (arith, own, parts, rest, hart.communication.requests.bytes, hart.communication.requests.requests)
+    omega (arith, private, parts, rest, hart.communication.requests.bytes, hart.communication.requests.requests)
 
 -- no load is more than what the nodes move together
 pub loads_limited : (loads : List Load) (ns : List NodeState) → All (λ l. l ≡ no_load) loads → AreHarts ns
@@ -241,13 +241,13 @@ length-with_transfers loads [] = refl
 length-with_transfers loads (t ∷ ts) = length-with_transfers (with_transfer loads t) ts ∙ length-with_transfer loads t
 
 -- a number of a load after one transfer, by what each of the two ways to add it brings
-by_way : (p : Load → ℕ) (k : ℕ) (d : Load) (loads : List Load) (t : Transfer) (own over : ℕ)
-    → p (get_or (changed_at (with_kept t.bytes) t.from loads) k d) ≡ p (get_or loads k d) + own
+by_way : (p : Load → ℕ) (k : ℕ) (d : Load) (loads : List Load) (t : Transfer) (private over : ℕ)
+    → p (get_or (changed_at (with_kept t.bytes) t.from loads) k d) ≡ p (get_or loads k d) + private
     → p (get_or (apart t loads) k d) ≡ p (get_or loads k d) + over
-    → p (get_or (with_transfer loads t) k d) ≡ p (get_or loads k d) + cond (t.from == t.to) own over
-by_way p k d loads t own over keeps moves =
+    → p (get_or (with_transfer loads t) k d) ≡ p (get_or loads k d) + cond (t.from == t.to) private over
+by_way p k d loads t private over keeps moves =
     elim (t.from == t.to) as (λ b. p (get_or (if b then changed_at (with_kept t.bytes) t.from loads else apart t loads) k d)
-    ≡ p (get_or loads k d) + cond b own over) [
+    ≡ p (get_or loads k d) + cond b private over) [
       | true ↦ keeps
       | false ↦ moves
     ]

@@ -57,7 +57,8 @@ of_states : (P : NodeState → Type 0) (ps : List PreparedNode) → ((k : ℕ) (
     → All P (states ps)
 of_states P ps each k d within =
     let here : k < length ps = omega (arith, count_of ps) in
-    rw (state_at ps k (record { node = d; ready = false; own = [] }) d here) (each k (record { node = d; ready = false; own = [] }) here)
+    rw (state_at ps k (record { node = d; ready = false; private = [] }) d here)
+    (each k (record { node = d; ready = false; private = [] }) here)
 
 -- where each node waits, all are at their sync
 pub at_sync : (ps : List PreparedNode) (areas i : ℕ) → length ps ≤ i → WaitBelow ps areas i → AreAtSync (states ps)

@@ -92,11 +92,11 @@ pub record FitsIn (size : ℕ) (part : Received) : Type 0 where
   pub puts : LieIn size part.puts
   pub queue : IsQueue part.messages
 
--- a node is ready for its turn, and the pages into which it receives bytes are its own
+-- a node is ready for its turn, and the pages into which it receives bytes are private
 pub record IsPrepared (part : Received) (p : PreparedNode) : Type 0 where
   pub ready : IsTrue p.ready
-  pub gets : OwnsEach p.own part.gets
-  pub puts : OwnsEach p.own part.puts
+  pub gets : OwnsEach p.private part.gets
+  pub puts : OwnsEach p.private part.puts
 
 -- a node, prepared, with all that it received
 abbrev pub with_arrivals : Received → PreparedNode → PreparedNode

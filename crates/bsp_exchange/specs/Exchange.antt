@@ -26,7 +26,7 @@ exchanged_node nodes n = next_superstep (queue_after nodes n.hart.rank) (with_la
 abbrev pub exchanged : List NodeState → List NodeState
 exchanged nodes = map (exchanged_node nodes) nodes
 
--- the nodes, whatever room is made for their turns, and whichever pages are their own
+-- the nodes, whatever room is made for their turns, and whichever pages are private
 abbrev pub states : List PreparedNode → List NodeState
 states prepared = map (λ (p : PreparedNode). p.node) prepared
 

@@ -4,7 +4,7 @@
 use Rattle.std.specs.Prelude.{◌≡◌, ℕ, false, true, suc, zero, Bool, List, [], ◌∷◌, length, map, All, None, IsTrue, sum_by}
 use Rattle.std.specs.List.{fold, range_with_len, AllZip}
 use Rattle.node_memory.specs.Bytes.{fits, with_bytes}
-use Rattle.node_memory.specs.Pages.{Owns, KeepsOwn}
+use Rattle.node_memory.specs.Pages.{Owns, KeepsPrivate}
 use Rattle.bsp_requests.specs.Message.{Message}
 use Rattle.bsp_requests.specs.Request.{Asked, asks_put, asks_get, asks_send}
 use Rattle.node_core.specs.declared.state.State.TheVariants.{Synced}
@@ -41,14 +41,14 @@ abbrev pub LieIn : ℕ → List Patch → Type 0
 LieIn size [] = Unit {0}
 LieIn size (p ∷ patches) = IsTrue (fits size p.addr (length p.bytes)) × LieIn size patches
 
--- the pages of each of them are the memory's own
+-- the pages of each of them are private
 abbrev pub OwnsEach : List Bool → List Patch → Type 0
-OwnsEach own [] = Unit {0}
-OwnsEach own (p ∷ patches) = Owns own p.addr (length p.bytes) × OwnsEach own patches
+OwnsEach private [] = Unit {0}
+OwnsEach private (p ∷ patches) = Owns private p.addr (length p.bytes) × OwnsEach private patches
 
--- the same nodes by their number, and what was a node's own is its own still
-abbrev pub EachKeepsOwn : List PreparedNode → List PreparedNode → Type 0
-EachKeepsOwn old new = AllZip (λ (p q : PreparedNode). KeepsOwn p.own q.own) old new
+-- the same nodes by their number, and what was private is private still
+abbrev pub EachKeepsPrivate : List PreparedNode → List PreparedNode → Type 0
+EachKeepsPrivate old new = AllZip (λ (p q : PreparedNode). KeepsPrivate p.private q.private) old new
 
 -- what the node of a rank receives: bytes, in the order in which they are laid over its memory, and its queue for the next
 -- superstep. It lands once, and is spent then
@@ -121,7 +121,7 @@ pub record CanLand (part : PartState) (p : PreparedNode) : Type 0 where
   pub rank : p.node.hart.rank ≡ part.rank
   pub waiting : p.node.state ≡ Synced
   pub ready : IsTrue p.ready
-  pub own : OwnsEach p.own part.patches
+  pub private : OwnsEach p.private part.patches
 
 -- a prepared node after its part has landed
 abbrev pub landed_as : PartState → PreparedNode → PreparedNode

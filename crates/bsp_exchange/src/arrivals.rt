@@ -2,7 +2,7 @@
 
 ghost use Rattle.std.specs.Prelude.{◌≡◌, ◌+◌, ◌<◌, ◌^◌, false, length, IsTrue, OnOk, OnErr};
 ghost use Rattle.node_memory.specs.Bytes.{fits, bytes_at};
-ghost use Rattle.node_memory.specs.Pages.{KeepsOwn};
+ghost use Rattle.node_memory.specs.Pages.{KeepsPrivate};
 ghost use Rattle.bsp_exchange.specs.Arrivals.{nothing, FitsIn, IsPrepared, CanTake, with_arrivals};
 ghost use Rattle.bsp_exchange.specs.Parts.{bytes_in};
 
@@ -123,7 +123,7 @@ impl<A: Allocator + Copy> Arrivals<A> {
     pub(crate) fn prepare(&self, node: &mut Node<A>) -> Result<(), AllocError>
         requires within { FitsIn (length node.old.node.hart.memory) self.now }
         ensures node { node.new.node ≡ node.old.node }
-        ensures own { KeepsOwn node.old.own node.new.own }
+        ensures private { KeepsPrivate node.old.private node.new.private }
         ensures ok { OnOk result (IsPrepared self.now node.new) }
     {
         prepare(&self.small_gets, node)?;

@@ -5,7 +5,7 @@ ghost use Rattle.std.specs.List.{AllZip};
 ghost use Rattle.node_core.specs.Node.{PreparedNode};
 ghost use Rattle.bsp_exchange.specs.Exchange.{AreAtSync, AreUnready, exchanged, states};
 ghost use Rattle.bsp_exchange.specs.Faults.{NamesFault, exchange_fault};
-ghost use Rattle.bsp_exchange.specs.Parts.{CanLand, EachKeepsOwn, PartState, landed, landed_as, spent_part};
+ghost use Rattle.bsp_exchange.specs.Parts.{CanLand, EachKeepsPrivate, PartState, landed, landed_as, spent_part};
 ghost use Rattle.bsp_exchange.specs.Traffic.{traffic_of};
 
 use crate::fault::ExchangeError;
@@ -26,8 +26,8 @@ use std::alloc::Allocator;
 /// # Errors
 /// The first fault that applies (own order): nodes that do not agree on the next tag size, nodes that did not make the same pushes
 /// and pops, a put or a get that does not keep to its area. Then `NoMemory`, where memory was refused: for what is gathered, for turns,
-/// or for copies of the pages into which bytes come. Whatever is answered, no node has changed then, though pages may have become its
-/// own, and the exchange can be made again. What was a node's own stays so in any case.
+/// or for copies of the pages into which bytes come. Whatever is answered, no node has changed then, though pages may have become
+/// private, and the exchange can be made again. What was private stays so in any case.
 pub fn exchange<A: Allocator + Copy>(
     alloc: A,
     nodes: &mut [Node<A>],
@@ -39,7 +39,7 @@ pub fn exchange<A: Allocator + Copy>(
     ensures bounded { IfOk result (λ t. (t.h ≤ t.h_all) × (t.h_all ≤ 2 ^ 34) × (t.messages ≤ 2 ^ 26)) }
     ensures fault { NamesFault result (exchange_fault (states nodes.old)) }
     ensures err { OnErr result (states nodes.new ≡ states nodes.old) }
-    ensures own { EachKeepsOwn nodes.old nodes.new }
+    ensures private { EachKeepsPrivate nodes.old nodes.new }
 {
     let Plan { traffic, mut parts } = plan(alloc, nodes)?;
     land_all(nodes, &mut parts);
@@ -52,7 +52,7 @@ pub fn land_all<A: Allocator + Copy>(nodes: &mut [Node<A>], parts: &mut [Part<A>
     requires { AllZip CanLand parts.old nodes.old }
     ensures nodes { states nodes.new ≡ landed parts.old (states nodes.old) }
     ensures unready { AreUnready nodes.new }
-    ensures own { EachKeepsOwn nodes.old nodes.new }
+    ensures private { EachKeepsPrivate nodes.old nodes.new }
     ensures spent { parts.new ≡ map spent_part parts.old }
 {
     for place in 0..nodes.len() {

@@ -16,7 +16,7 @@ ghost use Rattle.bsp_exchange.specs.Traffic.{Transfer, transfers, between_ranks,
 pub fn landings_come_in_the_order_of_their_keys()
     ensures order { (nodes : List NodeState) (rank : ℕ)
         → AreAtSync nodes → KeysDoNotFall (landings_at nodes rank) }
-    ensures own { (nodes : List NodeState) (rank : ℕ)
+    ensures private { (nodes : List NodeState) (rank : ℕ)
         → AreAtSync nodes → HaveOwnKeys (landings_at nodes rank) }
 {}
 

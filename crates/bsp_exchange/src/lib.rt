@@ -24,7 +24,7 @@
 //! - `h` is the most bytes that one node sent to others or received from others, with tags; `h_all` counts what it moved to itself
 //!   too, and `messages` is the most messages that one received from others (own rules).
 //! - Whatever is answered but Ok, every node is as it was, also where memory is refused: all memory is taken before the first byte
-//!   lands, that for copies of the shared pages into which bytes come too. Pages that were copied by then stay the nodes' own, which no
+//!   lands, that for copies of the shared pages into which bytes come too. Pages that were copied by then stay private, which no
 //!   byte shows. An exchange that was refused memory can be made again.
 //! - [`laws`]: the greatest key counts, and no order of landing but that of the keys matters; `h` is at most `h_all`.
 //!

@@ -1,7 +1,7 @@
 //! The part of an exchange that one node receives.
 
 ghost use Rattle.std.specs.Prelude.{◌≡◌, ◌+◌, ◌<◌, ◌^◌, OnOk};
-ghost use Rattle.node_memory.specs.Pages.{KeepsOwn};
+ghost use Rattle.node_memory.specs.Pages.{KeepsPrivate};
 ghost use Rattle.bsp_requests.specs.Inbox.{IsQueue};
 ghost use Rattle.bsp_exchange.specs.Arrivals.{Received, part_from};
 ghost use Rattle.bsp_exchange.specs.Parts.{CanLand, CanPrepare, bytes_in, landed_as, spent_part};
@@ -70,8 +70,8 @@ impl<A: Allocator + Copy> Part<A> {
         self.arrivals.bytes()
     }
 
-    /// Makes its node ready for it: makes the pages into which it receives bytes the node's own, and room for the node's turn. The
-    /// node waits, and the part has not landed. The node's state stays as it is, and what was the node's own stays so.
+    /// Makes its node ready for it: makes the pages into which it receives bytes private, and room for the node's turn. The
+    /// node waits, and the part has not landed. The node's state stays as it is, and what was private stays so.
     ///
     /// No other node is looked at, so that each node can be prepared by whichever thread has it with its part.
     ///
@@ -80,7 +80,7 @@ impl<A: Allocator + Copy> Part<A> {
     pub fn prepare(&self, node: &mut Node<A>) -> Result<(), AllocError>
         requires { CanPrepare self.now node.old.node }
         ensures same { node.new.node ≡ node.old.node }
-        ensures own { KeepsOwn node.old.own node.new.own }
+        ensures private { KeepsPrivate node.old.private node.new.private }
         ensures ok { OnOk result (CanLand self.now node.new) }
     {
         self.arrivals.prepare(node)

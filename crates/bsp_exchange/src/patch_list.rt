@@ -2,7 +2,7 @@
 
 ghost use Rattle.std.specs.Prelude.{◌≡◌, ◌<◌, ◌≤◌, ◌^◌, List, length, slice_get, IsTrue, OnOk, Some};
 ghost use Rattle.node_core.specs.declared.state.State.TheVariants.{Synced};
-ghost use Rattle.node_memory.specs.Pages.{KeepsOwn};
+ghost use Rattle.node_memory.specs.Pages.{KeepsPrivate};
 ghost use Rattle.bsp_exchange.specs.Arrivals.{LieIn};
 ghost use Rattle.bsp_exchange.specs.Parts.{OwnsEach, Patch, with_patches};
 
@@ -30,11 +30,11 @@ pub(crate) trait PatchList {
         ensures { (p : Patch) → slice_get (patches self.now) place ≡ Some p → result.now ≡ p.bytes };
 }
 
-/// Whether the pages in which they come to lie are the memory's own already, as far as a look at the whole range tells.
-fn lie_in_own<P: PatchList, A: Allocator>(patches: &P, memory: &Memory<A>) -> bool
+/// Whether the pages in which they come to lie are private already, as far as a look at the whole range tells.
+fn lie_in_private<P: PatchList, A: Allocator>(patches: &P, memory: &Memory<A>) -> bool
     requires most { length memory.now.bytes ≤ 2 ^ 24 }
     requires within { LieIn (length memory.now.bytes) (P.patches patches.now) }
-    ensures { IsTrue result → OwnsEach memory.now.own (P.patches patches.now) }
+    ensures { IsTrue result → OwnsEach memory.now.private (P.patches patches.now) }
 {
     let mut span = Span::of_none();
     for place in 0..patches.count() {
@@ -43,7 +43,7 @@ fn lie_in_own<P: PatchList, A: Allocator>(patches: &P, memory: &Memory<A>) -> bo
     span.is_owned_by(memory)
 }
 
-/// Makes the pages in which they come to lie the node's own. They lie in its memory.
+/// Makes the pages in which they come to lie private. They lie in its memory.
 #[inline(never)]
 pub(crate) fn prepare<P: PatchList, A: Allocator + Copy>(
     patches: &P,
@@ -52,10 +52,10 @@ pub(crate) fn prepare<P: PatchList, A: Allocator + Copy>(
     requires within { LieIn (length node.old.node.hart.memory) (P.patches patches.now) }
     ensures node { node.new.node ≡ node.old.node }
     ensures ready { node.new.ready ≡ node.old.ready }
-    ensures own { KeepsOwn node.old.own node.new.own }
-    ensures ok { OnOk result (OwnsEach node.new.own (P.patches patches.now)) }
+    ensures private { KeepsPrivate node.old.private node.new.private }
+    ensures ok { OnOk result (OwnsEach node.new.private (P.patches patches.now)) }
 {
-    if lie_in_own(patches, node.memory()) {
+    if lie_in_private(patches, node.memory()) {
         return Ok(());
     }
     for place in 0..patches.count() {
@@ -64,10 +64,10 @@ pub(crate) fn prepare<P: PatchList, A: Allocator + Copy>(
     Ok(())
 }
 
-/// Lands them in the memory of a node that waits, in pages of its own.
+/// Lands them in the memory of a node that waits, in private pages.
 pub(crate) fn land<P: PatchList, A: Allocator + Copy>(patches: &P, node: &mut Node<A>)
     requires synced { node.old.node.state ≡ Synced }
-    requires own { OwnsEach node.old.own (P.patches patches.now) }
+    requires private { OwnsEach node.old.private (P.patches patches.now) }
     ensures { node.new ≡ record node.old { node = with_patches (P.patches patches.now) node.old.node } }
 {
     for place in 0..patches.count() {

@@ -9,7 +9,7 @@ ghost use Rattle.bsp_exchange.specs.declared.fault.ExchangeFault.{ExchangeFault}
 ghost use Rattle.bsp_exchange.specs.Arrivals.{Received, part_from};
 ghost use Rattle.bsp_exchange.specs.Exchange.{AreAtSync, states};
 ghost use Rattle.bsp_exchange.specs.Faults.{NamesFault, exchange_fault};
-ghost use Rattle.bsp_exchange.specs.Parts.{CanExchange, CanLand, CanPrepare, EachKeepsOwn, bytes_in, parts_of};
+ghost use Rattle.bsp_exchange.specs.Parts.{CanExchange, CanLand, CanPrepare, EachKeepsPrivate, bytes_in, parts_of};
 ghost use Rattle.bsp_exchange.specs.Traffic.{traffic_of};
 
 use crate::arrivals::Arrivals;
@@ -24,7 +24,7 @@ use std::alloc::{AllocError, Allocator};
 /// and waits; they have equally many areas in effect. When each part has landed in its node, in whatever order and in whatever
 /// threads, the exchange is made.
 ///
-/// Gets read the memories as they are now. No node changes at any answer, but pages become the nodes' own, and room is made for
+/// Gets read the memories as they are now. No node changes at any answer, but pages become private, and room is made for
 /// their turns: all that the landings will want. It is [`draft`], and then [`prepare_all`]. Time grows as the requests and the bytes
 /// that they move.
 ///
@@ -33,7 +33,7 @@ use std::alloc::{AllocError, Allocator};
 pub fn plan<A: Allocator + Copy>(alloc: A, nodes: &mut [Node<A>]) -> Result<Plan<A>, ExchangeError>
     requires { AreAtSync (states nodes.old) }
     ensures same { states nodes.new ≡ states nodes.old }
-    ensures own { EachKeepsOwn nodes.old nodes.new }
+    ensures private { EachKeepsPrivate nodes.old nodes.new }
     ensures parts { IfOk result (λ plan. plan.parts.items ≡ parts_of (states nodes.old)) }
     ensures prepared { IfOk result (λ plan. AllZip CanLand plan.parts.items nodes.new) }
     ensures exchanges { OnOk result (CanExchange (states nodes.old)) }
@@ -72,7 +72,7 @@ pub fn draft<A: Allocator + Copy>(alloc: A, nodes: &[Node<A>]) -> Result<Plan<A>
 }
 
 /// Prepares each node for the part at its place: [`Part::prepare`] for each of them, in this thread. They may be a whole row and its
-/// draft, or some nodes and just their parts, in the same order. No node changes at any answer, but pages become the nodes' own, and
+/// draft, or some nodes and just their parts, in the same order. No node changes at any answer, but pages become private, and
 /// room is made for their turns.
 ///
 /// # Errors
@@ -84,7 +84,7 @@ pub fn prepare_all<A: Allocator + Copy>(
 ) -> Result<(), AllocError>
     requires { AllZip CanPrepare parts.now (states nodes.old) }
     ensures same { states nodes.new ≡ states nodes.old }
-    ensures own { EachKeepsOwn nodes.old nodes.new }
+    ensures private { EachKeepsPrivate nodes.old nodes.new }
     ensures ok { OnOk result (AllZip CanLand parts.now nodes.new) }
 {
     for place in 0..nodes.len() {

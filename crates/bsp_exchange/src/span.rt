@@ -34,9 +34,9 @@ impl Span {
         }
     }
 
-    /// Whether all of it lies in a memory, in pages of its own, and so each of its ranges does. Where there are none, it says no.
+    /// Whether all of it lies in a memory, in private pages, and so each of its ranges does. Where there are none, it says no.
     pub(crate) fn is_owned_by<A: Allocator>(self, memory: &Memory<A>) -> bool
-        ensures { IsTrue result → (addr len : ℕ) → self.low ≤ addr → addr + len ≤ self.end → Owns memory.now.own addr len }
+        ensures { IsTrue result → (addr len : ℕ) → self.low ≤ addr → addr + len ≤ self.end → Owns memory.now.private addr len }
     {
         self.low <= self.end && memory.owns(self.low, self.end - self.low)
     }

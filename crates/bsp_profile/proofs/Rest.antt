@@ -15,8 +15,8 @@ use Rattle.machine_core.proofs.Resume.{phases-after, phases-stopped}
 use Rattle.machine_core.proofs.Sound.{IsSoundMachine-after, superstep-open}
 use Rattle.machine_core.proofs.Supersteps.{IsOnPhase-phases}
 use Rattle.machine_core.specs.Walk.{walk}
-use Rattle.phase_pool.specs.Phases.{LeadsWithoutTurn}
-use Rattle.phase_pool.proofs.Phases.{LeadsWithoutTurn-outcome}
+use Rattle.worker_pool.specs.Phases.{LeadsWithoutTurn}
+use Rattle.worker_pool.proofs.Phases.{LeadsWithoutTurn-outcome}
 use Rattle.bsp_profile.specs.Lines.{lines_of, lines_within, superstep_lines}
 
 -- a machine with its outcome has none

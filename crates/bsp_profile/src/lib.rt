@@ -6,8 +6,8 @@
 //!
 //! What callers may rely on:
 //!
-//! - [`run`] leaves the machine as [`phase_pool::run_sparing`] does, and the profile has the lines of the supersteps that were made, and no
-//!   others, whatever the number of workers.
+//! - [`run`] leaves the machine as [`worker_pool::run_sparing`] does, and the profile has the lines of the supersteps that were made, and
+//!   no others, whatever the number of workers.
 //! - At every answer of `run` the lines that the profile got and those of the supersteps that are left are those of the whole run. So
 //!   one that was refused memory or a thread is taken up again by the same call.
 //! - [`Profile::turn`] changes neither machine nor profile where memory is refused.

@@ -1,21 +1,21 @@
 //! A run whose profile is taken.
 
 ghost use Rattle.std.specs.Prelude.{◌≡◌, ◌++◌, None, IsSome, OnOk};
-ghost use Rattle.phase_pool.specs.Answers.{IsRunAnswer};
-ghost use Rattle.phase_pool.specs.Numbers.{numbers_fault};
+ghost use Rattle.worker_pool.specs.Answers.{IsRunAnswer};
+ghost use Rattle.worker_pool.specs.Numbers.{numbers_fault};
 ghost use Rattle.bsp_profile.specs.Lines.{lines_of};
 
 use crate::profile::Profile;
 use machine_core::Machine;
-use phase_pool::{PoolError, check_numbers, run_phase_sparing};
 use std::alloc::Allocator;
 use std::sync::Wait;
 use std::thread::Threads;
+use worker_pool::{PoolError, check_numbers, run_phase_sparing};
 
-/// Runs a machine to its outcome as [`phase_pool::run_sparing`] does, and takes its profile superstep by superstep.
+/// Runs a machine to its outcome as [`worker_pool::run_sparing`] does, and takes its profile superstep by superstep.
 ///
 /// # Errors
-/// As [`phase_pool::run_sparing`]; [`PoolError::NoMemory`] is also answered where the profile was refused memory. The profile has then
+/// As [`worker_pool::run_sparing`]; [`PoolError::NoMemory`] is also answered where the profile was refused memory. The profile has then
 /// the lines of the supersteps that are over, and the call made again with it appends those that are left.
 pub fn run<R: Threads + Wait + Sync, A: Allocator + Copy + Send + Sync>(
     rt: &R,

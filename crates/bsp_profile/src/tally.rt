@@ -69,7 +69,8 @@ impl<A: Allocator> Tally<A> {
         requires size { length self.now.cells.items ≡ (self.now.count + 1) * self.now.count }
         requires bounded { IsWithin (2 ^ 35) self.now.cells.items }
         requires rank { rank < self.now.count }
-        ensures { result ≡ sum_by (λ to. slice_index self.now.cells.items (place_of self.now.count (rank + 1) to)) (others self.now.count rank) }
+        ensures { result ≡ sum_by (λ to. slice_index self.now.cells.items (place_of self.now.count (rank + 1) to))
+            (others self.now.count rank) }
     {
         let mut all = 0;
         for to in 0..self.count {
@@ -86,7 +87,8 @@ impl<A: Allocator> Tally<A> {
         requires size { length self.now.cells.items ≡ (self.now.count + 1) * self.now.count }
         requires bounded { IsWithin (2 ^ 35) self.now.cells.items }
         requires rank { rank < self.now.count }
-        ensures { result ≡ sum_by (λ from. slice_index self.now.cells.items (place_of self.now.count (from + 1) rank)) (others self.now.count rank) }
+        ensures { result ≡ sum_by (λ from. slice_index self.now.cells.items (place_of self.now.count (from + 1) rank))
+            (others self.now.count rank) }
     {
         let mut all = 0;
         for from in 0..self.count {

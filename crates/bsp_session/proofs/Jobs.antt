@@ -7,10 +7,10 @@ use Rattle.machine_core.specs.declared.error.MachineError.{MachineError}
 use Rattle.machine_core.specs.declared.error.MachineError.TheVariants.{SegmentOutside}
 use Rattle.machine_core.specs.declared.settings.Settings.{Settings}
 use Rattle.machine_core.specs.Machine.{MachineState, fresh, node_at_start, machine_fault, settings_fault}
-use Rattle.phase_pool.specs.declared.error.PoolError.{PoolError}
-use Rattle.phase_pool.specs.declared.error.PoolError.TheVariants.{BadWorkers, BadSlice, NoWorker, NoMemory}
-use Rattle.phase_pool.specs.Answers.{RefusesInOrder}
-use Rattle.phase_pool.specs.Numbers.{numbers_fault}
+use Rattle.worker_pool.specs.declared.error.PoolError.{PoolError}
+use Rattle.worker_pool.specs.declared.error.PoolError.TheVariants.{BadWorkers, BadSlice, NoWorker, NoMemory}
+use Rattle.worker_pool.specs.Answers.{RefusesInOrder}
+use Rattle.worker_pool.specs.Numbers.{numbers_fault}
 use Rattle.bsp_session.specs.declared.job.Job.{Job}
 use Rattle.bsp_session.specs.Outcome.{error_of_machine, error_of_pool}
 use Rattle.bsp_session.specs.Session.{IsErrorOfThreads, job_fault}

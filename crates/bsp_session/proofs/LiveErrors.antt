@@ -9,9 +9,9 @@ use Rattle.std.proofs.Math.Seq.{take-append-add}
 use Rattle.std.proofs.lemmas.List.{take-append-le}
 use Rattle.machine_core.specs.Machine.{MachineState, fresh}
 use Rattle.machine_core.specs.Turn.{end_of, superstep, with_phases, written}
-use Rattle.phase_pool.specs.declared.error.PoolError.{PoolError}
-use Rattle.phase_pool.specs.declared.error.PoolError.TheVariants as pool
-use Rattle.phase_pool.specs.Numbers.{numbers_fault}
+use Rattle.worker_pool.specs.declared.error.PoolError.{PoolError}
+use Rattle.worker_pool.specs.declared.error.PoolError.TheVariants as pool
+use Rattle.worker_pool.specs.Numbers.{numbers_fault}
 use Rattle.bsp_session.specs.declared.errors.BadSetting.{BadSetting}
 use Rattle.bsp_session.specs.declared.errors.SessionError.{SessionError}
 use Rattle.bsp_session.specs.declared.errors.SessionError.TheVariants.{BadSettings, TooLong, Text, BadImage, SegmentOutside, ReadFault}

@@ -13,8 +13,8 @@ use Rattle.machine_core.specs.declared.error.MachineError.{MachineError}
 use Rattle.machine_core.specs.declared.error.MachineError.TheVariants as machine
 use Rattle.machine_core.specs.declared.outcome.Outcome.{Outcome}
 use Rattle.machine_core.specs.declared.outcome.Outcome.TheVariants as outcome
-use Rattle.phase_pool.specs.declared.error.PoolError.{PoolError}
-use Rattle.phase_pool.specs.declared.error.PoolError.TheVariants as pool
+use Rattle.worker_pool.specs.declared.error.PoolError.{PoolError}
+use Rattle.worker_pool.specs.declared.error.PoolError.TheVariants as pool
 use Rattle.bsp_session.specs.declared.errors.BadSetting.{BadSetting}
 use Rattle.bsp_session.specs.declared.errors.BadSetting.TheVariants.{BadNodes, BadMemory, BadLimit, BadWorkers, BadSlice}
 use Rattle.bsp_session.specs.declared.errors.SessionError.{SessionError}

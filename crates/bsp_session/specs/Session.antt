@@ -10,7 +10,7 @@ use Rattle.node_memory.specs.Image.{Image, is_segment_outside}
 use Rattle.machine_core.specs.declared.outcome.Outcome.{Outcome}
 use Rattle.machine_core.specs.Machine.{MachineState, fresh, settings_fault}
 use Rattle.machine_core.specs.Turn.{end_of}
-use Rattle.phase_pool.specs.Numbers.{numbers_fault}
+use Rattle.worker_pool.specs.Numbers.{numbers_fault}
 use Rattle.bsp_session.specs.declared.errors.SessionError.{SessionError}
 use Rattle.bsp_session.specs.declared.errors.SessionError.TheVariants.{BadSettings, TooLong, Text, BadImage, SegmentOutside, ReadFault}
 use Rattle.bsp_session.specs.declared.errors.SessionError.TheVariants.{WriteFault, NoWorker, NoMemory}

@@ -2,7 +2,7 @@
 
 ghost use Rattle.std.specs.Prelude.{◌≡◌, ◌≢◌, None, IfOk, IfErr};
 ghost use Rattle.contested_runs.specs.Runs.{TellsContested};
-ghost use Rattle.phase_pool.specs.Numbers.{numbers_fault};
+ghost use Rattle.worker_pool.specs.Numbers.{numbers_fault};
 ghost use Rattle.bsp_session.specs.Contested.{Contests, IsErrorOfContested};
 ghost use Rattle.bsp_session.specs.Streams.{stream};
 ghost use Rattle.bsp_session.specs.Session.{ComesToEnd, job_fault, session_of};

@@ -7,11 +7,11 @@ use counted_io::{ReadError, WriteFault};
 use elf_image::ElfError;
 use machine_core::{MachineError, Outcome};
 use node_core::State;
-use phase_pool::PoolError;
 use rv_asm::{AsmError, AsmKind};
 use std::alloc::AllocError;
 use std::fmt;
 use thiserror::Error;
+use worker_pool::PoolError;
 
 /// The setting that is out of its range. Of several the first in this order is named.
 #[derive(Clone, Copy, Debug, PartialEq, Eq)]

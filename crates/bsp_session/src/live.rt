@@ -6,7 +6,7 @@ ghost use Rattle.std.specs.Io.KnownBytes.{Appends};
 ghost use Rattle.counted_io.specs.Counted.{HasRisen};
 ghost use Rattle.machine_core.specs.Sound.{IsSoundMachine};
 ghost use Rattle.machine_core.specs.Turn.{IsRunToEnd, superstep as superstep_of, with_phases, written as written_by};
-ghost use Rattle.phase_pool.specs.Numbers.{numbers_fault};
+ghost use Rattle.worker_pool.specs.Numbers.{numbers_fault};
 ghost use Rattle.bsp_session.specs.declared.errors.BadSetting.{BadSetting as BadSettingCause};
 ghost use Rattle.bsp_session.specs.Live.{AppendsSome, FailsAt, IsErrorOfLive, IsErrorOfLiveRun, IsErrorOfSuperstep, MayComeLate};
 ghost use Rattle.bsp_session.specs.Streams.{IsUntouched, stream};
@@ -19,11 +19,11 @@ use crate::report::{outcome_of, report_lines};
 use crate::sessions::start;
 use counted_io::{Counted, WriteFault, flush_whole, write_whole};
 use machine_core::{Machine, Outcome};
-use phase_pool::run_phase_sparing;
 use std::alloc::Allocator;
 use std::io::{Read, Write};
 use std::sync::Wait;
 use std::thread::Threads;
+use worker_pool::run_phase_sparing;
 
 /// Runs a program as [`session`](crate::session) does, and writes the same report to `out`, but while the run goes on: what the nodes
 /// wrote in a superstep is written, and `out` flushed, once the superstep is over, before the next one begins. The lines that the job

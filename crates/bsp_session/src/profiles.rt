@@ -2,7 +2,7 @@
 
 ghost use Rattle.std.specs.Prelude.{◌≡◌, ◌≢◌, None, IfOk, IfErr};
 ghost use Rattle.bsp_profile.specs.Lines.{profile_of};
-ghost use Rattle.phase_pool.specs.Numbers.{numbers_fault};
+ghost use Rattle.worker_pool.specs.Numbers.{numbers_fault};
 ghost use Rattle.bsp_session.specs.Profiles.{IsErrorOfProfiled, Profiles};
 ghost use Rattle.bsp_session.specs.Streams.{stream};
 ghost use Rattle.bsp_session.specs.Session.{ComesToEnd, job_fault, session_of};

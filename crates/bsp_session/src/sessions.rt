@@ -2,7 +2,7 @@
 
 ghost use Rattle.std.specs.Prelude.{◌≡◌, ◌≢◌, ◌↔◌, Some, None, IfOk, IfErr, IsErrOf};
 ghost use Rattle.std.specs.Result.{result_err};
-ghost use Rattle.phase_pool.specs.Numbers.{numbers_fault};
+ghost use Rattle.worker_pool.specs.Numbers.{numbers_fault};
 ghost use Rattle.bsp_session.specs.declared.errors.BadSetting.{BadSetting as BadSettingCause};
 ghost use Rattle.bsp_session.specs.Streams.{IsUntouched, Stream, stream};
 ghost use Rattle.bsp_session.specs.Session.{ComesToEnd, IsErrorOf, IsErrorOfFiles, ReadsFiles, Reports, StartsAt, job_fault, session_of};
@@ -13,11 +13,11 @@ use crate::job::Job;
 use crate::report::{outcome_of, write_report};
 use counted_io::{Counted, read_at_most};
 use machine_core::{Machine, Outcome};
-use phase_pool::{check_numbers, run_sparing};
 use std::alloc::Allocator;
 use std::io::{Read, Write};
 use std::sync::Wait;
 use std::thread::Threads;
+use worker_pool::{check_numbers, run_sparing};
 
 /// The most bytes of an input (own rule).
 pub const INPUT_BYTES: usize = 1 << 24;

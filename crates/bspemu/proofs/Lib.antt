@@ -2,4 +2,4 @@ mod Commands
 mod Getters
 mod Laws
 mod Sessions
-mod Tellings
+mod OutputModes

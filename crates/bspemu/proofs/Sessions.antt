@@ -17,7 +17,7 @@ use Rattle.bspemu.specs.declared.options.AsmOptions.{AsmOptions}
 use Rattle.bspemu.specs.declared.options.DebugOptions.{DebugOptions}
 use Rattle.bspemu.specs.declared.options.ListOptions.{ListOptions}
 use Rattle.bspemu.specs.declared.options.MachineOptions.{MachineOptions}
-use Rattle.bspemu.specs.declared.options.Telling.TheVariants.{AtEnd, Live, WithContested, WithCounts, WithProfile}
+use Rattle.bspemu.specs.declared.options.OutputMode.TheVariants.{AtEnd, Live, WithContested, WithCounts, WithProfile}
 use Rattle.bspemu.specs.Program.{AnswersLines, IsAnswerOfAsm, IsAnswerOfDebug, IsAnswerOfList}
 use Rattle.bspemu.specs.Program.{IsAnswerOfRun, IsDebugError, answer_of_end, answer_of_session}
 

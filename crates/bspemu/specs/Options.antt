@@ -15,8 +15,8 @@ use Rattle.machine_core.specs.declared.settings.Prices.{Prices}
 use Rattle.machine_core.specs.declared.settings.Settings.{Settings}
 use Rattle.bspemu.specs.declared.options.MachineOptions.{MachineOptions}
 use Rattle.bspemu.specs.declared.options.RunOptions.{RunOptions}
-use Rattle.bspemu.specs.declared.options.Telling.{Telling}
-use Rattle.bspemu.specs.declared.options.Telling.TheVariants.{AtEnd, Live, WithProfile, WithCounts, WithContested}
+use Rattle.bspemu.specs.declared.options.OutputMode.{OutputMode}
+use Rattle.bspemu.specs.declared.options.OutputMode.TheVariants.{AtEnd, Live, WithProfile, WithCounts, WithContested}
 use Rattle.bspemu.specs.declared.options.DebugOptions.{DebugOptions}
 use Rattle.bspemu.specs.declared.options.ListOptions.{ListOptions}
 use Rattle.bspemu.specs.declared.options.AsmOptions.{AsmOptions}
@@ -95,7 +95,7 @@ pub record GivesMachineOptions (rows : List Row) (o : MachineOptions) : Type 0 w
   pub ledger : GivesLedger rows o.job.ledger
 
 -- a flag, and the paths of a profile, of counts and of what is contested, ask for this way to tell of a run, and for no other
-abbrev pub Tells : (live : Bool) → (profile counts contested : Option Text) → Telling → Type 0
+abbrev pub Tells : (live : Bool) → (profile counts contested : Option Text) → OutputMode → Type 0
 Tells live profile counts contested AtEnd = (live ≡ false) × (profile ≡ None) × (counts ≡ None) × (contested ≡ None)
 Tells live profile counts contested Live = (live ≡ true) × (profile ≡ None) × (counts ≡ None) × (contested ≡ None)
 Tells live profile counts contested (WithProfile path) =
@@ -106,7 +106,7 @@ Tells live profile counts contested (WithContested path) =
     (live ≡ false) × (profile ≡ None) × (counts ≡ None) × (contested ≡ Some path.now)
 
 -- so do the matches of `run`
-pub record GivesTelling (rows : List Row) (t : Telling) : Type 0 where
+pub record GivesOutputMode (rows : List Row) (t : OutputMode) : Type 0 where
   pub live : Bool
   pub flag : GivesFlag (one_of (codes "live") rows) live
   pub tells : Tells live (first_of (codes "profile") rows) (first_of (codes "counts") rows) (first_of (codes "contested") rows) t
@@ -128,7 +128,7 @@ pub record GivesRunOptions (rows : List Row) (o : RunOptions) : Type 0 where
   pub workers : GivesNumber 32 (one_of (codes "workers") rows) o.machine.job.workers
   pub slice : GivesNumber 64 (one_of (codes "slice") rows) o.machine.job.slice
   pub report : GivesFlag (one_of (codes "report") rows) o.machine.job.report
-  pub telling : GivesTelling rows o.telling
+  pub output_mode : GivesOutputMode rows o.output_mode
 
 -- the matches of `debug` give these options
 pub record GivesDebugOptions (rows : List Row) (o : DebugOptions) : Type 0 where

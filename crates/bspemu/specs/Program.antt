@@ -23,8 +23,8 @@ use Rattle.bsp_session.specs.Profiles.{IsErrorOfProfiled, Profiles}
 use Rattle.bsp_session.specs.Session.{IsErrorOf, Reports, Session as BatchSession}
 use Rattle.bsp_session.specs.Streams.{Stream}
 use Rattle.bspemu.specs.declared.options.MachineOptions.{MachineOptions}
-use Rattle.bspemu.specs.declared.options.Telling.{Telling}
-use Rattle.bspemu.specs.declared.options.Telling.TheVariants.{AtEnd, Live, WithProfile, WithCounts, WithContested}
+use Rattle.bspemu.specs.declared.options.OutputMode.{OutputMode}
+use Rattle.bspemu.specs.declared.options.OutputMode.TheVariants.{AtEnd, Live, WithProfile, WithCounts, WithContested}
 use Rattle.bspemu.specs.declared.options.DebugOptions.{DebugOptions}
 use Rattle.bspemu.specs.declared.options.ListOptions.{ListOptions}
 use Rattle.bspemu.specs.declared.options.AsmOptions.{AsmOptions}
@@ -44,7 +44,7 @@ abbrev pub NamesFile : MachineOptions → Bor Text → Type 0
 NamesFile o path = ((o.image.now ≢ codes "-") × (o.image ≡ path)) ⊎ (o.input ≡ Some path)
 
 -- the file beside the output is this one
-abbrev pub TellsTo : Telling → Bor Text → Type 0
+abbrev pub TellsTo : OutputMode → Bor Text → Type 0
 TellsTo (WithProfile file) path = file ≡ path
 TellsTo (WithCounts file) path = file ≡ path
 TellsTo (WithContested file) path = file ≡ path
@@ -60,7 +60,7 @@ answer_of_end (Ok done) = Ok Ended
 answer_of_end (Err error) = Err (Session error)
 
 -- an outcome that a session can have which tells of its run so
-abbrev pub IsOutcomeOf : Telling → BatchSession → Outcome → Type 0
+abbrev pub IsOutcomeOf : OutputMode → BatchSession → Outcome → Type 0
 IsOutcomeOf AtEnd s outcome = Reports s outcome
 IsOutcomeOf Live s outcome = Reports s outcome
 IsOutcomeOf (WithProfile file) s outcome = (profile : Stream) × Profiles s profile outcome
@@ -68,7 +68,7 @@ IsOutcomeOf (WithCounts file) s outcome = (counts : Stream) × Counts s counts o
 IsOutcomeOf (WithContested file) s outcome = (contested : Stream) × Contests s contested outcome
 
 -- and an error
-abbrev pub IsErrorTold : Telling → BatchSession → SessionError → Type 0
+abbrev pub IsErrorTold : OutputMode → BatchSession → SessionError → Type 0
 IsErrorTold AtEnd s error = IsErrorOf s error
 IsErrorTold Live s error = IsErrorOfLive s error
 IsErrorTold (WithProfile file) s error = (profile : Stream) × IsErrorOfProfiled s profile error
@@ -76,10 +76,10 @@ IsErrorTold (WithCounts file) s error = (counts : Stream) × IsErrorOfCounted s 
 IsErrorTold (WithContested file) s error = (contested : Stream) × IsErrorOfContested s contested error
 
 -- an answer that a run with these options can have which is told so, whatever its session reads and writes
-abbrev pub IsAnswerOfRun : MachineOptions → Telling → Result Outcome RunError → Type 0
-IsAnswerOfRun o telling (Ok outcome) = (s : BatchSession) × (s.job ≡ o.job) × IsOutcomeOf telling s outcome
-IsAnswerOfRun o telling (Err (CannotOpen path)) = NamesFile o path ⊎ TellsTo telling path
-IsAnswerOfRun o telling (Err (Session error)) = (s : BatchSession) × (s.job ≡ o.job) × IsErrorTold telling s error
+abbrev pub IsAnswerOfRun : MachineOptions → OutputMode → Result Outcome RunError → Type 0
+IsAnswerOfRun o output_mode (Ok outcome) = (s : BatchSession) × (s.job ≡ o.job) × IsOutcomeOf output_mode s outcome
+IsAnswerOfRun o output_mode (Err (CannotOpen path)) = NamesFile o path ⊎ TellsTo output_mode path
+IsAnswerOfRun o output_mode (Err (Session error)) = (s : BatchSession) × (s.job ≡ o.job) × IsErrorTold output_mode s error
 
 -- lines were all answered with a debugger of such a job, in frames or not, and an error that this can have, whatever is read and written
 abbrev pub AnswersLines : (framed : Bool) → Job → Type 0
@@ -124,7 +124,7 @@ IsAnswerOfAsm o (Err (Session error)) = IsAsmError o.float error
 
 -- an answer that an action can have
 abbrev pub IsAnswer : Action → Result Outcome RunError → Type 0
-IsAnswer (action.Run o) answer = IsAnswerOfRun o.machine o.telling answer
+IsAnswer (action.Run o) answer = IsAnswerOfRun o.machine o.output_mode answer
 IsAnswer (action.Debug o) answer = IsAnswerOfDebug o answer
 IsAnswer (action.List o) answer = IsAnswerOfList o answer
 IsAnswer (action.Asm o) answer = IsAnswerOfAsm o answer

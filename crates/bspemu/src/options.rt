@@ -5,7 +5,7 @@ ghost use Rattle.clap.specs.Words.{found_of, kind_of, rows_of, subcommand_rows_o
 ghost use Rattle.bspemu.specs.Options.{AsksFor, AsksForSeveral, Gives, GivesAction, GivesAsmOptions};
 ghost use Rattle.bspemu.specs.Options.{GivesClock, GivesDebugOptions, GivesLedger, GivesListOptions};
 ghost use Rattle.bspemu.specs.Options.{GivesMachineOptions, GivesPrices, GivesRunOptions, GivesSettings};
-ghost use Rattle.bspemu.specs.Options.{GivesTelling, HasConflict, IsFaultOf, IsLack, IsNeverMet, Tells};
+ghost use Rattle.bspemu.specs.Options.{GivesOutputMode, HasConflict, IsFaultOf, IsLack, IsNeverMet, Tells};
 ghost use Rattle.bspemu.specs.Options.{IsFormatFor, are_several, name_of_format, number_of_ledger, text_of};
 
 use crate::command_line::command;
@@ -47,12 +47,12 @@ pub struct MachineOptions<'a> {
 #[derive(Drop)]
 pub struct RunOptions<'a> {
     pub machine: MachineOptions<'a>,
-    pub telling: Telling<'a>,
+    pub output_mode: OutputMode<'a>,
 }
 
 /// When a run writes its output, and what it writes beside it.
 #[derive(Clone, Copy)]
-pub enum Telling<'a> {
+pub enum OutputMode<'a> {
     /// All of the output, once the run has ended.
     AtEnd,
     /// The output of each superstep, once that is over.
@@ -176,17 +176,17 @@ fn options_of_run<'a>(run: &ArgMatches<'a>) -> Option<RunOptions<'a>>
     let report = run.get_one("report")?;
     Some(RunOptions {
         machine: options_of_machine(run, workers, slice, report)?,
-        telling: telling_of_run(run)?,
+        output_mode: output_mode_of_run(run)?,
     })
 }
 
 /// How a run is told, where no more than one way is asked for.
-fn telling_of_run<'a>(run: &ArgMatches<'a>) -> Option<Telling<'a>>
-    ensures some { IfSome result (GivesTelling (rows_of (found_of run.now))) }
-    ensures none { IfNone result (IsNeverMet (GivesTelling (rows_of (found_of run.now)))) }
+fn output_mode_of_run<'a>(run: &ArgMatches<'a>) -> Option<OutputMode<'a>>
+    ensures some { IfSome result (GivesOutputMode (rows_of (found_of run.now))) }
+    ensures none { IfNone result (IsNeverMet (GivesOutputMode (rows_of (found_of run.now)))) }
 {
     let is_live = run.get_one("live")?;
-    telling_of(
+    output_mode_of(
         is_live,
         run.get_str("profile"),
         run.get_str("counts"),
@@ -194,21 +194,21 @@ fn telling_of_run<'a>(run: &ArgMatches<'a>) -> Option<Telling<'a>>
     )
 }
 
-fn telling_of<'a>(
+fn output_mode_of<'a>(
     is_live: bool,
     profile: Option<&'a str>,
     counts: Option<&'a str>,
     contested: Option<&'a str>,
-) -> Option<Telling<'a>>
+) -> Option<OutputMode<'a>>
     ensures some { IfSome result (Tells is_live (text_of profile.entry) (text_of counts.entry) (text_of contested.entry)) }
     ensures none { IfNone result (IsNeverMet (Tells is_live (text_of profile.entry) (text_of counts.entry) (text_of contested.entry))) }
 {
     match (is_live, profile, counts, contested) {
-        (false, None, None, None) => Some(Telling::AtEnd),
-        (true, None, None, None) => Some(Telling::Live),
-        (false, Some(path), None, None) => Some(Telling::WithProfile(path)),
-        (false, None, Some(path), None) => Some(Telling::WithCounts(path)),
-        (false, None, None, Some(path)) => Some(Telling::WithContested(path)),
+        (false, None, None, None) => Some(OutputMode::AtEnd),
+        (true, None, None, None) => Some(OutputMode::Live),
+        (false, Some(path), None, None) => Some(OutputMode::WithProfile(path)),
+        (false, None, Some(path), None) => Some(OutputMode::WithCounts(path)),
+        (false, None, None, Some(path)) => Some(OutputMode::WithContested(path)),
         _ => None,
     }
 }

@@ -10,8 +10,8 @@ use crate::files::{
     CannotOpen, Source, create, create_beside, open_file, open_image, open_input, open_lines,
 };
 use crate::options::{
-    Action, AsmOptions, DebugOptions, ListOptions, MachineOptions, RunOptions, Telling, action_of,
-    refusal,
+    Action, AsmOptions, DebugOptions, ListOptions, MachineOptions, OutputMode, RunOptions,
+    action_of, refusal,
 };
 use bsp_console::{debug_dialogue, debug_framed, debug_session};
 use bsp_session::{
@@ -155,7 +155,7 @@ fn run<'a, R: AllocGlobal + Files + Input + Print + Threads + Wait + Sync>(
     rt: &R,
     options: &RunOptions<'a>,
 ) -> Result<Outcome, RunError<'a>>
-    ensures { IsAnswerOfRun options.now.machine options.now.telling result }
+    ensures { IsAnswerOfRun options.now.machine options.now.output_mode result }
 {
     let mut streams = open_streams(rt, &options.machine)?;
     run_on(rt, options, &mut streams)
@@ -167,15 +167,15 @@ fn run_on<'a, R: AllocGlobal + Files + Input + Print + Threads + Wait + Sync>(
     options: &RunOptions<'a>,
     streams: &mut Streams<R::File, R::Reader>,
 ) -> Result<Outcome, RunError<'a>>
-    ensures { IsAnswerOfRun options.now.machine options.now.telling result }
+    ensures { IsAnswerOfRun options.now.machine options.now.output_mode result }
 {
     let machine = &options.machine;
-    match options.telling {
-        Telling::AtEnd => run_to_end(rt, machine, streams),
-        Telling::Live => run_live(rt, machine, streams),
-        Telling::WithProfile(path) => run_profiled(rt, machine, path, streams),
-        Telling::WithCounts(path) => run_counted(rt, machine, path, streams),
-        Telling::WithContested(path) => run_contested(rt, machine, path, streams),
+    match options.output_mode {
+        OutputMode::AtEnd => run_to_end(rt, machine, streams),
+        OutputMode::Live => run_live(rt, machine, streams),
+        OutputMode::WithProfile(path) => run_profiled(rt, machine, path, streams),
+        OutputMode::WithCounts(path) => run_counted(rt, machine, path, streams),
+        OutputMode::WithContested(path) => run_contested(rt, machine, path, streams),
     }
 }
 
@@ -186,7 +186,7 @@ fn run_to_end<'a, R: AllocGlobal + Files + Input + Print + Threads + Wait + Sync
     options: &MachineOptions<'a>,
     streams: &mut Streams<R::File, R::Reader>,
 ) -> Result<Outcome, RunError<'a>>
-    ensures { IsAnswerOfRun options.now Telling.AtEnd result }
+    ensures { IsAnswerOfRun options.now OutputMode.AtEnd result }
 {
     let mut out = Counted::new(io::writer(rt));
     answer_of(session(
@@ -206,7 +206,7 @@ fn run_live<'a, R: AllocGlobal + Files + Input + Print + Threads + Wait + Sync>(
     options: &MachineOptions<'a>,
     streams: &mut Streams<R::File, R::Reader>,
 ) -> Result<Outcome, RunError<'a>>
-    ensures { IsAnswerOfRun options.now Telling.Live result }
+    ensures { IsAnswerOfRun options.now OutputMode.Live result }
 {
     let mut out = Counted::new(io::writer(rt));
     answer_of(live_session(
@@ -227,7 +227,7 @@ fn run_profiled<'a, R: AllocGlobal + Files + Input + Print + Threads + Wait + Sy
     path: &'a str,
     streams: &mut Streams<R::File, R::Reader>,
 ) -> Result<Outcome, RunError<'a>>
-    ensures { IsAnswerOfRun options.now (Telling.WithProfile path.entry) result }
+    ensures { IsAnswerOfRun options.now (OutputMode.WithProfile path.entry) result }
 {
     let mut profile = Counted::new(create_beside(
         rt,
@@ -255,7 +255,7 @@ fn run_counted<'a, R: AllocGlobal + Files + Input + Print>(
     path: &'a str,
     streams: &mut Streams<R::File, R::Reader>,
 ) -> Result<Outcome, RunError<'a>>
-    ensures { IsAnswerOfRun options.now (Telling.WithCounts path.entry) result }
+    ensures { IsAnswerOfRun options.now (OutputMode.WithCounts path.entry) result }
 {
     let mut counts = Counted::new(create_beside(
         rt,
@@ -282,7 +282,7 @@ fn run_contested<'a, R: AllocGlobal + Files + Input + Print + Threads + Wait + S
     path: &'a str,
     streams: &mut Streams<R::File, R::Reader>,
 ) -> Result<Outcome, RunError<'a>>
-    ensures { IsAnswerOfRun options.now (Telling.WithContested path.entry) result }
+    ensures { IsAnswerOfRun options.now (OutputMode.WithContested path.entry) result }
 {
     let mut contested = Counted::new(create_beside(
         rt,

@@ -1,6 +1,6 @@
 //! A worker at the table: it is counted, takes nodes and gives them back, and is counted no longer.
 
-ghost use Rattle.std.specs.Prelude.{◌≡◌, ◌+◌, ◌<◌, Some};
+ghost use Rattle.std.specs.Prelude.{◌≡◌, ◌+◌, ◌<◌, ◌%◌, Some};
 ghost use mathlib.Core.Option.{some};
 ghost use Rattle.claim_table.specs.Claims.{word_of};
 
@@ -47,7 +47,8 @@ pub(crate) fn word_at_home<A: Allocator>(node: &Node<A>) -> u64
 /// The rank that comes so many places after the given one, round.
 fn rank_after(first: usize, places: usize, ranks: usize) -> usize
     requires { places < ranks }
-    ensures { result < ranks }
+    ensures within { result < ranks }
+    ensures value { result ≡ (first % ranks + places) % ranks }
 {
     let first = first % ranks;
     let behind = ranks - first;

@@ -9,8 +9,8 @@ use Rattle.machine_core.specs.Turn.{superstep, turned, with_phases}
 use Rattle.machine_core.proofs.Options.{none_from}
 use Rattle.machine_core.proofs.Resume.{phases-after}
 use Rattle.machine_core.proofs.Sound.{superstep-open}
-use Rattle.phase_pool.specs.Phases.{LeadsWithoutTurn}
-use Rattle.phase_pool.proofs.Phases.{LeadsWithoutTurn-outcome}
+use Rattle.worker_pool.specs.Phases.{LeadsWithoutTurn}
+use Rattle.worker_pool.proofs.Phases.{LeadsWithoutTurn-outcome}
 use Rattle.contested_runs.specs.Runs.{AreLines, AreLinesUpTo, AreTurnLines, over, more}
 
 -- a text grew by the lines of a run from one machine up to another

@@ -7,7 +7,7 @@
 //!
 //! What callers may rely on:
 //!
-//! - [`run`] leaves the machine as [`phase_pool::run_sparing`] does, and what is told has the lines of the contested bytes of each
+//! - [`run`] leaves the machine as [`worker_pool::run_sparing`] does, and what is told has the lines of the contested bytes of each
 //!   superstep that was made, and no others, whatever the number of workers.
 //! - At every answer of `run` the lines that were appended and those of the supersteps that are left are those of the whole run. So
 //!   one that was refused memory or a thread is taken up again by the same call.

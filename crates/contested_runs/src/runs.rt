@@ -1,21 +1,21 @@
 //! A run of which is told what is contested.
 
 ghost use Rattle.std.specs.Prelude.{◌≡◌, ◌++◌, ℕ, List, None, IsSome, OnOk};
-ghost use Rattle.phase_pool.specs.Answers.{IsRunAnswer};
-ghost use Rattle.phase_pool.specs.Numbers.{numbers_fault};
+ghost use Rattle.worker_pool.specs.Answers.{IsRunAnswer};
+ghost use Rattle.worker_pool.specs.Numbers.{numbers_fault};
 ghost use Rattle.contested_runs.specs.Runs.{AreLines, AreLinesUpTo};
 
 use crate::told::Told;
 use machine_core::Machine;
-use phase_pool::{PoolError, check_numbers, run_phase_sparing};
 use std::alloc::Allocator;
 use std::sync::Wait;
 use std::thread::Threads;
+use worker_pool::{PoolError, check_numbers, run_phase_sparing};
 
-/// Runs a machine to its outcome as [`phase_pool::run_sparing`] does, and tells which bytes are contested in each superstep.
+/// Runs a machine to its outcome as [`worker_pool::run_sparing`] does, and tells which bytes are contested in each superstep.
 ///
 /// # Errors
-/// As [`phase_pool::run_sparing`]; [`PoolError::NoMemory`] is also answered where memory was refused for what is told. It has then the
+/// As [`worker_pool::run_sparing`]; [`PoolError::NoMemory`] is also answered where memory was refused for what is told. It has then the
 /// lines of the supersteps that are over, and the call made again with it appends those that are left.
 pub fn run<R: Threads + Wait + Sync, A: Allocator + Copy + Send + Sync>(
     rt: &R,

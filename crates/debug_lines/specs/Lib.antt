@@ -1,11 +1,13 @@
 pub mod Floats
 pub mod Framed
+pub mod Help
 pub mod Kept
 pub mod KeptViews
 pub mod Lines
 pub mod Named
 pub mod Replies
 pub mod Shown
+pub mod TopicViews
 pub mod Topics
 pub mod Verdicts
 pub mod Words

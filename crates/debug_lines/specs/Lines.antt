@@ -7,6 +7,8 @@ use Rattle.bsp_debug.specs.declared.point.Point.{Point}
 use Rattle.bsp_debug.specs.declared.point.Point.TheVariants.{Address, Superstep}
 use Rattle.debug_lines.specs.declared.form.Form.{Form}
 use Rattle.debug_lines.specs.declared.form.Form.TheVariants.{Words, Text, Codes}
+use Rattle.debug_lines.specs.declared.help.Audience.{Audience}
+use Rattle.debug_lines.specs.declared.help.Audience.TheVariants.{Person, Program}
 use Rattle.debug_lines.specs.declared.line.Line.{Line}
 use Rattle.debug_lines.specs.declared.line.Line.TheVariants.{Break, Clear, Command, Output, Keep, Back, Forget, Kept, Points, Shown, Areas}
 use Rattle.debug_lines.specs.declared.line.Line.TheVariants.{Requests, StepNext, Over, Nodes, Place, Places, OutputFrom, CostsFrom, Help}
@@ -89,7 +91,7 @@ dialogue_of_one word =
     (if bytes_eq word (codes "kept") then Some Kept else
     (if bytes_eq word (codes "where") then Some Places else
     (if bytes_eq word (codes "points") then Some Points else
-    (if bytes_eq word (codes "help") then Some Help else
+    (if bytes_eq word (codes "help") then Some (Help Person) else
     (if bytes_eq word (codes "step") then Some StepNext else None)))))
 
 -- a line of two: `back N`, `forget N`
@@ -107,12 +109,12 @@ rank_line_of word rank =
     (if bytes_eq word (codes "over") then option_map Over (number_in 32 rank) else
     (if bytes_eq word (codes "step") then option_map (λ r. Command (Step r 1)) (number_in 32 rank) else None))))
 
--- `help LINE`, by the first word of the line
-abbrev pub help_line_of : (word name : List ℕ) → Option Line
-help_line_of word name = if bytes_eq word (codes "help") then option_map HelpOn (topic_named name) else None
+-- `help LINE`, by the first word of the line, and whom it is for
+abbrev pub help_line_of : Audience → (word name : List ℕ) → Option Line
+help_line_of audience word name = if bytes_eq word (codes "help") then option_map (HelpOn audience) (topic_named name) else None
 
 abbrev pub dialogue_of_two : (word a : List ℕ) → Option Line
-dialogue_of_two word a = option_or (state_line_of word a) (option_or (rank_line_of word a) (help_line_of word a))
+dialogue_of_two word a = option_or (state_line_of word a) (option_or (rank_line_of word a) (help_line_of Person word a))
 
 -- a form in which memory is shown
 abbrev pub form_named : List ℕ → Option Form
@@ -165,15 +167,20 @@ dialogue_line_of line = or_mistake (option_or (line_of_words (words line)) (dial
 
 -- ---- framed sessions
 
--- a line of one word that only framed sessions have
+-- a line of one word that framed sessions have in their own way: `help` is for a program there
 abbrev pub framed_of_one : List ℕ → Option Line
-framed_of_one word = if bytes_eq word (codes "nodes") then Some Nodes else None
+framed_of_one word =
+    if bytes_eq word (codes "nodes") then Some Nodes else
+    (if bytes_eq word (codes "help") then Some (Help Program) else None)
 
 -- a line of two: `output FROM`, `costs FROM`
-abbrev pub framed_of_two : (word number : List ℕ) → Option Line
-framed_of_two word number =
+abbrev pub from_line_of : (word number : List ℕ) → Option Line
+from_line_of word number =
     if bytes_eq word (codes "output") then option_map OutputFrom (number_in 64 number) else
     (if bytes_eq word (codes "costs") then option_map CostsFrom (number_in 64 number) else None)
+
+abbrev pub framed_of_two : (word a : List ℕ) → Option Line
+framed_of_two word a = option_or (from_line_of word a) (help_line_of Program word a)
 
 -- `RANK COUNT` behind `go`
 abbrev pub go_of : (rank count : List ℕ) → Option Line
@@ -183,7 +190,7 @@ go_of rank count = option_and_then (λ r. option_map (λ n. Command (Run r n)) (
 abbrev pub framed_of_three : (word rank count : List ℕ) → Option Line
 framed_of_three word rank count = if bytes_eq word (codes "go") then go_of rank count else None
 
--- a line of these words that only framed sessions have; none for words of no such line
+-- a line of these words that framed sessions have in their own way; none for words of no such line
 abbrev pub framed_of_words : List (List ℕ) → Option Line
 framed_of_words [] = None
 framed_of_words (word ∷ []) = framed_of_one word
@@ -191,7 +198,7 @@ framed_of_words (word ∷ a ∷ []) = framed_of_two word a
 framed_of_words (word ∷ a ∷ b ∷ []) = framed_of_three word a b
 framed_of_words (word ∷ a ∷ b ∷ c ∷ more) = None
 
--- what a line of a framed session asks for: that of a dialogue, or else what only framed ones have
+-- what a line of a framed session asks for: that of a script, or else what framed ones have in their own way, or else that of a dialogue
 unfoldable pub framed_line_of : List ℕ → Line
 framed_line_of line =
-    or_unknown (option_or (option_or (line_of_words (words line)) (dialogue_of_words (words line))) (framed_of_words (words line)))
+    or_unknown (option_or (option_or (line_of_words (words line)) (framed_of_words (words line))) (dialogue_of_words (words line)))

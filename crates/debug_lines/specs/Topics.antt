@@ -1,7 +1,8 @@
--- The lines of a dialogue by their first words, and what is told of each (own texts). What stands in brackets can be left out.
-use Rattle.std.specs.Prelude.{ℕ, List, [], ◌∷◌, ◌++◌, Option, find, codes}
-use Rattle.std.specs.List.{flat_map}
+-- The lines of a dialogue and of a framed session by their first words: how each is spelled, and what it does (own texts).
+use Rattle.std.specs.Prelude.{ℕ, List, [], ◌∷◌, Option, Some, None, find, codes}
 use Rattle.std.specs.Str.{bytes_eq}
+use Rattle.debug_lines.specs.declared.topic.Sessions.{Sessions}
+use Rattle.debug_lines.specs.declared.topic.Sessions.TheVariants.{Both, Dialogues, Framed}
 use Rattle.debug_lines.specs.declared.topic.Topic.{Topic}
 use Rattle.debug_lines.specs.declared.topic.Topic.TheVariants.{Break, Clear, Points, Go, Step, Over, Phase, Turn, Where, Regs, Fregs, Codes}
 use Rattle.debug_lines.specs.declared.topic.Topic.TheVariants.{Bytes, Words, Text, Areas, Requests, Queue, Keep, Kept, Back, Forget, Costs}
@@ -44,73 +45,61 @@ topic_name Nodes = codes "nodes"
 topic_name Help = codes "help"
 topic_name Quit = codes "quit"
 
--- how they are spelled
-abbrev pub usage : Topic → List ℕ
-usage Break = codes "break RANK ADDR, or break superstep K"
-usage Clear = codes "clear RANK ADDR, or clear superstep K"
-usage Points = codes "points"
-usage Go = codes "go, or with --framed go RANK COUNT"
-usage Step = codes "step, or step RANK [COUNT]"
-usage Over = codes "over RANK"
-usage Phase = codes "phase"
-usage Turn = codes "turn"
-usage Where = codes "where [RANK]"
-usage Regs = codes "regs RANK"
-usage Fregs = codes "fregs RANK"
-usage Codes = codes "list RANK ADDR N"
-usage Bytes = codes "bytes RANK ADDR LEN"
-usage Words = codes "words RANK ADDR N"
-usage Text = codes "text RANK ADDR N"
-usage Areas = codes "areas RANK"
-usage Requests = codes "requests RANK"
-usage Queue = codes "queue RANK"
-usage Keep = codes "keep"
-usage Kept = codes "kept"
-usage Back = codes "back N"
-usage Forget = codes "forget N"
-usage Costs = codes "costs, or with --framed costs [FROM]"
-usage Output = codes "output, or with --framed output [FROM]"
-usage Nodes = codes "nodes, with --framed alone"
-usage Help = codes "help [LINE]"
-usage Quit = codes "quit"
+-- a form of the lines with one first word: what stands behind that word, where operands are in capitals, and what can be left out is in
+-- brackets; what a line of the form does; and the sessions that have it
+pub record LineForm : Type 0 where
+  pub operands : List ℕ
+  pub purpose : List ℕ
+  pub sessions : Sessions
 
--- what they do
-abbrev pub purpose : Topic → List ℕ
-purpose Break = codes "sets a point, at which go stops"
-purpose Clear = codes "takes a point away"
-purpose Points = codes "the points that are set"
-purpose Go = codes "goes on to a point or to the outcome; a rank alone, by COUNT steps at most"
-purpose Step = codes "the next instruction of all; COUNT of a rank, or one"
-purpose Over = codes "an instruction of a rank, with all of a function that it calls"
-purpose Phase = codes "every rank goes on until it stops by itself"
-purpose Turn = codes "ends the superstep, if no rank runs any more"
-purpose Where = codes "where the ranks are, or one"
-purpose Regs = codes "the registers of a rank"
-purpose Fregs = codes "the registers of floating point of a rank, and fcsr"
-purpose Codes = codes "N instructions from ADDR on"
-purpose Bytes = codes "LEN bytes of memory"
-purpose Words = codes "N words of four bytes"
-purpose Text = codes "the text there, up to its end or to N bytes"
-purpose Areas = codes "the areas that a rank has registered"
-purpose Requests = codes "what a rank has asked for in this superstep"
-purpose Queue = codes "the messages that a rank has received and not moved yet"
-purpose Keep = codes "keeps the state under the next number"
-purpose Kept = codes "the states that are kept"
-purpose Back = codes "goes back to a state that is kept"
-purpose Forget = codes "keeps a state no longer"
-purpose Costs = codes "what the supersteps that are over cost"
-purpose Output = codes "what was written in the supersteps that are over"
-purpose Nodes = codes "how many ranks there are, and the other settings"
-purpose Help = codes "all lines, or one"
-purpose Quit = codes "ends the session"
+abbrev pub in_both : (operands purpose : List ℕ) → LineForm
+in_both operands purpose = record { operands = operands; purpose = purpose; sessions = Both }
 
--- what is told of them in a line
-abbrev pub help_line : Topic → List ℕ
-help_line topic = usage topic ++ codes ": " ++ purpose topic ++ codes "\n"
+abbrev pub in_dialogues : (operands purpose : List ℕ) → LineForm
+in_dialogues operands purpose = record { operands = operands; purpose = purpose; sessions = Dialogues }
 
--- and of all of them
-abbrev pub help_lines : List ℕ
-help_lines = flat_map help_line topics
+abbrev pub in_framed : (operands purpose : List ℕ) → LineForm
+in_framed operands purpose = record { operands = operands; purpose = purpose; sessions = Framed }
+
+-- the form of its lines, or the first of two
+abbrev pub first_form : Topic → LineForm
+first_form Break = in_both (codes "RANK ADDR") (codes "sets a point, at which go stops")
+first_form Clear = in_both (codes "RANK ADDR") (codes "takes a point away")
+first_form Points = in_both [] (codes "the points that are set")
+first_form Go = in_both [] (codes "goes on to a point or to the outcome")
+first_form Step = in_both [] (codes "the next instruction of all")
+first_form Over = in_both (codes "RANK") (codes "an instruction of a rank, with all of a function that it calls")
+first_form Phase = in_both [] (codes "every rank goes on until it stops by itself")
+first_form Turn = in_both [] (codes "ends the superstep, if no rank runs any more")
+first_form Where = in_both (codes "[RANK]") (codes "where the ranks are, or one")
+first_form Regs = in_both (codes "RANK") (codes "the registers of a rank")
+first_form Fregs = in_both (codes "RANK") (codes "the registers of floating point of a rank, and fcsr")
+first_form Codes = in_both (codes "RANK ADDR N") (codes "N instructions from ADDR on")
+first_form Bytes = in_both (codes "RANK ADDR LEN") (codes "LEN bytes of memory")
+first_form Words = in_both (codes "RANK ADDR N") (codes "N words of four bytes")
+first_form Text = in_both (codes "RANK ADDR N") (codes "the text there, up to its end or to N bytes")
+first_form Areas = in_both (codes "RANK") (codes "the areas that a rank has registered")
+first_form Requests = in_both (codes "RANK") (codes "what a rank has asked for in this superstep")
+first_form Queue = in_both (codes "RANK") (codes "the messages that a rank has received and not moved yet")
+first_form Keep = in_both [] (codes "keeps the state under the next number")
+first_form Kept = in_both [] (codes "the states that are kept")
+first_form Back = in_both (codes "N") (codes "goes back to a state that is kept")
+first_form Forget = in_both (codes "N") (codes "keeps a state no longer")
+first_form Costs = in_dialogues [] (codes "what the supersteps that are over cost")
+first_form Output = in_dialogues [] (codes "what was written in the supersteps that are over")
+first_form Nodes = in_framed [] (codes "how many ranks there are, and the other settings")
+first_form Help = in_both (codes "[LINE]") (codes "all lines, or one")
+first_form Quit = in_both [] (codes "ends the session")
+
+-- the other of two, which framed sessions have
+abbrev pub other_form : Topic → Option LineForm
+other_form Break = Some (in_both (codes "superstep K") (first_form Break).purpose)
+other_form Clear = Some (in_both (codes "superstep K") (first_form Clear).purpose)
+other_form Go = Some (in_framed (codes "RANK COUNT") (codes "a rank alone, by COUNT steps at most"))
+other_form Step = Some (in_both (codes "RANK [COUNT]") (codes "COUNT of a rank, or one"))
+other_form Costs = Some (in_framed (codes "[FROM]") (first_form Costs).purpose)
+other_form Output = Some (in_framed (codes "[FROM]") (first_form Output).purpose)
+other_form _ = None
 
 -- the lines with a first word, if there are any
 unfoldable pub topic_named : List ℕ → Option Topic

@@ -5,7 +5,7 @@ use Rattle.bsp_debug.specs.declared.error.DebugError.{DebugError}
 use Rattle.bsp_debug.specs.declared.error.DebugError.TheVariants.{BadRank, BadRange, NoFloatUnit, TooMany}
 use Rattle.bsp_debug.specs.declared.error.DebugError.TheVariants.{NoSuchBreak, NoSuchKept, Over, NoMemory}
 use Rattle.bsp_debug.specs.Errors.{name_of}
-use Rattle.debug_lines.specs.Topics.{usage}
+use Rattle.debug_lines.specs.Help.{usage}
 use Rattle.debug_lines.specs.declared.verdict.Verdict.{Verdict}
 use Rattle.debug_lines.specs.declared.verdict.Verdict.TheVariants.{Done, Kept, Refused, BadCommand, Misused, NoLine}
 

@@ -6,7 +6,7 @@
 //!
 //! There are three such languages, each with the lines of the one before it and some more: that of scripts, that of dialogues
 //! ([`parse_dialogue_line`]) and that of framed sessions ([`parse_framed_line`]). [`add_place`], [`add_kept`], [`point_lines`],
-//! [`shown_text`], [`area_lines`], [`request_lines`], [`help_lines`], [`setup_line`] and [`costs_from`] give what answers the lines that
+//! [`shown_text`], [`area_lines`], [`request_lines`], [`help_text`], [`setup_line`] and [`costs_from`] give what answers the lines that
 //! scripts do not have, and [`named_registers`] and [`named_float_registers`] what tells of a node in a dialogue.
 //!
 //! Callers may rely on this:
@@ -26,6 +26,7 @@ mod character;
 mod floats;
 mod form;
 mod framed;
+mod help;
 mod kept;
 mod line;
 mod named;
@@ -39,10 +40,11 @@ mod word;
 pub use floats::named_float_registers;
 pub use form::Form;
 pub use framed::{add_place, costs_from, setup_line};
+pub use help::{Audience, add_help, help_text};
 pub use kept::add_kept;
 pub use line::{Line, parse_dialogue_line, parse_framed_line, parse_line};
 pub use named::named_registers;
 pub use reply::reply_text;
 pub use shown::{area_lines, point_lines, request_lines, shown_len, shown_text};
-pub use topic::{Topic, add_help, help_lines};
+pub use topic::Topic;
 pub use verdict::Verdict;

@@ -6,10 +6,12 @@ ghost use Rattle.debug_lines.specs.Lines.{line_of_three, line_of_four, point_of,
 ghost use Rattle.debug_lines.specs.Lines.{asks_help, dialogue_line_of, dialogue_of_words, dialogue_of_one};
 ghost use Rattle.debug_lines.specs.Lines.{dialogue_of_two, dialogue_of_four, is_one, mistake_of};
 ghost use Rattle.debug_lines.specs.Lines.{form_named, help_line_of, rank_line_of, shown_of, state_line_of};
-ghost use Rattle.debug_lines.specs.Lines.{framed_line_of, framed_of_words, framed_of_one, framed_of_two, framed_of_three, go_of};
+ghost use Rattle.debug_lines.specs.Lines.{framed_line_of, framed_of_words, framed_of_one, framed_of_two, framed_of_three};
+ghost use Rattle.debug_lines.specs.Lines.{from_line_of, go_of};
 ghost use Rattle.debug_lines.specs.Words.{words};
 
 use crate::form::Form;
+use crate::help::Audience;
 use crate::topic::{Topic, topic_named};
 use crate::word::split_word;
 use bsp_debug::{Command, Point};
@@ -63,10 +65,10 @@ pub enum Line {
     OutputFrom(u64),
     /// What the supersteps that are over cost, from that of a number on: `costs FROM`. Only framed sessions have it.
     CostsFrom(u64),
-    /// All lines of a dialogue, and what they do: `help`. Scripts do not have it.
-    Help,
-    /// Those with one first word: `help LINE`. Scripts do not have it.
-    HelpOn(Topic),
+    /// All lines, and what they do: `help`. Scripts do not have it, and a framed session is told it as a program.
+    Help(Audience),
+    /// Those with one first word: `help LINE`. The same holds for it.
+    HelpOn(Audience, Topic),
     /// To end: `quit`.
     Quit,
     /// Nothing: spaces at most.
@@ -135,14 +137,15 @@ fn is_one_word(line: &[u8]) -> bool
     }
 }
 
-/// What a line of a framed session asks for: that of a dialogue, and some lines more. It is given without the line feed that ends it.
+/// What a line of a framed session asks for: that of a dialogue, and some lines more; and help as a table. It is given without the line
+/// feed that ends it.
 #[tactic(auto, unfolding(crate::specs::Lines::framed_line_of))]
 pub fn parse_framed_line(line: &[u8]) -> Line
     ensures { result ≡ framed_line_of line.now }
 {
     match known_line(line)
-        .or(dialogue_line(line))
         .or(framed_line(line))
+        .or(dialogue_line(line))
     {
         Some(known) => known,
         None => Line::Unknown,
@@ -184,7 +187,7 @@ fn dialogue_of_one(word: &[u8]) -> Option<Line>
     } else if word == b"points".as_slice() {
         Some(Line::Points)
     } else if word == b"help".as_slice() {
-        Some(Line::Help)
+        Some(Line::Help(Audience::Person))
     } else if word == b"step".as_slice() {
         Some(Line::StepNext)
     } else {
@@ -196,7 +199,8 @@ fn dialogue_of_one(word: &[u8]) -> Option<Line>
 fn dialogue_of_two(word: &[u8], operand: &[u8]) -> Option<Line>
     ensures { result ≡ dialogue_of_two word.now operand.now }
 {
-    state_line_of(word, operand).or(rank_line_of(word, operand).or(help_line_of(word, operand)))
+    let help = help_line_of(Audience::Person, word, operand);
+    state_line_of(word, operand).or(rank_line_of(word, operand).or(help))
 }
 
 /// A line of the number of a state.
@@ -233,11 +237,11 @@ fn rank_line_of(word: &[u8], rank: &[u8]) -> Option<Line>
 }
 
 /// A line that asks what another line does.
-fn help_line_of(word: &[u8], name: &[u8]) -> Option<Line>
-    ensures { result ≡ help_line_of word.now name.now }
+fn help_line_of(audience: Audience, word: &[u8], name: &[u8]) -> Option<Line>
+    ensures { result ≡ help_line_of audience word.now name.now }
 {
     if word == b"help".as_slice() {
-        Some(Line::HelpOn(topic_named(name)?))
+        Some(Line::HelpOn(audience, topic_named(name)?))
     } else {
         None
     }
@@ -281,7 +285,7 @@ fn shown_of(form: Form, rank: &[u8], addr: &[u8], count: &[u8]) -> Option<Line>
     })
 }
 
-/// What a line asks for that only framed sessions have, if its words are those of one.
+/// What a line asks for that framed sessions have in their own way, if its words are those of one.
 fn framed_line(line: &[u8]) -> Option<Line>
     ensures { result ≡ framed_of_words (words line.now) }
 {
@@ -300,20 +304,29 @@ fn framed_line(line: &[u8]) -> Option<Line>
     }
 }
 
-/// A line of one word that only framed sessions have.
+/// A line of one word that framed sessions have in their own way.
 fn framed_of_one(word: &[u8]) -> Option<Line>
     ensures { result ≡ framed_of_one word.now }
 {
     if word == b"nodes".as_slice() {
         Some(Line::Nodes)
+    } else if word == b"help".as_slice() {
+        Some(Line::Help(Audience::Program))
     } else {
         None
     }
 }
 
-/// A line of two words that only framed sessions have.
-fn framed_of_two(word: &[u8], number: &[u8]) -> Option<Line>
-    ensures { result ≡ framed_of_two word.now number.now }
+/// A line of two words that framed sessions have in their own way.
+fn framed_of_two(word: &[u8], operand: &[u8]) -> Option<Line>
+    ensures { result ≡ framed_of_two word.now operand.now }
+{
+    from_line_of(word, operand).or(help_line_of(Audience::Program, word, operand))
+}
+
+/// A line that asks for what is behind a number.
+fn from_line_of(word: &[u8], number: &[u8]) -> Option<Line>
+    ensures { result ≡ from_line_of word.now number.now }
 {
     if word == b"output".as_slice() {
         Some(Line::OutputFrom(u64_of(number)?))

@@ -1,9 +1,8 @@
-//! The lines of a dialogue by their first words, and what is told of each.
+//! The lines of a dialogue and of a framed session by their first words: how each is spelled, and what it does.
 
-ghost use Rattle.std.specs.Prelude.{◌≡◌, ◌++◌, IfOk, string_bytes};
-ghost use Rattle.debug_lines.specs.Topics.{help_line, help_lines, purpose, topic_name, topic_named, topics, usage};
-
-use std::alloc::{AllocError, Allocator};
+ghost use Rattle.std.specs.Prelude.{◌≡◌, option_map};
+ghost use Rattle.debug_lines.specs.TopicViews.{form_value};
+ghost use Rattle.debug_lines.specs.Topics.{first_form, in_both, in_dialogues, in_framed, other_form, topic_name, topic_named, topics};
 
 /// The lines of a dialogue that begin with one word.
 #[derive(Clone, Copy, Debug, PartialEq, Eq)]
@@ -64,7 +63,28 @@ pub enum Topic {
     Quit,
 }
 
-/// All of them, in the order in which they are told.
+/// The sessions that have a form of lines. Scripts have no help.
+#[derive(Clone, Copy)]
+pub(crate) enum Sessions {
+    /// Dialogues and framed sessions.
+    Both,
+    /// Dialogues alone, since a framed session has more.
+    Dialogues,
+    /// Framed sessions alone.
+    Framed,
+}
+
+/// A form of the lines with one first word.
+#[derive(Clone, Copy)]
+pub(crate) struct LineForm {
+    /// What stands behind that word: operands in capitals, and what can be left out in brackets.
+    pub(crate) operands: &'static str,
+    /// What a line of the form does.
+    pub(crate) purpose: &'static str,
+    pub(crate) sessions: Sessions,
+}
+
+/// All first words, in the order in which they are told.
 static TOPICS: [Topic; 27] = [
     Topic::Break,
     Topic::Clear,
@@ -95,9 +115,9 @@ static TOPICS: [Topic; 27] = [
     Topic::Quit,
 ];
 
-/// All of them.
+/// The same, as a slice.
 #[tactic(auto, unfolding(crate::specs::Topics::topics))]
-fn all_topics() -> &'static [Topic]
+pub(crate) fn all_topics() -> &'static [Topic]
     ensures { result.now ≡ topics }
 {
     &TOPICS
@@ -113,27 +133,8 @@ pub(crate) fn topic_named(word: &[u8]) -> Option<Topic>
         .copied()
 }
 
-/// What is told of all lines. It is an error only where memory is refused.
-pub fn help_lines<A: Allocator>(alloc: A) -> Result<String<A>, AllocError>
-    ensures { IfOk result (λ text. string_bytes text ≡ help_lines) }
-{
-    let mut text = String::new(alloc);
-    let topics = all_topics();
-    for topic in topics {
-        add_help(&mut text, *topic)?;
-    }
-    Ok(text)
-}
-
-/// Adds to a text what is told of the lines with one first word. It is an error only where memory is refused.
-pub fn add_help<A: Allocator>(text: &mut String<A>, topic: Topic) -> Result<(), AllocError>
-    ensures { IfOk result (λ _. string_bytes text.new ≡ string_bytes text.old ++ help_line topic) }
-{
-    writeln!(text, "{}: {}", usage_of(topic), purpose_of(topic))
-}
-
 /// The first word of its lines.
-fn name_of(topic: Topic) -> &'static str
+pub(crate) fn name_of(topic: Topic) -> &'static str
     ensures { result.now ≡ topic_name topic }
 {
     match topic {
@@ -167,72 +168,92 @@ fn name_of(topic: Topic) -> &'static str
     }
 }
 
-/// How its lines are spelled.
-pub(crate) fn usage_of(topic: Topic) -> &'static str
-    ensures { result.now ≡ usage topic }
+/// The form of its lines, or the first of two.
+pub(crate) fn first_form(topic: Topic) -> LineForm
+    ensures { form_value result ≡ first_form topic }
 {
     match topic {
-        Topic::Break => "break RANK ADDR, or break superstep K",
-        Topic::Clear => "clear RANK ADDR, or clear superstep K",
-        Topic::Points => "points",
-        Topic::Go => "go, or with --framed go RANK COUNT",
-        Topic::Step => "step, or step RANK [COUNT]",
-        Topic::Over => "over RANK",
-        Topic::Phase => "phase",
-        Topic::Turn => "turn",
-        Topic::Where => "where [RANK]",
-        Topic::Regs => "regs RANK",
-        Topic::Fregs => "fregs RANK",
-        Topic::Codes => "list RANK ADDR N",
-        Topic::Bytes => "bytes RANK ADDR LEN",
-        Topic::Words => "words RANK ADDR N",
-        Topic::Text => "text RANK ADDR N",
-        Topic::Areas => "areas RANK",
-        Topic::Requests => "requests RANK",
-        Topic::Queue => "queue RANK",
-        Topic::Keep => "keep",
-        Topic::Kept => "kept",
-        Topic::Back => "back N",
-        Topic::Forget => "forget N",
-        Topic::Costs => "costs, or with --framed costs [FROM]",
-        Topic::Output => "output, or with --framed output [FROM]",
-        Topic::Nodes => "nodes, with --framed alone",
-        Topic::Help => "help [LINE]",
-        Topic::Quit => "quit",
+        Topic::Break => in_both("RANK ADDR", "sets a point, at which go stops"),
+        Topic::Clear => in_both("RANK ADDR", "takes a point away"),
+        Topic::Points => in_both("", "the points that are set"),
+        Topic::Go => in_both("", "goes on to a point or to the outcome"),
+        Topic::Step => in_both("", "the next instruction of all"),
+        Topic::Over => in_both(
+            "RANK",
+            "an instruction of a rank, with all of a function that it calls",
+        ),
+        Topic::Phase => in_both("", "every rank goes on until it stops by itself"),
+        Topic::Turn => in_both("", "ends the superstep, if no rank runs any more"),
+        Topic::Where => in_both("[RANK]", "where the ranks are, or one"),
+        Topic::Regs => in_both("RANK", "the registers of a rank"),
+        Topic::Fregs => in_both(
+            "RANK",
+            "the registers of floating point of a rank, and fcsr",
+        ),
+        Topic::Codes => in_both("RANK ADDR N", "N instructions from ADDR on"),
+        Topic::Bytes => in_both("RANK ADDR LEN", "LEN bytes of memory"),
+        Topic::Words => in_both("RANK ADDR N", "N words of four bytes"),
+        Topic::Text => in_both("RANK ADDR N", "the text there, up to its end or to N bytes"),
+        Topic::Areas => in_both("RANK", "the areas that a rank has registered"),
+        Topic::Requests => in_both("RANK", "what a rank has asked for in this superstep"),
+        Topic::Queue => in_both(
+            "RANK",
+            "the messages that a rank has received and not moved yet",
+        ),
+        Topic::Keep => in_both("", "keeps the state under the next number"),
+        Topic::Kept => in_both("", "the states that are kept"),
+        Topic::Back => in_both("N", "goes back to a state that is kept"),
+        Topic::Forget => in_both("N", "keeps a state no longer"),
+        Topic::Costs => in_dialogues("", "what the supersteps that are over cost"),
+        Topic::Output => in_dialogues("", "what was written in the supersteps that are over"),
+        Topic::Nodes => in_framed("", "how many ranks there are, and the other settings"),
+        Topic::Help => in_both("[LINE]", "all lines, or one"),
+        Topic::Quit => in_both("", "ends the session"),
     }
 }
 
-/// What its lines do.
-fn purpose_of(topic: Topic) -> &'static str
-    ensures { result.now ≡ purpose topic }
+/// The other of two, which framed sessions have.
+pub(crate) fn other_form(topic: Topic) -> Option<LineForm>
+    ensures { option_map form_value result ≡ other_form topic }
 {
     match topic {
-        Topic::Break => "sets a point, at which go stops",
-        Topic::Clear => "takes a point away",
-        Topic::Points => "the points that are set",
-        Topic::Go => "goes on to a point or to the outcome; a rank alone, by COUNT steps at most",
-        Topic::Step => "the next instruction of all; COUNT of a rank, or one",
-        Topic::Over => "an instruction of a rank, with all of a function that it calls",
-        Topic::Phase => "every rank goes on until it stops by itself",
-        Topic::Turn => "ends the superstep, if no rank runs any more",
-        Topic::Where => "where the ranks are, or one",
-        Topic::Regs => "the registers of a rank",
-        Topic::Fregs => "the registers of floating point of a rank, and fcsr",
-        Topic::Codes => "N instructions from ADDR on",
-        Topic::Bytes => "LEN bytes of memory",
-        Topic::Words => "N words of four bytes",
-        Topic::Text => "the text there, up to its end or to N bytes",
-        Topic::Areas => "the areas that a rank has registered",
-        Topic::Requests => "what a rank has asked for in this superstep",
-        Topic::Queue => "the messages that a rank has received and not moved yet",
-        Topic::Keep => "keeps the state under the next number",
-        Topic::Kept => "the states that are kept",
-        Topic::Back => "goes back to a state that is kept",
-        Topic::Forget => "keeps a state no longer",
-        Topic::Costs => "what the supersteps that are over cost",
-        Topic::Output => "what was written in the supersteps that are over",
-        Topic::Nodes => "how many ranks there are, and the other settings",
-        Topic::Help => "all lines, or one",
-        Topic::Quit => "ends the session",
+        Topic::Break | Topic::Clear => Some(in_both("superstep K", first_form(topic).purpose)),
+        Topic::Go => Some(in_framed("RANK COUNT", "a rank alone, by COUNT steps at most")),
+        Topic::Step => Some(in_both("RANK [COUNT]", "COUNT of a rank, or one")),
+        Topic::Costs | Topic::Output => Some(in_framed("[FROM]", first_form(topic).purpose)),
+        _ => None,
+    }
+}
+
+/// A form that dialogues and framed sessions have.
+fn in_both(operands: &'static str, purpose: &'static str) -> LineForm
+    ensures { form_value result ≡ in_both operands.now purpose.now }
+{
+    LineForm {
+        operands,
+        purpose,
+        sessions: Sessions::Both,
+    }
+}
+
+/// A form that dialogues alone have.
+fn in_dialogues(operands: &'static str, purpose: &'static str) -> LineForm
+    ensures { form_value result ≡ in_dialogues operands.now purpose.now }
+{
+    LineForm {
+        operands,
+        purpose,
+        sessions: Sessions::Dialogues,
+    }
+}
+
+/// A form that framed sessions alone have.
+fn in_framed(operands: &'static str, purpose: &'static str) -> LineForm
+    ensures { form_value result ≡ in_framed operands.now purpose.now }
+{
+    LineForm {
+        operands,
+        purpose,
+        sessions: Sessions::Framed,
     }
 }

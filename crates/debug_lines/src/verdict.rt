@@ -3,7 +3,8 @@
 ghost use Rattle.std.specs.Prelude.{◌≡◌};
 ghost use Rattle.debug_lines.specs.Verdicts.{advice};
 
-use crate::topic::{Topic, usage_of};
+use crate::help::Usage;
+use crate::topic::Topic;
 use bsp_debug::DebugError;
 use std::fmt;
 
@@ -40,8 +41,7 @@ impl fmt::Display for Verdict {
             }
             Verdict::BadCommand => write!(f, "refused: BadCommand\n"),
             Verdict::Misused(topic) => {
-                let usage = usage_of(*topic);
-                write!(f, "refused: BadCommand: the line is {usage}\n")
+                write!(f, "refused: BadCommand: the line is {}\n", Usage(*topic))
             }
             Verdict::NoLine => write!(
                 f,

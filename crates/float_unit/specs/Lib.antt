@@ -1,5 +1,5 @@
 pub mod Effects
-pub mod Found
+pub mod NoNewFlags
 pub mod State
 pub mod Values
 pub mod Whole

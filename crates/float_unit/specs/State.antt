@@ -1,12 +1,13 @@
 -- The state of the unit of floating point: f0 to f31 and fcsr (RISC-V Unprivileged ISA 20191213, sections 11.1, 11.2, 12.1 and 12.2).
 use Rattle.std.specs.Prelude.{◌≡◌, ℕ, ◌+◌, ◌*◌, ◌/◌, ◌%◌, ◌^◌, ◌<◌, List, length, All, replicate, slice_index, slice_set}
-use Rattle.rv_floats.specs.Conversions.{boxed, unboxed}
+use Rattle.rv_floats.specs.Conversions.{in_register, of_register}
 use Rattle.rv_float_flags.specs.declared.flags.Flags.{Flags}
 use Rattle.rv_float_flags.specs.Flags.{no_flags, accrued, flag_bits, flags_of_bits}
 use Rattle.rv_float_tables.specs.declared.instr.Format.{Format}
 use Rattle.rv_float_tables.specs.declared.instr.Format.TheVariants.{Single, Double}
 use Rattle.rv_float_tables.specs.declared.instr.FloatCsr.{FloatCsr}
 use Rattle.rv_float_tables.specs.declared.instr.FloatCsr.TheVariants.{Fflags, Frm, Fcsr}
+use Rattle.float_unit.specs.Values.{ieee}
 
 -- the patterns of 64 bits of f0 to f31, and the two fields of fcsr: the dynamic rounding mode and the accrued exceptions
 pub record FloatState : Type 0 where
@@ -26,13 +27,11 @@ pub record IsState (u : FloatState) : Type 0 where
 
 -- the operand of a format in a register: a single that is not boxed is the canonical NaN (section 12.2)
 abbrev pub operand : Format → FloatState → ℕ → ℕ
-operand Single u r = unboxed (slice_index u.registers r)
-operand Double u r = slice_index u.registers r
+operand format u r = of_register (ieee format) (slice_index u.registers r)
 
 -- a result of a format, as a register has it
 abbrev pub held : Format → ℕ → ℕ
-held Single a = boxed a
-held Double a = a
+held format a = in_register (ieee format) a
 
 -- the pattern of a format among 64 bits: of a single the lower half
 abbrev pub narrowed : Format → ℕ → ℕ

@@ -24,11 +24,12 @@ mod fault;
 mod frequent;
 mod frequent_conversion;
 mod frequent_move;
-mod frequent_single;
 mod operations;
 mod ordered;
 mod unit;
 mod whole;
+mod width;
 
 pub use fault::FloatFault;
 pub use unit::FloatUnit;
+pub use width::Width;

@@ -3,7 +3,7 @@
 ghost use Rattle.std.specs.Prelude.{◌≡◌, ◌*◌, ◌<◌, is_some, IfSome};
 ghost use Rattle.rv_float_flags.specs.Flags.{accrued};
 ghost use Rattle.rv_float_flags.specs.Operations.{quiet_flags};
-ghost use Rattle.float_unit.specs.Found.{arithmetic_raises_no_new_flags};
+ghost use Rattle.float_unit.specs.NoNewFlags.{patterns_raise_no_new_flags};
 ghost use Rattle.float_unit.specs.Values as Values;
 ghost use lib.Ieee.{top};
 
@@ -61,10 +61,10 @@ pub fn accrued_flags<P: Quick>(op: ArithmeticOp, flags: Flags, a: P, b: P) -> Fl
     }
 }
 
-/// What `arithmetic` gives, where all that it raises is there already, and that is found out at once.
+/// What `arithmetic` gives, where it raises no new flags, and that is found out at once.
 #[inline(always)]
 pub fn without_new_flags<P: Quick>(op: ArithmeticOp, flags: Flags, a: P, b: P) -> Option<P>
-    ensures when { is_some result ≡ arithmetic_raises_no_new_flags op P.format flags (P.bits a) (P.bits b) }
+    ensures when { is_some result ≡ patterns_raise_no_new_flags op P.format flags (P.bits a) (P.bits b) }
     ensures value { IfSome result (λ z. P.bits z ≡ Values.arithmetic op P.format (P.bits a) (P.bits b)) }
     ensures flags { IfSome result (λ z. accrued flags (Values.arithmetic_flags op P.format (P.bits a) (P.bits b)) ≡ flags) }
 {

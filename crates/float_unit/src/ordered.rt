@@ -1,6 +1,7 @@
 //! Comparisons, minimum and maximum of numbers, which are no NaNs. Nothing asks whether an operand is a NaN.
 
-ghost use Rattle.std.specs.Prelude.{◌≡◌, ◌*◌, ◌%◌, ◌<◌, ◌≤◌, nat_le, if◌then◌else◌};
+ghost use Rattle.std.specs.Prelude.{◌≡◌, ◌*◌, ◌%◌, ◌<◌, ◌≤◌, if◌then◌else◌};
+ghost use Rattle.float_unit.specs.NoNewFlags as NoNewFlags;
 ghost use Rattle.float_unit.specs.Values as Values;
 ghost use lib.Ieee.{hid, ones, top};
 
@@ -39,7 +40,7 @@ pub fn is_second<P: Pattern>(op: MinMaxOp, a: P, b: P) -> bool
 /// Whether it is a number, by its pattern.
 #[inline(always)]
 pub fn is_number<P: Pattern>(a: P) -> bool
-    ensures { result ≡ nat_le (P.bits a % top P.format) (ones P.format * hid P.format) }
+    ensures { result ≡ NoNewFlags.is_number P.format (P.bits a) }
 {
     a.to_u64() % P::top() <= P::top() - P::hidden()
 }

@@ -1,16 +1,17 @@
 //! The registers of floating point and fcsr.
 
-ghost use Rattle.std.specs.Prelude.{◌≡◌, ◌<◌, ◌^◌};
+ghost use Rattle.std.specs.Prelude.{◌≡◌, ◌*◌, ◌<◌};
 ghost use Rattle.std.specs.Prelude as Prelude;
 ghost use Rattle.rv_tables.specs.Operands.{IsRegister};
 ghost use Rattle.float_unit.specs.State as State;
 ghost use Rattle.float_unit.specs.Effects as Effects;
+ghost use lib.Ieee.{top};
 
-use crate::fault::FloatFault;
+use crate::width::Width;
 use rv_float_flags::Flags;
 use rv_float_modes::Rounded;
 use rv_float_tables::{FloatCsr, Format, RoundingField};
-use rv_floats::{Rounding, boxed, unboxed};
+use rv_floats::Rounding;
 use std::marker::Model;
 
 /// What instructions of floating point act on, beside the integer registers and memory: f0 to f31, of 64 bits, the dynamic rounding mode
@@ -87,49 +88,33 @@ impl FloatUnit {
         }
     }
 
-    /// The double in a register.
-    pub(crate) fn double(&self, r: u8) -> u64
-        requires { IsRegister r }
-        ensures { result ≡ State.operand Format.Double self.now r }
-    {
-        self.registers[r as usize]
-    }
-
-    /// The single in a register: the canonical NaN where it is not boxed.
-    pub(crate) fn single(&self, r: u8) -> u32
-        requires { IsRegister r }
-        ensures { result ≡ State.operand Format.Single self.now r }
-    {
-        unboxed(self.registers[r as usize])
-    }
-
-    /// Writes a double and what it raised.
+    /// The operand of a format in a register: the canonical NaN where that is a single which is not boxed.
     #[inline(always)]
-    pub(crate) fn put_double(&mut self, rd: u8, a: u64, flags: Flags)
-        requires { IsRegister rd }
-        ensures { self.new ≡ (Effects.into_float Format.Double self.old rd a flags).state }
+    pub(crate) fn operand<W: Width>(&self, r: u8) -> W
+        requires { IsRegister r }
+        ensures { W.bits result ≡ State.operand W.width self.now r }
     {
-        self.registers[rd as usize] = a;
+        W::of_register(self.registers[r as usize])
+    }
+
+    /// Writes a pattern and what it raised.
+    #[inline(always)]
+    pub(crate) fn put<W: Width>(&mut self, rd: u8, a: W, flags: Flags)
+        requires { IsRegister rd }
+        ensures { self.new ≡ (Effects.into_float W.width self.old rd (W.bits a) flags).state }
+    {
+        self.registers[rd as usize] = a.in_register();
         self.flags = self.flags | flags;
     }
 
-    /// Writes a double that was rounded, and what that raised.
+    /// Writes what was rounded, and what that raised.
     #[inline]
-    pub(crate) fn round_double(&mut self, rd: u8, rounded: Rounded)
-        requires { IsRegister rd }
-        ensures { self.new ≡ (Effects.rounded_into Format.Double self.old rd rounded).state }
-    {
-        self.put_double(rd, rounded.bits, rounded.flags);
-    }
-
-    /// Writes a single that was rounded, and what that raised.
-    #[inline]
-    pub(crate) fn round_single(&mut self, rd: u8, rounded: Rounded)
+    pub(crate) fn round<W: Width>(&mut self, rd: u8, rounded: Rounded)
         requires rd { IsRegister rd }
-        requires narrow { rounded.bits < 2 ^ 32 }
-        ensures { self.new ≡ (Effects.rounded_into Format.Single self.old rd rounded).state }
+        requires narrow { rounded.bits < 2 * top W.format }
+        ensures { self.new ≡ (Effects.rounded_into W.width self.old rd rounded).state }
     {
-        self.put_single(rd, rounded.bits as u32, rounded.flags);
+        self.put(rd, W::of_u64(rounded.bits), rounded.flags);
     }
 
     /// Writes a double and all of the flags.
@@ -142,22 +127,13 @@ impl FloatUnit {
         self.flags = flags;
     }
 
-    /// Writes a double that raised nothing new.
+    /// Writes a pattern that raised nothing new.
     #[inline(always)]
-    pub(crate) fn write_double(&mut self, rd: u8, a: u64)
+    pub(crate) fn write<W: Width>(&mut self, rd: u8, a: W)
         requires { IsRegister rd }
-        ensures { self.new ≡ State.with_register self.old rd a }
+        ensures { self.new ≡ State.with_register self.old rd (State.held W.width (W.bits a)) }
     {
-        self.registers[rd as usize] = a;
-    }
-
-    /// Writes a single that raised nothing new.
-    #[inline(always)]
-    pub(crate) fn write_single(&mut self, rd: u8, a: u32)
-        requires { IsRegister rd }
-        ensures { self.new ≡ State.with_register self.old rd (State.held Format.Single a) }
-    {
-        self.registers[rd as usize] = boxed(a);
+        self.registers[rd as usize] = a.in_register();
     }
 
     /// The accrued exceptions.
@@ -174,16 +150,6 @@ impl FloatUnit {
         ensures { result ≡ (Prelude.◌==◌ self.now.frm 0) }
     {
         self.frm == 0
-    }
-
-    /// Writes a single and what it raised.
-    #[inline(always)]
-    pub(crate) fn put_single(&mut self, rd: u8, a: u32, flags: Flags)
-        requires { IsRegister rd }
-        ensures { self.new ≡ (Effects.into_float Format.Single self.old rd a flags).state }
-    {
-        self.registers[rd as usize] = boxed(a);
-        self.flags = self.flags | flags;
     }
 
     /// Accrues flags.

@@ -1,73 +1,46 @@
-//! Doubles and singles as words, toward zero, where they are in range. Nothing here asks the host to convert a float.
+//! Floats as words, toward zero, where they are in range. Nothing here asks the host to convert a float.
 
 ghost use Rattle.std.specs.Prelude.{◌≡◌, ℕ, ◌+◌, ◌*◌, ◌%◌, ◌^◌, ◌<◌, ◌≤◌, true, false, IsTrue, IfSome, is_some, ◌&&◌, ◌||◌};
 ghost use Rattle.rv_floats.specs.declared.rounding.Rounding.TheVariants.{TowardZero};
 ghost use Rattle.rv_float_flags.specs.Flags.{accrued};
-ghost use Rattle.rv_float_flags.specs.Scaled as Scaled;
-ghost use Rattle.float_unit.specs.Found as Found;
+ghost use Rattle.rv_float_tables.specs.declared.instr.WordKind.TheVariants.{Signed, Unsigned};
+ghost use Rattle.float_unit.specs.NoNewFlags as NoNewFlags;
 ghost use Rattle.float_unit.specs.Values as Values;
 ghost use Rattle.float_unit.specs.Whole.{IsCut, pattern};
-ghost use lib.Ieee.{binary32, binary64, of_bits};
+ghost use lib.Ieee.{of_bits, prec};
 ghost use lib.Ieee.Positive.{den, num};
 
+use crate::width::{Width, digits, exponent};
 use rv_float_flags::Flags;
 use rv_float_tables::WordKind;
 
-/// FCVT.W.D or FCVT.WU.D toward zero, where all that it raises is there already, and the double is in range.
+/// FCVT.W or FCVT.WU toward zero, where it raises no new flags, and the operand is in range.
 #[inline(always)]
-pub fn word_of_double(kind: WordKind, flags: Flags, a: u64) -> Option<u32>
-    ensures when { is_some result ≡ (Found.is_double_in_range kind a && (flags.nx || Found.is_whole_double a)) }
-    ensures value { IfSome result (λ z. z ≡ Values.word kind TowardZero binary64 a) }
-    ensures flags { IfSome result (λ z. accrued flags (Values.flags_of_word kind TowardZero binary64 a) ≡ flags) }
+pub fn to_word_without_new_flags<W: Width>(kind: WordKind, flags: Flags, a: W) -> Option<u32>
+    ensures when { is_some result ≡ NoNewFlags.pattern_to_word_raises_no_new_flags kind W.format flags (W.bits a) }
+    ensures value { IfSome result (λ z. z ≡ Values.word kind TowardZero W.format (W.bits a)) }
+    ensures flags { IfSome result (λ z. accrued flags (Values.flags_of_word kind TowardZero W.format (W.bits a)) ≡ flags) }
 {
-    if is_double_found(kind, flags, a) {
-        Some(signed(0x8000_0000_0000_0000 <= a, whole_part_of_double(a)))
+    if raises_no_new_flags(kind, flags, a) {
+        Some(signed(W::top() <= a.to_u64(), whole_part(a)))
     } else {
         None
     }
 }
 
-/// The same of a single.
-#[inline(always)]
-pub fn word_of_single(kind: WordKind, flags: Flags, a: u32) -> Option<u32>
-    ensures when { is_some result ≡ (Found.is_single_in_range kind a && (flags.nx || Found.is_whole_single a)) }
-    ensures value { IfSome result (λ z. z ≡ Values.word kind TowardZero binary32 a) }
-    ensures flags { IfSome result (λ z. accrued flags (Values.flags_of_word kind TowardZero binary32 a) ≡ flags) }
-{
-    if is_single_found(kind, flags, a) {
-        Some(signed(0x8000_0000 <= a, whole_part_of_single(a)))
-    } else {
-        None
-    }
-}
-
-/// Whether a double is in range, and exact or beside NX.
+/// Whether it is in range, and exact or beside NX.
 // For speed: what tests a flag and answers `true` is one jump, where `||` would answer the flag, which is tested once more.
 #[inline(always)]
-fn is_double_found(kind: WordKind, flags: Flags, a: u64) -> bool
-    ensures { result ≡ (Found.is_double_in_range kind a && (flags.nx || Found.is_whole_double a)) }
+fn raises_no_new_flags<W: Width>(kind: WordKind, flags: Flags, a: W) -> bool
+    ensures { result ≡ NoNewFlags.pattern_to_word_raises_no_new_flags kind W.format flags (W.bits a) }
 {
-    if !is_double_in_range(kind, a) {
+    if !is_in_range(kind, a) {
         return false;
     }
     if flags.nx {
         return true;
     }
-    is_whole_double(a)
-}
-
-/// The same of a single.
-#[inline(always)]
-fn is_single_found(kind: WordKind, flags: Flags, a: u32) -> bool
-    ensures { result ≡ (Found.is_single_in_range kind a && (flags.nx || Found.is_whole_single a)) }
-{
-    if !is_single_in_range(kind, a) {
-        return false;
-    }
-    if flags.nx {
-        return true;
-    }
-    is_whole_single(a)
+    is_whole(a)
 }
 
 /// A word by its sign and size.
@@ -83,115 +56,45 @@ fn signed(negative: bool, size: u32) -> u32
 }
 
 #[inline(always)]
-fn is_double_in_range(kind: WordKind, a: u64) -> bool
-    ensures { result ≡ Found.is_double_in_range kind a }
+fn is_in_range<W: Width>(kind: WordKind, a: W) -> bool
+    ensures { result ≡ NoNewFlags.is_in_range kind W.format (W.bits a) }
 {
     match kind {
-        WordKind::Signed => a % 0x8000_0000_0000_0000 < 0x41e0_0000_0000_0000,
-        WordKind::Unsigned => a < 0x41f0_0000_0000_0000,
+        WordKind::Signed => a.to_u64() % W::top() < W::limit(kind) * W::hidden(),
+        WordKind::Unsigned => a.to_u64() < W::limit(kind) * W::hidden(),
     }
 }
 
+/// Whether what is below 2^32 has no fraction.
 #[inline(always)]
-fn is_single_in_range(kind: WordKind, a: u32) -> bool
-    ensures { result ≡ Found.is_single_in_range kind a }
+fn is_whole<W: Width>(a: W) -> bool
+    requires { NoNewFlags.exponent W.format (W.bits a) < NoNewFlags.limit Unsigned W.format }
+    ensures { result ≡ NoNewFlags.is_whole W.format (W.bits a) }
 {
-    match kind {
-        WordKind::Signed => a % 0x8000_0000 < 0x4b80_0000,
-        WordKind::Unsigned => a < 0x4b80_0000,
-    }
-}
-
-/// Whether a double below 2^32 has no fraction.
-#[inline(always)]
-fn is_whole_double(a: u64) -> bool
-    requires { Scaled.exponent a < 1055 }
-    ensures { result ≡ Found.is_whole_double a }
-{
-    let exponent = double_exponent(a);
-    if exponent < 1023 {
-        a % 0x8000_0000_0000_0000 == 0
+    let exponent = exponent(a);
+    if exponent < W::bias() {
+        a.to_u64() % W::top() == 0
     } else {
-        double_digits(a) % (1 << (1075 - exponent)) == 0
+        digits(a) % (1 << (W::low() + 1 - exponent as u32)) == 0
     }
 }
 
-/// The whole part of the size of such a double.
+/// The whole part of the size of what is below 2^32.
 #[inline(always)]
-fn whole_part_of_double(a: u64) -> u32
-    requires { Scaled.exponent a < 1055 }
-    ensures cut { IsCut (of_bits binary64 a) result }
-    ensures whole { Found.is_whole_double a ≡ true → result * den (of_bits binary64 a) ≡ num (of_bits binary64 a) }
-    ensures below { Scaled.exponent a < 1054 → result < 2 ^ 31 }
+fn whole_part<W: Width>(a: W) -> u32
+    requires { NoNewFlags.exponent W.format (W.bits a) < NoNewFlags.limit Unsigned W.format }
+    ensures cut { IsCut (of_bits W.format (W.bits a)) result }
+    ensures whole { NoNewFlags.is_whole W.format (W.bits a) ≡ true
+        → result * den (of_bits W.format (W.bits a)) ≡ num (of_bits W.format (W.bits a)) }
     ensures narrow { result < 2 ^ 32 }
-    ensures small { Scaled.exponent a < 1023 → result ≡ 0 }
+    ensures below { NoNewFlags.exponent W.format (W.bits a) < NoNewFlags.limit Signed W.format → result < 2 ^ 31 }
+    ensures short { result ≤ 2 ^ prec W.format }
 {
-    let exponent = double_exponent(a);
-    if exponent < 1023 {
+    let exponent = exponent(a);
+    if exponent < W::bias() {
         0
     } else {
         // The digits stand at the upper end of the word, where the exponent was, so that a host need not clear that first.
-        (double_digits(a) * 0x800 >> (1086 - exponent)) as u32
+        (digits(a) * (0x8000_0000_0000_0000 / W::hidden()) >> (W::bias() + 63 - exponent)) as u32
     }
-}
-
-/// Whether a single below 2^24 has no fraction.
-#[inline(always)]
-fn is_whole_single(a: u32) -> bool
-    requires { Scaled.single_exponent a < 151 }
-    ensures { result ≡ Found.is_whole_single a }
-{
-    let exponent = single_exponent(a);
-    if exponent < 127 {
-        a % 0x8000_0000 == 0
-    } else {
-        single_digits(a) % (1 << (150 - exponent)) == 0
-    }
-}
-
-/// The whole part of the size of such a single.
-#[inline(always)]
-fn whole_part_of_single(a: u32) -> u32
-    requires { Scaled.single_exponent a < 151 }
-    ensures cut { IsCut (of_bits binary32 a) result }
-    ensures whole { Found.is_whole_single a ≡ true → result * den (of_bits binary32 a) ≡ num (of_bits binary32 a) }
-    ensures below { result < 2 ^ 24 }
-    ensures small { Scaled.single_exponent a < 127 → result ≡ 0 }
-{
-    let exponent = single_exponent(a);
-    if exponent < 127 {
-        0
-    } else {
-        single_digits(a) >> (150 - exponent)
-    }
-}
-
-/// The exponent field.
-#[inline(always)]
-fn double_exponent(a: u64) -> u32
-    ensures { result ≡ Scaled.exponent a }
-{
-    (a / 0x10_0000_0000_0000 % 0x800) as u32
-}
-
-#[inline(always)]
-fn single_exponent(a: u32) -> u32
-    ensures { result ≡ Scaled.single_exponent a }
-{
-    a / 0x80_0000 % 0x100
-}
-
-/// The digits of a normal double.
-#[inline(always)]
-fn double_digits(a: u64) -> u64
-    ensures { result ≡ 2 ^ 52 + a % 2 ^ 52 }
-{
-    0x10_0000_0000_0000 + a % 0x10_0000_0000_0000
-}
-
-#[inline(always)]
-fn single_digits(a: u32) -> u32
-    ensures { result ≡ 2 ^ 23 + a % 2 ^ 23 }
-{
-    0x80_0000 + a % 0x80_0000
 }

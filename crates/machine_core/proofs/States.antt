@@ -9,12 +9,12 @@ use Rattle.std.specs.Ordering.{ord_max}
 use Rattle.std.proofs.lemmas.Grind.{common_steps, flat_map-append}
 use Rattle.std.proofs.lemmas.List.{map-append, map-set, map_more, map_push, take_more, length-map, length-take-le, take_all, drop_all}
 use Rattle.std.proofs.lemmas.Option.{slice_get-map, slice_get_read, slice_get_past}
-use Rattle.node_memory.specs.Pages.{KeepsOwn}
+use Rattle.node_memory.specs.Pages.{KeepsPrivate}
 use Rattle.node_core.specs.Node.{NodeState, PreparedNode, is_running, local_step, local_steps}
 use Rattle.node_core.proofs.Steps.{local_steps-zero, local_steps-suc}
 use Rattle.bsp_exchange.specs.Exchange.{states}
-use Rattle.bsp_exchange.specs.Parts.{EachKeepsOwn}
-use Rattle.bsp_exchange.proofs.KeepsOwn.{EachKeepsOwn-same, EachKeepsOwn-set}
+use Rattle.bsp_exchange.specs.Parts.{EachKeepsPrivate}
+use Rattle.bsp_exchange.proofs.KeepsPrivate.{EachKeepsPrivate-same, EachKeepsPrivate-set}
 use Rattle.machine_core.specs.Turn.{written}
 use Rattle.machine_core.specs.Events.{runs, some_runs, stepped, stepped_often}
 
@@ -97,9 +97,9 @@ module _ (input : List ℕ) (ps : List PreparedNode) (rank : ℕ) (p q : Prepare
       ∙ slice_set-same (states ps) rank p.node (state_at_place ps rank p within is)
 
   -- the node that was put in its place keeps what is its own, and so each node does
-  pub kept-own : KeepsOwn (get_or ps rank p).own q.own → EachKeepsOwn ps (slice_set ps rank q)
-  kept-own keeps =
-      EachKeepsOwn-set ps ps rank p q (EachKeepsOwn-same ps) (slice_get_read ps (length ps) rank p refl within is) (rw is keeps)
+  pub kept-private : KeepsPrivate (get_or ps rank p).private q.private → EachKeepsPrivate ps (slice_set ps rank q)
+  kept-private keeps =
+      EachKeepsPrivate-set ps ps rank p q (EachKeepsPrivate-same ps) (slice_get_read ps (length ps) rank p refl within is) (rw is keeps)
 
   -- the node that was put in its place is the one that is found there
   pub found-new : slice_get (states (slice_set ps rank q)) rank ≡ Some q.node

@@ -17,7 +17,7 @@ use Rattle.cost_ledger.specs.declared.CostRow.{CostRow}
 use Rattle.machine_core.specs.declared.outcome.Outcome.{Outcome}
 use Rattle.machine_core.specs.declared.event.Event.TheVariants.{Turn}
 use Rattle.machine_core.specs.Clock.{first_closed, with_clocks}
-use Rattle.machine_core.specs.Lander.{AwaitsRow}
+use Rattle.machine_core.specs.ExchangingMachine.{AwaitsRow}
 use Rattle.machine_core.specs.Machine.{MachineState}
 use Rattle.machine_core.specs.Turn.{outcome_of, written, work, no_traffic, cost_row, recorded, decided, turned}
 use Rattle.machine_core.specs.Events.{is_enabled}
@@ -57,7 +57,7 @@ module _ (m : MachineState) where
       ∙ ap (λ (x : Option Outcome). decided x (recorded m)) (sym is)
       ∙ turned-by m
 
-  -- what a lander keeps, with the row that came back
+  -- what an exchanging machine keeps, with the row that came back
   pub turned-exchanged : (rest : MachineState) (nodes : List NodeState) (started : List ℕ) (ledger : List CostRow)
       → outcome_of m.nodes ≡ None → rest ≡ record m { output = m.output ++ written m.nodes }
       → nodes ≡ with_clocks m.settings.clock (m.ledger ++ cost_row m ∷ []) (exchanged m.nodes)

@@ -3,7 +3,7 @@ pub mod Closing
 pub mod Events
 pub mod Faults
 pub mod Inside
-pub mod Lander
+pub mod ExchangingMachine
 pub mod Landing
 pub mod Machine
 pub mod Outcome

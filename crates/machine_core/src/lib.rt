@@ -19,13 +19,13 @@
 //!   a copy of a page when it first writes there. No clause says that pages are shared; the record has bytes alone.
 //! - [`Machine::try_clone`] gives the same machine once more. Nothing that is done with one of the two shows in the other, though their
 //!   nodes share pages; so a state can be kept, and the machine be put back into it.
-//! - [`Machine::lend`] hands out the nodes by value, for threads to step. The [`Lender`] that stays takes them back, each some steps of
-//!   its own further, and nothing else of the machine has changed then. Neither takes memory, and a row that was lent cannot be
-//!   lost: a `Lender` has no other end.
+//! - [`Machine::lend`] hands out the nodes by value, for threads to step. The [`ComputingMachine`] that stays takes them back, each some
+//!   steps of its own further, and nothing else of the machine has changed then. Neither takes memory, and a row that was lent cannot be
+//!   lost: a `ComputingMachine` has no other end.
 //! - [`Machine::begin_turn`] is the first half of a turn. Where it makes the exchange, it hands out the row with the part that each node
-//!   receives, for threads to prepare the nodes and then to land the parts. The [`Lander`] that stays takes the row back once each part
-//!   has landed, and the machine is as [`Machine::turn`] leaves it. Where a node was refused memory for which it was prepared, the
-//!   `Lander` calls the turn off, and the machine is as it was. It has no other end.
+//!   receives, for threads to prepare the nodes and then to land the parts. The [`ExchangingMachine`] that stays takes the row back once
+//!   each part has landed, and the machine is as [`Machine::turn`] leaves it. Where a node was refused memory for which it was prepared,
+//!   the `ExchangingMachine` calls the turn off, and the machine is as it was. It has no other end.
 //! - Where its settings have prices for clocks, each node has a clock, which counts on from what the ledger's rows cost at these prices
 //!   and from its ticks when the superstep began. They are set as a superstep begins, so they are no meeting of nodes between turns.
 //! - Whether memory was refused is all that no clause says: the tests refuse each request in turn.
@@ -47,6 +47,6 @@ mod start;
 
 pub use error::MachineError;
 pub use event::Event;
-pub use machine::{Begun, Lander, Landing, Lender, Machine};
+pub use machine::{Begun, ComputingMachine, ExchangingMachine, Landing, Machine};
 pub use outcome::Outcome;
 pub use settings::{Prices, Settings};

@@ -26,13 +26,13 @@ use shared_bytes::SharedBytes;
 use std::alloc::{AllocError, Allocator};
 use std::marker::Model;
 
-mod lander;
-mod lender;
+mod computing;
+mod exchanging;
 mod traced;
 mod turn;
 
-pub use lander::Lander;
-pub use lender::Lender;
+pub use computing::ComputingMachine;
+pub use exchanging::ExchangingMachine;
 pub use turn::{Begun, Landing};
 
 /// A machine of several nodes with one input.
@@ -102,7 +102,7 @@ impl<A: Allocator + Copy> Machine<A> {
     ///
     /// The machines share the input and, until one of the two writes to a page, the pages of their nodes' memories. So a copy costs as
     /// [`Node::try_clone`] for each node, and a copy of the output and the ledger: of the memory that was written since the start, or
-    /// since the machine was itself a copy, and of no other. The pages that were written stay this machine's own, and the next copy of
+    /// since the machine was itself a copy, and of no other. The pages that were written stay private, and the next copy of
     /// it would copy them again. Who makes copies of a machine on its way goes on with a copy of the copy, which shares all pages with
     /// it.
     ///

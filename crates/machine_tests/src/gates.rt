@@ -3,11 +3,11 @@
 use crate::program::machine;
 use machine_core::{Machine, Outcome, Settings};
 use node_core::Node;
-use phase_pool::{Gate, run, run_phase};
 use std::alloc::{Allocator, Global};
 use std::sync::Wait;
 use std::sync::atomic::{AtomicBool, AtomicU64, Ordering};
 use std::thread::Threads;
+use worker_pool::{Gate, run, run_phase};
 
 // How often a gate looks before it gives up.
 const LOOKS: u64 = 1_000_000_000;

@@ -3,12 +3,12 @@
 
 use crate::program::{ABORTS, Heap, NODES, SETTINGS, TEXT, machine};
 use machine_core::Machine;
-use phase_pool::{OpenGate, PoolError, run};
 use same_nodes::are_same_rows;
 use std::alloc::{AllocError, Allocator};
 use std::sync::Wait;
 use std::test::Fail;
 use std::thread::Threads;
+use worker_pool::{OpenGate, PoolError, run};
 
 // What is made of a machine.
 #[derive(Clone, Copy)]
@@ -78,7 +78,7 @@ fn is_led_on<A: Allocator + Copy>(machine: &mut Machine<A>) -> bool {
 }
 
 // Leads a machine from its start to where the call is made. A machine that is copied or that turns waits in its second superstep, with
-// messages, areas, requests, output and pages of its own.
+// messages, areas, requests, output and private pages.
 fn is_led_to_call<A: Allocator + Copy>(machine: &mut Machine<A>, call: Call) -> bool {
     match call {
         Call::Runs => true,
@@ -195,8 +195,8 @@ fn ends_the_same<R: Threads + Wait + Sync, A: Allocator + Copy + Send + Sync>(
     whole: &Machine<A>,
 ) -> bool {
     let called = make(rt, call, machine);
-    let has_refused = heap.refusals() > 0;
-    heap.refuse_nth(0);
+    let has_refused = heap.failures() > 0;
+    heap.fail_nth(0);
     let is_right = match called {
         Called::Made => true,
         Called::Refused => {
@@ -223,8 +223,8 @@ fn is_right<R: Threads + Wait + Sync, A: Allocator + Copy + Send + Sync>(
         return false;
     };
     match refused {
-        (nth, false) => heap.refuse_nth(nth),
-        (nth, true) => heap.refuse_from_nth(nth),
+        (nth, false) => heap.fail_nth(nth),
+        (nth, true) => heap.fail_from_nth(nth),
     }
     ends_the_same(rt, heap, call, &mut before, &mut machine, whole)
 }
@@ -256,7 +256,7 @@ fn requests_from<R: Threads + Wait + Sync, A: Allocator + Copy + Send + Sync>(
     start: &Machine<A>,
 ) -> Option<(u64, Option<u64>)> {
     let mut whole = subject(start, row.call)?;
-    heap.refuse_nth(0);
+    heap.fail_nth(0);
     if make(rt, row.call, &mut whole) != Called::Made {
         return None;
     }

@@ -542,7 +542,7 @@ fn is_right<T: Threads + Wait + Sync>(
     whole: &Done,
 ) -> bool {
     let done = make_row(rt, heap, holder, row, file);
-    heap.refusals() > 0 && done.may_come_before(whole, row.kind)
+    heap.failures() > 0 && done.may_come_before(whole, row.kind)
 }
 
 // The first request for memory of a session which, refused alone or with all from it on, brings what may not come.
@@ -555,9 +555,9 @@ fn first_wrong<T: Threads + Wait + Sync>(
     whole: &Done,
 ) -> Option<u64> {
     for nth in 1..=row.requests {
-        heap.refuse_nth(nth);
+        heap.fail_nth(nth);
         let is_right_alone = is_right(rt, heap, holder, row, file, whole);
-        heap.refuse_from_nth(nth);
+        heap.fail_from_nth(nth);
         if !is_right_alone || !is_right(rt, heap, holder, row, file, whole) {
             return Some(nth);
         }
@@ -574,7 +574,7 @@ fn is_right_throughout<T: Threads + Wait + Sync + Print>(
     row: &Row,
     file: &[u8],
 ) -> Result<bool, Fail> {
-    heap.refuse_nth(0);
+    heap.fail_nth(0);
     let whole = make_row(rt, heap, holder, row, file);
     let requests = heap.requests();
     let wrong = first_wrong(rt, heap, holder, row, file, &whole);

@@ -13,7 +13,7 @@ pub mod MicroOps
 pub mod Moves
 pub mod NotWritten
 pub mod OneStep
-pub mod OwnStores
+pub mod PrivateStores
 pub mod Ranks
 pub mod Refused
 pub mod Room

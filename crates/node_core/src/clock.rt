@@ -18,8 +18,8 @@ impl Clock {
     fn time(&self, ticks: u64) -> u64
         ensures { result ≡ time self.now ticks }
     {
-        let own = u128::from(ticks.saturating_sub(self.since));
-        let time = self.closed.saturating_add(own);
+        let private = u128::from(ticks.saturating_sub(self.since));
+        let time = self.closed.saturating_add(private);
         time.min(u128::from(u64::MAX)) as u64
     }
 }

@@ -2,7 +2,7 @@
 //! floating point, and then has the instructions of F and D.
 //!
 //! The model of a [`Node`] is one record, a `NodeState`, with two notes beside it: whether room is made for the turn of its
-//! registrations, and which pages of its memory are its own and not shared with other nodes. The record has the hart (rank, number of
+//! registrations, and which pages of its memory are private and not shared with other nodes. The record has the hart (rank, number of
 //! nodes, registers, pc, memory, place in the input, and what the node communicates: registrations, requests with the output of this
 //! superstep, queue of messages, sizes of tags), the state, the ticks and their limit. [`Node::step`] is `local_step` of that record, and
 //! [`Node::run`] is `local_steps`, so many steps one after another. The input is the same text at each step, and no step looks at another
@@ -25,16 +25,16 @@
 //! - [`Node::run_traced`] is `run` that tells at which addresses the steps were made. After a refusal its addresses say nothing.
 //! - Memory is refused at stores and at the calls marked (m) alone, after all their checks. The step that needed it has then
 //!   changed nothing of the record, ticks included, and can be made again; a run keeps the steps that it made before.
-//! - A store takes memory where a page of its range is shared, for a copy of it. A page that is the memory's own stays so, and
+//! - A store takes memory where a page of its range is shared, for a copy of it. A page that is private stays so, and
 //!   a store over the edge of two pages owns both before it changes a byte.
 //! - Code is decoded once: the pages that the image's bytes reach, when its first node is made, for that node and all that share with
-//!   it. A node steps over what was decoded for as long as a page is not its own, and this shows in no contract: whoever writes into
+//!   it. A node steps over what was decoded for as long as a page is not private, and this shows in no contract: whoever writes into
 //!   code runs what it wrote, at once.
 //! - [`Node::try_clone`] gives the same node once more, and [`Node::share`] that of another rank. The memories share their pages, and
 //!   what one of the nodes does shows in none of the others.
 //! - Room for the turn of the registrations, once made, stands until a step pushes or pops.
 //! - At the end of a superstep [`Node::prepare_turn`] makes that room, and [`Node::prepare_land`] makes the pages of a range
-//!   the node's own; both may be refused. Then [`Node::land`] writes what an exchange brings, and [`Node::finish_turn`] begins
+//!   private; both may be refused. Then [`Node::land`] writes what an exchange brings, and [`Node::finish_turn`] begins
 //!   the next superstep, which cannot be. Each changes just what it names.
 //! - [`laws`] has what holds of every node: steps leave it sound, keep its rank, the number of nodes, the size of its
 //!   memory and its limit, and add up; and as many steps as it has ticks left end its local part of the superstep.

@@ -1,5 +1,5 @@
--- What a table of pages shows as a memory: the pages' bytes one after another, and which pages are own. `f` gives a page's
--- bytes, and `g` says whether it is own.
+-- What a table of pages shows as a memory: the pages' bytes one after another, and which pages are private. `f` gives a page's
+-- bytes, and `g` says whether it is private.
 use Rattle.std.proofs.Common.{◌≡◌, ℕ, ◌+◌, ◌*◌, ◌/◌, ◌%◌, ◌<◌, ◌≤◌, ◌^◌, Bool, true, false, List, [], ◌∷◌, ◌++◌, length, get_or, set, take}
 use Rattle.std.proofs.Common.{map, replicate, refl, sym, ap, ◌∙◌, arith, Some, None}
 use Rattle.std.specs.Prelude.{slice_get, IsTrue, if◌then◌else◌}
@@ -12,13 +12,13 @@ use Rattle.std.proofs.lemmas.Option.{same_Some, slice_get_read, slice_get_within
 use Rattle.std.proofs.lemmas.Grind.{common_steps}
 use Rattle.std.proofs.lemmas.Bool.Decides.{nat_tests}
 use Rattle.node_memory.specs.Bytes.{is_memory_size, fits, bytes_at, with_bytes, byte_at, half_at, word_at, double_word_at}
-use Rattle.node_memory.specs.Pages.{PagedMemory, none_own}
+use Rattle.node_memory.specs.Pages.{PagedMemory, none_private}
 use Rattle.node_memory.proofs.Flat.{AllWhole, length-flat, get_or-flat_at, bytes_at-flat, flat-set, flat-set_same}
 use Rattle.node_memory.proofs.WordBytes.{half_read, word_read}
 
 pub record Shows {X : Type 0} (f : X → List ℕ) (g : X → Bool) (xs : List X) (m : PagedMemory) : Type 0 where
   pub bytes : flat_map f xs ≡ m.bytes
-  pub own : map g xs ≡ m.own
+  pub private : map g xs ≡ m.private
   pub whole : AllWhole f xs
   pub sized : IsTrue (is_memory_size (length xs * 4096))
 
@@ -32,19 +32,20 @@ most-shown {X} {f} {g} {xs} {m} h =
     let sized = h.sized in
     grind (arith, nat_tests)
 
-pub pages-shown : {X : Type 0} {f : X → List ℕ} {g : X → Bool} {xs : List X} {m : PagedMemory} → Shows f g xs m → length m.own ≡ length xs
-pages-shown {X} {f} {g} {xs} {m} h = sym (ap length h.own) ∙ length-map xs g
+pub pages-shown : {X : Type 0} {f : X → List ℕ} {g : X → Bool} {xs : List X} {m : PagedMemory} → Shows f g xs m → length m.private
+    ≡ length xs
+pages-shown {X} {f} {g} {xs} {m} h = sym (ap length h.private) ∙ length-map xs g
 
 -- a page of the memory is one of the table, of which a vector has `len`
 pub page-shown : {X : Type 0} {f : X → List ℕ} {g : X → Bool} {xs : List X} {m : PagedMemory} → Shows f g xs m → (i len : ℕ)
-    → len ≡ length xs → i < length m.own → i < len
+    → len ≡ length xs → i < length m.private → i < len
 page-shown {X} {f} {g} {xs} {m} h i len long in' =
     let pages = pages-shown h in
     omega arith
 
-pub own_page-shown : {X : Type 0} {f : X → List ℕ} {g : X → Bool} {xs : List X} {m : PagedMemory} → Shows f g xs m → (i len : ℕ)
-    → len ≡ length xs → slice_get m.own i ≡ Some true → i < len
-own_page-shown {X} {f} {g} {xs} {m} h i len long own = page-shown h i len long (slice_get_within m.own i true own)
+pub make_page_private-shown : {X : Type 0} {f : X → List ℕ} {g : X → Bool} {xs : List X} {m : PagedMemory} → Shows f g xs m → (i len : ℕ)
+    → len ≡ length xs → slice_get m.private i ≡ Some true → i < len
+make_page_private-shown {X} {f} {g} {xs} {m} h i len long private = page-shown h i len long (slice_get_within m.private i true private)
 
 -- an end that does not lie past the table's pages lies in the memory, and one that does lies past it
 pub end_within-shown : {X : Type 0} {f : X → List ℕ} {g : X → Bool} {xs : List X} {m : PagedMemory} → Shows f g xs m → (end len : ℕ)
@@ -61,14 +62,14 @@ end_past-shown {X} {f} {g} {xs} {m} h end len long past =
 
 -- the memory's size by its flags
 pub paged-shown : {X : Type 0} {f : X → List ℕ} {g : X → Bool} {xs : List X} {m : PagedMemory} → Shows f g xs m
-    → length m.own * 4096 ≡ length m.bytes
+    → length m.private * 4096 ≡ length m.bytes
 paged-shown {X} {f} {g} {xs} {m} h = ap (λ k. k * 4096) (pages-shown h) ∙ size-shown h
 
--- a range within a page that is own lies in the memory
-pub own_range-within : {X : Type 0} {f : X → List ℕ} {g : X → Bool} {xs : List X} {m : PagedMemory} → Shows f g xs m → (addr len : ℕ)
-    → slice_get m.own (addr / 4096) ≡ Some true → addr % 4096 + len ≤ 4096 → addr + len ≤ length m.bytes
-own_range-within h addr len own one_page =
-    let page = own_page-shown h (addr / 4096) _ refl own in
+-- a range within a page that is private lies in the memory
+pub private_range-within : {X : Type 0} {f : X → List ℕ} {g : X → Bool} {xs : List X} {m : PagedMemory} → Shows f g xs m → (addr len : ℕ)
+    → slice_get m.private (addr / 4096) ≡ Some true → addr % 4096 + len ≤ 4096 → addr + len ≤ length m.bytes
+private_range-within h addr len private one_page =
+    let page = make_page_private-shown h (addr / 4096) _ refl private in
     omega (arith, page, size-shown h)
 
 pub byte-shown : {X : Type 0} {f : X → List ℕ} {g : X → Bool} {xs : List X} {m : PagedMemory} → Shows f g xs m → (addr : ℕ) (x : X)
@@ -95,28 +96,28 @@ pub copy-shown : {X : Type 0} {f : X → List ℕ} {g : X → Bool} {xs : List X
 copy-shown {X} {f} {g} {xs} {m} h i x p in' is same = flat-set_same f xs i p x in' (same ∙ ap f is) ∙ h.bytes
 
 pub flags-set : {X : Type 0} {f : X → List ℕ} {g : X → Bool} {xs : List X} {m : PagedMemory} → Shows f g xs m → (i : ℕ) (p : X) (b : Bool)
-    → g p ≡ b → map g (set xs i p) ≡ set m.own i b
-flags-set {X} {f} {g} {xs} {m} h i p b is = map-set g xs i p ∙ ap (λ c. set (map g xs) i c) is ∙ ap (λ bs. set bs i b) h.own
+    → g p ≡ b → map g (set xs i p) ≡ set m.private i b
+flags-set {X} {f} {g} {xs} {m} h i p b is = map-set g xs i p ∙ ap (λ c. set (map g xs) i c) is ∙ ap (λ bs. set bs i b) h.private
 
 -- the flag of a page
 pub flag-shown : {X : Type 0} {f : X → List ℕ} {g : X → Bool} {xs : List X} {m : PagedMemory} → Shows f g xs m → (i : ℕ) (x : X)
-    → i < length xs → x ≡ get_or xs i x → g x ≡ get_or m.own i (g x)
-flag-shown {X} {f} {g} {xs} {m} h i x in' is = ap g is ∙ sym (get_or-map g xs i x (g x) in') ∙ ap (λ bs. get_or bs i (g x)) h.own
+    → i < length xs → x ≡ get_or xs i x → g x ≡ get_or m.private i (g x)
+flag-shown {X} {f} {g} {xs} {m} h i x in' is = ap g is ∙ sym (get_or-map g xs i x (g x) in') ∙ ap (λ bs. get_or bs i (g x)) h.private
 
 pub flag-is : {X : Type 0} {f : X → List ℕ} {g : X → Bool} {xs : List X} {m : PagedMemory} → Shows f g xs m → (i : ℕ) (x : X)
-    → i < length xs → x ≡ get_or xs i x → slice_get m.own i ≡ Some (g x)
+    → i < length xs → x ≡ get_or xs i x → slice_get m.private i ≡ Some (g x)
 flag-is {X} {f} {g} {xs} {m} h i x in' is =
     let n = pages-shown h in
-    slice_get_read m.own (length m.own) i (g x) refl (omega arith) (flag-shown h i x in' is)
+    slice_get_read m.private (length m.private) i (g x) refl (omega arith) (flag-shown h i x in' is)
 
 -- setting a flag to what it is
 pub flags-same : {X : Type 0} {f : X → List ℕ} {g : X → Bool} {xs : List X} {m : PagedMemory} → Shows f g xs m
-    → (i : ℕ) (x p : X) (b : Bool) → i < length xs → x ≡ get_or xs i x → g x ≡ b → set m.own i b ≡ m.own
+    → (i : ℕ) (x p : X) (b : Bool) → i < length xs → x ≡ get_or xs i x → g x ≡ b → set m.private i b ≡ m.private
 flags-same {X} {f} {g} {xs} {m} h i x p b in' is flag =
-    ap (λ c. set m.own i c) (sym flag ∙ flag-shown h i x in' is) ∙ set-get_or m.own i (g x)
+    ap (λ c. set m.private i c) (sym flag ∙ flag-shown h i x in' is) ∙ set-get_or m.private i (g x)
 
 pub flags-kept : {X : Type 0} {f : X → List ℕ} {g : X → Bool} {xs : List X} {m : PagedMemory} → Shows f g xs m
-    → (i : ℕ) (x p : X) (b : Bool) → i < length xs → x ≡ get_or xs i x → g x ≡ b → g p ≡ b → map g (set xs i p) ≡ m.own
+    → (i : ℕ) (x p : X) (b : Bool) → i < length xs → x ≡ get_or xs i x → g x ≡ b → g p ≡ b → map g (set xs i p) ≡ m.private
 flags-kept h i x p b in' is old new = flags-set h i p b new ∙ flags-same h i x p b in' is old
 
 pub next-shown : {X : Type 0} {f : X → List ℕ} {g : X → Bool} {xs : List X} {m : PagedMemory} → Shows f g xs m → (addr n : ℕ) (x : X)
@@ -202,7 +203,7 @@ no_load-shown {X} {f} {g} {xs} {m} h addr out =
     let past : length m.bytes < addr + 1 = omega arith in
     grind (arith, common_steps)
 
--- pages that were pushed so far: their bytes, and that none is own
+-- pages that were pushed so far: their bytes, and that none is private
 pub record AllShared {X : Type 0} (f : X → List ℕ) (g : X → Bool) (pages : List X) (bytes : List ℕ) (n : ℕ) : Type 0 where
   pub bytes_are : flat_map f pages ≡ bytes
   pub shared : map g pages ≡ replicate n false
@@ -242,11 +243,12 @@ replicate-page n new is =
 -- the table of pages that were all pushed, as a memory
 pub AllShared-view : {X : Type 0} {f : X → List ℕ} {g : X → Bool} {pages : List X} {bytes : List ℕ} {n : ℕ} → AllShared f g pages bytes n
     → (b : List ℕ) → bytes ≡ b → length b ≡ n * 4096
-    → ◌≡◌ {A = PagedMemory} (record { bytes = flat_map f pages; own = map g pages }) (record { bytes = b; own = none_own (length b) })
+    → ◌≡◌ {A = PagedMemory} (record { bytes = flat_map f pages; private = map g pages })
+    (record { bytes = b; private = none_private (length b) })
 AllShared-view {X} {f} {g} {pages} {bytes} {n} h b is size =
     let count : length b / 4096 ≡ n = omega arith in
-    let flags : map g pages ≡ none_own (length b) = h.shared ∙ ap (λ k. replicate k false) (sym count) in
-    ap (λ bs. record { bytes = bs; own = map g pages }) (h.bytes_are ∙ is) ∙ ap (λ fs. record { bytes = b; own = fs }) flags
+    let flags : map g pages ≡ none_private (length b) = h.shared ∙ ap (λ k. replicate k false) (sym count) in
+    ap (λ bs. record { bytes = bs; private = map g pages }) (h.bytes_are ∙ is) ∙ ap (λ fs. record { bytes = b; private = fs }) flags
 
 pub whole-at : {X : Type 0} (f : X → List ℕ) (xs ys : List X) (i : ℕ) (x : X) → AllWhole f xs → ys ≡ xs → i < length ys → x ≡ get_or ys i x
     → length (f x) ≡ 4096
@@ -255,7 +257,7 @@ whole-at f xs ys i x whole same in' is =
 
 -- a range that fits
 pub fits-shown : {X : Type 0} {f : X → List ℕ} {g : X → Bool} {xs : List X} {m : PagedMemory} → Shows f g xs m → (addr len : ℕ)
-    → IsTrue (fits (length m.bytes) addr len) → addr + len ≤ length m.own * 4096
+    → IsTrue (fits (length m.bytes) addr len) → addr + len ≤ length m.private * 4096
 fits-shown h addr len within =
     let size = size-shown h in
     let pages = pages-shown h in

@@ -3,12 +3,13 @@ use Rattle.std.proofs.Common.{◌≡◌, ℕ, ◌<◌, List, length, get_or, set
 use Rattle.std.proofs.lemmas.List.{length-set}
 use Rattle.std.proofs.lemmas.List.Elements.{All-set}
 use Rattle.node_memory.specs.Pages.{PagedMemory}
-use Rattle.node_memory.specs.Table.{page_bytes, is_own, table_view, IsTable}
+use Rattle.node_memory.specs.Table.{page_bytes, is_private, table_view, IsTable}
 use Rattle.node_memory.specs.declared.page.Page.{Page}
 use Rattle.node_memory.proofs.Shown.{Shows, whole-at}
 
-pub table : {A : Type 0} (pages : List (Page A)) (m : PagedMemory) → table_view pages ≡ m → IsTable pages → Shows page_bytes is_own pages m
-table pages m view h = record { bytes = ap (λ x. x.bytes) view; own = ap (λ x. x.own) view; whole = h.whole; sized = h.sized }
+pub table : {A : Type 0} (pages : List (Page A)) (m : PagedMemory) → table_view pages ≡ m → IsTable pages
+    → Shows page_bytes is_private pages m
+table pages m view h = record { bytes = ap (λ x. x.bytes) view; private = ap (λ x. x.private) view; whole = h.whole; sized = h.sized }
 
 -- another page of as many bytes
 pub IsTable-set : {A : Type 0} (pages : List (Page A)) (i : ℕ) (p : Page A) → IsTable pages → length (page_bytes p) ≡ 4096

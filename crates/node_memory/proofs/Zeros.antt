@@ -8,17 +8,18 @@ use Rattle.std.proofs.lemmas.Option.{slice_get-get_or, slice_get_within, same_So
 use Rattle.std.proofs.lemmas.Bool.{cases_eq, cases_lt, false≢true}
 use Rattle.std.proofs.lemmas.Grind.{same_number_lists}
 use Rattle.node_memory.specs.Bytes.{with_bytes}
-use Rattle.node_memory.specs.Pages.{PagedMemory, IsOwn, IsShared, Owns, KeepsOwn, OwnsMore, SharesZeros}
-use Rattle.node_memory.proofs.Owned.{slice_get-set_other, IsOwn-at}
+use Rattle.node_memory.specs.Pages.{PagedMemory, IsPrivate, IsShared, Owns, KeepsPrivate, OwnsMore, SharesZeros}
+use Rattle.node_memory.proofs.Owned.{slice_get-set_other, IsPrivate-at}
 use Rattle.node_memory.proofs.Shown.{Shows, write-shown, whole-at}
 use Rattle.node_memory.proofs.Writes.{clear_more, length-with_bytes}
 
-own_and_shared : (own : List Bool) (page : ℕ) → IsOwn own page → IsShared own page → ⊥
-own_and_shared own page is shared = false≢true (same_Some _ _ (sym shared ∙ is))
+private_and_shared : (private : List Bool) (page : ℕ) → IsPrivate private page → IsShared private page → ⊥
+private_and_shared private page is shared = false≢true (same_Some _ _ (sym shared ∙ is))
 
-own_by_flag : (own : List Bool) (page : ℕ) (b : Bool) → slice_get own page ≡ Some b → (IsShared own page → ⊥) → IsOwn own page
-own_by_flag own page true is unshared = is
-own_by_flag own page false is unshared = absurd (unshared is)
+private_by_flag : (private : List Bool) (page : ℕ) (b : Bool) → slice_get private page ≡ Some b → (IsShared private page → ⊥)
+    → IsPrivate private page
+private_by_flag private page true is unshared = is
+private_by_flag private page false is unshared = absurd (unshared is)
 
 -- a byte beside a range that was written
 beside : (m bytes : List ℕ) (addr k : ℕ) → addr + length bytes ≤ length m → (k < addr) ⊎ (addr + length bytes ≤ k)
@@ -62,7 +63,7 @@ cleared_more m now after addr len page from to was begins ends then low high som
 
 -- those in a shared page are zeros
 pub cleared_shared : (m now : PagedMemory) (addr len page : ℕ)
-    → now.bytes ≡ with_bytes m.bytes addr (replicate (below_page addr len page) 0) → SharesZeros now → IsShared now.own page
+    → now.bytes ≡ with_bytes m.bytes addr (replicate (below_page addr len page) 0) → SharesZeros now → IsShared now.private page
     → addr / 4096 ≤ page → page < (addr + len - 1) / 4096 + 1 → 0 < len → addr + len ≤ length m.bytes
     → now.bytes ≡ with_bytes m.bytes addr (replicate (below_page addr len (page + 1)) 0)
 cleared_shared m now addr len page was zeros shared low high some within =
@@ -110,59 +111,61 @@ start-within addr len size within = omega arith
 pub some-end : (addr len : ℕ) → (len ≡ 0 → ⊥) → 1 ≤ addr + len
 some-end addr len some = omega arith
 
-pub own_or_shared : (own : List Bool) (page : ℕ) → page < length own → (IsShared own page → ⊥) → IsOwn own page
-own_or_shared own page in' unshared = own_by_flag own page _ (slice_get-get_or own page false in') unshared
+pub private_or_shared : (private : List Bool) (page : ℕ) → page < length private → (IsShared private page → ⊥) → IsPrivate private page
+private_or_shared private page in' unshared = private_by_flag private page _ (slice_get-get_or private page false in') unshared
 
 -- a new memory
 pub SharesZeros-new : (m : PagedMemory) (n : ℕ) → m.bytes ≡ replicate n 0 → SharesZeros m
 SharesZeros-new m n is = λ k shared. ap (λ bs. get_or bs k 0) is ∙ zero_in_zeros n k
 
-was_shared : (old new : List Bool) (page : ℕ) (b : Bool) → slice_get old page ≡ Some b → KeepsOwn old new → IsShared new page
+was_shared : (old new : List Bool) (page : ℕ) (b : Bool) → slice_get old page ≡ Some b → KeepsPrivate old new → IsShared new page
     → IsShared old page
-was_shared old new page true is keeps shared = absurd (own_and_shared new page (keeps.kept page is) shared)
+was_shared old new page true is keeps shared = absurd (private_and_shared new page (keeps.kept page is) shared)
 was_shared old new page false is keeps shared = is
 
--- pages have become own
-pub SharesZeros-owned : (old new : PagedMemory) (addr len : ℕ) → SharesZeros old → OwnsMore addr len old.own new.own → new.bytes ≡ old.bytes
+-- pages have become private
+pub SharesZeros-owned : (old new : PagedMemory) (addr len : ℕ) → SharesZeros old → OwnsMore addr len old.private new.private → new.bytes
+    ≡ old.bytes
     → SharesZeros new
 SharesZeros-owned old new addr len zeros more same = λ k shared.
-    let in' : k / 4096 < length new.own = slice_get_within new.own (k / 4096) false shared in
+    let in' : k / 4096 < length new.private = slice_get_within new.private (k / 4096) false shared in
     let count = more.keeps.pages in
-    let flag = slice_get-get_or old.own (k / 4096) false (omega arith) in
-    ap (λ bs. get_or bs k 0) same ∙ zeros k (was_shared old.own new.own (k / 4096) _ flag more.keeps shared)
+    let flag = slice_get-get_or old.private (k / 4096) false (omega arith) in
+    ap (λ bs. get_or bs k 0) same ∙ zeros k (was_shared old.private new.private (k / 4096) _ flag more.keeps shared)
 
-out_of_owned : (own : List Bool) (addr len k : ℕ) → Owns own addr len → IsShared own (k / 4096) → (k < addr) ⊎ (addr + len ≤ k)
-out_of_owned own addr len k owns shared = ⊎_elim
+out_of_owned : (private : List Bool) (addr len k : ℕ) → Owns private addr len → IsShared private (k / 4096) → (k < addr) ⊎ (addr + len ≤ k)
+out_of_owned private addr len k owns shared = ⊎_elim
     (λ (before : k < addr). inl before)
     (λ (from : addr ≤ k). ⊎_elim
-    (λ (in' : k < addr + len). absurd (own_and_shared own (k / 4096) (IsOwn-at own addr len k owns from in') shared))
+    (λ (in' : k < addr + len). absurd (private_and_shared private (k / 4096) (IsPrivate-at private addr len k owns from in') shared))
     (λ (past : addr + len ≤ k). inr past)
     (cases_lt k (addr + len)))
     (cases_lt k addr)
 
--- a range of own pages was written
-pub SharesZeros-written : (old new : PagedMemory) (addr : ℕ) (bytes : List ℕ) → SharesZeros old → Owns old.own addr (length bytes)
-    → addr + length bytes ≤ length old.bytes → new.bytes ≡ with_bytes old.bytes addr bytes → new.own ≡ old.own → SharesZeros new
+-- a range of private pages was written
+pub SharesZeros-written : (old new : PagedMemory) (addr : ℕ) (bytes : List ℕ) → SharesZeros old → Owns old.private addr (length bytes)
+    → addr + length bytes ≤ length old.bytes → new.bytes ≡ with_bytes old.bytes addr bytes → new.private ≡ old.private → SharesZeros new
 SharesZeros-written old new addr bytes zeros owns within is same = λ k shared.
-    let was : IsShared old.own (k / 4096) = rw (← same) shared in
-    ap (λ bs. get_or bs k 0) is ∙ beside old.bytes bytes addr k within (out_of_owned old.own addr (length bytes) k owns was) ∙ zeros k was
+    let was : IsShared old.private (k / 4096) = rw (← same) shared in
+    ap (λ bs. get_or bs k 0) is ∙ beside old.bytes bytes addr k within (out_of_owned old.private addr (length bytes) k owns was)
+    ∙ zeros k was
 
-pub SharesZeros-zeroed : (old new : PagedMemory) (addr n : ℕ) → SharesZeros old → Owns old.own addr n → addr + n ≤ length old.bytes
-    → new.bytes ≡ with_bytes old.bytes addr (replicate n 0) → new.own ≡ old.own → SharesZeros new
+pub SharesZeros-zeroed : (old new : PagedMemory) (addr n : ℕ) → SharesZeros old → Owns old.private addr n → addr + n ≤ length old.bytes
+    → new.bytes ≡ with_bytes old.bytes addr (replicate n 0) → new.private ≡ old.private → SharesZeros new
 SharesZeros-zeroed old new addr n zeros owns within is same =
     let count : length (replicate {A = ℕ} n 0) ≡ n = length-replicate {A = ℕ} n 0 in
     SharesZeros-written old new addr (replicate n 0) zeros (rw count owns) (rw count within) is same
 
 -- the page of zeros has come into the place of a page
 pub SharesZeros-cleared : (old new : PagedMemory) (page : ℕ) → SharesZeros old → page * 4096 + 4096 ≤ length old.bytes
-    → new.bytes ≡ with_bytes old.bytes (page * 4096) (replicate 4096 0) → new.own ≡ set old.own page false → SharesZeros new
+    → new.bytes ≡ with_bytes old.bytes (page * 4096) (replicate 4096 0) → new.private ≡ set old.private page false → SharesZeros new
 SharesZeros-cleared old new page zeros within is flags = λ k shared.
     let n : length (replicate {A = ℕ} 4096 0) ≡ 4096 = length-replicate {A = ℕ} 4096 0 in
     ap (λ bs. get_or bs k 0) is ∙ ⊎_elim
     (λ (same : k / 4096 ≡ page). zero_in_cleared old.bytes (page * 4096) 4096 k within (omega arith) (omega arith))
     (λ (other : k / 4096 ≢ page).
-    let now : IsShared (set old.own page false) (k / 4096) = rw (← flags) shared in
-    let was : IsShared old.own (k / 4096) = sym (slice_get-set_other old.own page (k / 4096) false other) ∙ now in
+    let now : IsShared (set old.private page false) (k / 4096) = rw (← flags) shared in
+    let was : IsShared old.private (k / 4096) = sym (slice_get-set_other old.private page (k / 4096) false other) ∙ now in
     beside old.bytes (replicate 4096 0) (page * 4096) k (omega arith)
     (⊎_elim (λ (below : k < page * 4096). inl below) (λ (above : page * 4096 ≤ k). inr (omega arith)) (cases_lt k (page * 4096)))
     ∙ zeros k was)

@@ -4,7 +4,7 @@ ghost use Rattle.std.specs.Prelude.{◌≡◌, ◌+◌, ◌*◌, ◌/◌, ◌%�
 ghost use Rattle.std.specs.Prelude.{IfOk, IsErrOf, slice_set, slice_get, Some};
 ghost use Rattle.node_memory.specs.Bytes.{is_memory_size, fits, bytes_at, with_bytes, byte_at, half_at, word_at};
 ghost use Rattle.node_memory.specs.Image.{image_bytes, is_segment_outside};
-ghost use Rattle.node_memory.specs.Pages.{PagedMemory, none_own, Owns, OwnsMore, IsOwn, IsShared};
+ghost use Rattle.node_memory.specs.Pages.{PagedMemory, none_private, Owns, OwnsMore, IsPrivate, IsShared};
 
 mod loads;
 mod ranges;
@@ -85,7 +85,7 @@ pub fn is_memory_size(size: u32) -> bool
     PAGE as u32 <= size && size <= LARGEST && size % PAGE as u32 == 0
 }
 
-/// The memory of a node: 4,096 to 2^24 bytes, in whole pages of 4,096, each its own or shared with other memories.
+/// The memory of a node: 4,096 to 2^24 bytes, in whole pages of 4,096, each private or shared with other memories.
 ///
 /// Numbers stand in it with their least significant byte first, at any address (RISC-V Unprivileged ISA 20191213,
 /// section 2.6 "Load and Store Instructions").
@@ -127,9 +127,9 @@ impl<A: Allocator> Memory<A> {
         addr as usize + len as usize <= self.pages.len() * PAGE
     }
 
-    /// Whether the `len` bytes from `addr` on lie in the memory, and each page that has one of them is its own.
+    /// Whether the `len` bytes from `addr` on lie in the memory, and each page that has one of them is private.
     pub fn owns(&self, addr: u32, len: u32) -> bool
-        ensures { IsTrue result ↔ Owns self.now.own addr len }
+        ensures { IsTrue result ↔ Owns self.now.private addr len }
     {
         let end = addr as usize + len as usize;
         if end > self.pages.len() * PAGE {
@@ -139,19 +139,19 @@ impl<A: Allocator> Memory<A> {
             return true;
         }
         for page in addr as usize / PAGE..(end - 1) / PAGE + 1 {
-            if !self.pages[page].is_own() {
+            if !self.pages[page].is_private() {
                 return false;
             }
         }
         true
     }
 
-    /// Whether the memory has a page of this number that is not its own.
+    /// Whether the memory has a page of this number that is not private.
     #[inline]
     pub fn shares(&self, page: usize) -> bool
-        ensures { IsTrue result ↔ IsShared self.now.own page }
+        ensures { IsTrue result ↔ IsShared self.now.private page }
     {
-        page < self.pages.len() && !self.pages[page].is_own()
+        page < self.pages.len() && !self.pages[page].is_private()
     }
 
     /// The `len` bytes from an address of the memory on, which lie within one page.
@@ -169,7 +169,7 @@ impl<A: Allocator> Memory<A> {
     #[inline(always)]
     fn recall_size(&self)
         ensures most { length self.now.bytes ≤ 2 ^ 24 }
-        ensures pages { length self.now.own * 4096 ≡ length self.now.bytes }
+        ensures pages { length self.now.private * 4096 ≡ length self.now.bytes }
     {
         // The use of a field brings the invariant into the proof.
         let _ = &self.pages;

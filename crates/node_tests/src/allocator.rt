@@ -1,34 +1,34 @@
-//! Tests of `refusing_allocator`.
+//! Tests of `failing_allocator`.
 
-use refusing_allocator::{Called, Flaw, FlawKind, RefusingAllocator, Trial, refuse_in_turn};
+use failing_allocator::{Called, FailingAllocator, Flaw, FlawKind, Trial, fail_in_turn};
 use std::alloc::Global;
 use std::test::Fail;
 
-type Heap = RefusingAllocator<Global>;
+type Heap = FailingAllocator<Global>;
 
 fn is_granted(heap: &Heap) -> bool {
     Box::new(heap, 0u8).is_ok()
 }
 
 // Whether of five requests these are granted, and all of them are counted.
-fn grants(heap: &Heap, expected: [bool; 5], refusals: u64) -> bool {
+fn grants(heap: &Heap, expected: [bool; 5], failures: u64) -> bool {
     for is_expected in expected {
         if is_granted(heap) != is_expected {
             return false;
         }
     }
-    heap.requests() == 5 && heap.refusals() == refusals
+    heap.requests() == 5 && heap.failures() == failures
 }
 
 #[test]
 fn requests_are_refused_by_number(rt: HostRuntime) {
     let heap = Heap::new(rt.alloc());
     assert!(rt; grants(&heap, [true; 5], 0));
-    heap.refuse_nth(2);
+    heap.fail_nth(2);
     assert!(rt; grants(&heap, [true, false, true, true, true], 1));
-    heap.refuse_from_nth(3);
+    heap.fail_from_nth(3);
     assert!(rt; grants(&heap, [true, true, false, false, false], 3));
-    heap.refuse_nth(0);
+    heap.fail_nth(0);
     assert!(rt; grants(&heap, [true; 5], 0));
 }
 
@@ -87,7 +87,7 @@ fn a_trial_finds_what_is_wrong_with_a_call(rt: HostRuntime) -> Result<(), Fail> 
         (Manner::GivesUp, flaw(0, FlawKind::WantsNothing)),
     ] {
         let heap = &heap;
-        assert!(rt; refuse_in_turn(heap, &Asks { heap, manner })? == found);
+        assert!(rt; fail_in_turn(heap, &Asks { heap, manner })? == found);
     }
     Ok(())
 }

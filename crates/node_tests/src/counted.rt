@@ -1,7 +1,7 @@
 //! Tests of `counted_io`.
 
 use counted_io::{Counted, LineReader, ReadError, read_at_most, write_whole};
-use refusing_allocator::RefusingAllocator;
+use failing_allocator::FailingAllocator;
 use std::alloc::{Allocator, Global};
 use std::io;
 use std::io::{ErrorKind, Read, Write};
@@ -122,15 +122,15 @@ fn reads_line<A: Allocator + Copy>(alloc: A, text: &[u8; 9000]) -> (bool, u32) {
 
 #[test]
 fn a_refused_growth_loses_no_byte_of_a_line(rt: HostRuntime) {
-    let heap = RefusingAllocator::new(rt.alloc());
+    let heap = FailingAllocator::new(rt.alloc());
     let mut text = [7; 9000];
     text[8999] = b'\n';
-    let mut refusals = 0u32;
+    let mut failures = 0u32;
     for request in 1..8 {
-        heap.refuse_nth(request);
+        heap.fail_nth(request);
         let (is_read, refused) = reads_line(&heap, &text);
         assert!(rt; is_read);
-        refusals = refusals.saturating_add(refused);
+        failures = failures.saturating_add(refused);
     }
-    assert!(rt; refusals > 0 && refusals < 7);
+    assert!(rt; failures > 0 && failures < 7);
 }

@@ -1,4 +1,4 @@
-//! Tests of `refusing_allocator` and `counted_io`: of what no contract says and no run of the program shows. They stand outside of the
+//! Tests of `failing_allocator` and `counted_io`: of what no contract says and no run of the program shows. They stand outside of the
 //! crates that they test, as users of what these export, since a crate that has tests is proved twice.
 #![tactic(auto)]
 

@@ -43,7 +43,7 @@ j_field w = bits w 31 31 * 2 ^ 20 + bits w 19 12 * 2 ^ 12 + bits w 20 20 * 2 ^ 1
 
 pub r_format : (value rd rs1 rs2 : ℕ) → bit_and value 0xFE00707F ≡ value → rd < 32 → rs1 < 32 → rs2 < 32
     → OnlyWord (IsRWord value rd rs1 rs2)
-r_format value rd rs1 rs2 own rd_in rs1_in rs2_in =
+r_format value rd rs1 rs2 private rd_in rs1_in rs2_in =
     let n = value + rd * 2 ^ 7 + rs1 * 2 ^ 15 + rs2 * 2 ^ 20 in
     let of_value = under_FE00707F value in
     let of_n = under_FE00707F n in
@@ -58,7 +58,7 @@ r_format value rd rs1 rs2 own rd_in rs1_in rs2_in =
 
 pub i_format : (value rd rs1 : ℕ) (imm : ℤ) → bit_and value 0x707F ≡ value → rd < 32 → rs1 < 32 → IsSigned 12 imm
     → OnlyWord (IsIWord value rd rs1 imm)
-i_format value rd rs1 imm own rd_in rs1_in signed =
+i_format value rd rs1 imm private rd_in rs1_in signed =
     let f = field_12 imm signed in
     i_word f.field f.fits f.extends
   where
@@ -82,7 +82,7 @@ i_format value rd rs1 imm own rd_in rs1_in signed =
 
 pub s_format : (value rs1 rs2 : ℕ) (imm : ℤ) → bit_and value 0x707F ≡ value → rs1 < 32 → rs2 < 32 → IsSigned 12 imm
     → OnlyWord (IsSWord value rs1 rs2 imm)
-s_format value rs1 rs2 imm own rs1_in rs2_in signed =
+s_format value rs1 rs2 imm private rs1_in rs2_in signed =
     let f = field_12 imm signed in
     s_word f.field f.fits f.extends
   where
@@ -107,7 +107,7 @@ s_format value rs1 rs2 imm own rs1_in rs2_in signed =
           same w w_in met is_rs1 is_rs2 is_f = let of_w = under_707F w in omega arith
 
 pub u_format : (value rd imm : ℕ) → bit_and value 0x7F ≡ value → rd < 32 → imm < 2 ^ 20 → OnlyWord (IsUWord value rd imm)
-u_format value rd imm own rd_in imm_in =
+u_format value rd imm private rd_in imm_in =
     let n = value + rd * 2 ^ 7 + imm * 2 ^ 12 in
     let of_value = under_7F value in
     let of_n = under_7F n in
@@ -121,7 +121,7 @@ u_format value rd imm own rd_in imm_in =
 
 pub b_format : (value rs1 rs2 : ℕ) (imm : ℤ) → bit_and value 0x707F ≡ value → rs1 < 32 → rs2 < 32 → IsSigned 13 imm → IsEven imm
     → OnlyWord (IsBWord value rs1 rs2 imm)
-b_format value rs1 rs2 imm own rs1_in rs2_in signed even =
+b_format value rs1 rs2 imm private rs1_in rs2_in signed even =
     let f = field_13 imm signed in
     b_word f.field f.fits f.extends (f.even even)
   where
@@ -133,12 +133,12 @@ b_format value rs1 rs2 imm own rs1_in rs2_in signed even =
         record {
           word = value + rs1 * 2 ^ 15 + rs2 * 2 ^ 20 + p;
           fits = omega arith;
-          only = IsOnlyWord-b value rs1 rs2 p _ imm own rs1_in rs2_in (ap (sign_extended 13) field ∙ extends) (omega arith) refl;
+          only = IsOnlyWord-b value rs1 rs2 p _ imm private rs1_in rs2_in (ap (sign_extended 13) field ∙ extends) (omega arith) refl;
         }
 
 pub j_format : (value rd : ℕ) (imm : ℤ) → bit_and value 0x7F ≡ value → rd < 32 → IsSigned 21 imm → IsEven imm
     → OnlyWord (IsJWord value rd imm)
-j_format value rd imm own rd_in signed even =
+j_format value rd imm private rd_in signed even =
     let f = field_21 imm signed in
     j_word f.field f.fits f.extends (f.even even)
   where

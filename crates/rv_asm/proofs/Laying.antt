@@ -49,15 +49,15 @@ IsLaidUpTo float symbols texts rest bytes entry =
 pub laid_start : (float : Bool) (symbols : Symbols) (texts : List (List ℕ)) → IsLaidUpTo float symbols texts texts [] 0
 laid_start float symbols texts = λ lines more are laid. record { lines = lines; are_lines = are; laid = laid; entry_is = refl }
 
-pub laid_more : (float : Bool) (symbols : Symbols) (texts : List (List ℕ)) (text : List ℕ) (rest : List (List ℕ)) (bytes own : List ℕ)
+pub laid_more : (float : Bool) (symbols : Symbols) (texts : List (List ℕ)) (text : List ℕ) (rest : List (List ℕ)) (bytes private : List ℕ)
     (entry : ℕ) (line : Line) → line_of float text ≡ Ok line
-    → All (λ label. symbols label ≡ Some (length bytes)) line.labels → LineHasBytes symbols (length bytes) line.statement own
+    → All (λ label. symbols label ≡ Some (length bytes)) line.labels → LineHasBytes symbols (length bytes) line.statement private
     → IsLaidUpTo float symbols texts (text ∷ rest) bytes entry
-    → IsLaidUpTo float symbols texts rest (bytes ++ own) (unwrap_or (entry_of symbols line.statement) entry)
-laid_more float symbols texts text rest bytes own entry line says labels has before = λ lines more are laid.
+    → IsLaidUpTo float symbols texts rest (bytes ++ private) (unwrap_or (entry_of symbols line.statement) entry)
+laid_more float symbols texts text rest bytes private entry line says labels has before = λ lines more are laid.
     rw append_assoc
-    (before (line ∷ lines) (own ++ more) (λ i. says i ∷ are i)
-    (own, more, refl, labels, has, subst (λ n. AreLaid symbols n lines more) (length-append bytes own) laid))
+    (before (line ∷ lines) (private ++ more) (λ i. says i ∷ are i)
+    (private, more, refl, labels, has, subst (λ n. AreLaid symbols n lines more) (length-append bytes private) laid))
 
 pub laid_whole : (float : Bool) (symbols : Symbols) (texts : List (List ℕ)) (bytes : List ℕ) (entry : ℕ)
     → IsLaidUpTo float symbols texts [] bytes entry → IsLaidOut float symbols texts bytes entry
@@ -83,25 +83,26 @@ pub next : (float : Bool) (symbols : Symbols) (texts : List (List ℕ)) (number 
     → entry' ≡ unwrap_or (entry_of symbols (line_statement (line_of float text))) entry
     → option_and_then (fault_of_use symbols address) (line_statement (line_of float text)) ≡ None
     → Next float symbols texts number address address' text rest bytes' entry'
-next float symbols texts number address address' text rest bytes bytes' entry entry' here there sound laid (own, added, has) enters none =
+next float symbols texts number address address' text rest bytes bytes' entry entry' here there sound laid
+    (private, added, has) enters none =
     let p = ok_parts (line_of float text)
     (λ l. All (λ label. symbols label ≡ Some address) l.labels × (end_of_statement address l.statement ≤ 2 ^ 24)) sound.0 in
     let says : line_statement (line_of float text) ≡ p.0.statement = ap line_statement p.1 in
-    let size : address + length own ≡ end_from address (line_of float text) =
-    length-line symbols address (line_statement (line_of float text)) own has in
-    let longer : length bytes' ≡ length bytes + length own = ap length added ∙ length-append bytes own in
+    let size : address + length private ≡ end_from address (line_of float text) =
+    length-line symbols address (line_statement (line_of float text)) private has in
+    let longer : length bytes' ≡ length bytes + length private = ap length added ∙ length-append bytes private in
     let ends : address' ≡ end_from address (line_of float text) = omega (arith, here, there, size, longer) in
     let limit : end_from address (line_of float text) ≤ 2 ^ 24 = subst (λ s. end_of_statement address s ≤ 2 ^ 24) (sym says) p.2.1 in
-    let line_has : LineHasBytes symbols (length bytes) p.0.statement own =
-    subst (λ n. LineHasBytes symbols n p.0.statement own) here (subst (λ s. LineHasBytes symbols address s own) says has) in
+    let line_has : LineHasBytes symbols (length bytes) p.0.statement private =
+    subst (λ n. LineHasBytes symbols n p.0.statement private) here (subst (λ s. LineHasBytes symbols address s private) says has) in
     let labels : All (λ label. symbols label ≡ Some (length bytes)) p.0.labels =
     subst (λ n. All (λ label. symbols label ≡ Some n) p.0.labels) here p.2.0 in
-    let whole = laid_more float symbols texts text rest bytes own entry p.0 p.1 labels line_has laid in
+    let whole = laid_more float symbols texts text rest bytes private entry p.0 p.1 labels line_has laid in
     record {
       sound = subst (λ n. AreSound float symbols n rest) (sym ends) sound.1;
       judged = uses_more float symbols number address text rest none ∙ ap (λ n. uses_from float symbols (number + 1) n rest) (sym ends);
       laid = subst (λ b. IsLaidUpTo float symbols texts rest b entry') (sym added)
-          (subst (λ e. IsLaidUpTo float symbols texts rest (bytes ++ own) e)
+          (subst (λ e. IsLaidUpTo float symbols texts rest (bytes ++ private) e)
           (ap (λ s. unwrap_or (entry_of symbols s) entry) (sym says) ∙ sym enters) whole);
       within = omega (arith, ends, limit);
     }

@@ -8,8 +8,8 @@ pub mapped_more : (f : ℤ → ℕ) (before old new : List ℕ) (xs : List ℤ) 
 mapped_more f before old new xs i x lt was is is_x =
     rw (is, was, is_x, map_more f xs i (pos 0) lt) (append_assoc before (map f (take i xs)) (f (get_or xs i (pos 0)) ∷ []))
 
-pub flat_mapped_more : (f : ℤ → List ℕ) (before old new own : List ℕ) (xs : List ℤ) (i : ℕ) → i < length xs
-    → old ≡ before ++ flat_map f (take i xs) → new ≡ old ++ own → own ≡ f (get_or xs i (pos 0))
+pub flat_mapped_more : (f : ℤ → List ℕ) (before old new private : List ℕ) (xs : List ℤ) (i : ℕ) → i < length xs
+    → old ≡ before ++ flat_map f (take i xs) → new ≡ old ++ private → private ≡ f (get_or xs i (pos 0))
     → new ≡ before ++ flat_map f (take (i + 1) xs)
-flat_mapped_more f before old new own xs i lt was is is_own =
-    rw (is, was, is_own, take_more xs i (pos 0) lt) (flat_map_more f before (take i xs) (get_or xs i (pos 0)))
+flat_mapped_more f before old new private xs i lt was is is_private =
+    rw (is, was, is_private, take_more xs i (pos 0) lt) (flat_map_more f before (take i xs) (get_or xs i (pos 0)))

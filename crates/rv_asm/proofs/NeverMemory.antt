@@ -9,7 +9,7 @@ use Rattle.asm_syntax.specs.Lines.{lines_of}
 use Rattle.asm_syntax.specs.Parse.{line_of}
 use Rattle.asm_syntax.specs.Statements.{Line, Statement}
 use Rattle.asm_syntax.specs.declared.error.LineError.{LineError}
-use Rattle.asm_syntax.specs.declared.error.LineError.TheVariants as own
+use Rattle.asm_syntax.specs.declared.error.LineError.TheVariants as private
 use Rattle.rv_asm.specs.declared.errors.AsmKind.{AsmKind}
 use Rattle.rv_asm.specs.declared.errors.AsmKind.TheVariants.{NoMemory}
 use Rattle.rv_asm.specs.Faults.{text_fault, fault_of_line, fault_alone, fault_of_use, fault_of_uses, first_faulty_line, has_duplicate}
@@ -31,13 +31,13 @@ uses_never true undefined h = cc
 uses_never false true h = cc
 uses_never false false h = cc
 
-line_never : (address : ℕ) (known : List ℕ → Bool) (line : Result Line LineError) → line ≢ Err own.NoMemory
+line_never : (address : ℕ) (known : List ℕ → Bool) (line : Result Line LineError) → line ≢ Err private.NoMemory
     → fault_of_line address known line ≢ Some NoMemory
-line_never address known (Err own.BadToken) not_memory h = cc
-line_never address known (Err own.UnknownMnemonic) not_memory h = cc
-line_never address known (Err own.BadOperand) not_memory h = cc
-line_never address known (Err own.OutOfRange) not_memory h = cc
-line_never address known (Err own.NoMemory) not_memory h = not_memory refl
+line_never address known (Err private.BadToken) not_memory h = cc
+line_never address known (Err private.UnknownMnemonic) not_memory h = cc
+line_never address known (Err private.BadOperand) not_memory h = cc
+line_never address known (Err private.OutOfRange) not_memory h = cc
+line_never address known (Err private.NoMemory) not_memory h = not_memory refl
 line_never address known (Ok line) not_memory h =
     tests_never (option_map_or (is_out_of_reach no_symbols address) line.statement false) (has_duplicate known line.labels)
     (nat_lt (2 ^ 24) (end_of_statement address line.statement)) h
@@ -56,7 +56,7 @@ first_or_later : (number line : ℕ) (fault : Option AsmKind) (others : Option (
 first_or_later number line None others h = inr h
 first_or_later number line (Some kind) others h = inl (ap Some (same_kind (number, kind) (line, NoMemory) h))
 
-module _ (float : Bool) (never : (text : List ℕ) → line_of float text ≢ Err own.NoMemory) where
+module _ (float : Bool) (never : (text : List ℕ) → line_of float text ≢ Err private.NoMemory) where
   alone_never : (number address : ℕ) (known : List ℕ → Bool) (texts : List (List ℕ)) (line : ℕ)
       → first_faulty_line fault_alone (placed float number address known texts) ≢ Some (line, NoMemory)
   alone_never number address known [] line h = cc

@@ -55,9 +55,9 @@ one_line symbols address (Some statement) x y h k = one_statement symbols addres
 one_layout : (symbols : Symbols) (address : ℕ) (lines : List Line) (x y : List ℕ) → AreLaid symbols address lines x
     → AreLaid symbols address lines y → x ≡ y
 one_layout symbols address [] x y h k = h ∙ sym k
-one_layout symbols address (line ∷ rest) x y (own, more, e, labels, has, laid) (own', more', e', labels', has', laid') =
-    let same : own ≡ own' = one_line symbols address line.statement own own' has has' in
-    e ∙ (λ j. same j ++ one_layout symbols (address + length own) rest more more' laid
+one_layout symbols address (line ∷ rest) x y (private, more, e, labels, has, laid) (private', more', e', labels', has', laid') =
+    let same : private ≡ private' = one_line symbols address line.statement private private' has has' in
+    e ∙ (λ j. same j ++ one_layout symbols (address + length private) rest more more' laid
     (subst (λ o. AreLaid symbols (address + length o) rest more') (sym same) laid') j) ∙ sym e'
 
 -- a label has one address, whatever the others have
@@ -65,16 +65,16 @@ agree : (symbols symbols' : Symbols) (address : ℕ) (lines : List Line) (x y : 
     → AreLaid symbols' address lines y
     → Any (λ line. Contains line.labels name) lines → symbols name ≡ symbols' name
 agree symbols symbols' address [] x y name h k (i, line, lt, is, member) = absurd (omega (arith, lt))
-agree symbols symbols' address (first ∷ rest) x y name (own, more, e, labels, has, laid) (own', more', e', labels', has', laid')
+agree symbols symbols' address (first ∷ rest) x y name (private, more, e, labels, has, laid) (private', more', e', labels', has', laid')
     (zero, line, lt, is, member) =
     let here : Contains first.labels name = subst (λ l. Contains l.labels name) (sym is) member in
     All-contains (λ label. symbols label ≡ Some address) first.labels name labels here
     ∙ sym (All-contains (λ label. symbols' label ≡ Some address) first.labels name labels' here)
-agree symbols symbols' address (first ∷ rest) x y name (own, more, e, labels, has, laid) (own', more', e', labels', has', laid')
+agree symbols symbols' address (first ∷ rest) x y name (private, more, e, labels, has, laid) (private', more', e', labels', has', laid')
     (suc i, line, lt, is, member) =
-    let ends : address + length own' ≡ address + length own =
-    length-line symbols' address first.statement own' has' ∙ sym (length-line symbols address first.statement own has) in
-    agree symbols symbols' (address + length own) rest more more' name laid (subst (λ n. AreLaid symbols' n rest more') ends laid')
+    let ends : address + length private' ≡ address + length private =
+    length-line symbols' address first.statement private' has' ∙ sym (length-line symbols address first.statement private has) in
+    agree symbols symbols' (address + length private) rest more more' name laid (subst (λ n. AreLaid symbols' n rest more') ends laid')
     (i, line, omega (arith, lt), is, member)
 
 ok_lines : (xs ys : List Line) → map {B = Result Line LineError} Ok xs ≡ map Ok ys → xs ≡ ys

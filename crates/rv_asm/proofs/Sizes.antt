@@ -17,17 +17,17 @@ use Rattle.rv_asm.specs.Symbols.{Symbols}
 use Rattle.rv_asm.specs.Targets.{modulo, value_of, offset_to}
 use Rattle.rv_asm.specs.Text.{LineHasBytes}
 
-length-spelled : (is : List Instr) (own : List ℕ) → Spell is own → length own ≡ 4 * length is
-length-spelled [] own e = ap length e
-length-spelled (i ∷ is) own (w, more, word, rest, e) =
+length-spelled : (is : List Instr) (private : List ℕ) → Spell is private → length private ≡ 4 * length is
+length-spelled [] private e = ap length e
+length-spelled (i ∷ is) private (w, more, word, rest, e) =
     let tail = length-spelled is more rest in
     let whole = ap length e in
     omega (arith, tail, whole)
 
-length-code : (o : Option ℕ) (code : ℕ → List Instr) (n : ℕ) (own : List ℕ) → ((v : ℕ) → 4 * length (code v) ≡ n)
-    → IsSomeAnd o (λ v. Spell (code v) own) → length own ≡ n
-length-code None code n own size h = absurd h
-length-code (Some v) code n own size h = length-spelled (code v) own h ∙ size v
+length-code : (o : Option ℕ) (code : ℕ → List Instr) (n : ℕ) (private : List ℕ) → ((v : ℕ) → 4 * length (code v) ≡ n)
+    → IsSomeAnd o (λ v. Spell (code v) private) → length private ≡ n
+length-code None code n private size h = absurd h
+length-code (Some v) code n private size h = length-spelled (code v) private h ∙ size v
 
 word-more : (o : Option ℕ) (rest : List ℕ) (n : ℕ) (undefined : Bool) → (is_none o || undefined) ≡ false
     → (undefined ≡ false → length rest ≡ 4 * n) → length (option_map_or (to_le_bytes w32) o [] ++ rest) ≡ 4 * suc n
@@ -45,25 +45,27 @@ length-pairs f [] h = refl
 length-pairs f (x ∷ xs) h =
     let tail = length-pairs f xs h in let first = h x in omega (arith, length-append (f x) (flat_map f xs), tail, first)
 
-pub length-own : (symbols : Symbols) (address : ℕ) (statement : Statement) (own : List ℕ) → HasBytes symbols address statement own
-    → length own ≡ size_of statement address
-length-own symbols address (instruction i) own h = length-spelled (i ∷ []) own h
-length-own symbols address (float_instruction i) own (w, w_in, is, e) = ap length e
-length-own symbols address (branch op rs1 rs2 target) own h =
-    length-code (value_of symbols target) (λ v. Branch op rs1 rs2 (offset_to address v) ∷ []) 4 own (λ _. refl) h
-length-own symbols address (jump_and_link rd target) own h =
-    length-code (value_of symbols target) (λ v. Jal rd (offset_to address v) ∷ []) 4 own (λ _. refl) h
-length-own symbols address (load_immediate rd n) own h = length-spelled (load_of rd (modulo (2 ^ 32) n)) own h
-length-own symbols address (load_address rd target) own h = length-code (value_of symbols target) (lui_addi rd) 8 own (λ _. refl) h
-length-own symbols address (words targets) own h = ap length h.1 ∙ length-words symbols targets h.0
-length-own symbols address (halves ns) own h = ap length h ∙ length-pairs (λ n. to_le_bytes w16 (modulo (2 ^ 16) n)) ns (λ _. refl)
-length-own symbols address (bytes ns) own h = ap length h ∙ length-map ns _
-length-own symbols address (ascii text) own h = ap length h
-length-own symbols address (space n) own h = ap length h ∙ length-replicate n 0
-length-own symbols address (align n) own h = ap length h ∙ length-replicate _ 0
-length-own symbols address (entry target) own h = ap length h.1
+pub length-private : (symbols : Symbols) (address : ℕ) (statement : Statement) (private : List ℕ)
+    → HasBytes symbols address statement private
+    → length private ≡ size_of statement address
+length-private symbols address (instruction i) private h = length-spelled (i ∷ []) private h
+length-private symbols address (float_instruction i) private (w, w_in, is, e) = ap length e
+length-private symbols address (branch op rs1 rs2 target) private h =
+    length-code (value_of symbols target) (λ v. Branch op rs1 rs2 (offset_to address v) ∷ []) 4 private (λ _. refl) h
+length-private symbols address (jump_and_link rd target) private h =
+    length-code (value_of symbols target) (λ v. Jal rd (offset_to address v) ∷ []) 4 private (λ _. refl) h
+length-private symbols address (load_immediate rd n) private h = length-spelled (load_of rd (modulo (2 ^ 32) n)) private h
+length-private symbols address (load_address rd target) private h = length-code (value_of symbols target) (lui_addi rd) 8 private
+    (λ _. refl) h
+length-private symbols address (words targets) private h = ap length h.1 ∙ length-words symbols targets h.0
+length-private symbols address (halves ns) private h = ap length h ∙ length-pairs (λ n. to_le_bytes w16 (modulo (2 ^ 16) n)) ns (λ _. refl)
+length-private symbols address (bytes ns) private h = ap length h ∙ length-map ns _
+length-private symbols address (ascii text) private h = ap length h
+length-private symbols address (space n) private h = ap length h ∙ length-replicate n 0
+length-private symbols address (align n) private h = ap length h ∙ length-replicate _ 0
+length-private symbols address (entry target) private h = ap length h.1
 
-pub length-line : (symbols : Symbols) (address : ℕ) (statement : Option Statement) (own : List ℕ)
-    → LineHasBytes symbols address statement own → address + length own ≡ end_of_statement address statement
-length-line symbols address None own h = omega (arith, ap length h)
-length-line symbols address (Some s) own h = ap (λ n. address + n) (length-own symbols address s own h)
+pub length-line : (symbols : Symbols) (address : ℕ) (statement : Option Statement) (private : List ℕ)
+    → LineHasBytes symbols address statement private → address + length private ≡ end_of_statement address statement
+length-line symbols address None private h = omega (arith, ap length h)
+length-line symbols address (Some s) private h = ap (λ n. address + n) (length-private symbols address s private h)

@@ -35,14 +35,14 @@ use Rattle.rv_asm.proofs.Sound.{AreSound, sound_text}
 use Rattle.rv_asm.proofs.Spelling.{load_of-short, load_of-long}
 use Rattle.rv_asm.proofs.Whole.{image-laid}
 
-spelled : (is : List Instr) → All IsEncodable is → (own : List ℕ) × Spell is own
+spelled : (is : List Instr) → All IsEncodable is → (private : List ℕ) × Spell is private
 spelled [] h = ([], refl)
 spelled (i ∷ is) h =
     let w = word_of i (All-head IsEncodable i is h) in
     let rest = spelled is (All-tail IsEncodable i is h) in
     (to_le_bytes w32 w.0 ++ rest.0, (w.0, rest.0, w.1, rest.1, refl))
 
-one : (i : Instr) → IsEncodable i → (own : List ℕ) × Spell (i ∷ []) own
+one : (i : Instr) → IsEncodable i → (private : List ℕ) × Spell (i ∷ []) private
 one i h = spelled (i ∷ []) (All-cons IsEncodable i [] h (All-nil IsEncodable))
 
 and_true : (a b : Bool) → (a && b) ≡ true → (a ≡ true) × (b ≡ true)
@@ -73,7 +73,7 @@ short_immediate word e = within 12 (cast_signed w32 word) (omega arith) e
 low_immediate : (word : ℕ) → IsImmediate (sign_extended 12 (bits word 11 0))
 low_immediate word = let low : bits word 11 0 < 2 ^ 12 = omega arith in extended (bits word 11 0) low
 
-lui_addi_spelled : (rd word : ℕ) → rd < 32 → (own : List ℕ) × Spell (lui_addi rd word) own
+lui_addi_spelled : (rd word : ℕ) → rd < 32 → (private : List ℕ) × Spell (lui_addi rd word) private
 lui_addi_spelled rd word rd_in =
     let high : bits (word + 0x800) 31 12 < 2 ^ 20 = omega arith in
     let upper : Instr = Upper Lui rd (bits (word + 0x800) 31 12) in
@@ -82,12 +82,12 @@ lui_addi_spelled rd word rd_in =
     (All-cons IsEncodable upper (low ∷ []) (rd_in, high)
     (All-cons IsEncodable low [] (rd_in, rd_in, low_immediate word) (All-nil IsEncodable)))
 
-load_spelled : (rd word : ℕ) (short : Bool) → is_short word ≡ short → rd < 32 → (own : List ℕ) × Spell (load_of rd word) own
+load_spelled : (rd word : ℕ) (short : Bool) → is_short word ≡ short → rd < 32 → (private : List ℕ) × Spell (load_of rd word) private
 load_spelled rd word true e rd_in =
-    subst (λ is. (own : List ℕ) × Spell is own) (sym (load_of-short rd word e))
+    subst (λ is. (private : List ℕ) × Spell is private) (sym (load_of-short rd word e))
     (one (I Addi rd 0 (cast_signed w32 word)) (rd_in, omega arith, short_immediate word e))
 load_spelled rd word false e rd_in =
-    subst (λ is. (own : List ℕ) × Spell is own) (sym (load_of-long rd word e)) (lui_addi_spelled rd word rd_in)
+    subst (λ is. (private : List ℕ) × Spell is private) (sym (load_of-long rd word e)) (lui_addi_spelled rd word rd_in)
 
 reached_branch : (offset : ℤ) → is_reached 13 offset ≡ true → IsBranchOffset offset
 reached_branch offset e = let p = and_true _ _ e in (within 13 offset (omega arith) p.0, even offset p.1)
@@ -105,7 +105,7 @@ uses_pass false true h = cc
 uses_pass false false h = (refl, refl)
 
 code_of : (o : Option ℕ) (code : ℕ → List Instr) → (is_none o || false) ≡ false
-    → ((v : ℕ) → o ≡ Some v → (own : List ℕ) × Spell (code v) own) → (own : List ℕ) × IsSomeAnd o (λ v. Spell (code v) own)
+    → ((v : ℕ) → o ≡ Some v → (private : List ℕ) × Spell (code v) private) → (private : List ℕ) × IsSomeAnd o (λ v. Spell (code v) private)
 code_of None code h f = cc
 code_of (Some v) code h f = f v refl
 
@@ -116,7 +116,7 @@ not_false false h = cc
 jump_of : (o : Option ℕ) (width address : ℕ) (code : ℕ → Instr)
     → by_uses (option_map_or (λ v. not (is_reached width (offset_to address v))) o false) (is_none o || false) ≡ None
     → ((v : ℕ) → is_reached width (offset_to address v) ≡ true → IsEncodable (code v))
-    → (own : List ℕ) × IsSomeAnd o (λ v. Spell (code v ∷ []) own)
+    → (private : List ℕ) × IsSomeAnd o (λ v. Spell (code v ∷ []) private)
 jump_of None width address code h f = cc
 jump_of (Some v) width address code h f =
     one (code v)
@@ -128,7 +128,7 @@ some_of (Some v) h = refl
 
 statement_bytes : (symbols : Symbols) (address : ℕ) (statement : Statement) → IsInRange statement
     → fault_of_use symbols address statement ≡ None
-    → (own : List ℕ) × HasBytes symbols address statement own
+    → (private : List ℕ) × HasBytes symbols address statement private
 statement_bytes symbols address (instruction i) r h = one i r
 statement_bytes symbols address (float_instruction i) r h =
     let w = the_word i r in (to_le_bytes w32 w.word, (w.word, w.fits, w.only.0, refl))
@@ -150,7 +150,7 @@ statement_bytes symbols address (align number) r h = (replicate (size_of (align 
 statement_bytes symbols address (entry target) r h = ([], (some_of (value_of symbols target) (uses_pass false _ h).1, refl))
 
 line_bytes : (symbols : Symbols) (address : ℕ) (statement : Option Statement) → IfSome statement IsInRange
-    → option_and_then (fault_of_use symbols address) statement ≡ None → (own : List ℕ) × LineHasBytes symbols address statement own
+    → option_and_then (fault_of_use symbols address) statement ≡ None → (private : List ℕ) × LineHasBytes symbols address statement private
 line_bytes symbols address None r h = ([], refl)
 line_bytes symbols address (Some statement) r h = statement_bytes symbols address statement r h
 
@@ -180,15 +180,15 @@ module _ (float : Bool) (ranges : (text : List ℕ) (line : Line) → line_of fl
       (uses_from float symbols (number + 1) (end_from address (line_of float text)) rest) uses in
       let none : option_and_then (fault_of_use symbols address) p.0.statement ≡ None =
       sym (ap (option_and_then (fault_of_use symbols address)) says) ∙ faults.0 in
-      let own = line_bytes symbols address p.0.statement (ranges text p.0 p.1) none in
-      let ends : end_from address (line_of float text) ≡ address + length own.0 =
-      ap (end_of_statement address) says ∙ sym (length-line symbols address p.0.statement own.0 own.1) in
+      let private = line_bytes symbols address p.0.statement (ranges text p.0 p.1) none in
+      let ends : end_from address (line_of float text) ≡ address + length private.0 =
+      ap (end_of_statement address) says ∙ sym (length-line symbols address p.0.statement private.0 private.1) in
       let more = lay symbols (number + 1) (end_from address (line_of float text)) rest sound.1 faults.1 in
       record {
         lines = p.0 ∷ more.lines;
-        bytes = own.0 ++ more.bytes;
+        bytes = private.0 ++ more.bytes;
         are_lines = (λ i. p.1 i ∷ more.are_lines i);
-        laid = (own.0, more.bytes, refl, p.2.0, own.1, subst (λ e. AreLaid symbols e more.lines more.bytes) ends more.laid);
+        laid = (private.0, more.bytes, refl, p.2.0, private.1, subst (λ e. AreLaid symbols e more.lines more.bytes) ends more.laid);
       }
 
   pub some_image : (text : List ℕ) → text_fault float text ≡ None → (image : Image) × IsImageOfText float text image

@@ -27,13 +27,15 @@ undefined_at symbols targets i d lt e =
     ∙ list_any_at (λ t. is_none (value_of symbols (target_value t))) targets i d lt (ap is_none e)
 
 -- one more word is written
-pub words_more : (symbols : Symbols) (before old new own : List ℕ) (targets : List Target) (i value : ℕ) (d : Target) → i < length targets
+pub words_more : (symbols : Symbols) (before old new private : List ℕ) (targets : List Target) (i value : ℕ) (d : Target)
+    → i < length targets
     → Some value ≡ value_of symbols (target_value (get_or targets i d))
-    → old ≡ before ++ flat_map (word_bytes symbols) (map target_value (take i targets)) → new ≡ old ++ own → own ≡ to_le_bytes w32 value
+    → old ≡ before ++ flat_map (word_bytes symbols) (map target_value (take i targets)) → new ≡ old ++ private → private
+    ≡ to_le_bytes w32 value
     → new ≡ before ++ flat_map (word_bytes symbols) (map target_value (take (i + 1) targets))
-words_more symbols before old new own targets i value d lt known was is is_own =
+words_more symbols before old new private targets i value d lt known was is is_private =
     let more = flat_map_more (word_bytes symbols) before (map target_value (take i targets)) (target_value (get_or targets i d)) in
-    rw (is, was, is_own, map_more target_value targets i d lt) (rw (sym known) at more)
+    rw (is, was, is_private, map_more target_value targets i d lt) (rw (sym known) at more)
 
 pub defined_more : (symbols : Symbols) (targets : List Target) (i value : ℕ) (d : Target) → i < length targets
     → Some value ≡ value_of symbols (target_value (get_or targets i d))

@@ -6,7 +6,7 @@ use Rattle.std.specs.Str.{bytes_eq}
 use Rattle.std.specs.Option.{option_map_or, option_or}
 use Rattle.asm_syntax.specs.Statements.{Statement, Line}
 use Rattle.asm_syntax.specs.declared.error.LineError.{LineError}
-use Rattle.asm_syntax.specs.declared.error.LineError.TheVariants as own
+use Rattle.asm_syntax.specs.declared.error.LineError.TheVariants as private
 use Rattle.rv_asm.specs.declared.errors.AsmError.{AsmError}
 use Rattle.rv_asm.specs.declared.errors.AsmKind.{AsmKind}
 use Rattle.rv_asm.specs.declared.errors.AsmKind.TheVariants.{BadToken, UnknownMnemonic, BadOperand, OutOfRange, DuplicateLabel}
@@ -17,11 +17,11 @@ use Rattle.rv_asm.specs.Places.{Place, line_statement, end_from, places_of, symb
 
 -- the fault that a line has by itself, as one of a text; a line never has `NoMemory`
 abbrev pub kind_of : LineError → AsmKind
-kind_of own.BadToken = BadToken
-kind_of own.UnknownMnemonic = UnknownMnemonic
-kind_of own.BadOperand = BadOperand
-kind_of own.OutOfRange = OutOfRange
-kind_of own.NoMemory = NoMemory
+kind_of private.BadToken = BadToken
+kind_of private.UnknownMnemonic = UnknownMnemonic
+kind_of private.BadOperand = BadOperand
+kind_of private.OutOfRange = OutOfRange
+kind_of private.NoMemory = NoMemory
 
 -- what is wrong with the line of this number is of this kind; want of memory is no line's
 pub record IsErrorAt (number : ℕ) (what : AsmKind) (e : AsmError) : Type 0 where

@@ -31,12 +31,12 @@ pub record IsWordOf (i : Instr) (w : ℕ) : Type 0 where
 
 -- the bytes of instructions, one after the other
 abbrev pub Spell : List Instr → List ℕ → Type 0
-Spell [] own = own ≡ []
-Spell (i ∷ rest) own = (w : ℕ) × (more : List ℕ) × IsWordOf i w × Spell rest more × (own ≡ to_le_bytes w32 w ++ more)
+Spell [] private = private ≡ []
+Spell (i ∷ rest) private = (w : ℕ) × (more : List ℕ) × IsWordOf i w × Spell rest more × (private ≡ to_le_bytes w32 w ++ more)
 
 -- the bytes of an instruction of floating point: those of the one word that decodes to it
 abbrev pub SpellFloat : FloatInstr → List ℕ → Type 0
-SpellFloat i own = (w : ℕ) × (w < 2 ^ 32) × (float_instruction_of w ≡ Some i) × (own ≡ to_le_bytes w32 w)
+SpellFloat i private = (w : ℕ) × (w < 2 ^ 32) × (float_instruction_of w ≡ Some i) × (private ≡ to_le_bytes w32 w)
 
 -- a word goes into a register by its upper 20 bits, rounded, and its low 12 bits as a signed number
 abbrev pub lui_addi : ℕ → ℕ → List Instr
@@ -72,21 +72,21 @@ word_bytes symbols target = option_map_or (to_le_bytes w32) (value_of symbols ta
 
 -- the bytes of a statement at an address, where labels stand for these addresses
 abbrev pub HasBytes : Symbols → ℕ → Statement → List ℕ → Type 0
-HasBytes symbols address (instruction i) own = Spell (i ∷ []) own
-HasBytes symbols address (float_instruction i) own = SpellFloat i own
-HasBytes symbols address (branch op rs1 rs2 target) own =
-    IsSomeAnd (value_of symbols target) (λ value. Spell (Branch op rs1 rs2 (offset_to address value) ∷ []) own)
-HasBytes symbols address (jump_and_link rd target) own =
-    IsSomeAnd (value_of symbols target) (λ value. Spell (Jal rd (offset_to address value) ∷ []) own)
-HasBytes symbols address (load_immediate rd n) own = Spell (load_of rd (modulo (2 ^ 32) n)) own
-HasBytes symbols address (load_address rd target) own =
-    IsSomeAnd (value_of symbols target) (λ value. Spell (lui_addi rd value) own)
-HasBytes symbols address (words targets) own =
+HasBytes symbols address (instruction i) private = Spell (i ∷ []) private
+HasBytes symbols address (float_instruction i) private = SpellFloat i private
+HasBytes symbols address (branch op rs1 rs2 target) private =
+    IsSomeAnd (value_of symbols target) (λ value. Spell (Branch op rs1 rs2 (offset_to address value) ∷ []) private)
+HasBytes symbols address (jump_and_link rd target) private =
+    IsSomeAnd (value_of symbols target) (λ value. Spell (Jal rd (offset_to address value) ∷ []) private)
+HasBytes symbols address (load_immediate rd n) private = Spell (load_of rd (modulo (2 ^ 32) n)) private
+HasBytes symbols address (load_address rd target) private =
+    IsSomeAnd (value_of symbols target) (λ value. Spell (lui_addi rd value) private)
+HasBytes symbols address (words targets) private =
     (uses_undefined symbols (words targets) ≡ false)
-    × (own ≡ flat_map (word_bytes symbols) targets)
-HasBytes symbols address (halves ns) own = own ≡ flat_map (λ n. to_le_bytes w16 (modulo (2 ^ 16) n)) ns
-HasBytes symbols address (bytes ns) own = own ≡ map (modulo (2 ^ 8)) ns
-HasBytes symbols address (ascii text) own = own ≡ text
-HasBytes symbols address (space n) own = own ≡ replicate n 0
-HasBytes symbols address (align n) own = own ≡ replicate (size_of (align n) address) 0
-HasBytes symbols address (entry target) own = IsSome (value_of symbols target) × (own ≡ [])
+    × (private ≡ flat_map (word_bytes symbols) targets)
+HasBytes symbols address (halves ns) private = private ≡ flat_map (λ n. to_le_bytes w16 (modulo (2 ^ 16) n)) ns
+HasBytes symbols address (bytes ns) private = private ≡ map (modulo (2 ^ 8)) ns
+HasBytes symbols address (ascii text) private = private ≡ text
+HasBytes symbols address (space n) private = private ≡ replicate n 0
+HasBytes symbols address (align n) private = private ≡ replicate (size_of (align n) address) 0
+HasBytes symbols address (entry target) private = IsSome (value_of symbols target) × (private ≡ [])

@@ -11,16 +11,16 @@ use Rattle.rv_asm.specs.Layout.{HasBytes}
 
 -- the bytes of what may be a statement
 abbrev pub LineHasBytes : Symbols → ℕ → Option Statement → List ℕ → Type 0
-LineHasBytes symbols address None own = own ≡ []
-LineHasBytes symbols address (Some statement) own = HasBytes symbols address statement own
+LineHasBytes symbols address None private = private ≡ []
+LineHasBytes symbols address (Some statement) private = HasBytes symbols address statement private
 
 -- lines from an address on: the labels of the first stand for that address, its statement has the first bytes, and the
 -- next line starts where these end
 abbrev pub AreLaid : Symbols → ℕ → List Line → List ℕ → Type 0
 AreLaid symbols address [] bytes = bytes ≡ []
 AreLaid symbols address (line ∷ rest) bytes =
-    (own : List ℕ) × (more : List ℕ) × (bytes ≡ own ++ more) × All (λ label. symbols label ≡ Some address) line.labels
-    × LineHasBytes symbols address line.statement own × AreLaid symbols (address + length own) rest more
+    (private : List ℕ) × (more : List ℕ) × (bytes ≡ private ++ more) × All (λ label. symbols label ≡ Some address) line.labels
+    × LineHasBytes symbols address line.statement private × AreLaid symbols (address + length private) rest more
 
 -- the address that a line asks to start at
 abbrev pub entry_of : Symbols → Option Statement → Option ℕ

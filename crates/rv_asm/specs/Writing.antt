@@ -3,4 +3,4 @@ use Rattle.std.specs.Prelude.{◌≡◌, ℕ, ◌++◌, List}
 
 -- bytes with a property stand behind the old ones
 abbrev pub Adds : (List ℕ → Type 0) → List ℕ → List ℕ → Type 0
-Adds P before after = (own : List ℕ) × (after ≡ before ++ own) × P own
+Adds P before after = (private : List ℕ) × (after ≡ before ++ private) × P private

@@ -1,6 +1,6 @@
 -- Which sums, products, quotients and roots are known at once to raise no new flags, which are those that are not there, without
--- rounding them once more: finite ones, tiny only if they are exact, that may be inexact, or cannot be. These are no words of the manual. They say
--- for whom an operation is quick, and change no result: another one may raise nothing either.
+-- rounding them once more: finite ones, tiny only if they are exact, that may be inexact, or cannot be. These are no words of the manual.
+-- They say for whom an operation is quick, and change no result: another one may raise nothing either.
 use Rattle.std.specs.Prelude.{ℕ, ◌+◌, ◌%◌, ◌^◌, ◌==◌, Bool, not, ◌&&◌, ◌||◌, nat_lt, nat_le}
 use Rattle.rv_float_flags.specs.declared.flags.Flags.{Flags}
 use Rattle.std.specs.Float.{float_zero}

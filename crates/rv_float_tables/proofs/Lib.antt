@@ -1,12 +1,10 @@
 pub mod CompressedRows
-pub mod EachRow
 pub mod FieldCodes
 pub mod Lookup
 pub mod Masks
 pub mod NameTables
-pub mod NoRow
 pub mod OneTable
 pub mod OnlyWords
-pub mod RowNames
 pub mod RowReads
+pub mod RowValues
 pub mod Spelling

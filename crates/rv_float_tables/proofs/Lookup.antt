@@ -1,112 +1,108 @@
--- A row is met by five fields of a word: a lookup by these computes where they are known.
-use Rattle.std.proofs.Common.{◌≡◌, ℕ, ◌+◌, ◌*◌, ◌^◌, Bool, ◌&&◌, cond, refl, ap, arith, eqb, bit_and, Option, inl, inr, true}
+-- A word meets a row where it has the row's opcode, and the row's funct5 if the row fixes it, and the row's value: the rows of others drop
+-- out of the lookup.
+use Rattle.std.proofs.Common.{◌≡◌, ℕ, zero, suc, ◌/◌, ◌%◌, ◌^◌, Bool, true, false, ◌&&◌, cond, refl, sym, ap, ◌∙◌, arith, eqb, ltb, bit_and}
+use Rattle.std.proofs.Common.{Option, inl, inr}
 use Rattle.std.specs.List.{find}
 use Rattle.std.specs.Option.{option_map, option_flatten}
-use Rattle.std.proofs.lemmas.Bool.{cases_eq, eqb-true, ne_eqb, and_parts}
+use Rattle.std.proofs.lemmas.Bool.{cases_eq, eqb-true, eq-eqb, ne_eqb, and_parts, and_right}
 use Rattle.std.proofs.lemmas.Bool.Decides.{nat_tests}
-use Rattle.rv_tables.specs.Fields.{opcode, funct3, funct7, rs2}
-use Rattle.rv_tables.specs.Tables.{meets}
+use Rattle.std.proofs.lemmas.Nat.{and_mask, and_mod, and_shr}
+use Rattle.rv_tables.specs.Fields.{opcode}
+use Rattle.rv_tables.specs.Tables.{RowEncoding, meets}
 use Rattle.rv_tables.proofs.Finds.{find-agree}
-use Rattle.rv_tables.proofs.Masks.{under_707F, under_FE00707F}
+use Rattle.rv_tables.proofs.Lookup as Integers
+use Rattle.rv_tables.proofs.Masks.{under_707F}
 use Rattle.rv_float_tables.specs.declared.instr.FloatInstr.{FloatInstr}
-use Rattle.rv_float_tables.specs.Fields.{funct5, fmt}
-use Rattle.rv_float_tables.specs.Rows.{FloatEncoding, float_encodings, float_instruction_of}
-use Rattle.rv_float_tables.proofs.Masks.{under_600007F, under_FE00007F, under_FFF0007F, under_FFF0707F}
+use Rattle.rv_float_tables.specs.Fields.{funct5}
+use Rattle.rv_float_tables.specs.Rows.{float_encodings, float_instruction_of}
 
--- the fields of a value, each at its place
-abbrev at_funct3 : ℕ → ℕ
-at_funct3 v = funct3 v * 2 ^ 12
+-- a mask that has the bits of funct5 leaves funct5 as it is
+funct5_under : (w m : ℕ) → funct5 m ≡ 0x1F → funct5 (bit_and w m) ≡ funct5 w
+funct5_under w m h =
+    ap (λ n. n % 2 ^ 5) (and_shr w m 27) ∙ and_mod (w / 2 ^ 27) (m / 2 ^ 27) 5 ∙ ap (bit_and (funct5 w)) h ∙ and_mask (funct5 w) 5
+    ∙ omega arith
 
-abbrev at_rs2 : ℕ → ℕ
-at_rs2 v = rs2 v * 2 ^ 20
+-- a row does not fix funct5, or has it of this kind
+abbrev pub agrees : {F R : Type 0} → (ℕ → ℕ) → ℕ → RowEncoding F R → Bool
+agrees kind f5 e = cond (eqb (funct5 e.row.mask) 0x1F) (eqb f5 (kind (funct5 e.row.value))) true
 
-abbrev at_fmt : ℕ → ℕ
-at_fmt v = fmt v * 2 ^ 25
-
-abbrev at_funct7 : ℕ → ℕ
-at_funct7 v = funct7 v * 2 ^ 25
-
--- the mask is one of six, and the value has no bits outside it
-abbrev pub known : ℕ → ℕ → Bool
-known m v =
-    cond (eqb m 0x707F) (eqb v (at_funct3 v + opcode v))
-    (cond (eqb m 0x600007F) (eqb v (at_fmt v + opcode v))
-    (cond (eqb m 0xFE00007F) (eqb v (at_funct7 v + opcode v))
-    (cond (eqb m 0xFE00707F) (eqb v (at_funct7 v + (at_funct3 v + opcode v)))
-    (cond (eqb m 0xFFF0007F) (eqb v (at_funct7 v + (at_rs2 v + opcode v)))
-    (eqb m 0xFFF0707F && eqb v (at_funct7 v + (at_rs2 v + (at_funct3 v + opcode v))))))))
-
--- the fields that the mask asks for are those of the value
-abbrev pub agrees : (opcode funct3 funct5 fmt rs2 : ℕ) → ℕ → ℕ → Bool
-agrees op f3 f5 f r2 m v =
-    eqb op (opcode v) && cond (eqb m 0x707F) (eqb f3 (funct3 v))
-    (eqb f (fmt v) && cond (eqb m 0x600007F) true
-    (eqb f5 (funct5 v) && cond (eqb m 0xFE00007F) true
-    (cond (eqb m 0xFE00707F) (eqb f3 (funct3 v))
-    (eqb r2 (rs2 v) && cond (eqb m 0xFFF0007F) true (eqb f3 (funct3 v))))))
-
-at_707F : (w v : ℕ) → eqb v (at_funct3 v + opcode v) ≡ true
-    → eqb (bit_and w 0x707F) v ≡ (eqb (opcode w) (opcode v) && eqb (funct3 w) (funct3 v))
-at_707F w v h = grind (arith, nat_tests, under_707F w)
-
-at_600007F : (w v : ℕ) → eqb v (at_fmt v + opcode v) ≡ true
-    → eqb (bit_and w 0x600007F) v ≡ (eqb (opcode w) (opcode v) && (eqb (fmt w) (fmt v) && true))
-at_600007F w v h = grind (arith, nat_tests, under_600007F w)
-
-at_FE00007F : (w v : ℕ) → eqb v (at_funct7 v + opcode v) ≡ true
-    → eqb (bit_and w 0xFE00007F) v ≡ (eqb (opcode w) (opcode v) && (eqb (fmt w) (fmt v) && (eqb (funct5 w) (funct5 v) && true)))
-at_FE00007F w v h = grind (arith, nat_tests, under_FE00007F w)
-
-at_FE00707F : (w v : ℕ) → eqb v (at_funct7 v + (at_funct3 v + opcode v)) ≡ true
-    → eqb (bit_and w 0xFE00707F) v
-    ≡ (eqb (opcode w) (opcode v) && (eqb (fmt w) (fmt v) && (eqb (funct5 w) (funct5 v) && eqb (funct3 w) (funct3 v))))
-at_FE00707F w v h = grind (arith, nat_tests, under_FE00707F w)
-
-at_FFF0007F : (w v : ℕ) → eqb v (at_funct7 v + (at_rs2 v + opcode v)) ≡ true
-    → eqb (bit_and w 0xFFF0007F) v
-    ≡ (eqb (opcode w) (opcode v) && (eqb (fmt w) (fmt v) && (eqb (funct5 w) (funct5 v) && (eqb (rs2 w) (rs2 v) && true))))
-at_FFF0007F w v h = grind (arith, nat_tests, under_FFF0007F w)
-
-at_FFF0707F : (w v : ℕ) → eqb v (at_funct7 v + (at_rs2 v + (at_funct3 v + opcode v))) ≡ true
-    → eqb (bit_and w 0xFFF0707F) v
-    ≡ (eqb (opcode w) (opcode v)
-    && (eqb (fmt w) (fmt v) && (eqb (funct5 w) (funct5 v) && (eqb (rs2 w) (rs2 v) && eqb (funct3 w) (funct3 v)))))
-at_FFF0707F w v h = grind (arith, nat_tests, under_FFF0707F w)
-
-pub agrees-met : (w m v : ℕ) → known m v ≡ true → eqb (bit_and w m) v ≡ agrees (opcode w) (funct3 w) (funct5 w) (fmt w) (rs2 w) m v
-agrees-met w m v k =
-    elim (cases_eq m 0x707F) [
-      | inl e ↦ let k1 = rw e at k in rw e (at_707F w v k1)
-      | inr n1 ↦ let k1 = rw (ne_eqb m 0x707F n1) at k in rw (ne_eqb m 0x707F n1) (elim (cases_eq m 0x600007F) [
-        | inl e ↦ let k2 = rw e at k1 in rw e (at_600007F w v k2)
-        | inr n2 ↦ let k2 = rw (ne_eqb m 0x600007F n2) at k1 in rw (ne_eqb m 0x600007F n2) (elim (cases_eq m 0xFE00007F) [
-          | inl e ↦ let k3 = rw e at k2 in rw e (at_FE00007F w v k3)
-          | inr n3 ↦ let k3 = rw (ne_eqb m 0xFE00007F n3) at k2 in rw (ne_eqb m 0xFE00007F n3) (elim (cases_eq m 0xFE00707F) [
-            | inl e ↦ let k4 = rw e at k3 in rw e (at_FE00707F w v k4)
-            | inr n4 ↦ let k4 = rw (ne_eqb m 0xFE00707F n4) at k3 in rw (ne_eqb m 0xFE00707F n4) (elim (cases_eq m 0xFFF0007F) [
-              | inl e ↦ let k5 = rw e at k4 in rw e (at_FFF0007F w v k5)
-              | inr n5 ↦
-                  let k5 = rw (ne_eqb m 0xFFF0007F n5) at k4 in
-                  let last = and_parts (eqb m 0xFFF0707F) _ k5 in
-                  let e = eqb-true m 0xFFF0707F last.0 in
-                  rw e (at_FFF0707F w v last.1)
-            ])
-          ])
-        ])
-      ])
+agrees-met : {F R : Type 0} (kind : ℕ → ℕ) (w : ℕ) (e : RowEncoding F R) → bit_and w e.row.mask ≡ e.row.value
+    → agrees kind (kind (funct5 w)) e ≡ true
+agrees-met kind w e met =
+    elim (cases_eq (funct5 e.row.mask) 0x1F) [
+      | inl fixed ↦
+          let same : funct5 w ≡ funct5 e.row.value = sym (funct5_under w e.row.mask fixed) ∙ ap funct5 met in
+          rw (fixed, same) (eq-eqb (kind (funct5 e.row.value)) (kind (funct5 e.row.value)) refl)
+      | inr free ↦ rw (ne_eqb (funct5 e.row.mask) 0x1F free) refl
     ]
 
--- the instruction of a word, looked up by these fields
-unfoldable pub instruction_at : (w opcode funct3 funct5 fmt rs2 : ℕ) → Option FloatInstr
-instruction_at w op f3 f5 f r2 =
-    option_flatten (option_map (λ e. e.read w) (find (λ e. agrees op f3 f5 f r2 e.row.mask e.row.value) float_encodings))
+-- the kinds of the opcode and of funct5, and the value under the mask, are those of the row
+abbrev pub meets_at : {F R : Type 0} → (opcode_kind funct5_kind : ℕ → ℕ) → ℕ → ℕ → ℕ → RowEncoding F R → Bool
+meets_at opcode_kind funct5_kind op f5 w e = eqb op (opcode_kind (opcode e.row.value)) && (agrees funct5_kind f5 e && meets w e)
 
-pub float_instruction_of-fields : (w : ℕ) → float_instruction_of w ≡ instruction_at w (opcode w) (funct3 w) (funct5 w) (fmt w) (rs2 w)
-unfolding float_instruction_of instruction_at float_encodings
-float_instruction_of-fields w =
-    ap (λ (found : Option FloatEncoding). option_flatten (option_map (λ (e : FloatEncoding). e.read w) found))
-    (find-agree (meets w) _ (λ e. known e.row.mask e.row.value) float_encodings (λ e k. agrees-met w e.row.mask e.row.value k) refl)
+meets-at : {F R : Type 0} (opcode_kind funct5_kind : ℕ → ℕ) (w : ℕ) (e : RowEncoding F R) → eqb (opcode e.row.mask) 0x7F ≡ true
+    → meets w e ≡ meets_at opcode_kind funct5_kind (opcode_kind (opcode w)) (funct5_kind (funct5 w)) w e
+meets-at opcode_kind funct5_kind w e k =
+    let with_opcode = Integers.meets-at w e k in
+    elim (cases_eq (bit_and w e.row.mask) e.row.value) [
+      | inl met ↦
+          let here : meets w e ≡ true = eq-eqb (bit_and w e.row.mask) e.row.value met in
+          let parts = and_parts (eqb (opcode w) (opcode e.row.value)) (meets w e) (sym with_opcode ∙ here) in
+          let same : opcode w ≡ opcode e.row.value = eqb-true (opcode w) (opcode e.row.value) parts.0 in
+          let kind = eq-eqb (opcode_kind (opcode w)) (opcode_kind (opcode e.row.value)) (ap opcode_kind same) in
+          here ∙ sym (rw (kind, agrees-met funct5_kind w e met) here)
+      | inr not_met ↦
+          let not_here : meets w e ≡ false = ne_eqb (bit_and w e.row.mask) e.row.value not_met in
+          let rest = and_right (agrees funct5_kind (funct5_kind (funct5 w)) e) (meets w e) not_here in
+          not_here ∙ sym (and_right (eqb (opcode_kind (opcode w)) (opcode_kind (opcode e.row.value))) _ rest)
+    ]
 
-pub at_fields : (w op f3 f5 f r2 : ℕ) → opcode w ≡ op → funct3 w ≡ f3 → funct5 w ≡ f5 → fmt w ≡ f → rs2 w ≡ r2
-    → float_instruction_of w ≡ instruction_at w op f3 f5 f r2
-at_fields w op f3 f5 f r2 e_op e_f3 e_f5 e_f e_r2 = rw (← e_op, ← e_f3, ← e_f5, ← e_f, ← e_r2) (float_instruction_of-fields w)
+-- the instruction of a word, among the rows of these kinds alone
+unfoldable pub among : (opcode_kind funct5_kind : ℕ → ℕ) → ℕ → ℕ → ℕ → Option FloatInstr
+among opcode_kind funct5_kind op f5 w =
+    option_flatten (option_map (λ e. e.read w) (find (meets_at opcode_kind funct5_kind op f5 w) float_encodings))
+
+of_kinds : (opcode_kind funct5_kind : ℕ → ℕ) (w : ℕ)
+    → float_instruction_of w ≡ among opcode_kind funct5_kind (opcode_kind (opcode w)) (funct5_kind (funct5 w)) w
+unfolding float_instruction_of among float_encodings
+of_kinds opcode_kind funct5_kind w =
+    ap (λ found. option_flatten (option_map (λ e. e.read w) found))
+    (find-agree (meets w) _ (λ e. eqb (opcode e.row.mask) 0x7F) float_encodings (λ e k. meets-at opcode_kind funct5_kind w e k) refl)
+
+-- what a number gives, which computes only where the number is a numeral
+abbrev pub at_numeral : {X : Type 0} → (ℕ → X) → ℕ → X
+at_numeral f zero = f zero
+at_numeral f (suc n) = f (suc n)
+
+at_numeral-is : {X : Type 0} (f : ℕ → X) (n : ℕ) → f n ≡ at_numeral f n
+at_numeral-is f zero = refl
+at_numeral-is f (suc n) = refl
+
+-- the opcodes of the fused rows are of one kind, and the funct5 of the arithmetic rows
+abbrev pub opcode_kind : ℕ → ℕ
+opcode_kind op = op / 2 ^ 4
+
+abbrev pub funct5_kind : ℕ → ℕ
+funct5_kind f5 = cond (ltb f5 4) 0 f5
+
+pub of_fields : (w : ℕ) → float_instruction_of w
+    ≡ at_numeral (λ op. at_numeral (λ f5. among opcode_kind funct5_kind op f5 w) (funct5_kind (funct5 w))) (opcode_kind (opcode w))
+of_fields w =
+    of_kinds opcode_kind funct5_kind w
+    ∙ at_numeral-is (λ f5. among opcode_kind funct5_kind (opcode_kind (opcode w)) f5 w) (funct5_kind (funct5 w))
+    ∙ at_numeral-is (λ op. at_numeral (λ f5. among opcode_kind funct5_kind op f5 w) (funct5_kind (funct5 w))) (opcode_kind (opcode w))
+
+-- what decides the instruction of a word: the values that it has under the masks of the rows of its opcode and funct5
+pub ruleset by_value = (of_fields, under_707F, nat_tests)
+
+pub of_opcode : (w : ℕ) → float_instruction_of w ≡ at_numeral (λ op. among (λ n. n) (λ n. n) op (funct5 w) w) (opcode w)
+of_opcode w = of_kinds (λ n. n) (λ n. n) w ∙ at_numeral-is (λ op. among (λ n. n) (λ n. n) op (funct5 w) w) (opcode w)
+
+-- the same where funct5 is of no row
+pub ruleset by_no_funct5 = (of_opcode, nat_tests)
+
+pub of_others : (w : ℕ) → float_instruction_of w ≡ among (λ n. n) (λ n. n) (opcode w) (funct5 w) w
+of_others w = of_kinds (λ n. n) (λ n. n) w
+
+-- the same where the opcode is of no row
+pub ruleset by_no_opcode = (of_others, nat_tests)

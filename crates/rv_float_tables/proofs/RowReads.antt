@@ -6,7 +6,6 @@ use Rattle.std.proofs.lemmas.List.Elements.{All-from_recursion, All-contains}
 use Rattle.std.proofs.lemmas.Option.{same_Some}
 use Rattle.rv_tables.specs.Fields.{rd, rs1, rs2, i_immediate, s_immediate}
 use Rattle.rv_tables.specs.Operands.{IsFound}
-use Rattle.rv_tables.proofs.Pairs.{◌⨾◌}
 use Rattle.rv_tables.proofs.RowReads.{IsImmediate-i_immediate, IsImmediate-s_immediate}
 use Rattle.rv_tables.proofs.Tables.{found}
 use Rattle.rv_float_tables.specs.declared.instr.FloatInstr.{FloatInstr}
@@ -14,22 +13,14 @@ use Rattle.rv_float_tables.specs.declared.instr.FloatInstr.TheVariants.{Load, St
 use Rattle.rv_float_tables.specs.declared.instr.FloatInstr.TheVariants.{Class, ToWord, FromWord, ToFormat, MoveToInteger, MoveFromInteger}
 use Rattle.rv_float_tables.specs.declared.instr.FloatInstr.TheVariants.{Csr, CsrImmediate}
 use Rattle.rv_float_tables.specs.declared.instr.Format.{Format}
-use Rattle.rv_float_tables.specs.declared.instr.Format.TheVariants.{Single, Double}
 use Rattle.rv_float_tables.specs.declared.instr.RoundingField.{RoundingField}
 use Rattle.rv_float_tables.specs.declared.instr.ArithmeticOp.{ArithmeticOp}
-use Rattle.rv_float_tables.specs.declared.instr.ArithmeticOp.TheVariants.{Add, Sub, Mul, Div}
 use Rattle.rv_float_tables.specs.declared.instr.FusedOp.{FusedOp}
-use Rattle.rv_float_tables.specs.declared.instr.FusedOp.TheVariants.{Madd, Msub, Nmsub, Nmadd}
 use Rattle.rv_float_tables.specs.declared.instr.SignOp.{SignOp}
-use Rattle.rv_float_tables.specs.declared.instr.SignOp.TheVariants.{Sgnj, Sgnjn, Sgnjx}
 use Rattle.rv_float_tables.specs.declared.instr.MinMaxOp.{MinMaxOp}
-use Rattle.rv_float_tables.specs.declared.instr.MinMaxOp.TheVariants.{Min, Max}
 use Rattle.rv_float_tables.specs.declared.instr.CompareOp.{CompareOp}
-use Rattle.rv_float_tables.specs.declared.instr.CompareOp.TheVariants.{Feq, Flt, Fle}
 use Rattle.rv_float_tables.specs.declared.instr.WordKind.{WordKind}
-use Rattle.rv_float_tables.specs.declared.instr.WordKind.TheVariants.{Signed, Unsigned}
 use Rattle.rv_float_tables.specs.declared.instr.CsrOp.{CsrOp}
-use Rattle.rv_float_tables.specs.declared.instr.CsrOp.TheVariants.{Write, Set, Clear}
 use Rattle.rv_float_tables.specs.declared.instr.FloatCsr.{FloatCsr}
 use Rattle.rv_float_tables.specs.Fields.{rs3, rm, csr, uimm, rounding_of, csr_of}
 use Rattle.rv_float_tables.specs.Mnemonics.{float_mnemonic_of, sample}
@@ -121,25 +112,28 @@ on_register op w i e = with_csr _ w (λ c. Csr op c (rd w) (rs1 w)) i e (λ c. (
 on_immediate : (op : CsrOp) → ReadsAlike (csr_immediate_of op)
 on_immediate op w i e = with_csr _ w (λ c. CsrImmediate op c (rd w) (uimm w)) i e (λ c. ((omega arith, omega arith), refl))
 
--- row by row, in the order of the listing
 each_row : All (λ e. ReadsAlike e.read) float_encodings
 unfolding float_encodings
-each_row = All-from_recursion (λ e. ReadsAlike e.read) float_encodings
-    (on_register Write ⨾ on_register Set ⨾ on_register Clear ⨾ on_immediate Write ⨾ on_immediate Set ⨾ on_immediate Clear
-    ⨾ load Single ⨾ store Single
-    ⨾ fused Madd Single ⨾ fused Msub Single ⨾ fused Nmsub Single ⨾ fused Nmadd Single
-    ⨾ arithmetic Add Single ⨾ arithmetic Sub Single ⨾ arithmetic Mul Single ⨾ arithmetic Div Single ⨾ square_root Single
-    ⨾ sign Sgnj Single ⨾ sign Sgnjn Single ⨾ sign Sgnjx Single ⨾ min_max Min Single ⨾ min_max Max Single
-    ⨾ to_word Signed Single ⨾ to_word Unsigned Single ⨾ move_to_integer
-    ⨾ compare Feq Single ⨾ compare Flt Single ⨾ compare Fle Single ⨾ class Single
-    ⨾ from_word Signed Single ⨾ from_word Unsigned Single ⨾ move_from_integer
-    ⨾ load Double ⨾ store Double
-    ⨾ fused Madd Double ⨾ fused Msub Double ⨾ fused Nmsub Double ⨾ fused Nmadd Double
-    ⨾ arithmetic Add Double ⨾ arithmetic Sub Double ⨾ arithmetic Mul Double ⨾ arithmetic Div Double ⨾ square_root Double
-    ⨾ sign Sgnj Double ⨾ sign Sgnjn Double ⨾ sign Sgnjx Double ⨾ min_max Min Double ⨾ min_max Max Double
-    ⨾ to_format Single ⨾ to_format Double
-    ⨾ compare Feq Double ⨾ compare Flt Double ⨾ compare Fle Double ⨾ class Double
-    ⨾ to_word Signed Double ⨾ to_word Unsigned Double ⨾ from_word Signed Double ⨾ from_word Unsigned Double ⨾ tt)
+each_row =
+    All-from_recursion (λ e. ReadsAlike e.read) float_encodings
+    (search (
+      load,
+      store,
+      fused,
+      arithmetic,
+      square_root,
+      sign,
+      min_max,
+      compare,
+      class,
+      to_word,
+      from_word,
+      to_format,
+      move_to_integer,
+      move_from_integer,
+      on_register,
+      on_immediate,
+    ) parts 60 fits 10000)
 
 -- what a word spells has operands in range, and the mnemonic of the row
 pub Suits-spelled : (w : ℕ) (i : FloatInstr) (s : Spells w i) → Suits (option_map float_mnemonic_of (s.encoding.read sample)) i

@@ -2,8 +2,6 @@
 -- 11.6), and those of the CSR instructions (section 9.1).
 use Rattle.std.specs.Prelude.{ℕ, ◌==◌, Option, Some, None, if◌then◌else◌}
 use Rattle.rv_tables.specs.Fields.{bits}
-use Rattle.rv_float_tables.specs.declared.instr.Format.{Format}
-use Rattle.rv_float_tables.specs.declared.instr.Format.TheVariants.{Single, Double}
 use Rattle.rv_float_tables.specs.declared.instr.RoundingField.{RoundingField}
 use Rattle.rv_float_tables.specs.declared.instr.RoundingField.TheVariants.{Rne, Rtz, Rdn, Rup, Rmm, Dyn}
 use Rattle.rv_float_tables.specs.declared.instr.FloatCsr.{FloatCsr}
@@ -16,9 +14,6 @@ rs3 w = bits w 31 27
 abbrev pub funct5 : ℕ → ℕ
 funct5 w = bits w 31 27
 
-abbrev pub fmt : ℕ → ℕ
-fmt w = bits w 26 25
-
 -- the rounding mode, which stands where funct3 does
 abbrev pub rm : ℕ → ℕ
 rm w = bits w 14 12
@@ -29,14 +24,6 @@ csr w = bits w 31 20
 -- the immediate of CSRRWI, CSRRSI and CSRRCI, which stands where rs1 does
 abbrev pub uimm : ℕ → ℕ
 uimm w = bits w 19 15
-
--- the codes of the formats (table 11.3); the other two are of formats that neither F nor D has
-abbrev pub format_code : Format → ℕ
-format_code Single = 0b00
-format_code Double = 0b01
-
-abbrev pub format_of : ℕ → Option Format
-format_of n = if n == 0b00 then Some Single else if n == 0b01 then Some Double else None
 
 -- the codes of the rounding modes (table 11.1); 101 and 110 are reserved
 abbrev pub rounding_code : RoundingField → ℕ

@@ -1,10 +1,10 @@
 //! The bit fields of a word that those of whole numbers have not, and what their values stand for.
 
 ghost use Rattle.std.specs.Prelude.{◌≡◌};
-ghost use Rattle.rv_float_tables.specs.Fields.{funct5, fmt, rm, csr, uimm, rs3, format_of, format_code};
+ghost use Rattle.rv_float_tables.specs.Fields.{funct5, rm, csr, uimm, rs3};
 ghost use Rattle.rv_float_tables.specs.Fields.{rounding_of, rounding_code, csr_of, csr_number};
 
-use crate::instr::{FloatCsr, Format, RoundingField};
+use crate::instr::{FloatCsr, RoundingField};
 pub use rv_tables::fields::{bits, funct3, i_immediate, opcode, rd, rs1, rs2, s_immediate};
 
 #[inline]
@@ -26,18 +26,6 @@ pub fn uimm(word: u32) -> u8
     ensures { result ≡ uimm word }
 {
     bits(word, 19, 15) as u8
-}
-
-/// The format of an operation, or none where it is one that neither F nor D has.
-#[inline]
-pub fn format(word: u32) -> Option<Format>
-    ensures { result ≡ format_of (fmt word) }
-{
-    match bits(word, 26, 25) {
-        0 => Some(Format::Single),
-        1 => Some(Format::Double),
-        _ => None,
-    }
 }
 
 /// The rounding mode of an operation, or none where it is reserved.
@@ -66,17 +54,6 @@ pub fn csr(word: u32) -> Option<FloatCsr>
         2 => Some(FloatCsr::Frm),
         3 => Some(FloatCsr::Fcsr),
         _ => None,
-    }
-}
-
-/// The code of a format.
-#[inline]
-pub fn format_code(format: Format) -> u32
-    ensures { result ≡ format_code format }
-{
-    match format {
-        Format::Single => 0,
-        Format::Double => 1,
     }
 }
 

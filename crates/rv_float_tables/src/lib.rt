@@ -19,6 +19,7 @@
 //! - [`decode_code`] takes either: `rv_tables` tells them apart.
 //! - [`mnemonic`], [`rounding_name`], [`csr_name`] and [`float_reg_name`] know the names of the manual; [`rounding_named`], [`csr_named`]
 //!   and [`float_reg_number`] know what has a name.
+//! - [`listing`] is the list of the rows, [`FLOAT_ROW_COUNT`] of them, for tables of other crates.
 //! - [`laws`] has what holds of all codes: each spells at most one instruction, which is the one that is decoded; and each that has
 //!   one has none of whole numbers.
 //!
@@ -49,4 +50,4 @@ pub use instr::{
 };
 pub use mnemonics::{csr_name, csr_named, mnemonic, rounding_name, rounding_named};
 pub use registers::{float_reg_name, float_reg_number};
-pub use table::rows;
+pub use table::{FLOAT_ROW_COUNT, rows};

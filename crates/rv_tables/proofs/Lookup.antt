@@ -21,7 +21,7 @@ opcode_under w m h = and_mod w m 7 ∙ ap (bit_and (opcode w)) h ∙ and_mask (o
 abbrev pub meets_at : {F R : Type 0} → ℕ → ℕ → RowEncoding F R → Bool
 meets_at op w e = eqb op (opcode e.row.value) && meets w e
 
-meets-at : {F R : Type 0} (w : ℕ) (e : RowEncoding F R) → eqb (opcode e.row.mask) 0x7F ≡ true → meets w e ≡ meets_at (opcode w) w e
+pub meets-at : {F R : Type 0} (w : ℕ) (e : RowEncoding F R) → eqb (opcode e.row.mask) 0x7F ≡ true → meets w e ≡ meets_at (opcode w) w e
 meets-at w e k =
     let same = opcode_under w e.row.mask (eqb-true (opcode e.row.mask) 0x7F k) in
     elim (cases_eq (bit_and w e.row.mask) e.row.value) [

@@ -14,8 +14,8 @@
 //!   reserved code. What it answers is an instruction that `encode` takes.
 //! - A [`Code`] is what stands in memory for one instruction: a halfword or a word, as its low bits tell. It has a length in bytes
 //!   and at most one instruction, by the two above.
-//! - [`fields`] and [`halfword`] cut a word and a halfword as the manual does, and [`named`] looks names up, for tables of further
-//!   extensions too.
+//! - [`fields`] and [`halfword`] cut a word and a halfword as the manual does, [`words`] has the words of the base formats, and [`named`]
+//!   looks names up, for tables of further extensions too.
 //! - [`reg_number`], [`mnemonic`] and [`instr_named`] know the names of the manual, and no others.
 //! - [`laws`] has what holds of all words: each spells at most one instruction, which is the one that is decoded. And of all
 //!   halfwords: each is of at most one compressed row.
@@ -36,7 +36,7 @@ mod mnemonics;
 mod names;
 mod registers;
 mod table;
-mod words;
+pub mod words;
 
 pub use code::{Code, code_length};
 pub use compressed::decode16;

@@ -1,5 +1,5 @@
 -- What is compared of the record of a node (own rule): all but the most ticks that it may make, and of this superstep's pushes and pops no
--- more than their kinds, their order and the places that pops took away. Which pages are own, and whether room is made, is beside the
+-- more than their kinds, their order and the places that pops took away. Which pages are private, and whether room is made, is beside the
 -- record.
 use Rattle.std.specs.Prelude.{◌≡◌, ℕ, ◌<◌, List, slice_index, Option, Some, None}
 use Rattle.std.specs.List.{AllZip}

@@ -1,8 +1,8 @@
 //! Whether two nodes have equal records, for tests: what their readers give is compared, byte by byte.
 //!
 //! If the answer is that they have, the records are equal except for the most ticks that a node may make, and the addresses and sizes of
-//! this superstep's pushes and pops. The kinds and the order of these are compared, and their areas once they are in effect. Which pages are
-//! a node's own, and whether room is made, is not compared.
+//! this superstep's pushes and pops. The kinds and the order of these are compared, and their areas once they are in effect. Which pages
+//! are private, and whether room is made, is not compared.
 #![tactic(auto)]
 
 ghost use Rattle.std.specs.Prelude.{◌≡◌, length, slice_get, slice_index, IfOk, IsTrue, option_map};

@@ -35,8 +35,8 @@ pub fn run<A: Allocator + Copy>(alloc: A, machine: &mut Machine<A>) -> Result<St
     Ok(text)
 }
 
-/// Changes nothing. A proof learns from it that each node's pc is a word: that is a fact of its type, which a contract has only of a pc that
-/// is read.
+/// Changes nothing. A proof learns from it that each node's pc is a word: that is a fact of its type, which a contract has only of a pc
+/// that is read.
 fn recall_word_pcs<A: Allocator + Copy>(machine: &Machine<A>)
     ensures { HasWordPcs machine.now }
 {

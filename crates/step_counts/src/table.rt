@@ -13,7 +13,8 @@ const PAGE: usize = 0x1000;
 
 /// How many steps were made at each address. Contracts see what it tells of an address.
 ///
-/// There are cells up to the highest address at which a step was made so far: code lies low in a memory, as a rule, and far from filling it.
+/// There are cells up to the highest address at which a step was made so far: code lies low in a memory, as a rule, and far from filling
+/// it.
 #[derive(Drop)]
 pub(crate) struct Table<A: Allocator> {
     memory: u32,

@@ -7,7 +7,7 @@ ghost use Rattle.machine_core.specs.Landing.{HasBegun};
 
 use crate::closing::{Closing, begin, last_row};
 use crate::machine::Machine;
-use crate::machine::lander::Lander;
+use crate::machine::exchanging::ExchangingMachine;
 use crate::row;
 use bsp_exchange::{Part, Plan, land_all, prepare_all};
 use cost_ledger::CostRow;
@@ -27,7 +27,7 @@ pub enum Begun<A: Allocator> {
 /// The exchange of a turn: the row, the part of each node at the same place, and the machine that takes the row back. Each node has to
 /// be prepared for its part before that lands.
 pub struct Landing<A: Allocator> {
-    pub lander: Lander<A>,
+    pub exchanging: ExchangingMachine<A>,
     pub nodes: Vec<Node<A>, A>,
     pub parts: Vec<Part<A>, A>,
 }
@@ -54,26 +54,27 @@ impl<A: Allocator + Copy> Machine<A> {
             Begun::Whole(machine, answer) => (machine, answer),
             Begun::Landing(
                 Landing {
-                    lander,
+                    exchanging,
                     mut nodes,
                     mut parts,
                 },
             ) => match prepare_all(&mut nodes, &parts) {
                 Ok(()) => {
                     land_all(&mut nodes, &mut parts);
-                    (lander.finish(nodes), Ok(true))
+                    (exchanging.finish(nodes), Ok(true))
                 }
-                Err(refused) => (lander.call_off(nodes), Err(refused)),
+                Err(refused) => (exchanging.call_off(nodes), Err(refused)),
             },
         }
     }
 
     /// Begins the turn, and hands its exchange out: a [`Part`] for each node, for which [`Part::prepare`] makes the node ready, and
-    /// which [`Part::land`] takes into it, in whichever thread. [`Lander::finish`] makes the machine whole again when all parts have
-    /// landed. Where no exchange is made, it is whole at once.
+    /// which [`Part::land`] takes into it, in whichever thread. [`ExchangingMachine::finish`] makes the machine whole again when all parts
+    /// have landed. Where no exchange is made, it is whole at once.
     ///
     /// What is still asked for after this is the memory of each node that is prepared. Where that is refused, and no part has landed,
-    /// [`Lander::call_off`] leads back to the machine before the turn. When all nodes are prepared, nothing can be refused any more.
+    /// [`ExchangingMachine::call_off`] leads back to the machine before the turn. When all nodes are prepared, nothing can be refused any
+    /// more.
     pub fn begin_turn(self) -> Begun<A>
         ensures { HasBegun self result }
     {
@@ -117,7 +118,7 @@ impl<A: Allocator + Copy> Machine<A> {
                     exchanges,
                     outcome: _,
                 } = self;
-                let lander = Lander {
+                let exchanging = ExchangingMachine {
                     alloc,
                     settings,
                     input,
@@ -130,7 +131,7 @@ impl<A: Allocator + Copy> Machine<A> {
                     before,
                 };
                 Begun::Landing(Landing {
-                    lander,
+                    exchanging,
                     nodes,
                     parts,
                 })

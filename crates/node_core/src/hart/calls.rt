@@ -4,7 +4,7 @@
 //! anything, and asks for memory only where all of them pass.
 
 ghost use Rattle.std.specs.Prelude.{◌≡◌, [], IfOk, OnErr};
-ghost use Rattle.node_memory.specs.Pages.{KeepsOwn};
+ghost use Rattle.node_memory.specs.Pages.{KeepsPrivate};
 
 use super::Hart;
 use crate::call::{CLOCK, Call};
@@ -41,7 +41,7 @@ impl<A: Allocator + Copy> Hart<A> {
         ensures ok { IfOk result (λ state. ecall_effect (named_call self.old.hart) input.now self.old.hart
             ≡ record { hart = self.new.hart; state = state }) }
         ensures ready { self.new.ready ≡ room_after self.old.ready self.old.hart self.new.hart }
-        ensures own { KeepsOwn self.old.own self.new.own }
+        ensures private { KeepsPrivate self.old.private self.new.private }
         ensures err { OnErr result (self.new.hart ≡ self.old.hart) }
         ensures refuses { OnErr result (MayRefuseEcall (named_call self.old.hart) input.now self.old.hart) }
     {
@@ -55,7 +55,7 @@ impl<A: Allocator + Copy> Hart<A> {
         ensures ok { IfOk result (λ state. call_effect call input.now self.old.hart
             ≡ record { hart = self.new.hart; state = state }) }
         ensures ready { self.new.ready ≡ room_after self.old.ready self.old.hart self.new.hart }
-        ensures own { KeepsOwn self.old.own self.new.own }
+        ensures private { KeepsPrivate self.old.private self.new.private }
         ensures err { OnErr result (self.new.hart ≡ self.old.hart) }
         ensures refuses { OnErr result (MayRefuseCall call input.now self.old.hart) }
     {
@@ -142,7 +142,7 @@ impl<A: Allocator + Copy> Hart<A> {
         ensures ready { self.new.ready ≡ self.old.ready }
         ensures registrations { self.new.hart.communication.registrations
             ≡ self.old.hart.communication.registrations }
-        ensures own { KeepsOwn self.old.own self.new.own }
+        ensures private { KeepsPrivate self.old.private self.new.private }
         ensures err { OnErr result (self.new.hart ≡ self.old.hart) }
         ensures refuses { OnErr result (HaveNoFault (output_checks self.old.hart)) }
     {
@@ -169,7 +169,7 @@ impl<A: Allocator + Copy> Hart<A> {
             ≡ record { hart = self.new.hart; state = state }) }
         ensures ready { self.new.ready ≡ self.old.ready }
         ensures registrations { self.new.hart.communication ≡ self.old.hart.communication }
-        ensures own { KeepsOwn self.old.own self.new.own }
+        ensures private { KeepsPrivate self.old.private self.new.private }
         ensures err { OnErr result (self.new.hart ≡ self.old.hart) }
         ensures refuses { OnErr result (MayRefuseCall Call.Read input.now self.old.hart) }
     {

@@ -3,7 +3,7 @@
 
 ghost use Rattle.std.specs.Prelude.{◌≡◌, ◌^◌, ◌<◌, ◌&&◌, ◌↔◌, false, [], length, drop, OnOk, OnErr, IfOk, IsErrOf};
 ghost use Rattle.node_memory.specs.Bytes.{fits, with_bytes};
-ghost use Rattle.node_memory.specs.Pages.{KeepsOwn};
+ghost use Rattle.node_memory.specs.Pages.{KeepsPrivate};
 ghost use Rattle.node_core.specs.declared.call.Call.{Call};
 ghost use Rattle.node_core.specs.Hart.{room_after};
 ghost use Rattle.node_core.specs.Calls.{call_effect, with_word, MayRefuseCall};
@@ -12,11 +12,11 @@ use super::Hart;
 use super::calls::{A0, A1, not_written};
 use crate::state::State;
 use bsp_requests::Inbox;
-use code_pages::CodeMemory;
+use decode_cache::CodeMemory;
 use node_memory::WriteError;
 use std::alloc::{AllocError, Allocator};
 
-/// Writes a word, and then bytes over it. All pages are made the memory's own before a byte changes, so that it is both or neither.
+/// Writes a word, and then bytes over it. All pages are made private before a byte changes, so that it is both or neither.
 fn write_word_and_bytes<A: Allocator + Copy>(
     memory: &mut CodeMemory<A>,
     word_addr: u32,
@@ -29,7 +29,7 @@ fn write_word_and_bytes<A: Allocator + Copy>(
         (memory.new.bytes ≡ with_bytes (with_word memory.old.bytes word_addr word) addr bytes.now) }
     ensures outside { IsErrOf result WriteError.Outside
         ↔ ((fits (length memory.old.bytes) word_addr 4 && fits (length memory.old.bytes) addr (length bytes.now)) ≡ false) }
-    ensures own { KeepsOwn memory.old.own memory.new.own }
+    ensures private { KeepsPrivate memory.old.private memory.new.private }
     ensures err { OnErr result (memory.new.bytes ≡ memory.old.bytes) }
     ensures same_size { length memory.new.bytes ≡ length memory.old.bytes }
 {
@@ -37,8 +37,8 @@ fn write_word_and_bytes<A: Allocator + Copy>(
     if !memory.plain().fits(word_addr, 4) || !memory.plain().fits(addr, len) {
         return Err(WriteError::Outside);
     }
-    memory.own(word_addr, 4)?;
-    memory.own(addr, len)?;
+    memory.make_private(word_addr, 4)?;
+    memory.make_private(addr, len)?;
     memory.store32(word_addr, word)?;
     memory.write_range(addr, bytes)
 }
@@ -56,7 +56,7 @@ impl<A: Allocator + Copy> Hart<A> {
         ensures ok { IfOk result (λ state. call_effect Call.Qsize [] self.old.hart
             ≡ record { hart = self.new.hart; state = state }) }
         ensures ready { self.new.ready ≡ room_after self.old.ready self.old.hart self.new.hart }
-        ensures own { KeepsOwn self.old.own self.new.own }
+        ensures private { KeepsPrivate self.old.private self.new.private }
         ensures err { OnErr result (self.new.hart ≡ self.old.hart) }
         ensures refuses { OnErr result (MayRefuseCall Call.Qsize [] self.old.hart) }
     {
@@ -81,7 +81,7 @@ impl<A: Allocator + Copy> Hart<A> {
         ensures ok { IfOk result (λ state. call_effect Call.GetTag [] self.old.hart
             ≡ record { hart = self.new.hart; state = state }) }
         ensures ready { self.new.ready ≡ room_after self.old.ready self.old.hart self.new.hart }
-        ensures own { KeepsOwn self.old.own self.new.own }
+        ensures private { KeepsPrivate self.old.private self.new.private }
         ensures err { OnErr result (self.new.hart ≡ self.old.hart) }
         ensures refuses { OnErr result (MayRefuseCall Call.GetTag [] self.old.hart) }
     {
@@ -107,7 +107,7 @@ impl<A: Allocator + Copy> Hart<A> {
         ensures ok { IfOk result (λ state. call_effect Call.Move [] self.old.hart
             ≡ record { hart = self.new.hart; state = state }) }
         ensures ready { self.new.ready ≡ room_after self.old.ready self.old.hart self.new.hart }
-        ensures own { KeepsOwn self.old.own self.new.own }
+        ensures private { KeepsPrivate self.old.private self.new.private }
         ensures err { OnErr result (self.new.hart ≡ self.old.hart) }
         ensures refuses { OnErr result (MayRefuseCall Call.Move [] self.old.hart) }
     {

@@ -2,7 +2,7 @@
 //! `bsp_put`, `bsp_get`, `bsp_send`, `bsp_set_tagsize`). Each makes all the room that it needs before it changes anything.
 
 ghost use Rattle.std.specs.Prelude.{◌≡◌, [], IfOk, OnErr};
-ghost use Rattle.node_memory.specs.Pages.{KeepsOwn};
+ghost use Rattle.node_memory.specs.Pages.{KeepsPrivate};
 ghost use Rattle.node_core.specs.declared.call.Call.{Call};
 
 use super::Hart;
@@ -25,7 +25,7 @@ impl<A: Allocator + Copy> Hart<A> {
         ensures ok { IfOk result (λ state. call_effect Call.PushReg [] self.old.hart
             ≡ record { hart = self.new.hart; state = state }) }
         ensures ready { self.new.ready ≡ room_after self.old.ready self.old.hart self.new.hart }
-        ensures own { KeepsOwn self.old.own self.new.own }
+        ensures private { KeepsPrivate self.old.private self.new.private }
         ensures err { OnErr result (self.new.hart ≡ self.old.hart) }
         ensures refuses { OnErr result (MayRefuseCall Call.PushReg [] self.old.hart) }
     {
@@ -48,7 +48,7 @@ impl<A: Allocator + Copy> Hart<A> {
         ensures ok { IfOk result (λ state. call_effect Call.PopReg [] self.old.hart
             ≡ record { hart = self.new.hart; state = state }) }
         ensures ready { self.new.ready ≡ room_after self.old.ready self.old.hart self.new.hart }
-        ensures own { KeepsOwn self.old.own self.new.own }
+        ensures private { KeepsPrivate self.old.private self.new.private }
         ensures err { OnErr result (self.new.hart ≡ self.old.hart) }
         ensures refuses { OnErr result (MayRefuseCall Call.PopReg [] self.old.hart) }
     {
@@ -65,7 +65,7 @@ impl<A: Allocator + Copy> Hart<A> {
         ensures ok { IfOk result (λ state. call_effect Call.SetTagsize [] self.old.hart
             ≡ record { hart = self.new.hart; state = state }) }
         ensures ready { self.new.ready ≡ room_after self.old.ready self.old.hart self.new.hart }
-        ensures own { KeepsOwn self.old.own self.new.own }
+        ensures private { KeepsPrivate self.old.private self.new.private }
         ensures err { OnErr result (self.new.hart ≡ self.old.hart) }
         ensures refuses { OnErr result (MayRefuseCall Call.SetTagsize [] self.old.hart) }
     {
@@ -95,7 +95,7 @@ impl<A: Allocator + Copy> Hart<A> {
         ensures ok { IfOk result (λ state. call_effect Call.Put [] self.old.hart
             ≡ record { hart = self.new.hart; state = state }) }
         ensures ready { self.new.ready ≡ room_after self.old.ready self.old.hart self.new.hart }
-        ensures own { KeepsOwn self.old.own self.new.own }
+        ensures private { KeepsPrivate self.old.private self.new.private }
         ensures err { OnErr result (self.new.hart ≡ self.old.hart) }
         ensures refuses { OnErr result (MayRefuseCall Call.Put [] self.old.hart) }
     {
@@ -133,7 +133,7 @@ impl<A: Allocator + Copy> Hart<A> {
         ensures ok { IfOk result (λ state. call_effect Call.Get [] self.old.hart
             ≡ record { hart = self.new.hart; state = state }) }
         ensures ready { self.new.ready ≡ room_after self.old.ready self.old.hart self.new.hart }
-        ensures own { KeepsOwn self.old.own self.new.own }
+        ensures private { KeepsPrivate self.old.private self.new.private }
         ensures err { OnErr result (self.new.hart ≡ self.old.hart) }
         ensures refuses { OnErr result (MayRefuseCall Call.Get [] self.old.hart) }
     {
@@ -169,7 +169,7 @@ impl<A: Allocator + Copy> Hart<A> {
         ensures ok { IfOk result (λ state. call_effect Call.Send [] self.old.hart
             ≡ record { hart = self.new.hart; state = state }) }
         ensures ready { self.new.ready ≡ room_after self.old.ready self.old.hart self.new.hart }
-        ensures own { KeepsOwn self.old.own self.new.own }
+        ensures private { KeepsPrivate self.old.private self.new.private }
         ensures err { OnErr result (self.new.hart ≡ self.old.hart) }
         ensures refuses { OnErr result (MayRefuseCall Call.Send [] self.old.hart) }
     {

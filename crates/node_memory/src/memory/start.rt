@@ -4,7 +4,7 @@ ghost use Rattle.std.specs.Prelude.{◌≡◌, ◌+◌, ◌*◌, ◌/◌, ◌%�
 ghost use Rattle.node_memory.specs.Access.{IsMade};
 ghost use Rattle.node_memory.specs.Bytes.{is_memory_size, with_bytes};
 ghost use Rattle.node_memory.specs.Image.{with_segment, ends_past, IsSegment};
-ghost use Rattle.node_memory.specs.Pages.{none_own, IsOwn, SharesZeros};
+ghost use Rattle.node_memory.specs.Pages.{none_private, IsPrivate, SharesZeros};
 ghost use Rattle.node_memory.specs.Table.{IsPageOfZeros};
 
 use super::{Memory, MemoryError, is_memory_size};
@@ -13,7 +13,7 @@ use crate::page::{PAGE, Page};
 use std::alloc::{AllocError, Allocator};
 
 impl<A: Allocator + Copy> Memory<A> {
-    /// A memory of `size` bytes that holds `image`, and 0 where no segment reaches. No page is its own.
+    /// A memory of `size` bytes that holds `image`, and 0 where no segment reaches. No page is private.
     ///
     /// # Errors
     /// As [`MemoryError`] has them.
@@ -34,10 +34,10 @@ impl<A: Allocator + Copy> Memory<A> {
         Ok(laid.share(alloc)?)
     }
 
-    /// A memory of the same bytes, of which no page is its own: the pages of this memory's own are copied, and the others shared. So it
-    /// takes a word or two for each page, and a page for each of this memory's own.
+    /// A memory of the same bytes, of which no page is private: the private pages are copied, and the others shared. So it
+    /// takes a word or two for each page, and a page for each private one.
     pub fn share(&self, alloc: A) -> Result<Memory<A>, AllocError>
-        ensures { IfOk result (λ m. m ≡ record { bytes = self.now.bytes; own = none_own (length self.now.bytes) }) }
+        ensures { IfOk result (λ m. m ≡ record { bytes = self.now.bytes; private = none_private (length self.now.bytes) }) }
     {
         let mut pages = Vec::with_capacity(alloc, self.pages.len())?;
         for page in self.pages.as_slice() {
@@ -50,7 +50,7 @@ impl<A: Allocator + Copy> Memory<A> {
     fn zeros(alloc: A, zeros: &Page<A>, count: usize) -> Result<Memory<A>, AllocError>
         requires valid { IsTrue (is_memory_size (count * 4096)) }
         requires zeros { IsPageOfZeros zeros.now }
-        ensures { IfOk result (λ m. m ≡ record { bytes = replicate (count * 4096) 0; own = replicate count false }) }
+        ensures { IfOk result (λ m. m ≡ record { bytes = replicate (count * 4096) 0; private = replicate count false }) }
     {
         let mut pages = Vec::with_capacity(alloc, count)?;
         for _ in 0..count {
@@ -73,7 +73,7 @@ impl<A: Allocator + Copy> Memory<A> {
             return Ok(());
         }
         let bytes = segment.bytes.as_slice();
-        self.own(segment.addr, bytes.len() as u32)?;
+        self.make_private(segment.addr, bytes.len() as u32)?;
         self.write_owned(segment.addr, bytes);
         self.clear(
             segment.addr as usize + bytes.len(),
@@ -105,7 +105,7 @@ impl<A: Allocator + Copy> Memory<A> {
         Ok(())
     }
 
-    /// Makes the `len` bytes from `addr` on zeros, which lie within one page of the memory's own. A page that is cleared as a whole
+    /// Makes the `len` bytes from `addr` on zeros, which lie within one private page. A page that is cleared as a whole
     /// is the page of zeros then.
     // For speed: it stands out of line, so that `clear` passes over a shared page with one test.
     #[cold]
@@ -113,12 +113,12 @@ impl<A: Allocator + Copy> Memory<A> {
     fn clear_window(&mut self, addr: usize, len: usize, zeros: &Page<A>) -> Result<(), AllocError>
         requires within { addr + len ≤ length self.old.bytes }
         requires one_page { addr % 4096 + len ≤ 4096 }
-        requires own { IsOwn self.old.own (addr / 4096) }
+        requires private { IsPrivate self.old.private (addr / 4096) }
         requires zeros { IsPageOfZeros zeros.now }
         requires rest { SharesZeros self.old }
         ensures bytes { OnOk result (self.new.bytes ≡ with_bytes self.old.bytes addr (replicate len 0)) }
         ensures rest { OnOk result (SharesZeros self.new) }
-        ensures pages { OnOk result (length self.new.own ≡ length self.old.own) }
+        ensures pages { OnOk result (length self.new.private ≡ length self.old.private) }
     {
         if len == PAGE {
             self.clear_page(addr / PAGE, zeros)?;
@@ -130,11 +130,11 @@ impl<A: Allocator + Copy> Memory<A> {
 
     /// Makes a page the one of zeros.
     fn clear_page(&mut self, page: usize, zeros: &Page<A>) -> Result<(), AllocError>
-        requires within { page < length self.old.own }
+        requires within { page < length self.old.private }
         requires zeros { IsPageOfZeros zeros.now }
         ensures bytes { OnOk result
             (self.new.bytes ≡ with_bytes self.old.bytes (page * 4096) (replicate 4096 0)) }
-        ensures own { OnOk result (self.new.own ≡ slice_set self.old.own page false) }
+        ensures private { OnOk result (self.new.private ≡ slice_set self.old.private page false) }
     {
         self.pages[page] = zeros.share(self.alloc)?;
         Ok(())

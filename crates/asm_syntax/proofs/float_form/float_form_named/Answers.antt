@@ -5,8 +5,9 @@ use Rattle.std.specs.Option.{option_map, option_copied}
 use Rattle.std.specs.Str.{bytes_eq}
 use Rattle.std.proofs.lemmas.Iterator.{YieldsList-from_slice}
 use Rattle.std.proofs.lemmas.Iterator.Search.{find_from_yields_List}
+use Rattle.rv_float_tables.specs.Rows.{float_encodings}
 use Rattle.asm_syntax.specs.declared.float_form.FloatForm.{FloatForm}
-use Rattle.asm_syntax.specs.FloatForms.{float_mnemonic, float_form_named, float_forms}
+use Rattle.asm_syntax.specs.FloatForms.{float_mnemonic, float_form_named, float_forms, own_float_forms}
 use Rattle.asm_syntax.proofs.float_form.float_form_named.Goals as goal
 
 copied_now : (o : Option (Bor FloatForm)) → option_copied o ≡ option_map (λ x. x.now) o
@@ -19,7 +20,7 @@ unfolding float_form_named
 named name r table is found = found ∙ ap (find (λ f. bytes_eq (float_mnemonic f) name)) is
 
 table : (c : goal.After-copied) → c.iter.result.rest.now ≡ float_forms
-unfolding float_forms
+unfolding float_forms own_float_forms float_encodings
 table c = c.iter.ensures.rest
 
 pub returns : goal.returns

@@ -5,7 +5,7 @@ use Rattle.std.proofs.lemmas.Result.{IfOk-from_err, err_from_is_err_and}
 use Rattle.node_core.specs.Node.{NodeState}
 use Rattle.bsp_exchange.specs.Exchange.{states}
 use Rattle.bsp_exchange.specs.Parts.{PartState, landed}
-use Rattle.bsp_exchange.proofs.KeepsOwn.{EachKeepsOwn-then}
+use Rattle.bsp_exchange.proofs.KeepsPrivate.{EachKeepsPrivate-then}
 use Rattle.bsp_exchange.specs.Faults.{exchange_fault}
 use Rattle.bsp_exchange.proofs.Refusals.{NamesFault-handed, NamesFault-made}
 use Rattle.bsp_exchange.proofs.PartOrder.{landed_whole}
@@ -25,9 +25,9 @@ returns-clause-ok g c =
     (c.deref_mut.ensures.value ∙ c.in_ok-traffic.ensures.parts) c.in_ok-traffic.ensures.same
     ∙ landed_whole (states c.args.nodes.now) c.in_ok-traffic.ensures.exchanges
 
-pub returns-clause-own : goal.returns-clause-own
-returns-clause-own g c =
-    EachKeepsOwn-then c.args.nodes.now c.plan.new.nodes c.land_all.new.nodes c.in_ok-traffic.ensures.own c.land_all.ensures.own
+pub returns-clause-private : goal.returns-clause-private
+returns-clause-private g c =
+    EachKeepsPrivate-then c.args.nodes.now c.plan.new.nodes c.land_all.new.nodes c.in_ok-traffic.ensures.private c.land_all.ensures.private
 
 pub returns-clause-err : goal.returns-clause-err
 returns-clause-err g c = search rules
@@ -44,8 +44,8 @@ returns-in_err-traffic-clause-traffic g c = IfOk-from_err c.from_residual.result
 pub returns-in_err-traffic-clause-bounded : goal.returns-in_err-traffic-clause-bounded
 returns-in_err-traffic-clause-bounded g c = IfOk-from_err c.from_residual.result _ c.from_residual.ensures.0
 
-pub returns-in_err-traffic-clause-own : goal.returns-in_err-traffic-clause-own
-returns-in_err-traffic-clause-own g c = c.in_err-traffic.ensures.own
+pub returns-in_err-traffic-clause-private : goal.returns-in_err-traffic-clause-private
+returns-in_err-traffic-clause-private g c = c.in_err-traffic.ensures.private
 
 pub land_all-requires : goal.land_all-requires
 land_all-requires g c = rw c.deref_mut.ensures.value c.in_ok-traffic.ensures.prepared

@@ -65,7 +65,7 @@ returns g c =
     record {
       nodes = ap states done ∙ row_states parts nodes;
       unready = rw done (row_unready parts nodes c.requires);
-      own = rw done (row_keeps parts nodes);
+      private = rw done (row_keeps parts nodes);
       spent =
           c.loop-place.invariant.parts
           ∙ ap (λ (ps : List PartState). map spent_part ps ++ drop i parts) (take_all i parts past)

@@ -5,5 +5,5 @@ use Rattle.bsp_exchange.proofs.laws.landings_come_in_the_order_of_their_keys.Goa
 pub returns-clause-order : goal.returns-clause-order
 returns-clause-order c = keys_do_not_fall
 
-pub returns-clause-own : goal.returns-clause-own
-returns-clause-own c = have_own_keys
+pub returns-clause-private : goal.returns-clause-private
+returns-clause-private c = have_own_keys

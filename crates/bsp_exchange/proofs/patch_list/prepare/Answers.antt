@@ -1,20 +1,20 @@
--- The pages of the patches become own one after another, and what was own stays so.
+-- The pages of the patches become private one after another, and what was private stays so.
 use Rattle.std.proofs.Common.{◌≡◌, length, refl, ap, ◌∙◌, arith}
-use Rattle.node_memory.proofs.Owned.{KeepsOwn-same, KeepsOwn-then}
+use Rattle.node_memory.proofs.Owned.{KeepsPrivate-same, KeepsPrivate-then}
 use Rattle.node_core.specs.Node.{NodeState}
 use Rattle.bsp_exchange.proofs.Patches.{len_within}
 use Rattle.bsp_exchange.proofs.Patched.{patch_read, patch_fits, owns_more, owns_whole}
 use Rattle.bsp_exchange.proofs.Spans.{memory_most}
 use Rattle.bsp_exchange.proofs.patch_list.prepare.Goals as goal
 
-pub lie_in_own-requires : goal.lie_in_own-requires
-lie_in_own-requires g c = record {
+pub lie_in_private-requires : goal.lie_in_private-requires
+lie_in_private-requires g c = record {
   most = rw c.memory.ensures.value (memory_most c.args.node.now.node.hart c.memory.ensures.sound);
   within = rw c.memory.ensures.value c.requires.within;
 }
 
 pub loop-place-init : goal.loop-place-init
-loop-place-init g c = record { node = refl; ready = refl; own = KeepsOwn-same _; owned = tt }
+loop-place-init g c = record { node = refl; ready = refl; private = KeepsPrivate-same _; owned = tt }
 
 pub overflow_cast-bytes : goal.overflow_cast-bytes
 overflow_cast-bytes g c =
@@ -49,12 +49,13 @@ loop-place-preserved g c =
     record {
       node = made.node ∙ before.node;
       ready = made.ready ∙ before.ready;
-      own = KeepsOwn-then c.args.node.now.own c.loop-place.node.own c.prepare_land.new.self.own before.own made.more.keeps;
-      owned = owns_more c.loop-place.node.own c.prepare_land.new.self.own patch made.more.keeps made.ok before.owned;
+      private = KeepsPrivate-then c.args.node.now.private c.loop-place.node.private c.prepare_land.new.self.private before.private
+          made.more.keeps;
+      owned = owns_more c.loop-place.node.private c.prepare_land.new.self.private patch made.more.keeps made.ok before.owned;
     }
 
 pub returns-clause-ok : goal.returns-clause-ok
 returns-clause-ok g c =
     let patches = g.P.PatchList.patches c.args.patches.now in
-    owns_whole c.loop-place.node.own patches c.loop-place.place (omega (arith, c.loop-place-test.false, c.count-place-end.ensures))
+    owns_whole c.loop-place.node.private patches c.loop-place.place (omega (arith, c.loop-place-test.false, c.count-place-end.ensures))
     c.loop-place.invariant.owned

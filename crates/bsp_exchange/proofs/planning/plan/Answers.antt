@@ -4,12 +4,12 @@ use Rattle.std.proofs.Common.{◌≡◌, refl}
 use Rattle.std.proofs.lemmas.Result.{IfOk-from_err, err_from_is_err_and}
 use Rattle.bsp_exchange.specs.Exchange.{states}
 use Rattle.bsp_exchange.specs.Faults.{exchange_fault}
-use Rattle.bsp_exchange.proofs.KeepsOwn.{EachKeepsOwn-same}
+use Rattle.bsp_exchange.proofs.KeepsPrivate.{EachKeepsPrivate-same}
 use Rattle.bsp_exchange.proofs.Refusals.{NamesFault-handed, NamesFault-refused}
 use Rattle.bsp_exchange.proofs.planning.plan.Goals as goal
 
-pub returns-in_err-drafted-clause-own : goal.returns-in_err-drafted-clause-own
-returns-in_err-drafted-clause-own g c = EachKeepsOwn-same c.args.nodes.now
+pub returns-in_err-drafted-clause-private : goal.returns-in_err-drafted-clause-private
+returns-in_err-drafted-clause-private g c = EachKeepsPrivate-same c.args.nodes.now
 
 pub returns-in_err-drafted-clause-fault : goal.returns-in_err-drafted-clause-fault
 returns-in_err-drafted-clause-fault g c f =
@@ -42,8 +42,8 @@ returns-in_err-drafted-clause-bounded g c = IfOk-from_err c.from_residual.result
 pub returns-in_err-prepare_all-clause-same : goal.returns-in_err-prepare_all-clause-same
 returns-in_err-prepare_all-clause-same g c = c.in_err-prepare_all.ensures.same
 
-pub returns-in_err-prepare_all-clause-own : goal.returns-in_err-prepare_all-clause-own
-returns-in_err-prepare_all-clause-own g c = c.in_err-prepare_all.ensures.own
+pub returns-in_err-prepare_all-clause-private : goal.returns-in_err-prepare_all-clause-private
+returns-in_err-prepare_all-clause-private g c = c.in_err-prepare_all.ensures.private
 
 pub returns-in_err-prepare_all-clause-parts : goal.returns-in_err-prepare_all-clause-parts
 returns-in_err-prepare_all-clause-parts g c =
@@ -73,8 +73,8 @@ returns-in_err-prepare_all-clause-fault g c =
 pub returns-clause-same : goal.returns-clause-same
 returns-clause-same g c = c.in_ok-prepare_all.ensures.same
 
-pub returns-clause-own : goal.returns-clause-own
-returns-clause-own g c = c.in_ok-prepare_all.ensures.own
+pub returns-clause-private : goal.returns-clause-private
+returns-clause-private g c = c.in_ok-prepare_all.ensures.private
 
 pub returns-clause-prepared : goal.returns-clause-prepared
 returns-clause-prepared g c = rw c.deref.ensures.value at c.in_ok-prepare_all.ensures.ok

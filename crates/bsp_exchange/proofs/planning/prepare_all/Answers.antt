@@ -4,14 +4,14 @@ use Rattle.std.proofs.lemmas.Option.{slice_get_read}
 use Rattle.std.proofs.lemmas.Result.{IfOk-from_err}
 use Rattle.node_core.specs.Node.{PreparedNode}
 use Rattle.bsp_exchange.specs.Exchange.{states}
-use Rattle.bsp_exchange.proofs.KeepsOwn.{EachKeepsOwn-same, EachKeepsOwn-set}
+use Rattle.bsp_exchange.proofs.KeepsPrivate.{EachKeepsPrivate-same, EachKeepsPrivate-set}
 use Rattle.bsp_exchange.proofs.Preparing.{as_many_states, can_prepare_at, states_kept, prepared_none, prepared_more, prepared_all}
 use borrow.Author.Rules.{scaled_Fits}
 use Rattle.bsp_exchange.proofs.planning.prepare_all.Goals as goal
 
 pub loop-place-init : goal.loop-place-init
 loop-place-init g c =
-    record { same = refl; own = EachKeepsOwn-same c.args.nodes.now; prepared = prepared_none c.args.parts.now c.args.nodes.now }
+    record { same = refl; private = EachKeepsPrivate-same c.args.nodes.now; prepared = prepared_none c.args.parts.now c.args.nodes.now }
 
 pub loop-place-preserved : goal.loop-place-preserved
 loop-place-preserved g c =
@@ -27,9 +27,9 @@ loop-place-preserved g c =
           states_kept nodes i c.index-nodes-place.result c.prepare.new.node is
           (c.in_ok-prepare.ensures.same ∙ ap (λ (p : PreparedNode). p.node) (sym c.index-nodes-place.is))
           ∙ c.loop-place.invariant.same;
-      own =
-          EachKeepsOwn-set c.args.nodes.now nodes i c.index-nodes-place.result c.prepare.new.node c.loop-place.invariant.own is
-          (rw c.index-nodes-place.is c.in_ok-prepare.ensures.own);
+      private =
+          EachKeepsPrivate-set c.args.nodes.now nodes i c.index-nodes-place.result c.prepare.new.node c.loop-place.invariant.private is
+          (rw c.index-nodes-place.is c.in_ok-prepare.ensures.private);
       prepared =
           prepared_more parts nodes i c.index-parts-place.result c.prepare.new.node there received c.in_ok-prepare.ensures.ok
           c.loop-place.invariant.prepared;
@@ -80,14 +80,14 @@ returns-in_err-prepare-clause-same g c =
     (c.in_err-prepare.ensures.same ∙ ap (λ (p : PreparedNode). p.node) (sym c.index-nodes-place.is))
     ∙ c.loop-place.invariant.same
 
-pub returns-in_err-prepare-clause-own : goal.returns-in_err-prepare-clause-own
-returns-in_err-prepare-clause-own g c =
+pub returns-in_err-prepare-clause-private : goal.returns-in_err-prepare-clause-private
+returns-in_err-prepare-clause-private g c =
     let nodes = c.loop-place.nodes in
     let i = c.loop-place.place in
     let there : i < length nodes = rw c.loop-place.auto.nodes c.loop-place-test.true in
     let is = slice_get_read nodes (length nodes) i c.index-nodes-place.result refl there c.index-nodes-place.is in
-    EachKeepsOwn-set c.args.nodes.now nodes i c.index-nodes-place.result c.prepare.new.node c.loop-place.invariant.own is
-    (rw c.index-nodes-place.is c.in_err-prepare.ensures.own)
+    EachKeepsPrivate-set c.args.nodes.now nodes i c.index-nodes-place.result c.prepare.new.node c.loop-place.invariant.private is
+    (rw c.index-nodes-place.is c.in_err-prepare.ensures.private)
 
 pub returns-clause-ok : goal.returns-clause-ok
 returns-clause-ok g c =
@@ -102,8 +102,8 @@ returns-in_err-prepare-clause-ok g c = IfOk-from_err c.from_residual.result _ c.
 pub returns-clause-same : goal.returns-clause-same
 returns-clause-same g c = c.loop-place.invariant.same
 
-pub returns-clause-own : goal.returns-clause-own
-returns-clause-own g c = c.loop-place.invariant.own
+pub returns-clause-private : goal.returns-clause-private
+returns-clause-private g c = c.loop-place.invariant.private
 
 pub offset_bounds-nodes-place : goal.offset_bounds-nodes-place
 offset_bounds-nodes-place g c = scaled_Fits c.loop-place.place (length c.args.nodes.now) _ c.loop-place-test.true (search c.well_formed)

@@ -10,11 +10,13 @@ use Rattle.bsp_profile.proofs.lines.write_rows.Goals as goal
 
 pub loop-rank-preserved : goal.loop-rank-preserved
 loop-rank-preserved g c =
-    next_line row_line (rows c.args.machine.now) c.loop-rank.rank c.row_at-row.result (string_bytes c.args.text.now) (string_bytes c.loop-rank.text) (string_bytes c.writeln.new.self)
+    next_line row_line (rows c.args.machine.now) c.loop-rank.rank c.row_at-row.result (string_bytes c.args.text.now)
+    (string_bytes c.loop-rank.text) (string_bytes c.writeln.new.self)
     c.row_at-row.ensures c.loop-rank.invariant c.in_ok-writeln.ensures.bytes
 
 pub returns : goal.returns
 returns g c =
     c.loop-rank.invariant
     ∙ ap (λ (rs : List Row). string_bytes c.args.text.now ++ flat_map row_line rs)
-    (take_all c.loop-rank.rank (rows c.args.machine.now) (omega (arith, length-rows-le c.args.machine.now, c.requires.tally.long, c.loop-rank-test.false)))
+    (take_all c.loop-rank.rank (rows c.args.machine.now) (omega
+    (arith, length-rows-le c.args.machine.now, c.requires.tally.long, c.loop-rank-test.false)))

@@ -12,9 +12,9 @@ use Rattle.machine_core.proofs.Options.{none_from}
 use Rattle.machine_core.proofs.Sound.{superstep-open}
 use Rattle.machine_core.proofs.Steps.{after-nil, event-enabled}
 use Rattle.machine_core.proofs.Supersteps.{turn-enabled, rows_left}
-use Rattle.phase_pool.specs.declared.error.PoolError.{PoolError}
-use Rattle.phase_pool.specs.declared.error.PoolError.TheVariants.{NoWorker}
-use Rattle.phase_pool.proofs.Phases.{phases_reached, LeadsTo-on, LeadsTo-turn, LeadsTo-length, LeadsWithoutTurn-outcome, HaveCome-over}
+use Rattle.worker_pool.specs.declared.error.PoolError.{PoolError}
+use Rattle.worker_pool.specs.declared.error.PoolError.TheVariants.{NoWorker}
+use Rattle.worker_pool.proofs.Phases.{phases_reached, LeadsTo-on, LeadsTo-turn, LeadsTo-length, LeadsWithoutTurn-outcome, HaveCome-over}
 use Rattle.bsp_profile.specs.Lines.{lines_of}
 use Rattle.bsp_profile.proofs.Rest.{lines_appended, lines_over, lines_phase}
 use Rattle.bsp_profile.proofs.runs.run.Goals as goal

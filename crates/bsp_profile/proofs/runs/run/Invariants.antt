@@ -2,7 +2,7 @@
 use Rattle.std.proofs.Common.{◌≡◌, ◌+◌, ◌-◌, ◌++◌, length}
 use Rattle.std.specs.Prelude.{IsSome}
 use Rattle.machine_core.specs.Turn.{end_of}
-use Rattle.phase_pool.specs.Phases.{LeadsTo}
+use Rattle.worker_pool.specs.Phases.{LeadsTo}
 use Rattle.bsp_profile.specs.Lines.{lines_of}
 use Rattle.bsp_profile.proofs.runs.run.Given as goal
 

@@ -8,7 +8,7 @@ use Rattle.machine_core.specs.Machine.{MachineState}
 use Rattle.machine_core.specs.Turn.{with_phases, written}
 use Rattle.machine_core.proofs.Sound.{length-nodes}
 use Rattle.machine_core.proofs.Supersteps.{superstep-made}
-use Rattle.phase_pool.specs.declared.error.PoolError.{PoolError}
+use Rattle.worker_pool.specs.declared.error.PoolError.{PoolError}
 use Rattle.bsp_session.specs.Streams.{stream}
 use Rattle.bsp_session.proofs.Supersteps.{added-part, output-made, reaches}
 use Rattle.bsp_session.proofs.LiveErrors.{IsErrorOfSuperstep-of_pool}

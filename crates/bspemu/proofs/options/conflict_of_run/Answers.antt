@@ -4,7 +4,7 @@ use Rattle.clap.specs.Words.{found_of, rows_of}
 use Rattle.clap.proofs.WalkLemmas.{first_value-rows}
 use Rattle.bspemu.specs.Options.{text_of}
 use Rattle.bspemu.proofs.Getters.{flag_of_getter, no_flag_of_getter}
-use Rattle.bspemu.proofs.Tellings.{Reads, single_of_reads, several_of_reads}
+use Rattle.bspemu.proofs.OutputModes.{Reads, single_of_reads, several_of_reads}
 use Rattle.bspemu.proofs.options.conflict_of_run.Goals as goal
 
 pub returns-clause-some : goal.returns-clause-some

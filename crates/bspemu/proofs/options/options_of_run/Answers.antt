@@ -13,7 +13,7 @@ returns-clause-some c =
       workers = rw rest.0 (number_of_getter 32 _ found (codes "workers") c.in_ok-workers.ensures.none c.in_ok-workers.ensures.value);
       slice = rw rest.1 (number_of_getter 64 _ found (codes "slice") c.in_ok-slice.ensures.none c.in_ok-slice.ensures.value);
       report = rw rest.2 (flag_of_getter _ found (codes "report") c.in_ok-report.ensures.none c.in_ok-report.ensures.value);
-      telling = c.in_ok-telling_of_run.ensures.some;
+      output_mode = c.in_ok-output_mode_of_run.ensures.some;
     }
 
 pub returns-in_err-workers-clause-none : goal.returns-in_err-workers-clause-none
@@ -38,6 +38,7 @@ pub returns-in_err-options_of_machine-clause-none : goal.returns-in_err-options_
 returns-in_err-options_of_machine-clause-none c =
     rw c.from_residual-in_err-options_of_machine.ensures (λ o gives. c.in_err-options_of_machine.ensures.none o.machine gives.machine)
 
-pub returns-in_err-telling_of_run-clause-none : goal.returns-in_err-telling_of_run-clause-none
-returns-in_err-telling_of_run-clause-none c =
-    rw c.from_residual-in_err-telling_of_run.ensures (λ o gives. c.in_err-telling_of_run.ensures.none o.telling gives.telling)
+pub returns-in_err-output_mode_of_run-clause-none : goal.returns-in_err-output_mode_of_run-clause-none
+returns-in_err-output_mode_of_run-clause-none c =
+    rw c.from_residual-in_err-output_mode_of_run.ensures (λ o gives. c.in_err-output_mode_of_run.ensures.none o.output_mode
+    gives.output_mode)

@@ -13,9 +13,9 @@ use Rattle.machine_core.proofs.Options.{none_from}
 use Rattle.machine_core.proofs.Resume.{phases-sound}
 use Rattle.machine_core.proofs.Steps.{after-nil}
 use Rattle.machine_core.proofs.Supersteps.{turn-enabled, rows_left, superstep-made}
-use Rattle.phase_pool.specs.declared.error.PoolError.{PoolError}
-use Rattle.phase_pool.specs.declared.error.PoolError.TheVariants.{NoWorker}
-use Rattle.phase_pool.proofs.Phases.{phases_reached, LeadsTo-on, LeadsTo-turn, LeadsTo-length, LeadsWithoutTurn-outcome, HaveCome-over}
+use Rattle.worker_pool.specs.declared.error.PoolError.{PoolError}
+use Rattle.worker_pool.specs.declared.error.PoolError.TheVariants.{NoWorker}
+use Rattle.worker_pool.proofs.Phases.{phases_reached, LeadsTo-on, LeadsTo-turn, LeadsTo-length, LeadsWithoutTurn-outcome, HaveCome-over}
 use Rattle.contested_runs.specs.Runs.{AreTurnLines}
 use Rattle.contested_runs.proofs.Rest.{TellsUpTo, tells-all, tells-nothing, tells-phase, tells-superstep}
 use Rattle.contested_runs.proofs.runs.run.Goals as goal

@@ -1,7 +1,7 @@
 -- Steps of the node at a place are as many steps of the row at that rank; all other nodes are kept.
 use Rattle.std.proofs.Common.{length}
 use Rattle.std.proofs.lemmas.Result.{on_ok_weaker, on_err_weaker}
-use Rattle.machine_core.proofs.States.{kept-own, states-often, found-new}
+use Rattle.machine_core.proofs.States.{kept-private, states-often, found-new}
 use borrow.Author.Rules.{scaled_Fits}
 use Rattle.machine_core.proofs.row.run_at.Goals as goal
 
@@ -25,7 +25,7 @@ returns g c =
       refuses =
           on_err_weaker c.run.result (λ may. rw (found-new input nodes c.args.rank node run c.requires c.index-nodes-rank.is) may)
           c.run.ensures.refuses;
-      own = kept-own input nodes c.args.rank node run c.requires c.index-nodes-rank.is c.run.ensures.own;
+      private = kept-private input nodes c.args.rank node run c.requires c.index-nodes-rank.is c.run.ensures.private;
     }
 
 pub offset_bounds-nodes-rank : goal.offset_bounds-nodes-rank

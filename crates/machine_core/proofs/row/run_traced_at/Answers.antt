@@ -5,7 +5,7 @@ use Rattle.node_core.specs.Addresses.{next_addresses}
 use Rattle.node_core.specs.Node.{PreparedNode}
 use Rattle.bsp_exchange.specs.Exchange.{states}
 use Rattle.machine_core.proofs.Addresses.{addresses-found, if_ok_weaker}
-use Rattle.machine_core.proofs.States.{found-new, kept-own, state_at_place, states-often}
+use Rattle.machine_core.proofs.States.{found-new, kept-private, state_at_place, states-often}
 use Rattle.machine_core.proofs.row.run_traced_at.Goals as goal
 
 pub bounds-nodes-rank : goal.bounds-nodes-rank
@@ -28,7 +28,7 @@ returns-clause-steps g c =
       refuses =
           on_err_weaker c.run_traced.result (λ may. rw (found-new input nodes c.args.rank node run c.requires c.index-nodes-rank.is) may)
           c.run_traced.ensures.refuses;
-      own = kept-own input nodes c.args.rank node run c.requires c.index-nodes-rank.is c.run_traced.ensures.own;
+      private = kept-private input nodes c.args.rank node run c.requires c.index-nodes-rank.is c.run_traced.ensures.private;
     }
 
 pub returns-clause-addresses : goal.returns-clause-addresses

@@ -2,9 +2,9 @@
 use Rattle.std.proofs.Common.{true, false, sym, ap, ◌∙◌, arith}
 use Rattle.std.proofs.lemmas.Result.{err_from_is_err_and}
 use Rattle.node_core.specs.Node.{is_running}
-use Rattle.bsp_exchange.proofs.KeepsOwn.{EachKeepsOwn-same}
+use Rattle.bsp_exchange.proofs.KeepsPrivate.{EachKeepsPrivate-same}
 use Rattle.machine_core.proofs.Rows.{stepped-disabled}
-use Rattle.machine_core.proofs.States.{found-new, kept-own, states-step, states-same, runs-past, runs-found}
+use Rattle.machine_core.proofs.States.{found-new, kept-private, states-step, states-same, runs-past, runs-found}
 use Rattle.machine_core.proofs.row.step_at.Goals as goal
 
 pub returns-then-rank-nodes-clause-step : goal.returns-then-rank-nodes-clause-step
@@ -14,7 +14,7 @@ returns-then-rank-nodes-clause-step g c =
       ok = sym (stepped-disabled c.args.input.now c.args.rank _ past);
       err = tt;
       refuses = tt;
-      own = EachKeepsOwn-same c.args.nodes.now;
+      private = EachKeepsPrivate-same c.args.nodes.now;
     }
 
 pub returns-then-rank-nodes-clause-made : goal.returns-then-rank-nodes-clause-made
@@ -29,7 +29,7 @@ returns-then-not-is_running-clause-step g c =
       ok = sym (stepped-disabled c.args.input.now c.args.rank _ stopped);
       err = tt;
       refuses = tt;
-      own = EachKeepsOwn-same c.args.nodes.now;
+      private = EachKeepsPrivate-same c.args.nodes.now;
     }
 
 pub returns-then-not-is_running-clause-made : goal.returns-then-not-is_running-clause-made
@@ -49,7 +49,7 @@ returns-in_err-step-clause-step g c =
       ok = tt;
       err = (0, omega arith, states-same input nodes c.args.rank node c.step.new.self (omega arith) is same);
       refuses = rw (found-new input nodes c.args.rank node c.step.new.self (omega arith) is, same) c.in_err-step.ensures.refuses;
-      own = kept-own input nodes c.args.rank node c.step.new.self (omega arith) is c.in_err-step.ensures.own;
+      private = kept-private input nodes c.args.rank node c.step.new.self (omega arith) is c.in_err-step.ensures.private;
     })
 
 pub returns-clause-step : goal.returns-clause-step
@@ -61,7 +61,8 @@ returns-clause-step g c =
       ok = states-step input nodes c.args.rank node c.step.new.self (omega arith) c.index-nodes-rank-2.is c.in_ok-step.ensures.ok;
       err = tt;
       refuses = tt;
-      own = kept-own input nodes c.args.rank node c.step.new.self (omega arith) c.index-nodes-rank-2.is c.in_ok-step.ensures.own;
+      private = kept-private input nodes c.args.rank node c.step.new.self
+          (omega arith) c.index-nodes-rank-2.is c.in_ok-step.ensures.private;
     }
 
 pub returns-clause-made : goal.returns-clause-made

@@ -21,7 +21,8 @@ returns-in_err-text-clause-err g c =
     rw p.1 (0, sym (walked-zero c.args.machine.now))
 
 pub returns-in_err-text-clause-ticks : goal.returns-in_err-text-clause-ticks
-returns-in_err-text-clause-ticks g c = λ k. AllCountsAreTicks-supersteps k c.args.machine.now c.settings.ensures.sound c.recall_word_pcs.ensures
+returns-in_err-text-clause-ticks g c = λ k. AllCountsAreTicks-supersteps k c.args.machine.now c.settings.ensures.sound
+    c.recall_word_pcs.ensures
 
 pub loop-machine-init : goal.loop-machine-init
 loop-machine-init g c = record {
@@ -34,17 +35,20 @@ loop-machine-init g c = record {
 pub returns-in_err-count_parts-clause-err : goal.returns-in_err-count_parts-clause-err
 returns-in_err-count_parts-clause-err g c =
     let p = err_from_is_err_and c.from_residual-in_err-count_parts.result c.from_residual-in_err-count_parts.ensures.1 in
-    rw p.1 (IsWalked-on c.args.machine.now c.loop-machine.machine c.count_parts.new.machine c.loop-machine.invariant.so_far c.in_err-count_parts.ensures.err)
+    rw p.1 (IsWalked-on c.args.machine.now c.loop-machine.machine c.count_parts.new.machine c.loop-machine.invariant.so_far
+    c.in_err-count_parts.ensures.err)
 
 pub returns-in_err-count_parts-clause-ticks : goal.returns-in_err-count_parts-clause-ticks
-returns-in_err-count_parts-clause-ticks g c = λ k. AllCountsAreTicks-supersteps k c.args.machine.now c.settings.ensures.sound c.recall_word_pcs.ensures
+returns-in_err-count_parts-clause-ticks g c = λ k. AllCountsAreTicks-supersteps k c.args.machine.now c.settings.ensures.sound
+    c.recall_word_pcs.ensures
 
 pub loop-machine-smaller : goal.loop-machine-smaller
 loop-machine-smaller g c =
     let m = c.loop-machine.machine in
     let sound = c.outcome.ensures.sound in
     let open_yet = ap is_some (sym c.outcome.ensures.value) ∙ c.is_none.ensures ∙ ap not c.loop-machine-test.true in
-    let turned : c.turn.new.self ≡ event (with_phases m) Turn = c.in_ok-turn.ensures.ok ∙ ap (λ (x : MachineState). event x Turn) c.in_ok-count_parts.ensures.ok in
+    let turned : c.turn.new.self ≡ event (with_phases m) Turn = c.in_ok-turn.ensures.ok ∙ ap
+    (λ (x : MachineState). event x Turn) c.in_ok-count_parts.ensures.ok in
     rows_left m sound open_yet c.turn.new.self (superstep-made m sound open_yet c.turn.new.self turned)
 
 pub loop-machine-preserved : goal.loop-machine-preserved
@@ -53,24 +57,29 @@ loop-machine-preserved g c =
     let so_far = c.loop-machine.invariant in
     let sound = c.outcome.ensures.sound in
     let open_yet = ap is_some (sym c.outcome.ensures.value) ∙ c.is_none.ensures ∙ ap not c.loop-machine-test.true in
-    let turned : c.turn.new.self ≡ event (with_phases m) Turn = c.in_ok-turn.ensures.ok ∙ ap (λ (x : MachineState). event x Turn) c.in_ok-count_parts.ensures.ok in
+    let turned : c.turn.new.self ≡ event (with_phases m) Turn = c.in_ok-turn.ensures.ok ∙ ap
+    (λ (x : MachineState). event x Turn) c.in_ok-count_parts.ensures.ok in
     let made : c.turn.new.self ≡ superstep m = superstep-made m sound open_yet c.turn.new.self turned in
     record {
       so_far = IsWalked-superstep c.args.machine.now m c.turn.new.self sound open_yet so_far.so_far turned;
       same_end = ap end_of made ∙ end_of-superstep m sound ∙ so_far.same_end;
-      lines = lines_appended m c.turn.new.self (string_bytes c.loop-machine.text) (string_bytes c.count_parts.new.text) _ sound open_yet made c.in_ok-count_parts.ensures.text so_far.lines;
-      memory = c.count_parts.ensures.memory ∙ so_far.memory ∙ sym (ap (λ (x : MachineState). x.settings.memory) made ∙ ap (λ (s : Settings). s.memory) (settings-superstep m));
+      lines = lines_appended m c.turn.new.self (string_bytes c.loop-machine.text)
+          (string_bytes c.count_parts.new.text) _ sound open_yet made c.in_ok-count_parts.ensures.text so_far.lines;
+      memory = c.count_parts.ensures.memory ∙ so_far.memory ∙ sym
+          (ap (λ (x : MachineState). x.settings.memory) made ∙ ap (λ (s : Settings). s.memory) (settings-superstep m));
     }
 
 pub returns-in_err-turn-clause-err : goal.returns-in_err-turn-clause-err
 returns-in_err-turn-clause-err g c =
     let p = err_from_is_err_and c.from_residual-in_err-turn.result c.from_residual-in_err-turn.ensures.1 in
     let m = c.loop-machine.machine in
-    let phases = IsWalked-on c.args.machine.now m (with_phases m) c.loop-machine.invariant.so_far (IsOnPhase-phases m c.outcome.ensures.sound) in
+    let phases = IsWalked-on c.args.machine.now m (with_phases m) c.loop-machine.invariant.so_far
+    (IsOnPhase-phases m c.outcome.ensures.sound) in
     rw p.1 (phases.0, c.in_err-turn.ensures.err ∙ c.in_ok-count_parts.ensures.ok ∙ phases.1)
 
 pub returns-in_err-turn-clause-ticks : goal.returns-in_err-turn-clause-ticks
-returns-in_err-turn-clause-ticks g c = λ k. AllCountsAreTicks-supersteps k c.args.machine.now c.settings.ensures.sound c.recall_word_pcs.ensures
+returns-in_err-turn-clause-ticks g c = λ k. AllCountsAreTicks-supersteps k c.args.machine.now c.settings.ensures.sound
+    c.recall_word_pcs.ensures
 
 pub returns-clause-ok : goal.returns-clause-ok
 returns-clause-ok g c =

@@ -10,38 +10,38 @@ use Rattle.bsp_exchange.proofs.Landed.{laid-append}
 use Rattle.bsp_exchange.proofs.Planned.{owns_first, owns_second}
 use Rattle.bsp_exchange.proofs.arrivals.Arrivals.land.Goals as goal
 
-pub land-requires-clause-own : goal.land-requires-clause-own
-land-requires-clause-own g c =
+pub land-requires-clause-private : goal.land-requires-clause-private
+land-requires-clause-private g c =
     let part = c.self.inside in
-    let own = c.args.node.now.own in
-    let owns = subst (λ (r : Received). OwnsEach own r.gets) (sym c.self.view_is) c.requires.prepared.gets in
-    owns_first own part.small_gets part.gets owns
+    let private = c.args.node.now.private in
+    let owns = subst (λ (r : Received). OwnsEach private r.gets) (sym c.self.view_is) c.requires.prepared.gets in
+    owns_first private part.small_gets part.gets owns
 
-pub land-requires-2-clause-own : goal.land-requires-2-clause-own
-land-requires-2-clause-own g c =
+pub land-requires-2-clause-private : goal.land-requires-2-clause-private
+land-requires-2-clause-private g c =
     let part = c.self.inside in
-    let own = c.args.node.now.own in
-    let owns = subst (λ (r : Received). OwnsEach own r.gets) (sym c.self.view_is) c.requires.prepared.gets in
-    rw (ap (λ (p : PreparedNode). p.own) c.land.ensures) (owns_second own part.small_gets part.gets owns)
+    let private = c.args.node.now.private in
+    let owns = subst (λ (r : Received). OwnsEach private r.gets) (sym c.self.view_is) c.requires.prepared.gets in
+    rw (ap (λ (p : PreparedNode). p.private) c.land.ensures) (owns_second private part.small_gets part.gets owns)
 
-pub land-requires-3-clause-own : goal.land-requires-3-clause-own
-land-requires-3-clause-own g c =
+pub land-requires-3-clause-private : goal.land-requires-3-clause-private
+land-requires-3-clause-private g c =
     let part = c.self.inside in
-    let own = c.args.node.now.own in
-    let owns = subst (λ (r : Received). OwnsEach own r.puts) (sym c.self.view_is) c.requires.prepared.puts in
-    rw (ap (λ (p : PreparedNode). p.own) c.land-2.ensures ∙ ap (λ (p : PreparedNode). p.own) c.land.ensures)
-    (owns_first own part.small_puts part.puts owns)
+    let private = c.args.node.now.private in
+    let owns = subst (λ (r : Received). OwnsEach private r.puts) (sym c.self.view_is) c.requires.prepared.puts in
+    rw (ap (λ (p : PreparedNode). p.private) c.land-2.ensures ∙ ap (λ (p : PreparedNode). p.private) c.land.ensures)
+    (owns_first private part.small_puts part.puts owns)
 
-pub land-requires-4-clause-own : goal.land-requires-4-clause-own
-land-requires-4-clause-own g c =
+pub land-requires-4-clause-private : goal.land-requires-4-clause-private
+land-requires-4-clause-private g c =
     let part = c.self.inside in
-    let own = c.args.node.now.own in
-    let owns = subst (λ (r : Received). OwnsEach own r.puts) (sym c.self.view_is) c.requires.prepared.puts in
+    let private = c.args.node.now.private in
+    let owns = subst (λ (r : Received). OwnsEach private r.puts) (sym c.self.view_is) c.requires.prepared.puts in
     let same =
-    ap (λ (p : PreparedNode). p.own) c.land-3.ensures
-    ∙ ap (λ (p : PreparedNode). p.own) c.land-2.ensures
-    ∙ ap (λ (p : PreparedNode). p.own) c.land.ensures in
-    rw same (owns_second own part.small_puts part.puts owns)
+    ap (λ (p : PreparedNode). p.private) c.land-3.ensures
+    ∙ ap (λ (p : PreparedNode). p.private) c.land-2.ensures
+    ∙ ap (λ (p : PreparedNode). p.private) c.land.ensures in
+    rw same (owns_second private part.small_puts part.puts owns)
 
 pub returns-clause-node : goal.returns-clause-node
 returns-clause-node g c =

@@ -1,10 +1,11 @@
--- Each of the four lists fits in the node's memory, and the pages that became own for one list stay own while the others are prepared.
+-- Each of the four lists fits in the node's memory, and the pages that became private for one list stay private while the others are
+-- prepared.
 use Rattle.std.proofs.Common.{◌++◌, length, subst, refl, sym, ap, ◌∙◌}
 use Rattle.std.proofs.lemmas.Result.{on_ok_weaker}
 use Rattle.node_core.specs.Node.{NodeState}
 use Rattle.bsp_exchange.specs.Arrivals.{Received, IsPrepared}
-use Rattle.node_memory.proofs.Owned.{KeepsOwn-then}
-use Rattle.bsp_exchange.proofs.KeepsOwn.{KeepsOwn-readied}
+use Rattle.node_memory.proofs.Owned.{KeepsPrivate-then}
+use Rattle.bsp_exchange.proofs.KeepsPrivate.{KeepsPrivate-readied}
 use Rattle.bsp_exchange.proofs.Patches.{owns_each_kept}
 use Rattle.bsp_exchange.proofs.Planned.{lie_first, lie_second, owns_both}
 use Rattle.bsp_exchange.proofs.arrivals.Arrivals.prepare.Goals as goal
@@ -49,32 +50,32 @@ returns-clause-ok g c =
     let second = c.in_ok-prepare-2.ensures in
     let third = c.in_ok-prepare-3.ensures in
     let fourth = c.in_ok-prepare-4.ensures in
-    let after_first = c.prepare.new.node.own in
-    let after_second = c.prepare-2.new.node.own in
-    let after_third = c.prepare-3.new.node.own in
-    let after_fourth = c.prepare-4.new.node.own in
+    let after_first = c.prepare.new.node.private in
+    let after_second = c.prepare-2.new.node.private in
+    let after_third = c.prepare-3.new.node.private in
+    let after_fourth = c.prepare-4.new.node.private in
     on_ok_weaker c.prepare_turn.result
     (λ turned.
-    let small_gets = owns_each_kept after_first after_second part.small_gets second.own first.ok in
+    let small_gets = owns_each_kept after_first after_second part.small_gets second.private first.ok in
     let gets = owns_both after_second part.small_gets part.gets small_gets second.ok in
     let all_gets =
-    owns_each_kept after_third after_fourth (part.small_gets ++ part.gets) fourth.own
-    (owns_each_kept after_second after_third (part.small_gets ++ part.gets) third.own gets) in
-    let small_puts = owns_each_kept after_third after_fourth part.small_puts fourth.own third.ok in
+    owns_each_kept after_third after_fourth (part.small_gets ++ part.gets) fourth.private
+    (owns_each_kept after_second after_third (part.small_gets ++ part.gets) third.private gets) in
+    let small_puts = owns_each_kept after_third after_fourth part.small_puts fourth.private third.ok in
     let puts = owns_both after_fourth part.small_puts part.puts small_puts fourth.ok in
     subst (λ (r : Received). IsPrepared r c.prepare_turn.new.self) c.self.view_is
     (rw turned (record { ready = refl; gets = all_gets; puts = puts })))
     c.prepare_turn.ensures.ok
 
-pub returns-clause-own : goal.returns-clause-own
-returns-clause-own g c =
-    let start = c.args.node.now.own in
-    let first = c.prepare.new.node.own in
-    let second = c.prepare-2.new.node.own in
-    let third = c.prepare-3.new.node.own in
+pub returns-clause-private : goal.returns-clause-private
+returns-clause-private g c =
+    let start = c.args.node.now.private in
+    let first = c.prepare.new.node.private in
+    let second = c.prepare-2.new.node.private in
+    let third = c.prepare-3.new.node.private in
     let fourth = c.prepare-4.new.node in
     let readied =
-    KeepsOwn-readied c.prepare_turn.result fourth c.prepare_turn.new.self c.prepare_turn.ensures.ok c.prepare_turn.ensures.err in
-    let gets = KeepsOwn-then start first second c.in_ok-prepare.ensures.own c.in_ok-prepare-2.ensures.own in
-    let puts = KeepsOwn-then second third fourth.own c.in_ok-prepare-3.ensures.own c.in_ok-prepare-4.ensures.own in
-    KeepsOwn-then start fourth.own c.prepare_turn.new.self.own (KeepsOwn-then start second fourth.own gets puts) readied
+    KeepsPrivate-readied c.prepare_turn.result fourth c.prepare_turn.new.self c.prepare_turn.ensures.ok c.prepare_turn.ensures.err in
+    let gets = KeepsPrivate-then start first second c.in_ok-prepare.ensures.private c.in_ok-prepare-2.ensures.private in
+    let puts = KeepsPrivate-then second third fourth.private c.in_ok-prepare-3.ensures.private c.in_ok-prepare-4.ensures.private in
+    KeepsPrivate-then start fourth.private c.prepare_turn.new.self.private (KeepsPrivate-then start second fourth.private gets puts) readied

@@ -19,8 +19,8 @@ land-requires g c =
       prepared =
           record {
             ready = can.ready;
-            gets = owns_first p.own part.gets part.puts can.own;
-            puts = owns_second p.own part.gets part.puts can.own;
+            gets = owns_first p.private part.gets part.puts can.private;
+            puts = owns_second p.private part.gets part.puts can.private;
           };
     }
 

@@ -1,4 +1,4 @@
--- The gets and the puts fit in the node's memory because the part's patches do, and once their pages are own the part can land.
+-- The gets and the puts fit in the node's memory because the part's patches do, and once their pages are private the part can land.
 use Rattle.std.proofs.Common.{length, subst, ap, ◌∙◌}
 use Rattle.std.proofs.lemmas.Result.{on_ok_weaker}
 use Rattle.node_core.specs.Node.{NodeState}
@@ -30,8 +30,8 @@ returns-clause-ok g c =
       rank = ap (λ (n : NodeState). n.hart.rank) same ∙ c.requires.rank;
       waiting = ap (λ (n : NodeState). n.state) same ∙ c.requires.waiting;
       ready = prepared.ready;
-      own =
-          subst (λ (p : PartState). OwnsEach new.own p.patches) c.self.view_is
-          (owns_both new.own part.gets part.puts prepared.gets prepared.puts);
+      private =
+          subst (λ (p : PartState). OwnsEach new.private p.patches) c.self.view_is
+          (owns_both new.private part.gets part.puts prepared.gets prepared.puts);
     })
     c.prepare.ensures.ok

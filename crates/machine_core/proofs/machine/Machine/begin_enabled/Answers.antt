@@ -111,8 +111,8 @@ returns-in-Ok-Over g c =
       λ made. refl,
     )
 
-pub invariant_of-lander : goal.invariant_of-lander
-invariant_of-lander g c =
+pub invariant_of-exchanging : goal.invariant_of-exchanging
+invariant_of-exchanging g c =
     let m = machine_view c.self.inside in
     let enabled : is_enabled m Turn ≡ true = ap (λ (x : MachineState). is_enabled x Turn) c.self.view_is ∙ c.requires in
     let same : states c.deref-3.result.now ≡ m.nodes = ap states c.deref-3.ensures.value in

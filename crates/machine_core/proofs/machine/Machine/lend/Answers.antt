@@ -2,5 +2,5 @@
 use Rattle.std.proofs.Common.{rules}
 use Rattle.machine_core.proofs.machine.Machine.lend.Goals as goal
 
-pub invariant_of-lender : goal.invariant_of-lender
-invariant_of-lender g c = search rules
+pub invariant_of-computing : goal.invariant_of-computing
+invariant_of-computing g c = search rules

@@ -5,7 +5,7 @@ use Rattle.rv_values.specs.Arithmetic.{modulo}
 use Rattle.node_core.specs.Communication.{Communication}
 use Rattle.node_core.specs.Hart.{After, PreparedHart}
 use Rattle.node_core.proofs.Answered.{on_err}
-use Rattle.node_core.proofs.OwnStores.{KeepsOwn-held}
+use Rattle.node_core.proofs.PrivateStores.{KeepsPrivate-held}
 use Rattle.node_core.proofs.Room.{room_after-held, room_after-still}
 use Rattle.node_core.proofs.hart.Hart.effect.Goals as goal
 
@@ -105,8 +105,8 @@ returns-in_err-state-in-Store-clause-ready g c =
     ∙ room_after-still c.args.self.now.ready c.args.self.now.hart c.store.new.self.hart
     (sym (ap (λ (m : Communication). m.registrations) c.store.ensures.registrations))
 
-pub returns-in_err-state-in-Store-clause-own : goal.returns-in_err-state-in-Store-clause-own
-returns-in_err-state-in-Store-clause-own g c = c.store.ensures.own
+pub returns-in_err-state-in-Store-clause-private : goal.returns-in_err-state-in-Store-clause-private
+returns-in_err-state-in-Store-clause-private g c = c.store.ensures.private
 
 pub returns-in_err-state-in-Store-clause-err : goal.returns-in_err-state-in-Store-clause-err
 returns-in_err-state-in-Store-clause-err g c =
@@ -115,8 +115,8 @@ returns-in_err-state-in-Store-clause-err g c =
 pub returns-in_err-state-in-Plain-Ecall-clause-ready : goal.returns-in_err-state-in-Plain-Ecall-clause-ready
 returns-in_err-state-in-Plain-Ecall-clause-ready g c = c.call.ensures.ready
 
-pub returns-in_err-state-in-Plain-Ecall-clause-own : goal.returns-in_err-state-in-Plain-Ecall-clause-own
-returns-in_err-state-in-Plain-Ecall-clause-own g c = c.call.ensures.own
+pub returns-in_err-state-in-Plain-Ecall-clause-private : goal.returns-in_err-state-in-Plain-Ecall-clause-private
+returns-in_err-state-in-Plain-Ecall-clause-private g c = c.call.ensures.private
 
 pub returns-in_err-state-in-Plain-Ecall-clause-err : goal.returns-in_err-state-in-Plain-Ecall-clause-err
 returns-in_err-state-in-Plain-Ecall-clause-err g c =
@@ -128,21 +128,21 @@ returns-in-R-clause-ok g c =
 
 pub returns-in-R-clause-ready : goal.returns-in-R-clause-ready
 returns-in-R-clause-ready g c =
-    room_after-held c.args.self.now.ready c.args.self.now.own c.args.self.now.hart c.put-state.new.self
+    room_after-held c.args.self.now.ready c.args.self.now.private c.args.self.now.hart c.put-state.new.self
     (ap (λ (a : After). a.hart.communication.registrations) c.put-state.ensures.hart) c.put-state.ensures.rest
 
-pub returns-in-R-clause-own : goal.returns-in-R-clause-own
-returns-in-R-clause-own g c =
-    KeepsOwn-held c.args.self.now c.put-state.new.self c.put-state.ensures.rest
+pub returns-in-R-clause-private : goal.returns-in-R-clause-private
+returns-in-R-clause-private g c =
+    KeepsPrivate-held c.args.self.now c.put-state.new.self c.put-state.ensures.rest
 
 pub returns-in-I-clause-ready : goal.returns-in-I-clause-ready
 returns-in-I-clause-ready g c =
-    room_after-held c.args.self.now.ready c.args.self.now.own c.args.self.now.hart c.put-state-in-I.new.self
+    room_after-held c.args.self.now.ready c.args.self.now.private c.args.self.now.hart c.put-state-in-I.new.self
     (ap (λ (a : After). a.hart.communication.registrations) c.put-state-in-I.ensures.hart) c.put-state-in-I.ensures.rest
 
-pub returns-in-I-clause-own : goal.returns-in-I-clause-own
-returns-in-I-clause-own g c =
-    KeepsOwn-held c.args.self.now c.put-state-in-I.new.self c.put-state-in-I.ensures.rest
+pub returns-in-I-clause-private : goal.returns-in-I-clause-private
+returns-in-I-clause-private g c =
+    KeepsPrivate-held c.args.self.now c.put-state-in-I.new.self c.put-state-in-I.ensures.rest
 
 pub returns-in-Shift-clause-ok : goal.returns-in-Shift-clause-ok
 returns-in-Shift-clause-ok g c =
@@ -150,16 +150,16 @@ returns-in-Shift-clause-ok g c =
 
 pub returns-in-Shift-clause-ready : goal.returns-in-Shift-clause-ready
 returns-in-Shift-clause-ready g c =
-    room_after-held c.args.self.now.ready c.args.self.now.own c.args.self.now.hart c.put-state-in-Shift.new.self
+    room_after-held c.args.self.now.ready c.args.self.now.private c.args.self.now.hart c.put-state-in-Shift.new.self
     (ap (λ (a : After). a.hart.communication.registrations) c.put-state-in-Shift.ensures.hart) c.put-state-in-Shift.ensures.rest
 
-pub returns-in-Shift-clause-own : goal.returns-in-Shift-clause-own
-returns-in-Shift-clause-own g c =
-    KeepsOwn-held c.args.self.now c.put-state-in-Shift.new.self c.put-state-in-Shift.ensures.rest
+pub returns-in-Shift-clause-private : goal.returns-in-Shift-clause-private
+returns-in-Shift-clause-private g c =
+    KeepsPrivate-held c.args.self.now c.put-state-in-Shift.new.self c.put-state-in-Shift.ensures.rest
 
-pub returns-in-Load-clause-own : goal.returns-in-Load-clause-own
-returns-in-Load-clause-own g c =
-    KeepsOwn-held c.args.self.now c.load-state.new.self c.load-state.ensures.rest
+pub returns-in-Load-clause-private : goal.returns-in-Load-clause-private
+returns-in-Load-clause-private g c =
+    KeepsPrivate-held c.args.self.now c.load-state.new.self c.load-state.ensures.rest
 
 pub returns-in_ok-state-in-Store-clause-ready : goal.returns-in_ok-state-in-Store-clause-ready
 returns-in_ok-state-in-Store-clause-ready g c =
@@ -167,17 +167,17 @@ returns-in_ok-state-in-Store-clause-ready g c =
     ∙ room_after-still c.args.self.now.ready c.args.self.now.hart c.store.new.self.hart
     (sym (ap (λ (m : Communication). m.registrations) c.store.ensures.registrations))
 
-pub returns-in_ok-state-in-Store-clause-own : goal.returns-in_ok-state-in-Store-clause-own
-returns-in_ok-state-in-Store-clause-own g c = c.store.ensures.own
+pub returns-in_ok-state-in-Store-clause-private : goal.returns-in_ok-state-in-Store-clause-private
+returns-in_ok-state-in-Store-clause-private g c = c.store.ensures.private
 
 pub returns-then-is_taken-clause-ready : goal.returns-then-is_taken-clause-ready
 returns-then-is_taken-clause-ready g c =
-    room_after-held c.args.self.now.ready c.args.self.now.own c.args.self.now.hart c.jump-then-is_taken.new.self
+    room_after-held c.args.self.now.ready c.args.self.now.private c.args.self.now.hart c.jump-then-is_taken.new.self
     (ap (λ (a : After). a.hart.communication.registrations) c.jump-then-is_taken.ensures.hart) c.jump-then-is_taken.ensures.rest
 
-pub returns-then-is_taken-clause-own : goal.returns-then-is_taken-clause-own
-returns-then-is_taken-clause-own g c =
-    KeepsOwn-held c.args.self.now c.jump-then-is_taken.new.self c.jump-then-is_taken.ensures.rest
+pub returns-then-is_taken-clause-private : goal.returns-then-is_taken-clause-private
+returns-then-is_taken-clause-private g c =
+    KeepsPrivate-held c.args.self.now c.jump-then-is_taken.new.self c.jump-then-is_taken.ensures.rest
 
 pub returns-else-is_taken-clause-ok : goal.returns-else-is_taken-clause-ok
 returns-else-is_taken-clause-ok g c =
@@ -186,12 +186,12 @@ returns-else-is_taken-clause-ok g c =
 
 pub returns-else-is_taken-clause-ready : goal.returns-else-is_taken-clause-ready
 returns-else-is_taken-clause-ready g c =
-    room_after-held c.args.self.now.ready c.args.self.now.own c.args.self.now.hart c.pass.new.self
+    room_after-held c.args.self.now.ready c.args.self.now.private c.args.self.now.hart c.pass.new.self
     (ap (λ (a : After). a.hart.communication.registrations) c.pass.ensures.hart) c.pass.ensures.rest
 
-pub returns-else-is_taken-clause-own : goal.returns-else-is_taken-clause-own
-returns-else-is_taken-clause-own g c =
-    KeepsOwn-held c.args.self.now c.pass.new.self c.pass.ensures.rest
+pub returns-else-is_taken-clause-private : goal.returns-else-is_taken-clause-private
+returns-else-is_taken-clause-private g c =
+    KeepsPrivate-held c.args.self.now c.pass.new.self c.pass.ensures.rest
 
 pub returns-in-Upper-clause-ok : goal.returns-in-Upper-clause-ok
 returns-in-Upper-clause-ok g c =
@@ -199,37 +199,37 @@ returns-in-Upper-clause-ok g c =
 
 pub returns-in-Upper-clause-ready : goal.returns-in-Upper-clause-ready
 returns-in-Upper-clause-ready g c =
-    room_after-held c.args.self.now.ready c.args.self.now.own c.args.self.now.hart c.upper-state.new.self
+    room_after-held c.args.self.now.ready c.args.self.now.private c.args.self.now.hart c.upper-state.new.self
     (ap (λ (a : After). a.hart.communication.registrations) c.upper-state.ensures.hart) c.upper-state.ensures.rest
 
-pub returns-in-Upper-clause-own : goal.returns-in-Upper-clause-own
-returns-in-Upper-clause-own g c =
-    KeepsOwn-held c.args.self.now c.upper-state.new.self c.upper-state.ensures.rest
+pub returns-in-Upper-clause-private : goal.returns-in-Upper-clause-private
+returns-in-Upper-clause-private g c =
+    KeepsPrivate-held c.args.self.now c.upper-state.new.self c.upper-state.ensures.rest
 
 pub returns-in-Jal-clause-ready : goal.returns-in-Jal-clause-ready
 returns-in-Jal-clause-ready g c =
-    room_after-held c.args.self.now.ready c.args.self.now.own c.args.self.now.hart c.jump_and_link-state.new.self
+    room_after-held c.args.self.now.ready c.args.self.now.private c.args.self.now.hart c.jump_and_link-state.new.self
     (ap (λ (a : After). a.hart.communication.registrations) c.jump_and_link-state.ensures.hart) c.jump_and_link-state.ensures.rest
 
-pub returns-in-Jal-clause-own : goal.returns-in-Jal-clause-own
-returns-in-Jal-clause-own g c =
-    KeepsOwn-held c.args.self.now c.jump_and_link-state.new.self c.jump_and_link-state.ensures.rest
+pub returns-in-Jal-clause-private : goal.returns-in-Jal-clause-private
+returns-in-Jal-clause-private g c =
+    KeepsPrivate-held c.args.self.now c.jump_and_link-state.new.self c.jump_and_link-state.ensures.rest
 
 pub returns-in-Jalr-clause-ready : goal.returns-in-Jalr-clause-ready
 returns-in-Jalr-clause-ready g c =
-    room_after-held c.args.self.now.ready c.args.self.now.own c.args.self.now.hart c.jump_and_link-state-in-Jalr.new.self
+    room_after-held c.args.self.now.ready c.args.self.now.private c.args.self.now.hart c.jump_and_link-state-in-Jalr.new.self
     (ap (λ (a : After). a.hart.communication.registrations) c.jump_and_link-state-in-Jalr.ensures.hart)
     c.jump_and_link-state-in-Jalr.ensures.rest
 
-pub returns-in-Jalr-clause-own : goal.returns-in-Jalr-clause-own
-returns-in-Jalr-clause-own g c =
-    KeepsOwn-held c.args.self.now c.jump_and_link-state-in-Jalr.new.self c.jump_and_link-state-in-Jalr.ensures.rest
+pub returns-in-Jalr-clause-private : goal.returns-in-Jalr-clause-private
+returns-in-Jalr-clause-private g c =
+    KeepsPrivate-held c.args.self.now c.jump_and_link-state-in-Jalr.new.self c.jump_and_link-state-in-Jalr.ensures.rest
 
 pub returns-in_ok-state-in-Plain-Ecall-clause-ready : goal.returns-in_ok-state-in-Plain-Ecall-clause-ready
 returns-in_ok-state-in-Plain-Ecall-clause-ready g c = c.call.ensures.ready
 
-pub returns-in_ok-state-in-Plain-Ecall-clause-own : goal.returns-in_ok-state-in-Plain-Ecall-clause-own
-returns-in_ok-state-in-Plain-Ecall-clause-own g c = c.call.ensures.own
+pub returns-in_ok-state-in-Plain-Ecall-clause-private : goal.returns-in_ok-state-in-Plain-Ecall-clause-private
+returns-in_ok-state-in-Plain-Ecall-clause-private g c = c.call.ensures.private
 
 pub returns-in_err-state-in-Store-clause-refuses : goal.returns-in_err-state-in-Store-clause-refuses
 returns-in_err-state-in-Store-clause-refuses g c =

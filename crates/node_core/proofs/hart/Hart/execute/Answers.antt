@@ -4,7 +4,7 @@ use Rattle.std.specs.Prelude.{option_map}
 use Rattle.rv_tables.specs.Codes.{code_in, code_length}
 use Rattle.node_core.specs.Executed.{fetched}
 use Rattle.node_core.specs.Hart.{PreparedHart}
-use Rattle.code_pages.proofs.Fetch.{code_at_word}
+use Rattle.decode_cache.proofs.Fetch.{code_at_word}
 use Rattle.rv_tables.specs.declared.code.Code.TheVariants.{Word}
 use Rattle.node_core.proofs.Fetch.{fetched-word}
 use Rattle.node_core.proofs.Refused.{may_refuse, may_refuse-float}

@@ -2,7 +2,7 @@
 use Rattle.std.proofs.Common.{◌∙◌, ap}
 use Rattle.node_core.specs.Executed.{fetched}
 use Rattle.node_core.specs.Hart.{PreparedHart}
-use Rattle.code_pages.proofs.Fetch.{code_at_word}
+use Rattle.decode_cache.proofs.Fetch.{code_at_word}
 use Rattle.node_core.proofs.hart.Hart.fetch.Goals as goal
 
 pub returns-in-Some : goal.returns-in-Some

@@ -1,4 +1,4 @@
--- The pages that the bytes land in are the memory's own, and nothing else of the hart changes.
+-- The pages that the bytes land in are private, and nothing else of the hart changes.
 use Rattle.std.proofs.Common.{◌≡◌, ℕ, List, Bool, ap, ap₂, ◌∙◌}
 use Rattle.node_memory.specs.Bytes.{with_bytes}
 use Rattle.node_core.specs.Hart.{PreparedHart, with_memory}
@@ -7,8 +7,8 @@ use Rattle.node_core.proofs.hart.Hart.land.Goals as goal
 
 pub write_owned-requires : goal.write_owned-requires
 write_owned-requires g c =
-    let own : c.self.inside.memory.own ≡ c.args.self.now.own = ap (λ (h : PreparedHart). h.own) c.self.view_is in
-    rw own c.requires
+    let private : c.self.inside.memory.private ≡ c.args.self.now.private = ap (λ (h : PreparedHart). h.private) c.self.view_is in
+    rw private c.requires
 
 pub returns : goal.returns
 returns g c =
@@ -16,8 +16,8 @@ returns g c =
     λ bytes pages. record {
       hart = with_memory bytes (hart_view c.self.inside).hart;
       ready = c.self.inside.communication.slots.ready;
-      own = pages;
+      private = pages;
     } in
-    ap₂ there c.write_owned.ensures.bytes c.write_owned.ensures.same_own
+    ap₂ there c.write_owned.ensures.bytes c.write_owned.ensures.same_private
     ∙ ap (λ (h : PreparedHart). record h { hart = with_memory (with_bytes h.hart.memory c.args.addr c.args.bytes.now) h.hart })
     c.self.view_is

@@ -19,7 +19,7 @@ returns-in_default-clause-ok g c =
 
 pub returns-in_default-clause-ready : goal.returns-in_default-clause-ready
 returns-in_default-clause-ready g c =
-    room_after-held c.args.self.now.ready c.args.self.now.own c.args.self.now.hart c.advance.new.self
+    room_after-held c.args.self.now.ready c.args.self.now.private c.args.self.now.hart c.advance.new.self
     (ap (λ (a : After). a.hart.communication.registrations) c.advance.ensures.hart) c.advance.ensures.rest
 
 pub invariant_of-self : goal.invariant_of-self
@@ -42,8 +42,8 @@ pub returns-in-Err-clause-ready : goal.returns-in-Err-clause-ready
 returns-in-Err-clause-ready g c =
     rw (← c.self.view_is) (sym (room_after-same c.self.inside.communication.slots.ready (hart_view c.self.inside).hart))
 
-pub returns-in-Err-clause-own : goal.returns-in-Err-clause-own
-returns-in-Err-clause-own g c = rw (← c.self.view_is) c.write_range.ensures.more.keeps
+pub returns-in-Err-clause-private : goal.returns-in-Err-clause-private
+returns-in-Err-clause-private g c = rw (← c.self.view_is) c.write_range.ensures.more.keeps
 
 pub returns-in-Err-clause-refuses : goal.returns-in-Err-clause-refuses
 returns-in-Err-clause-refuses g c =
@@ -82,8 +82,9 @@ returns-clause-ok g c =
 
 pub returns-clause-ready : goal.returns-clause-ready
 returns-clause-ready g c =
-    rw (← c.self.view_is) (room_after-held c.self.inside.communication.slots.ready c.write_range.new.self.own (hart_view c.self.inside).hart
+    rw (← c.self.view_is) (room_after-held c.self.inside.communication.slots.ready c.write_range.new.self.private
+    (hart_view c.self.inside).hart
     c.advance-2.new.self (ap (λ (a : After). a.hart.communication.registrations) c.advance-2.ensures.hart) c.advance-2.ensures.rest)
 
-pub returns-clause-own : goal.returns-clause-own
-returns-clause-own g c = rw (← c.self.view_is, c.advance-2.ensures.rest) c.write_range.ensures.more.keeps
+pub returns-clause-private : goal.returns-clause-private
+returns-clause-private g c = rw (← c.self.view_is, c.advance-2.ensures.rest) c.write_range.ensures.more.keeps

@@ -1,4 +1,4 @@
--- More pages are the memory's own than before, and after a refusal not yet all of the range; a search finds both.
+-- More pages are private than before, and after a refusal not yet all of the range; a search finds both.
 use Rattle.std.proofs.Common.{rules}
 use Rattle.node_core.proofs.hart.Hart.prepare_land.Goals as goal
 

@@ -3,11 +3,11 @@ use Rattle.std.proofs.Common.{◌≡◌, ◌/◌, ◌<◌, ℕ, length, replicat
 use Rattle.std.proofs.lemmas.List.{length-replicate}
 use Rattle.std.proofs.lemmas.Bool.{false≢true}
 use Rattle.node_memory.specs.Bytes.{with_bytes}
-use Rattle.node_memory.specs.Pages.{IsOwn, IsShared}
+use Rattle.node_memory.specs.Pages.{IsPrivate, IsShared}
 use borrow.Author.Count.{falls}
 use Rattle.node_memory.proofs.Writes.{length-with_bytes}
 use Rattle.node_memory.proofs.Zeros.{below_page, below_first, below_end, cleared_none, end_page-fits, page_start-fits, part-ordered}
-use Rattle.node_memory.proofs.Zeros.{part-in_page, some-end, start-within, cleared_more, cleared_shared, own_or_shared}
+use Rattle.node_memory.proofs.Zeros.{part-in_page, some-end, start-within, cleared_more, cleared_shared, private_or_shared}
 use Rattle.node_memory.proofs.memory.Memory.clear.Goals.{then-not-shares+in_ok-clear_window, else-not-shares}
 use Rattle.node_memory.proofs.memory.Memory.clear.Goals as goal
 
@@ -78,15 +78,15 @@ clear_window-requires-clause-within g c =
     ∙ length-with_bytes c.args.self.now.bytes c.args.addr (replicate done 0) (omega (arith, c.requires.within)) in
     omega (arith, size, c.requires.within)
 
-pub clear_window-requires-clause-own : goal.clear_window-requires-clause-own
-clear_window-requires-clause-own g c =
+pub clear_window-requires-clause-private : goal.clear_window-requires-clause-private
+clear_window-requires-clause-private g c =
     let count = c.loop-page.invariant.2 in
     let page = c.loop-page.page in
-    let in' : page < length c.loop-page.self.own = omega (arith, c.recall_size.ensures.pages, count, c.requires.within) in
-    let own : IsOwn c.loop-page.self.own page =
-    own_or_shared c.loop-page.self.own page in' (λ shared. false≢true (sym c.if-not-shares.true ∙ c.shares.ensures.1 shared)) in
+    let in' : page < length c.loop-page.self.private = omega (arith, c.recall_size.ensures.pages, count, c.requires.within) in
+    let private : IsPrivate c.loop-page.self.private page =
+    private_or_shared c.loop-page.self.private page in' (λ shared. false≢true (sym c.if-not-shares.true ∙ c.shares.ensures.1 shared)) in
     let at : c.max-from.result / 4096 ≡ page = omega arith in
-    rw at own
+    rw at private
 
 pub loop-page-preserved : goal.loop-page-preserved
 loop-page-preserved g c =
@@ -98,13 +98,13 @@ loop-page-preserved g c =
             ∙ cleared_more c.args.self.now.bytes c.loop-page.self.bytes _ c.args.addr c.args.len page w.max-from.result w.min-to.result h.0
             (omega arith) (omega arith) w.in_ok-clear_window.ensures.bytes (omega arith) (omega arith) (omega arith) c.requires.within,
         rw w.self-is w.in_ok-clear_window.ensures.rest,
-        ap (λ m. length m.own) w.self-is ∙ w.in_ok-clear_window.ensures.pages ∙ h.2,
+        ap (λ m. length m.private) w.self-is ∙ w.in_ok-clear_window.ensures.pages ∙ h.2,
       )
       | else-not-shares w ↦
-          let shared : IsShared c.loop-page.self.own page = c.shares.ensures.0 w.if-not-shares.false in (
+          let shared : IsShared c.loop-page.self.private page = c.shares.ensures.0 w.if-not-shares.false in (
             ap (λ m. m.bytes) w.self-is ∙ cleared_shared c.args.self.now c.loop-page.self c.args.addr c.args.len page h.0 h.1 shared
                 (omega arith) (omega arith) (omega arith) c.requires.within,
             rw w.self-is h.1,
-            ap (λ m. length m.own) w.self-is ∙ h.2,
+            ap (λ m. length m.private) w.self-is ∙ h.2,
           )
     ]

@@ -9,4 +9,4 @@ abbrev pub invariant-loop-page : goal.invariant-loop-page
 invariant-loop-page g l =
     (l.self.bytes ≡ with_bytes l.fn.self.bytes l.addr (replicate (below_page l.addr l.len l.page) 0))
     × SharesZeros l.self
-    × (length l.self.own ≡ length l.fn.self.own)
+    × (length l.self.private ≡ length l.fn.self.private)

@@ -21,7 +21,7 @@ returns-clause-bytes g c =
     page_cleared-shown t c.args.page c.index_mut.result.now c.in_ok-self-inside.field-0 in_table c.index_mut.ensures.value
     (c.in_ok-self-inside.ensures.bytes ∙ c.requires.zeros.zeros)
 
-pub returns-clause-own : goal.returns-clause-own
-returns-clause-own g c =
+pub returns-clause-private : goal.returns-clause-private
+returns-clause-private g c =
     let t = table _ _ c.self.view_is c.self.invariant in
     flags-set t c.args.page c.in_ok-self-inside.field-0 false c.in_ok-self-inside.ensures.shared

@@ -19,7 +19,7 @@ pub returns-in_ok-clear_page-clause-rest : goal.returns-in_ok-clear_page-clause-
 returns-in_ok-clear_page-clause-rest g c =
     let within : c.args.addr / 4096 * 4096 + 4096 ≤ length c.args.self.now.bytes = omega (arith, c.requires.one_page, c.requires.within) in
     SharesZeros-cleared c.args.self.now _ (c.args.addr / 4096) c.requires.rest within c.in_ok-clear_page.ensures.bytes
-    c.in_ok-clear_page.ensures.own
+    c.in_ok-clear_page.ensures.private
 
 pub returns-else-len-eq-PAGE-clause-bytes : goal.returns-else-len-eq-PAGE-clause-bytes
 returns-else-len-eq-PAGE-clause-bytes g c =
@@ -34,9 +34,9 @@ returns-else-len-eq-PAGE-clause-rest g c =
     let m = c.args.self.now.bytes in
     let len = c.args.len in
     SharesZeros-zeroed c.args.self.now _ c.args.addr len c.requires.rest
-    (Owns-one_page c.args.self.now.own c.args.addr len c.requires.one_page c.requires.own)
+    (Owns-one_page c.args.self.now.private c.args.addr len c.requires.one_page c.requires.private)
     c.requires.within
     (c.write_window.ensures.bytes
     ∙ ap (λ bs. with_bytes m c.args.addr (take len bs)) (c.bytes.ensures ∙ c.requires.zeros.zeros)
     ∙ ap (with_bytes m c.args.addr) (take-replicate len 4096 0 (omega (arith, c.requires.one_page))))
-    c.write_window.ensures.same_own
+    c.write_window.ensures.same_private

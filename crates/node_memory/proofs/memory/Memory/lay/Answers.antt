@@ -1,4 +1,4 @@
--- The segment's bytes and the zeros after them are the segment laid, and writing into own pages leaves the shared ones zeros.
+-- The segment's bytes and the zeros after them are the segment laid, and writing into private pages leaves the shared ones zeros.
 use Rattle.std.proofs.Common.{◌≡◌, ◌+◌, ◌-◌, ◌≤◌, false, length, replicate, refl, ap, ◌∙◌, arith}
 use Rattle.std.proofs.lemmas.Result.{on_ok_weaker}
 use Rattle.std.proofs.lemmas.Bool.Decides.{nat_tests}
@@ -19,7 +19,7 @@ returns-clause-after g c =
     on_ok_weaker c.clear.result
     (λ cleared. cleared
     ∙ ap (λ x. with_bytes x (inside.addr + length bytes) (replicate (inside.size - length bytes) 0))
-    (c.write_owned.ensures.bytes ∙ ap (λ x. with_bytes x inside.addr bytes) c.own.ensures.bytes)
+    (c.write_owned.ensures.bytes ∙ ap (λ x. with_bytes x inside.addr bytes) c.make_private.ensures.bytes)
     ∙ segment_laid m bytes s (inside.addr + length bytes) c.as_slice-bytes.ensures refl c.segment.invariant.holds_bytes fits
     ∙ ap (with_segment m) c.segment.view_is)
     c.clear.ensures.bytes
@@ -27,8 +27,8 @@ returns-clause-after g c =
 pub clear-requires-clause-rest : goal.clear-requires-clause-rest
 clear-requires-clause-rest g c =
     SharesZeros-written _ _ c.segment.inside.addr c.as_slice-bytes.result.now
-    (SharesZeros-owned _ _ _ _ c.requires.rest c.own.ensures.more c.own.ensures.bytes)
-    c.in_ok-own.ensures.owned
+    (SharesZeros-owned _ _ _ _ c.requires.rest c.make_private.ensures.more c.make_private.ensures.bytes)
+    c.in_ok-make_private.ensures.owned
     c.write_owned.ensures.within
     c.write_owned.ensures.bytes
-    c.write_owned.ensures.same_own
+    c.write_owned.ensures.same_private

@@ -1,7 +1,7 @@
--- Segment by segment the memory comes to have the image's bytes; shared at the end, it has them and no page of its own.
+-- Segment by segment the memory comes to have the image's bytes; shared at the end, it has them and no private page.
 use Rattle.std.proofs.Common.{◌≡◌, ℕ, ◌*◌, ◌/◌, length, replicate, sym, ap, ◌∙◌, List, rules}
 use Rattle.node_memory.specs.Image.{Image, image_bytes}
-use Rattle.node_memory.specs.Pages.{PagedMemory, none_own}
+use Rattle.node_memory.specs.Pages.{PagedMemory, none_private}
 use Rattle.node_memory.proofs.ImageBytes.{length-image_bytes, image_bytes_none, lay_fits, image_bytes_more, all_laid, whole_pages}
 use Rattle.node_memory.proofs.Zeros.{SharesZeros-new}
 use Rattle.node_memory.proofs.memory.Memory.new.Goals as goal
@@ -40,8 +40,8 @@ returns g c = record {
       all_laid _ _ _ _ _ _ segments c.loop-segment-test.false c.loop-segment.invariant.0 in
       let size : length c.loop-segment.laid.bytes ≡ c.args.size = ap length laid ∙ length-image_bytes c.args.image.now c.args.size in
       c.in_ok-share.ensures
-      ∙ ap (λ (bs : List ℕ). record { bytes = bs; own = none_own (length c.loop-segment.laid.bytes) }) laid
-      ∙ ap (λ (n : ℕ). record { bytes = image_bytes c.args.image.now c.args.size; own = none_own n }) size;
+      ∙ ap (λ (bs : List ℕ). record { bytes = bs; private = none_private (length c.loop-segment.laid.bytes) }) laid
+      ∙ ap (λ (n : ℕ). record { bytes = image_bytes c.args.image.now c.args.size; private = none_private n }) size;
   len =
       let laid = ap length c.loop-segment.invariant.0 ∙ length-image_bytes _ _ in
       ap (λ (m : PagedMemory). length m.bytes) c.in_ok-share.ensures ∙ laid;

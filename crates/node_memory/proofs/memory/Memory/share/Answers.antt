@@ -1,4 +1,4 @@
--- Page by page a table of shared pages with the same bytes is made, and it shows the memory with no page of its own.
+-- Page by page a table of shared pages with the same bytes is made, and it shows the memory with no private page.
 use Rattle.std.proofs.Common.{◌≡◌, ◌*◌, length, sym, ap, ◌∙◌, arith}
 use Rattle.node_memory.specs.Table.{page_bytes}
 use Rattle.node_memory.proofs.Table.{table}

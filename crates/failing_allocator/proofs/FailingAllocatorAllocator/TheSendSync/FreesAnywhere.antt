@@ -1,0 +1,10 @@
+-- A block goes back from any thread where the inner allocator's blocks do.
+use mir.Syntax.{Dict}
+use denote.RattleType.{RattleType}
+use denote.Param.Send.{Frees}
+use Rattle.std.specs.declared.alloc.Allocator.{Ghosts}
+use Rattle.failing_allocator.specs.contracts.FailingAllocatorAllocator.TheImpl.{ghosts}
+
+pub frees : (B : RattleType) (g : Ghosts B.Denot) (d e : Dict) → Frees g g.dealloc_token
+    → Frees (ghosts B g d e) (ghosts B g d e).dealloc_token
+frees B g d e f = record { frees = λ a τ p. f.frees a.inner τ p }

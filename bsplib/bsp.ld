@@ -22,6 +22,9 @@ SECTIONS
         KEEP(*(.text.start))
         *(.text.unlikely .text.unlikely.* .text.startup .text.startup.* .text .text.* .gnu.linkonce.t.*)
     } :code
+    /* By these an exception finds its way through functions. A program in C has none. */
+    .eh_frame : { __eh_frame_start = .; KEEP(*(.eh_frame .eh_frame.*)) LONG(0) } :code
+    .gcc_except_table : { *(.gcc_except_table .gcc_except_table.*) } :code
     .rodata : { *(.rodata .rodata.* .gnu.linkonce.r.* .srodata .srodata.*) } :code
     .init_array : {
         __preinit_array_start = .;
@@ -68,5 +71,8 @@ SECTIONS
     _end = .;
     end = .;
 
-    /DISCARD/ : { *(.comment .note .note.* .eh_frame .eh_frame.*) }
+    /* Of which sources the program is, for bsprun. */
+    .bspcc.sources 0 : { KEEP(*(.bspcc.sources)) }
+
+    /DISCARD/ : { *(.comment .note .note.*) }
 }

@@ -37,6 +37,18 @@
 
 #include <stdarg.h>
 
+/* What a function does with memory, so that the compiler warns of bytes that are not there, or were not written. The memory of an area is
+   named and not read, which older compilers cannot be told. */
+#if defined __GNUC__ && __GNUC__ >= 11
+#define BSP_NAMES(pointer) __attribute__((access(none, pointer)))
+#define BSP_READS(pointer, size) __attribute__((access(read_only, pointer, size)))
+#define BSP_WRITES(pointer, size) __attribute__((access(write_only, pointer, size)))
+#else
+#define BSP_NAMES(pointer)
+#define BSP_READS(pointer, size)
+#define BSP_WRITES(pointer, size)
+#endif
+
 /* What other headers of BSPlib call the types of ranks, of their number and of sizes. */
 typedef int bsp_pid_t;
 typedef int bsp_nprocs_t;
@@ -61,17 +73,17 @@ int bsp_pid(void);
 void bsp_sync(void);
 
 /* Registration, in effect from the next superstep on. */
-void bsp_push_reg(const void *ident, int size);
-void bsp_pop_reg(const void *ident);
-void bsp_pushregister(const void *ident, int size);
-void bsp_popregister(const void *ident);
+BSP_NAMES(1) void bsp_push_reg(const void *ident, int size);
+BSP_NAMES(1) void bsp_pop_reg(const void *ident);
+BSP_NAMES(1) void bsp_pushregister(const void *ident, int size);
+BSP_NAMES(1) void bsp_popregister(const void *ident);
 
 /* Direct remote memory access. */
-void bsp_put(int pid, const void *src, void *dst, int offset, int nbytes);
-void bsp_hpput(int pid, const void *src, void *dst, int offset, int nbytes);
-void bsp_get(int pid, const void *src, int offset, void *dst, int nbytes);
-void bsp_hpget(int pid, const void *src, int offset, void *dst, int nbytes);
-__attribute__((error("memories meet at bsp_sync alone: write bsp_get, and use what it got after the next bsp_sync")))
+BSP_READS(2, 5) BSP_NAMES(3) void bsp_put(int pid, const void *src, void *dst, int offset, int nbytes);
+BSP_READS(2, 5) BSP_NAMES(3) void bsp_hpput(int pid, const void *src, void *dst, int offset, int nbytes);
+BSP_NAMES(2) BSP_WRITES(4, 5) void bsp_get(int pid, const void *src, int offset, void *dst, int nbytes);
+BSP_NAMES(2) BSP_WRITES(4, 5) void bsp_hpget(int pid, const void *src, int offset, void *dst, int nbytes);
+/* Of MulticoreBSP. A node reads no other's memory within a superstep: of another rank it stops the node with a line. */
 void bsp_direct_get(int pid, const void *src, int offset, void *dst, int nbytes);
 
 /* A pointer to a whole number of 32 bits, of whichever type. */
@@ -81,23 +93,29 @@ typedef int *bsp_number;
 typedef union {
     int *with_sign;
     unsigned *without_sign;
+#if __SIZEOF_LONG__ == 4 /* not on a host, for which native/ has this library */
     long *long_with_sign;
     unsigned long *long_without_sign;
+#endif
 } bsp_number __attribute__((transparent_union));
 #endif
 
 /* Messages. bsp_set_tagsize leaves the size in effect in *tag_nbytes. Either pointer of bsp_qsize may be NULL. */
 void bsp_set_tagsize(bsp_number tag_nbytes);
-void bsp_send(int pid, const void *tag, const void *payload, int payload_nbytes);
-void bsp_hpsend(int pid, const void *tag, const void *payload, int payload_nbytes);
+BSP_READS(3, 4) void bsp_send(int pid, const void *tag, const void *payload, int payload_nbytes);
+BSP_READS(3, 4) void bsp_hpsend(int pid, const void *tag, const void *payload, int payload_nbytes);
 void bsp_qsize(bsp_number nmessages, bsp_number accum_nbytes);
 void bsp_get_tag(bsp_number status, void *tag);
-void bsp_move(void *payload, int reception_nbytes);
+BSP_WRITES(1, 2) void bsp_move(void *payload, int reception_nbytes);
 int bsp_hpmove(void **tag_ptr, void **payload_ptr);
 
 /* Seconds of the model: what the run has cost so far, in ticks, over a rate; and since the last call. */
 double bsp_time(void);
 double bsp_dtime(void);
+
+#undef BSP_NAMES
+#undef BSP_READS
+#undef BSP_WRITES
 
 #ifdef __cplusplus
 }

@@ -22,7 +22,12 @@ int remove(const char *);
 int rename(const char *, const char *);
 int fileno(FILE *);
 FILE *fdopen(int, const char *);
-__attribute__((error("a node has no other programs to run"))) FILE *popen(const char *, const char *);
+/* Answers NULL with ENOSYS: a node has no other programs to run. */
+FILE *popen(const char *, const char *);
+int pclose(FILE *);
+#ifndef FILENAME_MAX
+#define FILENAME_MAX 1024
+#endif
 
 #ifdef __cplusplus
 }

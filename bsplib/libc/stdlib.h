@@ -1,16 +1,21 @@
-/* picolibc's stdlib.h, and what cannot be. */
+/* picolibc's stdlib.h without names that no standard has, and what it lacks. */
 #ifndef BSP_LIBC_STDLIB_H
 #define BSP_LIBC_STDLIB_H
 
 #pragma GCC system_header
 
+#define itoa bsp_no_itoa
+#define utoa bsp_no_utoa
 #include_next <stdlib.h>
+#undef itoa
+#undef utoa
 
 #ifdef __cplusplus
 extern "C" {
 #endif
 
-__attribute__((error("a node has no other programs to run"))) int system(const char *);
+/* 0 for NULL, since there is no shell; else it stops the node. */
+int system(const char *);
 
 #ifdef __cplusplus
 }

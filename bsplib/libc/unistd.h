@@ -1,4 +1,4 @@
-/* picolibc's unistd.h, what it lacks, and what cannot be. */
+/* picolibc's unistd.h, and what it lacks. */
 #ifndef BSP_LIBC_UNISTD_H
 #define BSP_LIBC_UNISTD_H
 
@@ -16,12 +16,16 @@ int gethostname(char *name, size_t size);
 int ftruncate(int number, off_t size);
 uid_t getuid(void);
 
-__attribute__((error("a file of a node has one name: link is missing"))) int link(const char *, const char *);
-__attribute__((error("a node starts no processes: bsprun -n says how many nodes there are"))) pid_t fork(void);
-__attribute__((error("a node starts no processes: bsprun -n says how many nodes there are"))) int pipe(int[2]);
-__attribute__((error("a node has no other programs to run"))) int execv(const char *, char *const[]);
-__attribute__((error("a node has no other programs to run"))) int execvp(const char *, char *const[]);
-__attribute__((error("a node has no signals of a clock"))) unsigned alarm(unsigned);
+int fchown(int number, uid_t owner, gid_t group);
+
+/* These answer -1 with ENOSYS: a file has one name, a node starts no processes and runs no other programs, and has no signals of a clock. */
+int link(const char *, const char *);
+int symlink(const char *, const char *);
+pid_t fork(void);
+int pipe(int[2]);
+int execv(const char *, char *const[]);
+int execvp(const char *, char *const[]);
+unsigned alarm(unsigned);
 
 #ifdef __cplusplus
 }

@@ -99,8 +99,8 @@ void bsp_sync(void)
 {
     MUST_BE_WITHIN("bsp_sync");
     bsp_look_at_guards();
-    /* What was printed belongs to this superstep. */
-    bsp_stdio_flush();
+    /* What standard error has belongs to this superstep, and so do whole lines, which were written already. */
+    bsp_stdio_hold();
     machine_call_0(CALL_SYNC);
     bsp_superstep++;
     last_request = NULL;
@@ -265,4 +265,13 @@ int bsp_hpmove(void **tag_ptr, void **payload_ptr)
     *payload_ptr = take_room((size_t)status, all);
     machine_call_2(CALL_MOVE, (long)*payload_ptr, status);
     return status;
+}
+
+/* Of its own memory a rank knows what it is now; of another's nobody can tell before the next bsp_sync. */
+void bsp_direct_get(int pid, const void *src, int offset, void *dst, int nbytes)
+{
+    if (pid != bsp_pid())
+        bsp_stop_with("bsp_direct_get of rank ", pid, ": memories meet at bsp_sync alone: write bsp_get, and use what it got after the next bsp_sync");
+    for (int i = 0; i < nbytes; i++)
+        ((char *)dst)[i] = ((const char *)src)[offset + i];
 }

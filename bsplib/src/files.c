@@ -29,7 +29,8 @@ static unsigned number_of_files = 0;
 /* What a device answers: nothing is read from one that is written, and nothing is kept. */
 static struct bsp_file input = {.name = "/dev/stdin", .device = DEVICE_INPUT}, output = {.name = "/dev/stdout", .device = DEVICE_OUTPUT};
 static struct bsp_file errors = {.name = "/dev/stderr", .device = DEVICE_ERROR}, nothing = {.name = "/dev/null", .device = DEVICE_NULL};
-static struct bsp_file *const devices[] = {&input, &output, &errors, &nothing};
+static struct bsp_file random_bytes = {.name = "/dev/urandom", .device = DEVICE_RANDOM};
+static struct bsp_file *const devices[] = {&input, &output, &errors, &nothing, &random_bytes};
 
 static int refuse(int reason)
 {
@@ -75,26 +76,61 @@ static const char *without_dot(const char *name)
     return name;
 }
 
-/* A file that was given has the name that it was given by, or what stands behind its last slash. */
-struct bsp_file *bsp_file_named(const char *name)
+/* A name without what leads out of a folder, and without the root. */
+static const char *without_root(const char *name)
+{
+    for (;;) {
+        if (*name == '/')
+            name++;
+        else if (strncmp(name, "./", 2) == 0)
+            name += 2;
+        else if (strncmp(name, "../", 3) == 0)
+            name += 3;
+        else
+            return name;
+    }
+}
+
+/* Whether a path is the last folders and the name of another one. */
+static int is_end(const char *end, const char *path)
+{
+    size_t size = strlen(end), whole = strlen(path);
+    return size > 0 && size <= whole && strcmp(path + whole - size, end) == 0 && (size == whole || path[whole - size - 1] == '/');
+}
+
+/* The file that has exactly this name, or NULL. */
+static struct bsp_file *file_of_name(const char *name)
 {
     know_given_files();
     name = without_dot(name);
-    for (struct bsp_file *file = files; file != NULL; file = file->next) {
-        const char *slash;
-        if (file->name == NULL)
-            continue;
-        slash = file->is_given ? strrchr(file->name, '/') : NULL;
-        if (strcmp(without_dot(file->name), name) == 0 || (slash != NULL && strcmp(slash + 1, name) == 0))
+    for (struct bsp_file *file = files; file != NULL; file = file->next)
+        if (file->name != NULL && strcmp(without_dot(file->name), name) == 0)
             return file;
-    }
     return NULL;
+}
+
+/* A file that was given may be named by another path to it: one of the two is the end of the other. bsprun is told of a name that is not
+   exactly that of a file, since it may have the file. */
+struct bsp_file *bsp_file_named(const char *name)
+{
+    struct bsp_file *found = file_of_name(name);
+    if (found == NULL)
+        bsp_note(NOTE_ASKED, __builtin_return_address(0), 0, 0, name);
+    name = without_root(name);
+    for (struct bsp_file *file = files; found == NULL && file != NULL; file = file->next) {
+        const char *given = file->name != NULL && file->is_given ? without_root(file->name) : NULL;
+        if (given != NULL && (is_end(name, given) || is_end(given, name)))
+            found = file;
+    }
+    return found;
 }
 
 static struct bsp_file *device_named(const char *name)
 {
     if (strcmp(name, "/dev/tty") == 0)
         return &output;
+    if (strcmp(name, "/dev/random") == 0)
+        return &random_bytes;
     for (size_t i = 0; i < sizeof devices / sizeof *devices; i++)
         if (strcmp(devices[i]->name, name) == 0)
             return devices[i];
@@ -170,7 +206,7 @@ static struct bsp_file *new_file(const char *name)
 /* A file that can be written: one that there is, or a new one. NULL with a reason. */
 static struct bsp_file *writable(const char *name, int flags)
 {
-    struct bsp_file *file = bsp_file_named(name);
+    struct bsp_file *file = flags & O_TRUNC ? file_of_name(name) : bsp_file_named(name);
     if (!(bsp_settings.flags & BSP_WRITES_FILES)) {
         bsp_note(NOTE_UNWRITTEN, __builtin_return_address(0), 0, 0, name);
         errno = EROFS;
@@ -188,6 +224,8 @@ static struct bsp_file *writable(const char *name, int flags)
     if (file == NULL && (file = new_file(name)) == NULL)
         return NULL;
     if (file->number == 0) {
+        if (strcmp(without_dot(file->name), without_dot(name)) != 0 && (file->name = strdup(without_dot(name))) == NULL)
+            return NULL;
         tell_name(file);
         if (!(flags & O_TRUNC))
             tell_bytes(file, 0, file->bytes, file->size);
@@ -252,6 +290,19 @@ WEAK int close(int number)
     return 0;
 }
 
+/* Bytes that look random, and are the same in each run: each rank has others. */
+static ssize_t read_random(unsigned char *to, size_t count)
+{
+    static unsigned state = 0;
+    if (state == 0)
+        state = 0x9e3779b9u * (unsigned)(machine_call_0(CALL_PID) + 1);
+    for (size_t i = 0; i < count; i++) {
+        state = state * 1664525u + 1013904223u;
+        to[i] = (unsigned char)(state >> 24);
+    }
+    return (ssize_t)count;
+}
+
 WEAK ssize_t read(int number, void *bytes, size_t count)
 {
     struct bsp_open *open = bsp_open_of(number);
@@ -260,6 +311,8 @@ WEAK ssize_t read(int number, void *bytes, size_t count)
         return bsp_input_read(bytes, (int)count);
     if (open == NULL || (open->flags & O_ACCMODE) == O_WRONLY)
         return refuse(EBADF);
+    if (open->file->device == DEVICE_RANDOM)
+        return read_random(bytes, count);
     if (open->file->device != DEVICE_NONE || open->next >= open->file->size || open->file->is_lost)
         return 0;
     left = open->file->size - open->next;
@@ -372,7 +425,7 @@ WEAK int rename(const char *old, const char *name)
     return 0;
 }
 
-/* Files have last names alone where bsprun puts them, so that any folder is there. */
+/* bsprun makes the folders of the files that it writes, so that any is there. */
 WEAK int mkdir(const char *name, mode_t mode)
 {
     (void)name;

@@ -6,7 +6,7 @@
 
 #include "machine.h"
 
-enum bsp_device { DEVICE_NONE, DEVICE_INPUT, DEVICE_OUTPUT, DEVICE_ERROR, DEVICE_NULL };
+enum bsp_device { DEVICE_NONE, DEVICE_INPUT, DEVICE_OUTPUT, DEVICE_ERROR, DEVICE_NULL, DEVICE_RANDOM };
 
 /* A file of this node: one that bsprun gave, one that the program made, or a device. */
 struct bsp_file {

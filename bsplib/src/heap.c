@@ -9,6 +9,9 @@
 
 #include "machine.h"
 
+/* picolibc's, which stdlib.h leaves to programs. */
+char *utoa(unsigned number, char *to, int base);
+
 /* Blocks stand one behind another, each at 8 behind a multiple of 16, so that what is given is at multiples of 16. */
 enum { UNIT = 16, HEAD = 8, LEAST = 32, BEHIND = sizeof(unsigned), PAGE = 4096, MOST = 0x7fffff00 };
 /* In the low bits of a size. */

@@ -8,14 +8,10 @@
 #include <sstream>
 #include <utility>
 
-extern "C" __attribute__((noreturn)) void bsp_stop(const char *text);
 /* Makes cin, in a program that has it. */
 extern "C" __attribute__((weak)) void bsp_make_cin(std::ostream *out);
 
 namespace std {
-
-void __throw_ios_failure(const char *text) { bsp_stop(text); }
-void __throw_ios_failure(const char *text, int) { bsp_stop(text); }
 
 const ios_base::fmtflags ios_base::boolalpha, ios_base::dec, ios_base::fixed, ios_base::hex, ios_base::internal, ios_base::left, ios_base::oct,
     ios_base::right, ios_base::scientific, ios_base::showbase, ios_base::showpoint, ios_base::showpos, ios_base::skipws, ios_base::unitbuf,

@@ -58,6 +58,21 @@ int bsp_error_put(char byte);
 /* Has the machine take what stands in both. */
 void bsp_stdio_flush(void);
 
+/* The buffer of standard output, and how many bytes it has. While standard error has bytes, this is full but for one. bsprun finds these by
+   their names, and writes what a node has left there that was stopped. */
+enum { BSP_OUT_BYTES = 1024, BSP_OUT_LAST = BSP_OUT_BYTES - 1 };
+extern char bsp_out[BSP_OUT_BYTES];
+extern int bsp_out_count;
+
+/* How many bytes of a line were held at the last bsp_sync: lines come out whole, whatever superstep they were begun in. */
+extern int bsp_out_held;
+static inline void bsp_stdio_hold(void)
+{
+    bsp_out_held = bsp_out_count;
+    if (bsp_out_held >= BSP_OUT_LAST)
+        bsp_stdio_flush();
+}
+
 /* Writes bytes at once: on standard error where `file` is 2, else on standard output. */
 void bsp_stdio_write(int file, const void *bytes, size_t count);
 
@@ -165,6 +180,7 @@ void bsp_record(int kind, const unsigned *words, int count, const void *bytes, i
 enum {
     NOTE_REFUSED = 'm', /* bytes that were asked for, and bytes that are in use; the function's name */
     NOTE_ABSENT = 'r', /* the name of a file that was to be read */
+    NOTE_ASKED = 'a', /* the name of a file that is looked for, and is exactly that of none */
     NOTE_UNWRITTEN = 'w', /* the name of a file that was to be written */
     NOTE_LOST = 'l', /* the name of a file that was written and is to be read, of which there was no memory to keep its bytes */
     NOTE_PENDING = 'p', /* of requests before the end, the place of the last one */

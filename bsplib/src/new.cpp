@@ -7,6 +7,9 @@ void *malloc(size_t size);
 void free(void *place);
 __attribute__((noreturn)) void bsp_stop(const char *text);
 
+/* Throws std::bad_alloc, where the program has exceptions: throwing.cpp. */
+__attribute__((weak)) void bsp_no_memory();
+
 /* The one program that a destructor of an object of the program belongs to. */
 __attribute__((weak)) void *__dso_handle = nullptr;
 
@@ -31,6 +34,8 @@ enum class align_val_t : size_t;
 WEAK void *operator new(size_t size)
 {
     void *place = malloc(size > 0 ? size : 1);
+    if (place == nullptr && bsp_no_memory != nullptr)
+        bsp_no_memory();
     if (place == nullptr)
         bsp_stop("new has no memory: give --memory");
     return place;

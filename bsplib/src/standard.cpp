@@ -1,30 +1,30 @@
-/* What the headers of C++'s standard library want linked: texts, complex numbers, and a line in the place of each exception. */
+/* What the headers of C++'s standard library want linked: texts, complex numbers, and a function for each exception that they throw. */
 /* Where nothing can be read, operator>> leaves what it is given as it is. */
 #pragma GCC diagnostic ignored "-Wmaybe-uninitialized"
 #include <complex>
 #include <cstdarg>
 #include <cstdio>
+#include <functional>
 #include <istream>
 #include <new>
 #include <ostream>
+#include <stdexcept>
 #include <string>
-
-extern "C" __attribute__((noreturn)) void bsp_stop(const char *text);
+#include <typeinfo>
 
 namespace std {
 
-bool uncaught_exception() noexcept { return false; }
-int uncaught_exceptions() noexcept { return 0; }
-
-void __throw_bad_alloc() { bsp_stop("std::bad_alloc"); }
-void __throw_bad_array_new_length() { bsp_stop("std::bad_array_new_length"); }
-void __throw_bad_cast() { bsp_stop("std::bad_cast"); }
-void __throw_bad_function_call() { bsp_stop("std::bad_function_call: a std::function is called that has no function"); }
-void __throw_logic_error(const char *text) { bsp_stop(text); }
-void __throw_domain_error(const char *text) { bsp_stop(text); }
-void __throw_invalid_argument(const char *text) { bsp_stop(text); }
-void __throw_length_error(const char *text) { bsp_stop(text); }
-void __throw_out_of_range(const char *text) { bsp_stop(text); }
+void __throw_bad_alloc() { throw bad_alloc(); }
+void __throw_bad_array_new_length() { throw bad_array_new_length(); }
+void __throw_bad_cast() { throw bad_cast(); }
+void __throw_bad_typeid() { throw bad_typeid(); }
+void __throw_bad_exception() { throw bad_exception(); }
+void __throw_bad_function_call() { throw bad_function_call(); }
+void __throw_logic_error(const char *text) { throw logic_error(text); }
+void __throw_domain_error(const char *text) { throw domain_error(text); }
+void __throw_invalid_argument(const char *text) { throw invalid_argument(text); }
+void __throw_length_error(const char *text) { throw length_error(text); }
+void __throw_out_of_range(const char *text) { throw out_of_range(text); }
 void __throw_out_of_range_fmt(const char *form, ...)
 {
     char text[200];
@@ -32,12 +32,12 @@ void __throw_out_of_range_fmt(const char *form, ...)
     va_start(values, form);
     vsnprintf(text, sizeof text, form, values);
     va_end(values);
-    bsp_stop(text);
+    throw out_of_range(text);
 }
-void __throw_runtime_error(const char *text) { bsp_stop(text); }
-void __throw_range_error(const char *text) { bsp_stop(text); }
-void __throw_overflow_error(const char *text) { bsp_stop(text); }
-void __throw_underflow_error(const char *text) { bsp_stop(text); }
+void __throw_runtime_error(const char *text) { throw runtime_error(text); }
+void __throw_range_error(const char *text) { throw range_error(text); }
+void __throw_overflow_error(const char *text) { throw overflow_error(text); }
+void __throw_underflow_error(const char *text) { throw underflow_error(text); }
 
 const nothrow_t nothrow{};
 

@@ -20,9 +20,9 @@ void _fini(void) {}
 
 /* Standard output. While standard error has bytes, this is full but for one byte: with that, those go first. So a byte more costs nothing
    for the order of the two, nor does a superstep that writes none. */
-static char out[1024];
-static int out_count = 0;
-enum { LAST = sizeof out - 1 };
+char bsp_out[BSP_OUT_BYTES];
+int bsp_out_count = 0, bsp_out_held = 0;
+enum { LAST = BSP_OUT_LAST };
 
 /* Standard error. The machine has one output for both, so that bsprun has what tells them apart written in front of these bytes: it
    finds this place of the image by its magic, and puts a mark there, and how many bytes `mark` and `count` have. It costs the same
@@ -37,14 +37,14 @@ static struct {
 
 void bsp_stdio_flush(void)
 {
-    if (out_count > 0) {
-        const char *from = out;
-        int count = out_count;
-        out_count = 0;
+    if (bsp_out_count > 0) {
+        const char *from = bsp_out;
+        int count = bsp_out_count;
+        bsp_out_count = 0;
         if (error.count > 0) {
             machine_call_2(CALL_WRITE, (long)error.bytes - error.front, error.count + error.front);
             error.count = 0;
-            from = out + LAST;
+            from = bsp_out + LAST;
             count -= LAST;
         }
         if (count > 0)
@@ -54,8 +54,8 @@ void bsp_stdio_flush(void)
 
 int bsp_stdio_put(char byte)
 {
-    out[out_count++] = byte;
-    if (byte == '\n' || out_count == sizeof out)
+    bsp_out[bsp_out_count++] = byte;
+    if (byte == '\n' || bsp_out_count == sizeof bsp_out)
         bsp_stdio_flush();
     return 0;
 }
@@ -64,7 +64,7 @@ int bsp_error_put(char byte)
 {
     if (error.count == 0) {
         bsp_stdio_flush();
-        out_count = LAST;
+        bsp_out_count = LAST;
     }
     error.bytes[error.count++] = byte;
     if (byte == '\n' || error.count == sizeof error.bytes)

@@ -19,6 +19,10 @@ if signal.getsignal(signal.SIGINT) != signal.SIG_IGN:
 if sys.version_info < (3, 8):
     sys.exit("%s: Python 3.8 or later is wanted, and this is %s" % (sys.argv[1], sys.version.split()[0]))
 
+# In a wheel this file is in bspemu/share/tools, and the package beside bspemu.
+if not os.path.isdir(os.path.join(os.path.dirname(os.path.abspath(__file__)), "bsptools")):
+    sys.path.insert(0, os.path.abspath(os.path.join(os.path.dirname(os.path.abspath(__file__)), "..", "..", "..")))
+
 from bsptools import module_cache  # noqa: E402
 
 module_cache.keep()

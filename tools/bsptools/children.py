@@ -4,16 +4,22 @@ from __future__ import annotations
 
 import contextlib
 import ctypes
+import fcntl
 import os
 import pathlib
+import re
 import select
+import shutil
 import signal
+import stat
 import subprocess
 import tempfile
 import threading
 import time
 from collections.abc import Callable, Iterator, Sequence
 from typing import Any, NoReturn
+
+from .files import is_text
 
 PR_SET_PDEATHSIG = 1
 # Of a signal that no process has sent.
@@ -22,10 +28,23 @@ SI_KERNEL = 0x80
 PATIENCE, POLL = 1, 0.1
 # What ends a tool from outside. Each comes to the same end as Ctrl-C: temporary folders are removed, and children are ended.
 SIGNALS = (signal.SIGTERM, signal.SIGHUP, signal.SIGQUIT)
+# How the names of folders end that are there for a while, and all such names; and for how many seconds one that is hidden is new.
+ENDING, LEFT, HIDDEN_SECONDS = ".tmp", re.compile(r"\.?bsp[a-z]+-[a-z0-9_]{8}\.tmp"), 60
+# How many times as long something may take where the host is busy.
+MOST_BUSY = 4.0
 _LIBC = ctypes.CDLL(None, use_errno=True)
 _taken: list[signal.Signals] = []
+# The signals that raised `Ended`.
+_came: list[int] = []
 # Those that were started by `start`, and that `end` was not told of.
 _running: list[subprocess.Popen[bytes]] = []
+
+
+def patience(seconds: float) -> float:
+    """How long something may take that takes so many seconds where a process has a processor: it has a part of one where there are more
+    processes than processors."""
+    busy = os.getloadavg()[0] / len(os.sched_getaffinity(0))
+    return seconds * min(max(busy, 1.0), MOST_BUSY)
 
 
 class Ended(BaseException):
@@ -40,7 +59,13 @@ def _end(number: int, _frame: object) -> NoReturn:
     # What comes while all is cleared away must not break that off.
     for other in (signal.SIGINT, *SIGNALS):
         signal.signal(other, signal.SIG_IGN)
+    _came.append(number)
     raise Ended(number)
+
+
+def came_last() -> int | None:
+    """The signal that raised `Ended` last, if one did. A module of C that is loaded meanwhile may make an ImportError of that."""
+    return _came[-1] if _came else None
 
 
 @contextlib.contextmanager
@@ -118,6 +143,26 @@ def looking_for_signals() -> Iterator[None]:
         signal.setitimer(signal.ITIMER_REAL, 0)
 
 
+class TooLate(BaseException):
+    """The time of a block is over."""
+
+
+@contextlib.contextmanager
+def within(seconds: float) -> Iterator[None]:
+    """A block that is left by `TooLate` after so long, whatever it does."""
+
+    def stop(_number: int, _frame: Any) -> NoReturn:
+        raise TooLate
+
+    before = signal.signal(signal.SIGALRM, stop)
+    signal.setitimer(signal.ITIMER_REAL, seconds)
+    try:
+        yield
+    finally:
+        signal.setitimer(signal.ITIMER_REAL, 0)
+        signal.signal(signal.SIGALRM, before)
+
+
 def end_with_parent(number: int, parent: int) -> None:
     """Has this process get a signal when its parent has ended, which had this number."""
     _LIBC.prctl(PR_SET_PDEATHSIG, number)
@@ -125,13 +170,26 @@ def end_with_parent(number: int, parent: int) -> None:
         os.kill(os.getpid(), number)
 
 
-def start(words: Sequence[str], by: int = signal.SIGKILL, **given: Any) -> subprocess.Popen[bytes]:
+@contextlib.contextmanager
+def put_off() -> Iterator[None]:
+    """A block at whose end the signals come that end this process, so that they find all noted that it has made."""
+    mask = signal.pthread_sigmask(signal.SIG_BLOCK, (signal.SIGINT, *SIGNALS))
+    try:
+        yield
+    finally:
+        signal.pthread_sigmask(signal.SIG_SETMASK, mask)
+
+
+def start(words: Sequence[str], by: int = signal.SIGKILL, keeper: int = -1, **given: Any) -> subprocess.Popen[bytes]:
     """Starts a process with a group of its own, so that Ctrl-C at a terminal is for this one alone. Where this one is killed, that one
-    gets the signal `by` from the kernel."""
+    gets the signal `by` from the kernel, and a keeper at the other end of a pipe has read the number of its group."""
     parent = os.getpid()
 
     def prepare() -> None:
         end_with_parent(by, parent)
+        if keeper >= 0:
+            os.write(keeper, b"%d\n" % os.getpid())
+        signal.pthread_sigmask(signal.SIG_UNBLOCK, (signal.SIGINT, *SIGNALS))
         for number in (signal.SIGINT, *SIGNALS):
             signal.signal(number, signal.SIG_DFL)
 
@@ -152,9 +210,13 @@ def processor_seconds(child: subprocess.Popen[bytes]) -> float:
 
 
 def end(child: subprocess.Popen[bytes], by: int = signal.SIGKILL) -> None:
-    """Ends a process with its group where it goes on, waits for it, and closes the pipes to it."""
-    if child.poll() is None:
-        os.killpg(child.pid, by)
+    """Ends a process with its group where it goes on, waits for it, and closes the pipes to it. One that takes no notice, lets others end
+    first, or writes what nobody reads, is told again, and then killed."""
+    for number in (by, by, signal.SIGKILL):
+        if child.poll() is None:
+            os.killpg(child.pid, number)
+            with contextlib.suppress(subprocess.TimeoutExpired):
+                child.wait(patience(PATIENCE))
     child.wait()
     _running[:] = [it for it in _running if it is not child]
     for stream in (child.stdin, child.stdout, child.stderr):
@@ -165,16 +227,19 @@ def end(child: subprocess.Popen[bytes], by: int = signal.SIGKILL) -> None:
 
 @contextlib.contextmanager
 def running(words: Sequence[str], by: int = signal.SIGKILL, **given: Any) -> Iterator[subprocess.Popen[bytes]]:
-    """A process that is over at the end of the block."""
-    child = start(words, by, **given)
+    """A process that is over at the end of the block, also where a signal comes as it is started."""
+    child = None
     try:
+        with put_off():
+            child = start(words, by, **given)
         yield child
     finally:
-        end(child, by)
+        if child is not None:
+            end(child, by)
 
 
-def at_terminal(words: Sequence[str], note: Callable[[], None], tell: Callable[[int], None]) -> int:
-    """Runs a process that has this one's terminal, and gets Ctrl-C by itself, which is noted here. What ends this one ends it, also where
+def at_terminal(words: Sequence[str], note: Callable[[], None], tell: Callable[[int], None], env: dict[str, str]) -> int:
+    """Runs a process in this environment that has this one's terminal, and gets Ctrl-C by itself, which is noted here. What ends this one ends it, also where
     the terminal has stopped it, as one in the background: this one is not stopped so. Ctrl-Z stops both; what else is to stop then is told of
     SIGTSTP, and of SIGCONT. Answers what it ended with, as Popen has it."""
     stops = {signal.SIGTSTP} if signal.getsignal(signal.SIGTSTP) != signal.SIG_IGN else set()
@@ -186,7 +251,7 @@ def at_terminal(words: Sequence[str], note: Callable[[], None], tell: Callable[[
         signal.pthread_sigmask(signal.SIG_SETMASK, mask)
 
     try:
-        with subprocess.Popen(list(words), preexec_fn=prepare) as child:
+        with subprocess.Popen(list(words), preexec_fn=prepare, env=env) as child:
             while child.poll() is None:
                 got = signal.sigwaitinfo(waited)
                 if got.si_signo in (signal.SIGINT, signal.SIGQUIT):
@@ -221,50 +286,110 @@ def _end_stopped(child: subprocess.Popen[bytes]) -> None:
         child.wait()
 
 
+def place() -> str:
+    """Where folders for a while are made. The emulator takes no name that is no text."""
+    found = tempfile.gettempdir()
+    return found if is_text(found) else "/tmp"
+
+
 @contextlib.contextmanager
-def folder(name: str) -> Iterator[pathlib.Path]:
-    """A folder for a while. A shell waits until this process closes a pipe, and removes it: also where this one is killed."""
-    # A signal that comes between the two would leave the folder.
-    mask = signal.pthread_sigmask(signal.SIG_BLOCK, (signal.SIGINT, *SIGNALS))
-    try:
-        path = tempfile.mkdtemp(prefix=f"{name}-")
+def folder(name: str, above: str = "") -> Iterator[pathlib.Path]:
+    """A folder for a while, which none but this user may enter, below the one for such things if no other is named. A shell waits until this
+    process closes a pipe, and removes it: also where this one is killed. If the shell is killed, this process removes it, and if both are,
+    the next one that makes a folder there."""
+    above = above or place()
+    # A signal that comes between these would leave the folder.
+    with put_off():
+        _remove_left(above)
+        path, lock = _locked_folder(name, above)
         words = ["sh", "-c", 'read -r _; exec rm -rf -- "$1"', "sh", path]
         try:
             keeper = subprocess.Popen(words, stdin=subprocess.PIPE, start_new_session=True)
         except (OSError, subprocess.SubprocessError):
             os.rmdir(path)
+            os.close(lock)
             raise
+    try:
+        with keeper:
+            yield pathlib.Path(path)
     finally:
-        signal.pthread_sigmask(signal.SIG_SETMASK, mask)
-    with keeper:
-        yield pathlib.Path(path)
+        if os.path.lexists(path):
+            shutil.rmtree(path, ignore_errors=True)
+        os.close(lock)
+
+
+def _locked_folder(name: str, above: str) -> tuple[str, int]:
+    """A new folder, and the number of a file that holds its lock as long as this process is there. It has a hidden name until it is locked."""
+    hidden = tempfile.mkdtemp(prefix=f".{name}-", suffix=ENDING, dir=above)
+    path = os.path.join(above, os.path.basename(hidden)[1:])
+    lock = os.open(hidden, os.O_RDONLY | os.O_DIRECTORY)
+    # Some file systems have no locks. What is left there stays.
+    with contextlib.suppress(OSError):
+        fcntl.flock(lock, fcntl.LOCK_EX | fcntl.LOCK_NB)
+    os.rename(hidden, path)
+    return path, lock
+
+
+def _remove_left(above: str) -> None:
+    """Removes the folders of processes that are gone: nobody holds their locks. A hidden one may not be locked yet."""
+    with contextlib.suppress(OSError):
+        for name in os.listdir(above):
+            if LEFT.fullmatch(name) is None:
+                continue
+            with contextlib.suppress(OSError), _opened(os.path.join(above, name)) as place:
+                found = os.fstat(place)
+                is_new = name.startswith(".") and time.time() - found.st_mtime < HIDDEN_SECONDS
+                if found.st_uid == os.geteuid() and stat.S_IMODE(found.st_mode) == 0o700 and not is_new:
+                    fcntl.flock(place, fcntl.LOCK_EX | fcntl.LOCK_NB)
+                    shutil.rmtree(os.path.join(above, name), ignore_errors=True)
 
 
 @contextlib.contextmanager
-def _waiting(command: str, what: str) -> Iterator[None]:
-    """A block during which a shell waits, which does this to something where this process is killed."""
-    words = ["sh", "-c", f'read -r word; [ -n "$word" ] || {command} -- "$1"', "sh", what]
-    with subprocess.Popen(words, stdin=subprocess.PIPE, stderr=subprocess.DEVNULL, start_new_session=True) as keeper:
+def _opened(path: str) -> Iterator[int]:
+    place = os.open(path, os.O_RDONLY | os.O_DIRECTORY | os.O_NOFOLLOW)
+    try:
+        yield place
+    finally:
+        os.close(place)
+
+
+@contextlib.contextmanager
+def _waiting(command: str, what: str) -> Iterator[int]:
+    """A block during which a shell waits, which does this to something where this process is killed. The number of the pipe to it is
+    answered."""
+    with subprocess.Popen(["sh", "-c", command, "sh", what], stdin=subprocess.PIPE, stderr=subprocess.DEVNULL, start_new_session=True) as keeper:
+        assert keeper.stdin is not None
         try:
-            yield
+            yield keeper.stdin.fileno()
         finally:
-            assert keeper.stdin is not None
-            keeper.stdin.write(b"over\n")
+            # It may have been killed.
+            with contextlib.suppress(BrokenPipeError):
+                keeper.stdin.write(b"over\n")
+                keeper.stdin.close()
 
 
-def kept(child: subprocess.Popen[bytes]) -> contextlib.AbstractContextManager[None]:
+def kept(child: subprocess.Popen[bytes]) -> contextlib.AbstractContextManager[object]:
     """A block at whose end nothing of a child's group is left also where this process is killed: a compiler has children. The shell's own
     `kill` does it, since a small system has no other one."""
-    return _waiting("kill -s KILL", f"-{child.pid}")
+    return _waiting('read -r word; [ -n "$word" ] || kill -s KILL -- "$1"', f"-{child.pid}")
 
 
-def removed(path: str) -> contextlib.AbstractContextManager[None]:
+@contextlib.contextmanager
+def kept_running(words: Sequence[str], by: int = signal.SIGTERM, **given: Any) -> Iterator[subprocess.Popen[bytes]]:
+    """A process that is over at the end of the block, of whose group nothing is left where this process is killed at any time in it: the
+    process itself says its number to the shell."""
+    with _waiting('read -r group; read -r word; [ -n "$word" ] || kill -s KILL -- "-$group"', "") as keeper:
+        with running(words, by, keeper=keeper, **given) as child:
+            yield child
+
+
+def removed(path: str) -> contextlib.AbstractContextManager[object]:
     """A block during which a file is written, which goes where this process is killed."""
-    return _waiting("rm -f", path)
+    return _waiting('read -r word; [ -n "$word" ] || rm -f -- "$1"', path)
 
 
 def call(words: Sequence[str], by: int = signal.SIGTERM, **given: Any) -> subprocess.CompletedProcess[bytes]:
     """Runs a process to its end, with nothing to read."""
-    with running(words, by, stdin=subprocess.DEVNULL, **given) as child, kept(child):
+    with kept_running(words, by, stdin=subprocess.DEVNULL, **given) as child:
         stdout, stderr = child.communicate()
         return subprocess.CompletedProcess(list(words), child.returncode, stdout, stderr)

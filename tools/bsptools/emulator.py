@@ -3,6 +3,7 @@
 from __future__ import annotations
 
 import contextlib
+import functools
 import os
 import pathlib
 import shutil
@@ -10,11 +11,13 @@ import subprocess
 import sys
 import time
 
-from . import VERSION, children
-from .refusals import Refused, show
+from . import VERSION, children, files
+from .refusals import Refused, lines_of, show, tell
 
-# The repository, where this package stands in one.
-REPO = pathlib.Path(__file__).resolve().parents[2]
+# Beside this package in a wheel: what the repository has at its top.
+IN_WHEEL = pathlib.Path(__file__).resolve().parents[1] / "bspemu/share"
+# The repository that this package is in, or what a wheel has of it.
+REPO = IN_WHEEL if IN_WHEEL.exists() else pathlib.Path(__file__).resolve().parents[2]
 QUIET_SECONDS = 2
 
 
@@ -29,30 +32,55 @@ def program(name: str) -> str:
     return path
 
 
+def named() -> str:
+    """The emulator that BSPEMU in the environment names, if it names one."""
+    name = os.environ.get("BSPEMU", "")
+    if name and shutil.which(name) is None:
+        raise Refused(f"BSPEMU in the environment names {name}, which is no program")
+    return name
+
+
+@functools.lru_cache(maxsize=None)
 def emulator() -> str:
-    """What starts the emulator: what BSPEMU in the environment names, or ./bspemu."""
-    named = os.environ.get("BSPEMU")
-    if named and shutil.which(named) is None:
-        raise Refused(f"BSPEMU in the environment names {named}, which is no program")
-    return named or program("bspemu")
+    """What runs are made with: what BSPEMU in the environment names, or the program that ./bspemu starts. That script looks at it once for
+    all runs of a tool, and what it has to say of it is told. A path that is no text, which the program does not take as its name either, is
+    given as that of a file which this process has open."""
+    path = named() or which()
+    if files.is_text(path):
+        return path
+    with open(shutil.which(path) or path, "rb") as file:
+        is_script = file.read(2) == b"#!"
+        return path if is_script else f"/proc/{os.getpid()}/fd/{os.dup(file.fileno())}"
 
 
 def proved_program() -> str:
     """The program itself that runs are made with."""
-    if os.environ.get("BSPEMU"):
-        return str(pathlib.Path(shutil.which(emulator()) or "").resolve())
-    return said(program("bspemu"), "--which")
+    return str(pathlib.Path(shutil.which(named()) or "").resolve()) if named() else which()
+
+
+@functools.lru_cache(maxsize=None)
+def which() -> str:
+    """The path of the program that ./bspemu starts. What else that says is told."""
+    path, lines = heard(program("bspemu"), "--which")
+    tell(lines)
+    return path
+
+
+def heard(*words: str) -> tuple[str, list[str]]:
+    """What a program writes on standard output, without the last line feed, and its lines on standard error; a refusal where it fails."""
+    try:
+        done = subprocess.run(words, stdin=subprocess.DEVNULL, capture_output=True, check=False)
+    except OSError as error:
+        raise Refused(f"{words[0]}: {error.strerror}") from error
+    lines = lines_of(done.stderr)
+    if done.returncode != 0:
+        raise Refused(f"{words[0]} does not start: it ends with status {done.returncode}", *lines)
+    return os.fsdecode(done.stdout).rstrip("\n"), lines
 
 
 def said(*words: str) -> str:
-    """What a program writes on standard output, without the last line feed; a refusal where it fails."""
-    try:
-        done = subprocess.run(words, stdin=subprocess.DEVNULL, capture_output=True, text=True, errors="replace", check=False)
-    except OSError as error:
-        raise Refused(f"{words[0]}: {error.strerror}") from error
-    if done.returncode != 0:
-        raise Refused(f"{words[0]} does not start: it ends with status {done.returncode}", *done.stderr.splitlines())
-    return done.stdout.rstrip("\n")
+    """What a program writes on standard output alone."""
+    return heard(*words)[0]
 
 
 def version(name: str) -> list[str]:
@@ -65,7 +93,7 @@ def version(name: str) -> list[str]:
         commit = ", commit " + (said(*git) if is_checkout else (REPO / "commit").read_text().strip())
     try:
         path = proved_program()
-        told = [f"{said(path, '--version')}: {known(path)}"]
+        told = [f"{said(emulator(), '--version')}: {known(path)}"]
     except Refused as refused:
         told = list(refused.args)
     return [f"{name} {VERSION}{commit}", *told]

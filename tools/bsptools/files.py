@@ -5,26 +5,64 @@ from __future__ import annotations
 import contextlib
 import errno
 import os
+import stat
 from collections.abc import Iterable, Iterator
+from typing import IO
 
-from .refusals import Refused, about
+from .refusals import Refused, Unfit, about
+
+GONE = "the folder that this was started in is gone"
 
 
 def content_of(path: str | os.PathLike[str], most: int) -> bytes:
     """The bytes of a file, which are no more than so many, or a refusal that says why there are none. No more is read of one without an end."""
     with about(path), open(path, "rb") as file:
-        content = file.read(most + 1)
+        return _bytes_of(file, path, most)
+
+
+def _bytes_of(file: IO[bytes], path: str | os.PathLike[str], most: int) -> bytes:
+    content = file.read(most + 1)
     if len(content) > most:
         raise Refused(f"{os.fspath(path)} has more than {most} bytes")
     return content
+
+
+def own_content(path: str | os.PathLike[str], most: int) -> bytes:
+    """The same of a file in a folder of this user's own, which the tools have put there. A link is not followed, and no pipe is waited for."""
+    with about(path), os.fdopen(os.open(path, os.O_RDONLY | os.O_NOFOLLOW | os.O_NONBLOCK), "rb") as file:
+        if not stat.S_ISREG(os.fstat(file.fileno()).st_mode):
+            raise Refused(f"{os.fspath(path)} is no ordinary file")
+        return _bytes_of(file, path, most)
 
 
 def whole(value: object, most: int = 1 << 128) -> int:
     """A whole number of a file, from 0 to the most that it can be: costs are sums of products, so that they may have many digits."""
     text = str(value)
     if not (text.isascii() and text.isdigit() and len(text) <= 40 and int(text) <= most):
-        raise ValueError(f"{text[:40]!r} is no whole number up to {most}")
+        raise Unfit(f"{text[:40]!r} is no whole number up to {most}")
     return int(text)
+
+
+def is_text(name: str | os.PathLike[str]) -> bool:
+    """Whether a name is in UTF-8. The emulator takes no other one, neither for a file nor for itself."""
+    try:
+        return bool(os.fsencode(name).decode())
+    except UnicodeDecodeError:
+        return False
+
+
+@contextlib.contextmanager
+def as_text(path: str) -> Iterator[str]:
+    """A name in UTF-8 by which another process finds a file, also in a folder whose name is none: by what this process has open."""
+    if is_text(path):
+        yield path
+        return
+    folder, name = ("", path) if os.path.exists(path) else os.path.split(path)
+    number = os.open(folder or path, os.O_PATH)
+    try:
+        yield os.path.join(f"/proc/{os.getpid()}/fd/{number}", name if folder else "").rstrip("/")
+    finally:
+        os.close(number)
 
 
 @contextlib.contextmanager
@@ -38,7 +76,7 @@ def replaced(path: str | os.PathLike[str]) -> Iterator[str]:
     if os.path.exists(target) and not os.path.isfile(target):
         yield os.fspath(path)
         return
-    beside = os.path.join(os.path.dirname(target), f".bsp-{os.getpid()}-{os.urandom(4).hex()}")
+    beside = os.path.join(os.path.dirname(target), beside_name())
     with about(path):
         os.close(os.open(beside, os.O_CREAT | os.O_EXCL, 0o666))
     try:
@@ -53,10 +91,43 @@ def replaced(path: str | os.PathLike[str]) -> Iterator[str]:
             os.unlink(beside)
 
 
+def beside_name() -> str:
+    """A new name of a hidden file, under which another one is written before it gets its own."""
+    return f".bsp-{os.getpid()}-{os.urandom(4).hex()}"
+
+
+def put(path: str | os.PathLike[str], content: bytes | str, mode: int = 0o666) -> None:
+    """Writes a whole file in a folder of this user's own. What has its name there is replaced, and no link is followed."""
+    beside = os.path.join(os.path.dirname(path), beside_name())
+    with about(path):
+        try:
+            with open(beside, "xb", opener=lambda name, flags: os.open(name, flags, mode)) as file:
+                file.write(content.encode(errors="surrogateescape") if isinstance(content, str) else content)
+            os.replace(beside, path)
+        finally:
+            with contextlib.suppress(OSError):
+                os.unlink(beside)
+
+
 def write(path: str | os.PathLike[str], content: str | bytes) -> None:
     """Writes a whole file."""
     with replaced(path) as written, about(path), open(written, "wb") as file:
         file.write(content.encode(errors="surrogateescape") if isinstance(content, str) else content)
+
+
+def is_here() -> bool:
+    """Whether the folder is there that this was started in."""
+    try:
+        return bool(os.getcwd())
+    except OSError:
+        return False
+
+
+def absolute(path: str) -> str:
+    """A path from the topmost folder on; a refusal where it is one from the folder that this was started in, and that is gone."""
+    if not os.path.isabs(path) and not is_here():
+        raise Refused(f"{path}: {GONE}: give a path from / on, or start it elsewhere")
+    return os.path.abspath(path)
 
 
 def expect_apart(outputs: Iterable[str | None], inputs: Iterable[str | None]) -> None:

@@ -21,8 +21,8 @@ RATE, MOST_RATE = 1e9, 1e18
 MOST_INPUT = 1 << 24
 # Bytes of a program: of an ELF file, which is the largest of all kinds, and of a text of assembly.
 MOST_PROGRAM, MOST_TEXT = 1 << 25, 1 << 22
-# The room of the stack of a program in C, in bytes: what bspcc gives it, and what the tools give it that have it compiled, where there is
-# the memory for it.
+# The room of the stack of a program in C, in bytes: what bspcc gives it with --small, as the tools do where there is less memory, and
+# what it has else.
 LEAST_STACK, MOST_STACK = 16, 1 << 24
 COMPILED_STACK, STACK, MEMORY_OF_STACK = 1 << 17, 1 << 20, 1 << 22
 

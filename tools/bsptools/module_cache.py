@@ -1,8 +1,9 @@
 """The tools' modules, compiled once and kept in a folder of the user's.
 
 Most of the time of a short run would go into compiling them. Nothing is written beside the program. What is kept begins with the text that
-it was compiled from, and is taken where that is the module's text, byte for byte, whatever times and places files have. So checkouts and
-installations share what they have in common, and the folder has no more than one file for each module and version of Python.
+it was compiled from, and is taken where that is the module's text, byte for byte, whatever times and places files have, and where the rest
+has the digest that stands in front of it: Python would run spoiled code, and crash. So checkouts and installations share what they have in
+common, and the folder has no more than one file for each module and version of Python.
 """
 
 from __future__ import annotations
@@ -12,33 +13,21 @@ import marshal
 import os
 import sys
 from importlib.machinery import FileFinder, SourceFileLoader
-from importlib.util import MAGIC_NUMBER
+from importlib.util import MAGIC_NUMBER, source_hash
 from types import CodeType
+from typing import Any
+
+from . import own_folders
 
 PACKAGE = os.path.dirname(os.path.abspath(__file__))
 TOP = os.path.dirname(PACKAGE)
-OTHERS_WRITE = 0o022
 LENGTH = 8
 
 
-def folder() -> str:
-    """Where they are kept, below the folder in which ./bspemu keeps what it has compared; nothing where the user has no such folder, or where
-    it is another's, as with sudo: neither is written into it, nor run what is in it."""
-    home = os.environ.get("HOME")
-    kept = home and (os.environ.get("XDG_CACHE_HOME") or os.path.join(home, ".cache"))
-    if not kept or not os.path.isabs(kept) or not sys.implementation.cache_tag:
-        return ""
-    path = os.path.join(kept, "bspemu", "tools")
-    try:
-        if not os.path.exists(path):
-            places = (os.path.dirname(path), kept, os.path.dirname(kept))
-            if os.stat(next(filter(os.path.exists, places))).st_uid != os.geteuid():
-                return ""
-            os.makedirs(path, 0o700, exist_ok=True)
-        found = os.stat(path)
-    except (OSError, StopIteration):
-        return ""
-    return path if found.st_uid == os.geteuid() and not found.st_mode & OTHERS_WRITE else ""
+def digest(content: bytes) -> bytes:
+    """A digest of these bytes. Python has this one at hand, and would have to load others."""
+    found: Any = source_hash(content)
+    return bytes(found)
 
 
 def write(path: str, content: bytes) -> None:
@@ -55,7 +44,8 @@ def write(path: str, content: bytes) -> None:
 
 def keep() -> None:
     """Has the modules of this package that are loaded from here on taken as they are kept, and kept where they are not."""
-    kept = folder()
+    # Tools that are installed elsewhere may be older: theirs have no digests, and are in a folder of another name.
+    kept = own_folders.cache("bspemu", "modules") if sys.implementation.cache_tag else ""
 
     class Loader(SourceFileLoader):
         """Loads a module."""
@@ -69,11 +59,14 @@ def keep() -> None:
             with contextlib.suppress(OSError, EOFError, ValueError, TypeError):
                 with open(path, "rb") as file:
                     content = file.read()
-                if content.startswith(front):
-                    code: CodeType = marshal.loads(memoryview(content)[len(front) :])
-                    return code
-            code = self.source_to_code(text, os.path.relpath(self.path, TOP))
-            write(path, front + marshal.dumps(code))
+                start = len(front) + LENGTH
+                if content.startswith(front) and content[len(front) : start] == digest(content[start:]):
+                    kept_code = marshal.loads(memoryview(content)[start:])
+                    if isinstance(kept_code, CodeType):
+                        return kept_code
+            code: CodeType = self.source_to_code(text, os.path.relpath(self.path, TOP))
+            made = marshal.dumps(code)
+            write(path, front + digest(made) + made)
             return code
 
     def finder(path: str) -> FileFinder:

@@ -25,9 +25,15 @@ COMPILED = {
     "-m": "compile for this, as -march=rv32imc",
     "-std": "take this standard, as -std=c99",
 }
+# Those of one word, which others begin as: -pedantic begins as -p, which is a number of nodes.
+WHOLE_WORDS = ("-g", "-g3", "-ggdb", "-w", "-pedantic", "-pedantic-errors", "-pthread")
 # Words that are hardly meant for a program: where compilers are called, they may stand behind it.
-FOR_COMPILER = re.compile(r"-(D[A-Za-z_]\w*(=.*)?|I.+|O[0-3sgz]|lm|W(all|extra)|std=.+|m(arch|abi)=.+)", re.ASCII)
+FOR_COMPILER = re.compile(
+    r"-(D[A-Za-z_]\w*(=.*)?|I.+|O[0-3sgz]|lm|W(all|extra)|pedantic(-errors)?|pthread|std=.+|m(arch|abi)=.+)", re.ASCII
+)
 KINDS = ("elf", "asm", "raw", "c")
+# What the help calls a value that names a file or a folder.
+NAMING = ("FILE", "DIR", "FOLDER", "PROGRAM", "SOURCE")
 
 
 class Version(argparse.Action):
@@ -42,7 +48,7 @@ class Compiled(argparse.Action):
     """Keeps an option for the compiler, in the order in which they stand."""
 
     def __call__(self, _parser: argparse.ArgumentParser, found: argparse.Namespace, value: Any, option: str | None = None) -> None:
-        word = f"{option}={value}" if option == "-std" else f"{option}{value}"
+        word = f"{option}={value}" if option == "-std" else f"{option}{value or ''}"
         found.compiled = [*(found.compiled or []), word]
 
 
@@ -54,10 +60,22 @@ class Parser(argparse.ArgumentParser):
         self._words: list[str] = []
         self.add_argument("--version", action=Version, nargs=0, help="versions, the commit if it is known, and what was proved")
 
+    def add_argument(self, *names: Any, **given: Any) -> argparse.Action:
+        """Adds an option. No value of one that names files is empty: the folder that a tool is started in would stand for it."""
+        if given.get("metavar") in NAMING and given.get("action", "append") == "append":
+            given.setdefault("type", named)
+        return super().add_argument(*names, **given)
+
     def parse_known_args(self, args: Any = None, namespace: Any = None) -> Any:
         """Reads a command line, whose words a refusal may name."""
         self._words = args or []
-        return super().parse_known_args(args, namespace)
+        found, rest = super().parse_known_args(args, namespace)
+        is_rest = any(it.dest == "args" and not it.option_strings for it in self._actions)
+        given = getattr(found, "args", None) if is_rest else None
+        # argparse drops a first `--`, also one that is an argument of the program.
+        if given is not None and self._words[: len(self._words) - len(given)][-1:] == ["--"]:
+            given.insert(0, "--")
+        return found, rest
 
     def error(self, message: str) -> NoReturn:
         """Says what is wrong, and how a file is given whose name was taken for options."""
@@ -93,11 +111,14 @@ class Parser(argparse.ArgumentParser):
         add("--file", metavar="FILE", action="append", default=[], help="a file that fopen can read; any number of them")
         add("--files", metavar="DIR", action="append", default=[], help="all files of a folder, as --file gives one")
         add("--argv0", metavar="TEXT", help="argv[0] of main, by default PROGRAM as it is given")
+        add("--strict", action="store_true", help="report what looks like a mistake: for a .c program GCC's warnings, --check, -Og -g; and"
+            " --warn for bsprun")  # fmt: skip
         add("--check", action="store_true", help="a .c program's whole numbers, indices, pointers and shifts are looked at as it runs")
         for option, what in COMPILED.items():
             add(option, dest="compiled", action=Compiled, metavar="WORD", help=what)
+        add(*WHOLE_WORDS, dest="compiled", action=Compiled, nargs=0, help="given to the compiler too")
         add("--format", choices=KINDS, help="what PROGRAM is, where its bytes and its name do not tell")
-        self.set_defaults(bspemu=None)
+        self.set_defaults(bspemu=None, found=[], is_here=False)
         add("program", metavar="PROGRAM", help="what is run")
         add("args", metavar="ARGS", nargs=argparse.REMAINDER, help="the arguments of main").required = False
 
@@ -112,15 +133,22 @@ class Parser(argparse.ArgumentParser):
         self.add_argument("--float", action="store_true", help="nodes have units of floating point, as they have anyway for what says that it"
             " wants them: a program of bspcc, or a text with such statements")  # fmt: skip
 
-    def add_prices(self) -> None:
-        """g and l, where each is one number."""
-        self.add_argument("--g", type=G, default=limits.G, metavar="TICKS", help="the price of a byte of h, 1 by default")
-        self.add_argument("--l", type=L, default=limits.L, metavar="TICKS", help="the price of a superstep's end, 0 by default")
+    def add_prices(self, g: Callable[[str], object] | None = None, l: Callable[[str], object] | None = None) -> None:
+        """g and l, where each is one number: a whole one, or what these readers take."""
+        self.add_argument("--g", type=g or G, default=limits.G, metavar="TICKS", help="the price of a byte of h, 1 by default")
+        self.add_argument("--l", type=l or L, default=limits.L, metavar="TICKS", help="the price of a superstep's end, 0 by default")
 
     def add_rate(self) -> None:
         """How many instructions a program's second has."""
         self.add_argument("--rate", type=rate, default=limits.RATE, metavar="COUNT", help="instructions a second, by which bsp_time counts, 1e9 by"
             " default")  # fmt: skip
+
+
+def named(text: str) -> str:
+    """A name of a file or folder."""
+    if not text or "\0" in text:
+        raise argparse.ArgumentTypeError(f"{text!r} is no name of a file or folder")
+    return text
 
 
 def number(what: str, least: int, most: int, unit: int = 1, is_size: bool = False) -> Callable[[str], int]:

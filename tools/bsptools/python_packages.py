@@ -5,16 +5,20 @@ from __future__ import annotations
 import functools
 import importlib.util
 import os
+import shutil
 import subprocess
 import sys
 
+from . import toolchain
 from .refusals import Refused
 
 SYSTEM = "/usr/bin/python3"
 AGAIN = "BSPTOOLS_AGAIN"
-ELFTOOLS, MATPLOTLIB = "elftools", "matplotlib"
+# Where the loader looks for libraries first. What a tool starts is to have its own.
+LIBRARIES = "LD_LIBRARY_PATH"
+ELFTOOLS, MATPLOTLIB, NUMPY, TOMLI = "elftools", "matplotlib", "numpy", "tomli"
 # The distribution's packages that have them.
-PACKAGES = {ELFTOOLS: "python3-pyelftools", MATPLOTLIB: "python3-matplotlib"}
+PACKAGES = {ELFTOOLS: "python3-pyelftools", MATPLOTLIB: "python3-matplotlib", NUMPY: "python3-numpy", TOMLI: "python3-tomli"}
 
 
 @functools.lru_cache(maxsize=None)
@@ -30,7 +34,7 @@ def missing(module: str) -> str:
     """The line that says which package to install where this Python lacks a module; nothing where it is here."""
     look_at_sites()
     package = PACKAGES[module]
-    return "" if importlib.util.find_spec(module) else f"{package} is missing: apt-get install {package}"
+    return "" if importlib.util.find_spec(module) else f"{package} is missing: apt-get install {package}, or run scripts/toolchain"
 
 
 def expect(module: str) -> None:
@@ -40,9 +44,10 @@ def expect(module: str) -> None:
         raise Refused(line)
 
 
-def is_systems() -> bool:
-    """Whether this is the distribution's Python, or there is none, or nothing of it is to be taken."""
-    return bool(os.environ.get(AGAIN)) or not os.access(SYSTEM, os.X_OK) or os.path.samefile(sys.executable, SYSTEM)
+def others() -> list[str]:
+    """Other Pythons that may have what this one lacks: the distribution's, and the first on the PATH."""
+    paths = filter(None, (SYSTEM if os.access(SYSTEM, os.X_OK) else None, shutil.which("python3")))
+    return [it for it in dict.fromkeys(paths) if not os.path.samefile(it, sys.executable)]
 
 
 def look_at_home(module: str) -> None:
@@ -54,26 +59,35 @@ def look_at_home(module: str) -> None:
 
 
 def borrow(module: str) -> str:
-    """What is missing, after all was tried for a module that any Python can load: the distribution's is found too where another Python comes
-    first on the PATH. It is looked for where it is wanted, since most runs want none."""
+    """What is missing, after all was tried for a module that any Python can load: that of another Python is found too, and one that
+    scripts/toolchain brought. It is looked for where it is wanted, since most runs want none."""
     look_at_home(module)
-    if missing(module) and not is_systems():
-        words = [SYSTEM, "-I", "-c", f"import os, {module}; print(os.path.dirname(os.path.dirname({module}.__file__)))"]
-        done = subprocess.run(words, stdin=subprocess.DEVNULL, stdout=subprocess.PIPE, stderr=subprocess.DEVNULL, check=False)
-        sys.path += os.fsdecode(done.stdout).splitlines()
+    for python in others() if not os.environ.get(AGAIN) else []:
+        if missing(module):
+            words = [python, "-I", "-c", f"import os, {module}; print(os.path.dirname(os.path.dirname({module}.__file__)))"]
+            done = subprocess.run(words, stdin=subprocess.DEVNULL, stdout=subprocess.PIPE, stderr=subprocess.DEVNULL, check=False)
+            sys.path += os.fsdecode(done.stdout).splitlines()
+    if missing(module):
+        sys.path += filter(None, [toolchain.modules(module)])
     return missing(module)
 
 
 def find(module: str, words: list[str]) -> str:
     """What is missing, after all was tried.
 
-    What the distribution installs belongs to its own Python. Where another one comes first on the PATH, these words, a script and its
-    arguments if there is one, are started anew by the distribution's, unless the person has the package in a folder of their own.
+    What is compiled belongs to one Python. Where this one lacks it, these words, a script and its arguments if there is one, are started anew
+    by another one, the distribution's or the first on the PATH, unless the person has the package in a folder of their own. Where neither
+    has it, the distribution's starts them with what scripts/toolchain brought, and with the libraries that this needs.
     """
     look_at_home(module)
-    is_again = is_systems()
-    os.environ.pop(AGAIN, "")
-    if missing(module) and words and not is_again:
-        options = ["-I", *["-S"] * sys.flags.no_site, "-B"] if sys.flags.isolated else []
-        os.execve(SYSTEM, [SYSTEM, *options, *words], {**os.environ, AGAIN: "1"})
+    again = os.environ.pop(AGAIN, "")
+    options = ["-I", *["-S"] * sys.flags.no_site, "-B"] if sys.flags.isolated else []
+    if os.path.isabs(again):
+        sys.path.append(again)
+        os.environ.pop(LIBRARIES, "")
+    elif missing(module) and words and not again and (python := next(iter(others()), "")):
+        os.execve(python, [python, *options, *words], {**os.environ, AGAIN: "1"})
+    elif missing(module) and words and (brought := toolchain.modules(module)):
+        run, python = toolchain.command("run"), toolchain.command("python3") or SYSTEM
+        os.execve(run, [run, python, *options, *words], {**os.environ, AGAIN: brought})
     return missing(module)

@@ -20,6 +20,22 @@ class Refused(Exception):
     """What the person gave cannot be done, and why: in a line, and in more of them where another program has said why."""
 
 
+class Unfit(ValueError):
+    """What a file has is not of the form that it begins with, and why: in words."""
+
+
+def why_unfit(error: Exception) -> str:
+    """What is wrong in a file. Of what Python finds by itself it would tell in words of its own."""
+    if isinstance(error, Unfit):
+        return str(error)
+    if isinstance(error, KeyError):
+        return f"there is no {error.args[0]!r}"
+    place = [getattr(error, name, None) for name in ("lineno", "colno")]
+    if all(place):
+        return f"line {place[0]}, column {place[1]} is not JSON"
+    return "it is nested too deeply" if isinstance(error, RecursionError) else "a value is missing, or has another form"
+
+
 @contextlib.contextmanager
 def about(path: str | os.PathLike[str]) -> Iterator[None]:
     """What the system refuses of a file is refused with the file's name."""
@@ -39,6 +55,19 @@ def printable(text: str) -> str:
 def counted(count: int, name: str) -> str:
     """A number of things by their name: `1 run`, `2 runs`."""
     return f"{count} {name}" + ("" if count == 1 else "s")
+
+
+def numbered(ranks: list[int]) -> str:
+    """Ranks in a few words: `rank 0`, `ranks 0 to 3 and 7`."""
+    runs: list[tuple[int, int]] = []
+    for rank in ranks:
+        if runs and rank == runs[-1][1] + 1:
+            runs[-1] = (runs[-1][0], rank)
+        else:
+            runs.append((rank, rank))
+    texts = [it for first, last in runs for it in ([f"{first} to {last}"] if last > first + 1 else map(str, sorted({first, last})))]
+    listed = " and ".join([", ".join(texts[:-1]), texts[-1]] if len(texts) > 1 else texts)
+    return f"rank{'s' if len(ranks) > 1 else ''} {listed}"
 
 
 def lines_of(said: bytes, *names: str) -> list[str]:

@@ -11,8 +11,10 @@ import pathlib
 import signal
 import subprocess
 import sys
+from collections.abc import Callable
 
 from . import children, python_packages, streams
+from .files import GONE, is_here
 from .refusals import BUG, BY_SIGNAL, REFUSED, Refused, put, tell
 
 # The module whose `main` a tool is, and the package that it wants, without which some do less. Modules are imported as they are asked for.
@@ -21,6 +23,8 @@ TOOLS = {
     "bspgdb": ("commands.bspgdb", ""),
     "bspplot": ("commands.bspplot", python_packages.MATPLOTLIB),
     "bspsweep": ("commands.bspsweep", ""),
+    "bspcheck": ("commands.bspcheck", ""),
+    "bspprobe": ("commands.bspprobe", python_packages.NUMPY),
 }
 FOLDER = pathlib.Path(__file__).resolve().parents[1]
 
@@ -44,8 +48,13 @@ def begin(name: str, words: list[str]) -> int:
 
 def main(name: str, words: list[str]) -> int:
     """Runs a tool with these arguments; the exit status is answered."""
+    return ended(name, lambda: begin(name, words))
+
+
+def ended(name: str, work: Callable[[], int]) -> int:
+    """Does the work of a tool; the exit status is answered, with a line where it could not be done."""
     try:
-        return begin(name, words)
+        return work()
     except Refused as refused:
         tell(refused.args, f"{name}: ")
         return REFUSED
@@ -55,6 +64,9 @@ def main(name: str, words: list[str]) -> int:
         streams.drop_output()
         return BY_SIGNAL + signal.SIGPIPE
     except (OSError, MemoryError, ImportError, subprocess.SubprocessError) as error:
+        number = children.came_last() if isinstance(error, ImportError) else None
+        if number is not None:
+            return BY_SIGNAL + number
         tell([f"{name}: {wanting(error)}"])
         streams.drop_output()
         return REFUSED
@@ -70,11 +82,30 @@ def main(name: str, words: list[str]) -> int:
 
 def wanting(error: BaseException) -> str:
     """What the host did not give."""
+    if isinstance(error, FileNotFoundError) and error.filename is None and not is_here():
+        return f"{GONE}: start it elsewhere"
     if isinstance(error, OSError):
         return ": ".join(str(it) for it in (error.filename, error.strerror or error) if it is not None)
     if isinstance(error, MemoryError):
         return "memory ran out"
     return f"a part of Python cannot be loaded: {error}" if isinstance(error, ImportError) else f"no process can be started: {error}"
+
+
+def of_repository(name: str, work: Callable[[], int]) -> int:
+    """Does the work of a script of the repository, which ends as a tool does: by signals too, and where standard output is closed or full."""
+
+    def whole() -> int:
+        children.end_by_signals()
+        try:
+            status = work()
+        except SystemExit as left:
+            tell([left.code] if isinstance(left.code, str) else [])
+            status = left.code if isinstance(left.code, int) else REFUSED if left.code else 0
+        put("")
+        return status
+
+    streams.prepare()
+    return ended(name, whole)
 
 
 def process(name: str, words: list[str]) -> int:

@@ -7,6 +7,7 @@ standard output is told with its name.
 from __future__ import annotations
 
 import contextlib
+import errno
 import io
 import os
 import sys
@@ -15,6 +16,8 @@ from typing import Any
 from .refusals import about
 
 STDIN, STDOUT, STDERR = range(3)
+# Those that were closed when this process began.
+_closed: set[int] = set()
 
 
 class Output(io.FileIO):
@@ -61,6 +64,8 @@ def write_all(content: bytes) -> None:
 def report(content: bytes) -> None:
     """Writes what was asked for on standard error, or refuses to go on."""
     with about("standard error"):
+        if STDERR in _closed:
+            raise OSError(errno.EBADF, os.strerror(errno.EBADF))
         write_all(content)
 
 
@@ -70,6 +75,7 @@ def prepare() -> None:
         try:
             os.fstat(number)
         except OSError:
+            _closed.add(number)
             opened = os.open(os.devnull, os.O_WRONLY if number == STDERR else os.O_RDONLY)
             os.dup2(opened, number, inheritable=True)
             if opened != number:

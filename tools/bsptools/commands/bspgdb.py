@@ -12,9 +12,9 @@ import shutil
 import signal
 import subprocess
 import sys
-from typing import List, Optional, Sequence
+from typing import Iterator, List, Optional, Sequence
 
-from .. import children, emulator
+from .. import children, emulator, toolchain
 from ..debug import server
 from ..debug.packets import Closed, Connection
 from ..debug.symbol_file import symbol_file
@@ -30,6 +30,8 @@ SETTINGS = pathlib.Path(__file__).resolve().parents[1] / "debug/settings.gdb"
 # How the bridge is started that gdb has at the other end of a pipe: behind this stand the file that has a byte for each Ctrl-C, and the
 # debugger's command.
 PIPE = "--pipe"
+# The bytes that the name of a Unix socket has at most, and a folder for what lasts a while whose name is short.
+MOST_SOCKET, SHORT = 107, "/tmp"
 
 
 def arguments(words: Sequence[str]) -> argparse.Namespace:
@@ -56,6 +58,7 @@ def arguments(words: Sequence[str]) -> argparse.Namespace:
         " for addresses; help there tells them. --lines is its older name")  # fmt: skip
     parser.add_argument("--bspemu", metavar="PATH", help="the emulator, if it is another than bspemu beside this")
     asked = parser.parse_args(words[:end])
+    asked.check = asked.check or asked.strict
     asked.gdb_options = list(words[end + 1 :])
     if asked.dialogue and (asked.server or asked.stdio or asked.tcp is not None or asked.gdb_options):
         raise Refused("--dialogue is without gdb: leave out --server, --tcp, --stdio and what stands behind --")
@@ -86,8 +89,19 @@ def main(words: Sequence[str]) -> int:
             elif asked.tcp is not None:
                 server.serve(command(job), server.Loopback(asked.tcp))
             else:
-                server.serve(command(job), server.LocalSocket(folder / "socket"))
+                with socket_folder(folder) as place:
+                    server.serve(command(job), server.LocalSocket(place / "socket"))
     return 0
+
+
+@contextlib.contextmanager
+def socket_folder(folder: pathlib.Path) -> Iterator[pathlib.Path]:
+    """A folder that none but this user may enter, and whose name is short enough for a socket: this one, or another one."""
+    if len(os.fsencode(folder / "socket")) <= MOST_SOCKET:
+        yield folder
+    else:
+        with children.folder("bspgdb", SHORT) as other:
+            yield other
 
 
 def talk(job: Job) -> int:
@@ -152,15 +166,18 @@ def file_for_gdb(job: Job, folder: pathlib.Path) -> List[str]:
 def start_gdb(job: Job, folder: pathlib.Path) -> int:
     """Runs gdb on the program, with a bridge at the other end of a pipe, and takes down in a file how often Ctrl-C is typed. Answers gdb's exit
     status."""
-    if shutil.which(GDB) is None:
-        raise Refused(f"{GDB} is missing: install the package {GDB}")
+    gdb = shutil.which(GDB) or toolchain.command(GDB)
+    if not gdb:
+        raise Refused(f"{GDB} is missing: install the package {GDB}, or run scripts/toolchain")
     typed = folder / "typed"
     pipe = shlex.join([emulator.program("bspgdb"), PIPE, str(typed), *command(job)])
-    words = [GDB, "-q", "-x", str(SETTINGS), "-ex", f"target remote | {pipe}", *job.options.gdb_options, *file_for_gdb(job, folder)]
+    words = [gdb, "-q", "-x", str(SETTINGS), "-ex", f"target remote | {pipe}", *job.options.gdb_options, *file_for_gdb(job, folder)]
 
     def note() -> None:
         with contextlib.suppress(OSError), typed.open("ab") as file:
             file.write(b"C")
 
-    status = children.at_terminal(words, note, functools.partial(tell_bridge, typed))
+    # gdb has a Python in it, which takes what is set for others, and would not start with what is wrong for it.
+    environment = {name: it for name, it in os.environ.items() if not name.startswith("PYTHON")}
+    status = children.at_terminal(words, note, functools.partial(tell_bridge, typed), environment)
     return status if status >= 0 else BY_SIGNAL - status

@@ -13,12 +13,14 @@ import os
 import pathlib
 from collections.abc import Iterator
 
-from .. import children, python_packages
+from .. import children, own_folders, prices, python_packages
 from ..options import Parser, pair, rate
-from ..plot.picture_formats import KINDS
+from ..plot.picture_formats import KINDS, LOGS, MEASURES, PGF, TEX, price_range, size
 from ..plot.profile import Reading
 from ..refusals import printable
 
+# Of a title, and of a setting with its name.
+MOST_LETTERS = 1000
 
 def span(text: str) -> tuple[int, int | None]:
     """The first and the last superstep of a text as `3`, `3:9` or `3:`."""
@@ -28,11 +30,52 @@ def span(text: str) -> tuple[int, int | None]:
     return int(first), int(last) if last else None if colon else int(first)
 
 
+def reading(text: str) -> Reading:
+    """Which bytes h counts."""
+    try:
+        return Reading(text)
+    except ValueError as error:
+        raise argparse.ArgumentTypeError(f"{text!r}: h counts {' or '.join(it.value for it in Reading)}") from error
+
+
 def target(text: str) -> str:
     """The name of a picture's file."""
     if pathlib.Path(text).suffix.lower() not in KINDS:
         raise argparse.ArgumentTypeError(f"{text!r}: the name of a picture ends with .svg, .png or .pdf")
     return text
+
+
+def heading(text: str) -> str:
+    """A text above a picture, which matplotlib draws letter by letter: ten thousand take a second."""
+    shown = printable(text)
+    if len(shown) > MOST_LETTERS:
+        raise argparse.ArgumentTypeError(f"this text has {len(shown)} letters, and {MOST_LETTERS} are the most")
+    return shown
+
+
+def paper(text: str) -> str:
+    """The name of a file of a picture for papers, which may be a text for TeX."""
+    if pathlib.Path(text).suffix.lower() not in (*KINDS, PGF, TEX):
+        raise argparse.ArgumentTypeError(f"{text!r}: its name ends with .svg, .png, .pdf, .pgf or .tex")
+    return text
+
+
+def tex(text: str) -> str:
+    """The name of a file of a table for TeX."""
+    if pathlib.Path(text).suffix.lower() != TEX:
+        raise argparse.ArgumentTypeError(f"{text!r}: the name of a table for LaTeX ends with .tex")
+    return text
+
+
+def names(text: str) -> tuple[str, ...]:
+    """Names of columns, parted by commas."""
+    return tuple(dict.fromkeys(filter(None, text.split(","))))
+
+
+def chosen(text: str) -> tuple[str, list[str]]:
+    """A column, and the values of it that are drawn."""
+    name, values = pair(text, "values of a column as NAME=VALUE,VALUE,..")
+    return name, values.split(",")
 
 
 def arguments(words: list[str]) -> argparse.Namespace:
@@ -52,15 +95,38 @@ def arguments(words: list[str]) -> argparse.Namespace:
     add("--source", dest="page", metavar="FILE", help="of the costs of lines: a page in one file with the source, and beside each line"
         " what it costs, on which ranks and in which supersteps")  # fmt: skip
     add("--html", metavar="FILE", help="a page in one file, with the pictures that SOURCE has, its table and its settings")
-    parser.add_prices()
+    parser.add_prices(prices.G, prices.L)
+    add("--apart", choices=["printing"], help="leave the work of output functions out of the costs of supersteps, where SOURCE says what that is:"
+        " the profile of `bsprun --summary --profile`, and the costs of lines")  # fmt: skip
     add("--rate", type=rate, metavar="COUNT", help="with --compare: instructions a second, by which the totals are seconds too")
-    add("--h", type=Reading, choices=list(Reading), default=Reading.OTHERS, metavar="all|others", help="whether h counts what a"
+    add("--h", type=reading, default=Reading.OTHERS, metavar="all|others", help="whether h counts what a"
         " rank moves to itself, as the report of `--ledger 1` does (all), or not (others, the default)")  # fmt: skip
     add("--supersteps", type=span, default=(0, None), metavar="A:B", help="these supersteps alone; one as A, all from A on as A:")
-    add("--title", type=printable, default="", metavar="TEXT", help="stands above each picture and the page")
-    add("--setting", type=lambda text: pair(printable(text), "a setting as NAME=VALUE"), action="append", default=[], metavar="NAME=VALUE", help="stands at the top of the page; any number")
+    add("--title", type=heading, default="", metavar="TEXT", help="stands above each picture and the page")
+    add("--setting", type=lambda text: pair(heading(text), "a setting as NAME=VALUE"), action="append", default=[], metavar="NAME=VALUE", help="stands at the top of the page; any number")
+    add_papers(parser)
     add("source", metavar="SOURCE", help="what is drawn")
-    return parser.parse_args(words)
+    asked = parser.parse_args(words)
+    asked.words = words
+    return asked
+
+
+def add_papers(parser: Parser) -> None:
+    """The options of pictures and tables for papers, of the table of bspsweep."""
+    add = parser.add_argument
+    add("--curves", type=paper, metavar="FILE", help="of a table: lines over any of its columns; FILE may end with .pgf or .tex too (pgfplots)")
+    add("--map", type=paper, metavar="FILE", help="of a table: which program costs least over g and l, and where two cost the same")
+    add("--table", type=tex, metavar="FILE.tex", help="of a table: what --curves draws, as a tabular of LaTeX with the rules of booktabs")
+    add("--x", default="nodes", metavar="COLUMN", help="with --curves and --table: what is along the axis, as nodes (the default), g, l or a constant")
+    add("--y", default="total", choices=MEASURES, help="and what is at its side; total by default")
+    add("--by", type=names, metavar="COLUMN,..", help="which columns part lines, or the programs of a map; all that differ by default")
+    add("--panels", type=names, metavar="COLUMN,..", help="which columns part small pictures side by side")
+    add("--only", type=chosen, action="append", default=[], metavar="COLUMN=VALUE,..", help="these values of a column alone; any number of them")
+    add("--log", choices=LOGS, help="which axes are logarithmic; by default those along which values differ much")
+    add("--size", type=size, metavar="WIDTH[xHEIGHT]", help="with --curves and --map: the size, as 3.3in or 84mmx60mm")
+    add("--font", metavar="NAME", help="and the font: serif, sans-serif, monospace, or one that is installed")
+    add("--g-range", type=price_range(prices.G), metavar="LOW:HIGH", help="the g of a map, 0.1:100 by default")
+    add("--l-range", type=price_range(prices.L), metavar="LOW:HIGH", help="the l of a map, 10:100000 by default")
 
 
 @contextlib.contextmanager
@@ -77,18 +143,26 @@ def inside(folder: pathlib.Path) -> Iterator[None]:
 
 @contextlib.contextmanager
 def matplotlibs_folder() -> Iterator[None]:
-    """Where matplotlib keeps what it knows of fonts: a folder of the person's, or one for a while where none can be written. Of that it says
-    nothing."""
+    """Where matplotlib keeps what it knows of fonts: the folder that the person has set for it, or one beside what the tools keep, or one for
+    a while, as none of these is the person's own. Of that it says nothing."""
     logging.getLogger("matplotlib").setLevel(logging.ERROR)
-    variable, home = "MPLCONFIGDIR", os.environ.get("XDG_CACHE_HOME") or os.path.expanduser("~/.cache")
-    path = os.environ.get(variable) or os.path.join(home, "matplotlib")
+    variable = "MPLCONFIGDIR"
+    path = os.environ.get(variable, "")
     with contextlib.ExitStack() as stack:
         with contextlib.suppress(OSError):
-            os.makedirs(path, exist_ok=True)
-        if not os.access(path, os.W_OK | os.X_OK):
+            if path:
+                os.makedirs(path, exist_ok=True)
+        if not os.path.isabs(path) or not is_for_keeping(path):
+            path = own_folders.cache("bspemu", "matplotlib")
+        if not is_for_keeping(path):
             path = str(stack.enter_context(children.folder("bspplot")))
         os.environ[variable] = path
         yield
+
+
+def is_for_keeping(path: str) -> bool:
+    """Whether something may be kept in a folder, and read there by the next run."""
+    return os.access(path, os.W_OK | os.X_OK) and not own_folders.fault(path)
 
 
 def main(words: list[str]) -> int:

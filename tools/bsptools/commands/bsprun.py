@@ -5,6 +5,8 @@ from __future__ import annotations
 import argparse
 import contextlib
 import os
+import pathlib
+import shlex
 import signal
 import sys
 
@@ -12,15 +14,20 @@ from .. import children, files, streams
 from ..limits import MOST_WORKERS, WORKERS
 from ..machines import Take
 from ..options import Parser
-from ..prepare.given_files import files_read
+from ..outputs.report import Report
+from ..prepare.given_files import files_read, outputs_of
 from ..prepare.job import Job, prepared
-from ..refusals import BY_SIGNAL, REFUSED, UNWRITTEN, Refused, about, show, tell
+from ..refusals import BY_SIGNAL, REFUSED, UNWRITTEN, Refused, about, counted, put, show, tell
 from ..run.cost_formats import form, wants_counts
+from ..run.found_files import Wanted, with_others
 from ..run.long_overflows import Beside
+from ..run.repeated_output import Repeated
 from ..run.watched_run import Done, Fewer, Interrupted, Stopped, Watch
 
 # The status of a run that the clock has ended, as that of timeout(1), and the longest that --wall takes.
 WALL, MOST_SECONDS = 124, 10_000_000
+# What has options of bsprun in the environment.
+FLAGS = "BSPRUN_FLAGS"
 # That of a program which comes to something else where a library chooses otherwise.
 OTHERWISE = 10
 
@@ -40,15 +47,17 @@ def parser() -> Parser:
     found.add_prices()
     found.add_rate()
     add("--machine", action=Take, metavar="NAME", help="nodes, prices and rate of a machine of the literature, as t3e-8; options behind it count")
-    add("--out", metavar="DIR", help="where files go that the program writes; without it there are none")
+    add("--out", metavar="DIR", help="write the program's files below DIR; by default below the current folder")
+    add("--no-files", action="store_true", help="the program writes no files, and reads only those that it is given")
     add("--report", metavar="FILE", help="the costs, into FILE: as CSV or JSON where its name says so; - is standard error")
     add("--profile", metavar="FILE", help="what each rank did in each superstep, into FILE as CSV: bspplot draws it")
     add("--summary", action="store_true", help="the totals and the dearest lines of supersteps, on standard error")
+    add("--apart", choices=["printing"], help="leave the work of output functions out of --summary and --profile; --report has it")
     add("--lines", action="store_true", help="where w and h come from, by line and by function, on standard error")
     add("--fold", action="store_true", help="as --lines, with the work of library functions at the lines that called them")
     add("--lines-as", type=form, action="append", default=[], metavar="KIND=FILE", help="that as a file of this kind: callgrind,"
         " folded (stacks for a flame graph), trace (for Perfetto) or json (for bspplot --source); any number of them")  # fmt: skip
-    add("--no-check", action="store_true", help="leave out the look at what does not fit into a long, which goes beside a .c program's run")
+    add("--no-check", action="store_true", help="leave out the look at what does not fit into a long, which goes beside the run")
     found.add_number("--fill", what="the byte of fresh memory", least=0, most=255, metavar="BYTE",
         help="the byte that stack and malloc have at first, for a program that reads what it did not write; 0 by default")  # fmt: skip
     add("--warn", action="store_true", help="look for what is likely a mistake, also in a run that ends well; takes long")
@@ -60,10 +69,33 @@ def parser() -> Parser:
     return found
 
 
+def flags(reader: Parser) -> list[str]:
+    """The options that BSPRUN_FLAGS has in the environment, as for a class. They stand in front of those of the command line."""
+    text = os.environ.get(FLAGS, "")
+    if not text:
+        return []
+    try:
+        found = shlex.split(text)
+        asked = reader.parse_args([*found, FLAGS])
+    except (ValueError, Refused) as fault:
+        raise Refused(f"{FLAGS} in the environment is {text!r}: {fault}") from fault
+    if asked.program != FLAGS or asked.args:
+        raise Refused(f"{FLAGS} in the environment is {text!r}, and takes options of bsprun alone")
+    return found
+
+
 def arguments(words: list[str]) -> argparse.Namespace:
     """What the command line asks for."""
     reader = parser()
+    words = [*flags(reader), *words]
     asked = reader.parse_args(words)
+    asked.check, asked.warn = asked.check or asked.strict, asked.warn or asked.strict
+    if asked.no_files and asked.out is not None:
+        raise Refused("--no-files leaves nothing for --out to do: leave one of the two out")
+    asked.is_here = asked.out is None and not asked.no_files
+    asked.out = os.curdir if asked.is_here else asked.out
+    if asked.apart and not asked.summary and asked.profile is None:
+        raise Refused("--apart printing is for --summary and --profile: give one of them")
     tell([f"bsprun: {it} behind PROGRAM is an argument of the program" for it in reader.own(words, asked.args)])
     return asked
 
@@ -89,6 +121,11 @@ def deliver(job: Job, done: Done) -> int:
         from ..outputs.report_formats import spelled_for
 
         files.write(options.report, spelled_for(options.report, found))
+    if found.outcome != "ended" and job.mark:
+        from ..run.held_lines import held_lines
+
+        lines = held_lines(job, found)
+        put(b"".join([b"" if done.is_line_whole or not lines else b"\n", *(line + b"\n" for line in lines)]))
     chosen, is_whole = None, True
     if done.records or options.out is not None:
         from ..run.exit_status import chosen_status
@@ -96,33 +133,57 @@ def deliver(job: Job, done: Done) -> int:
         from ..outputs.library_notes import STATUS
 
         chosen = chosen_status(job, found, done.records)
-        is_whole = tell_records(job, done.records, found, untold=STATUS if chosen is not None else "")
-    if options.summary or options.warn or wants_counts(options) or (found.outcome != "ended" and chosen is None):
+        is_whole = tell_records(job, done.records, found, untold=STATUS if chosen is not None and chosen.is_of_all else "")
+    if done.has_null and job.mark:
+        tell(["bsprun: a text that is NULL was printed, as by puts or %s: the output has what stands at address 0"])
+    is_told = tell_offsets(job, found, done.seconds)
+    if options.summary or options.apart or options.warn or wants_counts(options) or (found.outcome != "ended" and chosen is None):
         from ..run.closing_messages import tell_of
 
-        tell_of(job, found, parser(), is_chosen=chosen is not None)
+        tell_of(job, found, parser(), is_chosen=chosen is not None, are_offsets_told=is_told, digest=done.digest)
     if options.portable and found.outcome != "ended":
         tell(["bsprun: not tried: other choices, since the run does not end well as it is"])
-    status = done.status if chosen is None else chosen
+    status = done.status if chosen is None else chosen.status
     return status if is_whole else status or REFUSED
 
 
-def tell_where(job: Job, begin: str, stopped: Stopped) -> None:
-    """Says in a line where the ranks of a run were that was broken off."""
-    from ..run.rank_positions import ranks_at
+def tell_offsets(job: Job, found: Report, seconds: float) -> bool:
+    """Says which offsets and sizes of the program are in elements where bytes are counted, and whether there are any. For that the run is
+    made again."""
+    if job.kind != "elf" or job.options.no_check or b".debug_info" not in job.content or len(found.supersteps) < 2:
+        return False
+    from ..diagnosis.byte_offsets import findings
 
+    lines = findings(job, found, seconds)
+    tell(lines, "bsprun: ")
+    return bool(lines)
+
+
+def tell_where(job: Job, begin: str, stopped: Stopped, is_awaited: bool) -> None:
+    """Keeps the files of a run that was broken off, and says in a line where its ranks were: soon, where a person waits for that."""
+    from ..run.rank_positions import MOST_AWAITED, ranks_at
+
+    if job.options.out is not None and stopped.records:
+        from ..run.record_messages import put_files
+
+        if put_files(job, stopped.records).files:
+            tell([f"bsprun: files in {job.options.out} have what was written before the superstep in which the run was ended"])
     show("bsprun: looking for where the ranks were: Ctrl-C leaves that out")
+    line = f"bsprun: {begin} after {stopped.seconds:.1f} s"
     try:
-        line = f"bsprun: {begin} after {stopped.seconds:.1f} s, in {ranks_at(job, stopped.seconds, stopped.written)}"
+        with children.within(MOST_AWAITED) if is_awaited else contextlib.nullcontext():
+            line += f", in {ranks_at(job, stopped.seconds, stopped.written, is_awaited)}"
+    except children.TooLate:
+        line += "; where the ranks were takes longer to find: --wall SECONDS waits for it"
     finally:
         show("")
     tell([line])
 
 
-def run(job: Job, beside: Beside) -> int:
+def run(job: Job, beside: Beside, folder: pathlib.Path, repeated: Repeated) -> int:
     """Runs a job, with what goes beside it; the status is that of the emulator, unless the clock or Ctrl-C has ended it."""
     beside.run(job)
-    watch = Watch(job, job.options.wall, beside)
+    watch = Watch(job, job.options.wall, beside, repeated)
     try:
         done = watch.run()
         status = deliver(job, done)
@@ -133,18 +194,26 @@ def run(job: Job, beside: Beside) -> int:
         count, nodes = fewer.count, job.options.nodes
         tell([f"bsprun: the program takes {count} nodes in bsp_begin, and so it has these, and not {nodes}"])
         job.give_nodes(count)
-        return run(job, beside)
+        return run(job, beside, folder, repeated)
+    except Wanted as wanted:
+        names = [it for name in wanted.names for it in with_others(name)]
+        names = [it for it in dict.fromkeys(names) if it not in job.options.found]
+        more = f" and {counted(len(names) - 1, 'more file')}" if len(names) > 1 else ""
+        tell([f"bsprun: the program reads {names[0]}{more}: it is run again with that, as with --file"])
+        job.give(names, folder)
+        repeated.again()
+        return run(job, beside, folder, repeated)
     except Interrupted as interrupted:
         children.end_by_signals_again()
         beside.close()
         # The terminal shows Ctrl-C in its line.
         show("", "\n" if sys.stderr.isatty() else "")
-        tell_where(job, "ended by Ctrl-C", interrupted)
+        tell_where(job, "ended by Ctrl-C", interrupted, is_awaited=True)
         tell(beside.lines())
         return BY_SIGNAL + signal.SIGINT
     except Stopped as stopped:
         beside.close()
-        tell_where(job, "ended by --wall", stopped)
+        tell_where(job, "ended by --wall", stopped, is_awaited=False)
         tell(beside.lines())
         return WALL
 
@@ -152,7 +221,7 @@ def run(job: Job, beside: Beside) -> int:
 def main(words: list[str]) -> int:
     """Runs a program; the status is the emulator's, or says what ended it."""
     options = arguments(words)
-    outputs = [options.report if options.report != "-" else None, options.profile, *(path for _, path in options.lines_as)]
+    outputs = outputs_of(options)
     files.expect_apart(outputs, files_read(options))
     files.expect_writable(outputs)
     if options.out is not None and not os.path.isdir(options.out):
@@ -162,7 +231,7 @@ def main(words: list[str]) -> int:
             os.mkdir(options.out)
     with children.folder("bsprun") as folder, contextlib.closing(Beside(folder)) as beside:
         job = prepared(options, folder, "bsprun", is_marked=True, beside=beside.build)
-        status = run(job, beside)
+        status = run(job, beside, folder, Repeated())
         if options.portable and status == 0:
             from ..portable.portability import is_portable
 

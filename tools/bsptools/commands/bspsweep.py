@@ -4,25 +4,31 @@ from __future__ import annotations
 
 import argparse
 import pathlib
+import re
 import shlex
-import tempfile
+import shutil
 
-from .. import emulator, files
-from ..limits import NODES
-from ..machines import machine_named
-from ..options import G, L, P, Parser, listed, pair
+from .. import children, emulator, files, sealed_results
+from ..machines import Family, family_named
+from ..options import P, Parser, listed, named, pair
+from ..prices import Exact, G, L
+from ..prices import listed as prices_listed
 from ..refusals import REFUSED, Refused, counted, put, tell
-from ..sweep import engines, result_table, sweep_job
+from ..sealed_results import digest
+from ..sweep import engines, result_folders, result_table, sweep_job, table_record
+from ..sweep.result_folders import Unkept, kept_in
 from ..sweep.result_store import MAIN, Place, Store
 from ..sweep.sweep_points import Run, expect_few, points
-from ..sweep.sweep_programs import digest, programs
+from ..sweep.sweep_programs import programs
 from ..sweep.sweep_progress import Progress
 
 # The status where all runs were made, and one of them was stopped, at its limit or refused to go on: that of such a run.
 NOT_ENDED = 2
+# A host: how many runs at a time it makes, a user, a name or an address, a port; or this host.
+HOST = re.compile(r"(?:\d+/)?(?::|(?:\w[\w.+-]*@)?(?:\w[\w.-]*|\[[\da-fA-F:.]+\])(?::\d+)?)", re.ASCII)
 
 
-def pairs(text: str) -> list[tuple[int, int]]:
+def pairs(text: str) -> list[tuple[Exact, Exact]]:
     """Prices as `1:1000,4:500`, each a g and an l."""
     found = []
     for part in text.split(","):
@@ -33,9 +39,18 @@ def pairs(text: str) -> list[tuple[int, int]]:
     return found
 
 
-def of_machines(text: str) -> list[tuple[int, int]]:
-    """The prices of machines that are parted by commas."""
-    return [(it.g, it.l) for it in map(machine_named, text.split(","))]
+def families(text: str) -> list[Family]:
+    """The machines whose names are parted by commas."""
+    return list(map(family_named, dict.fromkeys(text.split(","))))
+
+
+def hosts(text: str) -> tuple[str, ...]:
+    """Hosts that are parted by commas. GNU parallel has a shell take their names, so that none may have what is a command there."""
+    found = tuple(text.split(","))
+    for it in found:
+        if HOST.fullmatch(it) is None:
+            raise argparse.ArgumentTypeError(f"{it!r} is no name of a host, as one, user@one.example or 4/one for 4 runs at a time; : is this one")
+    return found
 
 
 def constant(text: str) -> tuple[str, list[str]]:
@@ -54,40 +69,38 @@ def arguments(words: list[str]) -> argparse.Namespace:
         " takes. What was run before is not run again.",
     )
     add = parser.add_argument
-    add("-n", "--nodes", type=listed(P), default=[NODES], metavar="LIST", help="as 1,2,4,8 or 1:8; 1 by default")
-    add("--g", type=listed(G), metavar="LIST", help="prices of a byte of h, 1 by default")
-    add("--l", type=listed(L), metavar="LIST", help="prices of a superstep's end, 0 by default")
+    add("-n", "--nodes", type=listed(P), metavar="LIST", help="as 1,2,4,8 or 1:8; by default those of --machine, or 1")
+    add("--g", type=prices_listed(G), metavar="LIST", help="prices of a byte of h, as 4, 3.875 or 31/8; 1 by default")
+    add("--l", type=prices_listed(L), metavar="LIST", help="prices of a superstep's end, 0 by default")
     add("--prices", type=pairs, metavar="G:L,..", help="prices that belong together, beside each g with each l")
-    add("--machine", type=of_machines, default=[], metavar="LIST", help="prices of machines of the literature, as t3e-8,t3e-64, beside those")
+    add("--machine", type=families, default=[], metavar="LIST", help="prices of machines of the literature beside those: t3e has its own on"
+        " each number of nodes, and t3e-8 has those on 8")  # fmt: skip
+    add("--interpolate", choices=["linear"], help="take prices of --machine between the numbers of nodes that it was measured on; the column"
+        " of the machine says so")  # fmt: skip
     add("--input", action="append", metavar="FILE", help="an input; any number of them")
     add("--args", type=parted, action="append", metavar="TEXT", help="arguments of main, as the shell parts them; any number of them")
     add("--define", type=constant, action="append", default=[], metavar="N=100,1000", help="a compile-time constant of a .c program")
     add("--file", action="append", default=[], metavar="FILE", help="a file that fopen can read, in all runs")
     parser.add_machine()
-    add("-o", "--output", metavar="FILE", help="the table; standard output by default")
+    add("-o", "--output", metavar="FILE", help="the table; standard output by default. FILE.json has the record of it: the command, versions, and"
+        " digests of all that it rests on")  # fmt: skip
+    add("--again", metavar="FILE.json", type=named, help="make the table of a record again, with -o or to standard output, and say what is not as it was")
     add("--folder", default=".bspsweep", metavar="FOLDER", help="where the results of runs are kept, .bspsweep by default")
     add("--engine", choices=engines.NAMES, default=engines.AUTO, help="who makes the runs; by default GNU parallel where it is there, and"
         " else one after another")  # fmt: skip
     parser.add_number("--jobs", what="the number of runs at a time", least=1, most=100_000, default=0, metavar="COUNT", help="runs at a"
         " time, as many as there are processors by default")  # fmt: skip
-    add("--hosts", metavar="H1,H2", help="hosts for GNU parallel, by ssh; they see this folder and the program under the same paths")
+    add("--hosts", type=hosts, default=(), metavar="H1,H2", help="hosts for GNU parallel, by ssh; they see this folder and the program under the same paths")
     add("--sbatch", type=parted, default="", metavar="OPTIONS", help="further options of sbatch, as '--partition=short --time=10'")
     add("--script", action="store_true", help="write the script for sbatch, say how to start it, and run nothing")
     add("--check", action="store_true", help="make each run once more, with --hosts on each of them, and compare what comes of it")
-    add("program", metavar="PROGRAM", nargs="+", help="what is run")
-    return parser.parse_args(words)
-
-
-def kept_in(path: str) -> pathlib.Path:
-    """The folder where results are kept, which is made where it is missing."""
-    folder = pathlib.Path(path).resolve()
-    try:
-        folder.mkdir(parents=True, exist_ok=True)
-        tempfile.TemporaryFile(dir=folder).close()
-    except OSError as error:
-        why = "it is not a folder" if folder.exists() and not folder.is_dir() else error.strerror
-        raise Refused(f"no results can be kept in {folder}: {why}; --folder names another place") from error
-    return folder
+    add("program", metavar="PROGRAM", nargs="*", help="what is run")
+    options = parser.parse_args(words)
+    if options.again is not None and table_record.without_aside(words):
+        parser.error(f"--again takes the sweep from {options.again}, without {shlex.join(table_record.without_aside(words))}")
+    if options.again is None and not options.program:
+        parser.error("the following arguments are required: PROGRAM")
+    return options
 
 
 def parted(text: str) -> str:
@@ -102,11 +115,11 @@ def parted(text: str) -> str:
 class Sweep:
     """A sweep: its points, its runs and where they have their places."""
 
-    def __init__(self, options: argparse.Namespace) -> None:
+    def __init__(self, options: argparse.Namespace, words: list[str]) -> None:
         expect_few(options)
-        self.options = options
+        self.options, self.words = options, words
         self.folder = kept_in(options.folder)
-        self.points = points(options, programs(options, self.folder / "programs"))
+        self.points = points(options, programs(options, self.folder))
         self.store = Store(self.folder, options)
         # The runs that have no place are not made.
         self.places: dict[Run, Place] = {}
@@ -121,16 +134,16 @@ class Sweep:
             return
         try:
             self.places[run] = self.store.place(run)
-        except OSError as error:
-            self.unplaced.append(f"{run}: its result cannot be kept: {error.filename}: {error.strerror}")
+        except (OSError, Unkept) as error:
+            why = f"{error.filename}: {error.strerror}" if isinstance(error, OSError) else error
+            self.unplaced.append(f"{run}: its result cannot be kept: {why}")
 
-    def commands(self, wanted: dict[Run, Place], copy: str) -> pathlib.Path:
-        """The list of commands that make these runs, in a file of their own: another sweep may be under way."""
+    def commands(self, folder: pathlib.Path, wanted: dict[Run, Place], copy: str) -> pathlib.Path:
+        """The list of commands that make these runs, in a new folder that none but this user can write: a shell takes each line."""
         make = [emulator.program("bspsweep"), "--make"]
         text = "".join(engines.line([*make, str(it.folder), copy]) + "\n" for it in wanted.values()).encode(errors="surrogateescape")
-        path = self.folder / "lists" / digest(text)[:16]
-        path.parent.mkdir(parents=True, exist_ok=True)
-        files.write(path, text)
+        path = folder / "commands"
+        files.put(path, text)
         return path
 
     def make(self, engine: engines.Engine, wanted: dict[Run, Place], copy: str) -> None:
@@ -138,10 +151,25 @@ class Sweep:
         for place in wanted.values():
             for kind in ("failed", "json"):
                 place.file(kind, copy).unlink(missing_ok=True)
+            place.give_ticket()
         progress = Progress(wanted, copy)
-        said = progress.follow(engine.words(self.commands(wanted, copy)))
+        if engine.name == engines.SLURM:
+            # Its nodes see the results, and may see no other folder. After Ctrl-C they may go on.
+            folder = result_folders.new(self.folder, "lists")
+            said = progress.follow(engine.words(self.commands(folder, wanted, copy)))
+            shutil.rmtree(folder, ignore_errors=True)
+        else:
+            with children.folder("bspsweep") as folder:
+                said = progress.follow(engine.words(self.commands(folder, wanted, copy)))
+        self.take_tickets()
         if progress.left:
             tell([f"not made: {counted(len(progress.left), 'run')}; the engine says", *said.strip().splitlines()[-5:]], "bspsweep: ")
+
+    def take_tickets(self) -> None:
+        """Takes away what would seal another result of a run that is made: the folder may be given to others."""
+        for place in self.places.values():
+            if place.found() is not None:
+                place.ticket.unlink(missing_ok=True)
 
     def missing(self) -> dict[Run, Place]:
         """The runs that were not made yet."""
@@ -158,20 +186,30 @@ class Sweep:
                     wrong.append(f"{run}: another result{' on ' + host if host else ''}: {place.file('json', copy)}")
         return wrong
 
-    def write(self) -> None:
-        """Writes the table."""
+    def write(self) -> table_record.Record:
+        """Writes the table, and beside it the record of it, which is answered."""
         text = result_table.table(self.points, self.places, [name for name, _ in self.options.define])
+        record = table_record.made(self.options, self.words, self.points, self.store, text)
         if self.options.output is None:
             put(text)
-        else:
-            files.write(self.options.output, text)
+            return record
+        path = table_record.beside(self.options.output)
+        files.write(self.options.output, text)
+        if path is not None:
+            files.write(path, table_record.spelled(record))
+        return record
 
 
 def script(sweep: Sweep, words: list[str]) -> int:
     """Writes the script for sbatch, and says how to start it and how to collect."""
     missing = sweep.missing()
     if missing:
-        path = engines.array(sweep.commands(missing, MAIN), sweep.options.jobs)
+        if not sealed_results.own_key().is_kept:
+            raise Refused(sealed_results.UNKEPT)
+        for place in missing.values():
+            place.give_ticket()
+        folder = result_folders.new(sweep.folder, "lists")
+        path = engines.array(sweep.commands(folder, missing, MAIN), sweep.options.jobs)
         again = engines.line([emulator.program("bspsweep"), *(it for it in words if it != "--script")])
         print(f"start it:   {engines.line(['sbatch', str(path)])}\ncollect it: {again}")
     else:
@@ -179,14 +217,17 @@ def script(sweep: Sweep, words: list[str]) -> int:
     return 0
 
 
-def sweep(options: argparse.Namespace, words: list[str]) -> int:
-    """Makes what is to be run, and writes the table."""
-    whole = Sweep(options)
+def sweep(options: argparse.Namespace, words: list[str], before: table_record.Record | None = None) -> int:
+    """Makes what is to be run, and writes the table; and says what is not as it was before."""
+    whole = Sweep(options, words)
+    whole.take_tickets()
     if options.script:
         return script(whole, words)
-    hosts = tuple(options.hosts.split(",")) if options.hosts else ()
-    engine = engines.chosen(options.engine, options.jobs, hosts, options.sbatch)
+    engine = engines.chosen(options.engine, options.jobs, options.hosts, options.sbatch)
     missing = whole.missing()
+    of_others = sum(sealed_results.is_of_others(it.file("json")) for it in missing.values())
+    unkept = [sealed_results.UNKEPT] * (not sealed_results.own_key().is_kept)
+    tell([*unkept, *sealed_results.told_of_others(of_others, options.folder)], "bspsweep: ")
     known = len(whole.places) - len(missing)
     if known:
         tell([f"{known} of {counted(len(whole.places), 'run')} {'was' if known == 1 else 'were'} made before"], "bspsweep: ")
@@ -194,20 +235,54 @@ def sweep(options: argparse.Namespace, words: list[str]) -> int:
         whole.make(engine, missing, MAIN)
     wrong = whole.check(engine) if options.check else []
     is_whole = not wrong and not whole.missing() and not whole.unplaced
-    if is_whole or not options.check:
-        whole.write()
+    record = whole.write() if is_whole or not options.check else None
+    is_same = record is None or before is None or tell_again(before, record)
     stopped = result_table.stopped(whole.places)
     tell([*whole.unplaced, *result_table.failures(whole.places), *stopped, *wrong], "bspsweep: ")
     if options.check:
         tell([f"{counted(len(whole.places), 'run')} gave the same once more" if is_whole else "no table is written"], "bspsweep: ")
-    return REFUSED if not is_whole else NOT_ENDED if stopped else 0
+    return REFUSED if not is_whole or not is_same else NOT_ENDED if stopped else 0
+
+
+def tell_again(before: table_record.Record, now: table_record.Record) -> bool:
+    """Says what is not as in an older record, and whether the table is the same, which is answered."""
+    lines = table_record.differences(before, now)
+    is_same = bool(before.get(table_record.TABLE) == now[table_record.TABLE])
+    tell([*lines, "the table is the same, byte for byte" if is_same else "the table is another one"], "bspsweep: ")
+    return is_same
+
+
+def again(asked: argparse.Namespace) -> int:
+    """Makes the table of a record once more, as the command line asks for it now."""
+    before = table_record.read(asked.again)
+    table_record.take_machines(before)
+    words = before[table_record.COMMAND]
+    options = arguments(words)
+    if options.again is not None:
+        raise Refused(f"{asked.again} is the record of no sweep")
+    for name in ("output", "folder", "engine", "jobs", "hosts", "sbatch", "check", "script"):
+        setattr(options, name, getattr(asked, name))
+    expect_outputs(options, [asked.again])
+    return sweep(options, words, before)
+
+
+def expect_outputs(options: argparse.Namespace, inputs: list[str]) -> None:
+    """Refuses a table, or a record of it, that would be written over something else, or cannot be written."""
+    outputs = [options.output, table_record.beside(options.output)]
+    files.expect_apart(outputs, [*inputs, *options.program, *(options.input or []), *options.file])
+    files.expect_writable(outputs)
+    table_record.expect_own(outputs[1])
 
 
 def main(words: list[str]) -> int:
-    """Sweeps; the status is 1 where a run could not be made, or a check found a difference, and else 2 where one did not end well."""
+    """Sweeps; the status is 1 where a run could not be made, a check found a difference or another table was made again, and else 2 where one
+    did not end well."""
     if words[:1] == ["--make"] and len(words) == 3:
         return sweep_job.make(words[1], words[2])
     options = arguments(words)
-    files.expect_apart([options.output], [*options.program, *(options.input or []), *options.file])
-    files.expect_writable([options.output])
+    if not files.is_here():
+        raise Refused(f"{files.GONE}, from which runs are described: start it elsewhere")
+    if options.again is not None:
+        return again(options)
+    expect_outputs(options, [])
     return sweep(options, words)

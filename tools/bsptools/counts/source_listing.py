@@ -4,16 +4,17 @@ from __future__ import annotations
 
 import json
 import pathlib
-from collections.abc import Mapping
+from collections.abc import Mapping, Sequence
 from typing import Any, NamedTuple
 
 from ..files import whole
 from ..limits import MOST_NODES
 from ..outputs.report import MOST_COST, OUTCOME, Report
 from ..program.line_table import Place
-from ..refusals import Refused, about, printable
+from ..refusals import Refused, Unfit, about, printable, why_unfit
 from .h_relations import Relation
 from .line_costs import Work
+from .printing import printing
 
 FORM = "bspemu lines 1"
 # Bytes of a source that is kept.
@@ -23,11 +24,23 @@ MOST_SUM = 1 << 60
 
 
 class Superstep(NamedTuple):
-    """A superstep: the steps of its slowest rank, its h-relation, and the steps of each rank."""
+    """A superstep: the steps of its slowest rank, its h-relation, and the steps of each rank, in all and in output functions. What was
+    written before these were told has none of them."""
 
     w: int
     h: int
     ticks: list[int]
+    printed: list[int]
+
+    @property
+    def printed_in_w(self) -> int | None:
+        """How many steps of the slowest rank were in output functions, where that is known."""
+        return self.printed[max(range(len(self.ticks)), key=lambda rank: (self.ticks[rank], -rank))] if self.printed else None
+
+    @property
+    def without_printing(self) -> int | None:
+        """The w of this superstep without the work of output functions, where that is known."""
+        return max(steps - printed for steps, printed in zip(self.ticks, self.printed)) if self.printed else None
 
 
 class Line(NamedTuple):
@@ -80,7 +93,12 @@ class Listing(NamedTuple):
 def listing(work: Work, report: Report, relations: list[Relation], program: str) -> Listing:
     """The listing of a run."""
     paths = sorted({it.path for it in work.places.values() if it.is_own})
-    supersteps = [Superstep(it.w, told.costs["h"], list(it.ticks)) for it, told in zip(work.counts.supersteps, report.supersteps)]
+    printed = printing(work)
+    of_rank = printed.of_rank if printed is not None else {}
+    supersteps = [
+        Superstep(it.w, told.costs["h"], list(it.ticks), [of_rank.get((number, rank), 0) for rank in range(work.counts.nodes)])
+        for number, (it, told) in enumerate(zip(work.counts.supersteps, report.supersteps))
+    ]
     by_rank = [work.folded({at: them[rank] for at, them in work.counts.by_rank.items()}) for rank in range(work.counts.nodes)]
     asked = asked_for(relations)
     lines = []
@@ -121,6 +139,11 @@ def as_json(it: Listing) -> str:
     return json.dumps(content, separators=(",", ":"), ensure_ascii=False) + "\n"
 
 
+def steps(numbers: Sequence[object]) -> list[int]:
+    """How many steps each rank made."""
+    return [whole(it, MOST_COST) for it in numbers]
+
+
 def is_listing(text: str) -> bool:
     """Whether a text begins as a listing does."""
     return text.startswith('{"form":"bspemu lines ')
@@ -131,22 +154,22 @@ def parse(text: str) -> Listing:
     try:
         return checked(of_json(json.loads(text)))
     except (ValueError, KeyError, TypeError, AttributeError, IndexError, RecursionError) as error:
-        raise Refused(f"it begins as costs of lines, and goes on as none: {error}") from error
+        raise Refused(f"it begins as costs of lines, and goes on as none: {why_unfit(error)}") from error
 
 
 def of_json(content: Mapping[str, Any]) -> Listing:
     """A listing of its values by their names."""
     if content["form"] != FORM:
-        raise ValueError(f"its form is {content['form']!r}, and this is {FORM!r}")
+        raise Unfit(f"its form is {content['form']!r}, and this is {FORM!r}")
     supersteps = [
-        Superstep(whole(it["w"], MOST_COST), whole(it["h"], MOST_COST), [whole(ticks, MOST_COST) for ticks in it["ticks"]])
+        Superstep(whole(it["w"], MOST_COST), whole(it["h"], MOST_COST), steps(it["ticks"]), steps(it.get("printed", [])))
         for it in content["supersteps"]
     ]
     files = [File(printable(str(it["name"])), [str(line) for line in it["text"]]) for it in content["files"]]
     lines = [line_of(it) for it in content["lines"]]
     outcome = str(content["outcome"])
     if not OUTCOME.match(outcome.encode(errors="replace")) or "\n" in outcome:
-        raise ValueError(f"{outcome!r} is no outcome")
+        raise Unfit(f"{outcome!r} is no outcome")
     return Listing(printable(str(content["program"])), supersteps, outcome, files, lines)
 
 
@@ -170,21 +193,23 @@ def line_of(it: Mapping[str, Any]) -> Line:
 def checked(it: Listing) -> Listing:
     """A listing whose sums are those of its supersteps; what is none raises ValueError."""
     if not it.supersteps or not 1 <= it.nodes <= MOST_NODES:
-        raise ValueError("no superstep with ranks")
+        raise Unfit("no superstep with ranks")
     sums, ranks = [0] * len(it.supersteps), [0] * it.nodes
     for number, superstep in enumerate(it.supersteps):
         if len(superstep.ticks) != it.nodes or superstep.w != max(superstep.ticks):
-            raise ValueError(f"the w of superstep {number} is not that of its ranks")
+            raise Unfit(f"the w of superstep {number} is not that of its ranks")
+        if superstep.printed and (len(superstep.printed) != it.nodes or any(map(int.__gt__, superstep.printed, superstep.ticks))):
+            raise Unfit(f"the printing of superstep {number} is not that of its ranks")
     for line in it.lines:
         if not -1 <= line.file < len(it.files) or (line.file >= 0) != (line.number > 0) or len(line.ranks) != it.nodes:
-            raise ValueError(f"{line.function}: it is no line of a file that there is")
+            raise Unfit(f"{line.function}: it is no line of a file that there is")
         if sum(line.supersteps.values()) != line.folded:
-            raise ValueError(f"{line.function}: its supersteps do not come to its sum")
+            raise Unfit(f"{line.function}: its supersteps do not come to its sum")
         for number, count in line.supersteps.items():
             sums[number] += count
         ranks = [one + other for one, other in zip(ranks, line.ranks)]
     if sums != [superstep.w for superstep in it.supersteps] or sum(line.paid for line in it.lines) != it.w:
-        raise ValueError("the lines do not come to w")
+        raise Unfit("the lines do not come to w")
     if ranks != [sum(of_rank) for of_rank in zip(*(superstep.ticks for superstep in it.supersteps))]:
-        raise ValueError("the lines do not come to what the ranks made")
+        raise Unfit("the lines do not come to what the ranks made")
     return it

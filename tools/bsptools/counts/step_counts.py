@@ -14,7 +14,7 @@ from typing import NamedTuple
 from ..files import whole
 from ..limits import MOST_NODES, MOST_TICKS
 from ..outputs.report import MOST_COST, Report
-from ..refusals import Refused, about
+from ..refusals import Refused, Unfit, about, why_unfit
 
 HEADER = ["superstep", "rank", "address", "count"]
 ADDRESSES = re.compile(r"(?:[0-9a-f]{8} )+")
@@ -88,28 +88,28 @@ def parts(path: str | os.PathLike[str]) -> Iterator[Part]:
         rows = csv.reader(file)
         try:
             if next(rows, []) != HEADER:
-                raise ValueError("it does not begin as counts do")
+                raise Unfit("it does not begin as counts do")
             last = (-1, -1)
             for (superstep, rank), them in itertools.groupby(rows, operator.itemgetter(0, 1)):
                 part = part_of(whole(superstep, MOST_COST), whole(rank, MOST_NODES - 1), list(them))
                 if part[:2] <= last:
-                    raise ValueError(f"superstep {superstep}, rank {rank} is not in its place")
+                    raise Unfit(f"superstep {superstep}, rank {rank} is not in its place")
                 last = part[:2]
                 yield part
         except (csv.Error, IndexError) as error:
-            raise ValueError(f"line {rows.line_num}: {error}") from error
+            raise Unfit(f"line {rows.line_num}: {why_unfit(error)}") from error
 
 
 def part_of(superstep: int, rank: int, rows: list[list[str]]) -> Part:
     """A part of its rows."""
     if any(len(row) != len(HEADER) for row in rows):
-        raise ValueError(f"superstep {superstep}, rank {rank}: a row has other columns than the first one")
+        raise Unfit(f"superstep {superstep}, rank {rank}: a row has other columns than the first one")
     texts = [row[2] for row in rows], [row[3] for row in rows]
     if not all(form.fullmatch(" ".join(them) + " ") for form, them in zip((ADDRESSES, NUMBERS), texts)):
-        raise ValueError(f"superstep {superstep}, rank {rank}: a row is no count")
+        raise Unfit(f"superstep {superstep}, rank {rank}: a row is no count")
     addresses, steps = [int(it, 16) for it in texts[0]], list(map(int, texts[1]))
     if any(one >= other for one, other in zip(addresses, addresses[1:])) or sum(steps) > MOST_TICKS:
-        raise ValueError(f"superstep {superstep}, rank {rank}: its counts are not in their order, or too many")
+        raise Unfit(f"superstep {superstep}, rank {rank}: its counts are not in their order, or too many")
     return Part(superstep, rank, array("I", addresses), array("Q", steps))
 
 
@@ -119,7 +119,7 @@ def read(path: str | os.PathLike[str], nodes: int, report: Report) -> Counts:
     try:
         add_all(found, parts(path), nodes, report)
     except (ValueError, IndexError) as error:
-        raise Refused(f"the counts are not those of the run: {error}") from error
+        raise Refused(f"the counts are not those of the run: {why_unfit(error)}") from error
     return found
 
 
@@ -132,9 +132,9 @@ def add_all(found: Counts, them: Iterable[Part], nodes: int, report: Report) -> 
         found.supersteps.append(superstep_of(group[1] if group and is_there else (), nodes, found.by_rank))
         group = next(groups, None) if is_there else group
         if found.supersteps[-1].w != told.costs["w"]:
-            raise ValueError(f"superstep {told.number} has w {told.costs['w']}, and {found.supersteps[-1].w} by the counts")
+            raise Unfit(f"superstep {told.number} has w {told.costs['w']}, and {found.supersteps[-1].w} by the counts")
     if group is not None:
-        raise ValueError(f"there is no superstep {group[0]}")
+        raise Unfit(f"there is no superstep {group[0]}")
 
 
 def superstep_of(them: Iterable[Part], nodes: int, by_rank: dict[int, array[int]]) -> Superstep:

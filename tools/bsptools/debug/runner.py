@@ -76,14 +76,15 @@ class Runner:
             count = 2 * count if time.monotonic() - started < PIECE else max(1, count // 2)
 
     def go_alone(self, rank: int) -> Halt:
-        """A rank goes on by itself. Where it has stopped by itself, the others go on to the end of the superstep, and then it again."""
+        """A rank goes on by itself, and where it fails stops there. Where it has come to the superstep's end, the others go on to that, and
+        then it again."""
         self._deadline = None
         self.watches.resume()
         while True:
             nodes = self.machine.nodes()
             if nodes[rank].runs and self.watches.of(rank):
                 halt = self._follow(rank)
-            elif nodes[rank].runs and any(node.runs for node in nodes[:rank]):
+            elif nodes[rank].runs:
                 halt = self._run_alone(rank)
             else:
                 halt = self._go_watching(rank)

@@ -16,6 +16,8 @@ from ..program.memory_accesses import loaded
 MOST_BEHIND, MOST_LOOKED_AT, LEAST_LOOKED_AT = 5_000, 60_000, 500
 # Calls at which a run stops, and lines that are left to a session for what follows.
 MOST_SITES, RESERVE = 1000, 1 << 18
+# For how many seconds of the debugger a rank is followed.
+MOST_SECONDS = 0.5
 
 
 class Target(NamedTuple):
@@ -64,7 +66,11 @@ class Looks:
             session.ask_all([f"break {rank} {site}" for site in sites])
             targets: list[Target] = []
             while sites and looked_at < self.most and session.room > RESERVE:
-                reply = session.ask("go")
+                session.send("go")
+                if not session.has_reply_in(MOST_SECONDS - session.seconds):
+                    self.is_whole = False
+                    return found
+                reply = session.reply()
                 node = session.node(rank) if reply.is_done and reply.lines[0].startswith("stopped at rank") else None
                 if node is None:
                     return found

@@ -4,42 +4,94 @@ from __future__ import annotations
 
 import itertools
 
-from ..framed.backtrace import written
-from ..framed.environment_calls import GETS, MOVE, PUSH, PUTS, REQUESTS, SEND, TAGSIZE, TAKES, Tracer
+from ..framed.backtrace import unwound, written
+from ..framed.environment_calls import GETS, MOVE, PUSH, PUTS, QSIZE, REQUESTS, SEND, TAGSIZE, TAKES, Call, Tracer
 from ..framed.replays import MOST_STOPS
-from ..framed.superstep_calls import Finding, Landing, SuperstepCalls, landings_in
+from ..framed.superstep_calls import TRACED, Finding, Landing, SuperstepCalls, landings_in
 from ..outputs.report import Report
+from ..program.variables import element_of, is_pointer
+from ..refusals import counted
 from .early_reads import early_reads
 
 MOST_TOLD = 5
+# For how many seconds of the debugger calls are looked for, of all ranks, and of one at the least.
+TRACE_SECONDS, LEAST_SECONDS = 0.6, 0.05
+# How many calls of messages and puts are looked at for addresses.
+MOST_SITES = 16
 # The bytes of numbers, and those of a word: a number of more may stand at any word.
 SIZES, WORD = (2, 4, 8), 4
 
 
-def warnings(trace: Tracer, nodes: int, report: Report, others: dict[str, list[str]]) -> list[str]:
-    """Lines of what was found, by `others` too, and a last one of what was looked for and not found."""
+def warnings(
+    trace: Tracer, nodes: int, report: Report, others: dict[str, list[str]], are_offsets_told: bool = False, is_brief: bool = False,
+    is_warned: bool = False
+) -> list[str]:  # fmt: skip
+    """Lines of what was found, by `others` too, and a last one of what was looked for and not found; in brief, where nothing was found, nor
+    the compiler has warned."""
+    trace.replays.most_seconds = max(TRACE_SECONDS / nodes, LEAST_SECONDS)
     steps = SuperstepCalls(trace, nodes)
     last = report.supersteps[-1].number
+    is_cut = steps.known is not None
+    if steps.known is not None:
+        last = min(last, steps.known)
     met = meeting(steps, last)
     early_targets, are_all_looked_at = early_reads(steps, last)
     found: dict[str, list[Finding]] = {
-        "requests that come to nothing": pending(steps, last) if report.outcome == "ended" else [],
-        "areas in another order": other_order(steps, last),
+        "requests that come to nothing": pending(steps, last) if report.outcome == "ended" and not is_cut else [],
+        "areas in another order": [] if are_offsets_told else other_order(steps, last),
         "puts that meet": met,
-        "offsets that are no multiple of a word": crooked(steps, last, met),
+        "offsets that are no multiple of a word": [] if are_offsets_told else crooked(steps, last, met),
         "targets of gets that are read too early": early_targets,
         "messages that are read too late": late(steps, last),
+        "messages that are read too early": before_they_come(steps, last),
+        "messages that are counted too early": counted_before_they_come(steps, last),
+        "addresses that are sent to other ranks": addresses(steps, last),
         "tags of a size that is not in effect yet": early(steps, last),
     }
-    findings = [it for several in found.values() for it in several]
-    texts = ["".join(map(steps.told, it)) for it in findings[:MOST_TOLD]] + [it for several in others.values() for it in several]
-    more = [f"  and {len(findings) - MOST_TOLD} more"] if len(findings) > MOST_TOLD else []
+    texts, left = first_of_each(steps, list(found.values()))
+    texts += [it for several in others.values() for it in several]
+    more = [f"  and {left} more"] if left else []
+    if is_cut:
+        more.append(f"  and no more than the first {counted(last, 'superstep')} were looked at, since the run is long")
     if not steps.is_whole:
         more.append(f"  and no more than the first {MOST_STOPS} calls of a rank were looked at")
     if not are_all_looked_at:
         more.append("  and not all instructions behind gets were looked at")
-    absent = ", ".join(name for name, several in [*found.items(), *others.items()] if not several)
-    return [f"bsprun: warning: {it}" for it in texts] + more + ([f"bsprun: looked for, and not found: {absent}"] if absent else [])
+    absent = [name for name, several in [*found.items(), *others.items()] if not several]
+    absent = [it for it in absent if not are_offsets_told or not it.startswith(("offsets", "areas"))]
+    if is_brief:
+        is_right = report.outcome == "ended" and not (texts or are_offsets_told or is_warned)
+        none = ["bsprun: nothing in this run looks like a mistake"] if is_right else []
+        return [f"bsprun: warning: {it}" for it in texts] + more + none
+    last_line = [f"bsprun: looked for, and not found: {', '.join(absent)}"] if absent else []
+    return [f"bsprun: warning: {it}" for it in texts] + more + last_line
+
+
+def first_of_each(steps: SuperstepCalls, kinds: list[list[Finding]]) -> tuple[list[str], int]:
+    """The texts of the first findings, of each kind in its turn, so that none hides another, and of ranks that do the same in one place the
+    first; and how many are left."""
+    parted = [alike(several) for several in kinds]
+    turns = [it for several in itertools.zip_longest(*parted) for it in several if it is not None]
+    shown = turns[: max(MOST_TOLD, sum(map(bool, kinds)))]
+    texts = []
+    for same in (it for several in parted for it in several if any(it is one for one in shown)):
+        more = len({ranks_of(it) for it in same}) - 1
+        texts.append("".join(map(steps.told, same[0])) + (f", and so {counted(more, 'more rank')}" if more else ""))
+    return texts, len(turns) - len(shown)
+
+
+def ranks_of(finding: Finding) -> tuple[int, ...]:
+    """The ranks that a finding tells of."""
+    return tuple(it[0] for it in finding if not isinstance(it, str))
+
+
+def alike(findings: list[Finding]) -> list[list[Finding]]:
+    """Findings of one kind, those together that tell of the same places in the code."""
+    found: dict[tuple[tuple[int, int], ...], list[Finding]] = {}
+    for finding in findings:
+        key = tuple((it[1].node.pc, it[1].node.x[1]) for it in finding if not isinstance(it, str))
+        found.setdefault(key, []).append(finding)
+    return list(found.values())
 
 
 def pending(steps: SuperstepCalls, last: int) -> list[Finding]:
@@ -100,11 +152,20 @@ def crooked(steps: SuperstepCalls, last: int, met: list[Finding]) -> list[Findin
         for call in (it for it in steps.of(rank, superstep) if it.number in (*PUTS, *GETS)):
             size, offset, back = call.operand("nbytes"), call.operand("offset"), call.node.x[1]
             own = call.operand("src" if call.number in PUTS else "dst")
-            if size in SIZES and own % min(size, WORD) == 0 and offset % min(size, WORD) != 0 and back not in told:
+            is_odd = size in SIZES and own % min(size, WORD) == 0 and offset % min(size, WORD) != 0
+            if is_odd and back not in told and not is_of_bytes(steps, call):
                 told.add(back)
                 begin = f"offset {offset} is no multiple of the {size} bytes that are moved in superstep {superstep} by "
                 found.append([begin, (rank, call), ": offsets count bytes"])
     return found
+
+
+def is_of_bytes(steps: SuperstepCalls, call: Call) -> bool:
+    """Whether a call names an area that is a variable of the program with elements of one byte."""
+    known = steps.trace.code.described()
+    variable = known.at(call.area, []) if known is not None else None
+    element = element_of(variable.kind) if variable is not None else None
+    return element is not None and element.size == 1
 
 
 def late(steps: SuperstepCalls, last: int) -> list[Finding]:
@@ -113,7 +174,7 @@ def late(steps: SuperstepCalls, last: int) -> list[Finding]:
     for rank in range(steps.nodes):
         left = 0
         for superstep in range(1, last + 1):
-            came = sum(it.number == SEND and it.operand("pid") == rank for of in range(steps.nodes) for it in steps.of(of, superstep - 1))
+            came = len(steps.sent_to(rank, superstep - 1))
             takes = [it for it in steps.of(rank, superstep) if it.number in TAKES]
             moves = [i for i, it in enumerate(takes) if it.number == MOVE]
             behind = moves[came - 1] + 1 if 0 < came <= len(moves) else 0 if came == 0 else len(takes)
@@ -123,6 +184,66 @@ def late(steps: SuperstepCalls, last: int) -> list[Finding]:
                 found.append([begin, (rank, takes[behind]), end])
                 break
             left = max(came - len(moves), 0)
+    return found
+
+
+def before_they_come(steps: SuperstepCalls, last: int) -> list[Finding]:
+    """Takings of messages where none is left, in a superstep in which some are sent to this rank that are not read when they have come; the
+    first of each rank."""
+    found: list[Finding] = []
+    for rank in range(steps.nodes):
+        came: list[Call] = []
+        for superstep in range(last + 1):
+            sent = steps.sent_to(rank, superstep)
+            moves = [it for it in steps.of(rank, superstep) if it.number == MOVE]
+            later = [it for it in steps.of(rank, superstep + 1) if it.number in TAKES]
+            if len(moves) > len(came) and sent and not later:
+                begin = f"a message is read in superstep {superstep}, in which it is sent, by "
+                end = f": it comes with the next bsp_sync, behind which none of {len(sent)} is read"
+                found.append([begin, (rank, moves[len(came)]), end])
+                break
+            came = sent
+    return found
+
+
+def counted_before_they_come(steps: SuperstepCalls, last: int) -> list[Finding]:
+    """Questions how many messages there are where there are none, in a superstep in which some are sent to this rank, which neither asks
+    again nor reads when they have come; the first of each rank."""
+    found: list[Finding] = []
+    for rank in range(steps.nodes):
+        came = 0
+        for superstep in range(last):
+            asked = next((it for it in steps.of(rank, superstep) if it.number == QSIZE), None)
+            sent = len(steps.sent_to(rank, superstep))
+            later = [it for it in steps.of(rank, superstep + 1) if it.number in (*TAKES, QSIZE)]
+            if asked is not None and came == 0 and sent and not later:
+                begin = f"bsp_qsize is called in superstep {superstep}, before the bsp_sync that brings {counted(sent, 'message')}, by "
+                found.append([begin, (rank, asked), ", which asks for none after it"])
+                break
+            came = sent
+    return found
+
+
+def addresses(steps: SuperstepCalls, last: int) -> list[Finding]:
+    """Puts and messages to other ranks whose bytes are pointers by the type of their variable, each place once."""
+    found: list[Finding] = []
+    seen: set[tuple[int, int]] = set()
+    known = steps.trace.code.described()
+    if known is None:
+        return []
+    for superstep, rank in itertools.product(range(last), range(steps.nodes)):
+        for call in steps.of(rank, superstep):
+            key = (call.node.pc, call.node.x[1])
+            size = call.operand("payload_nbytes" if call.number == SEND else "nbytes") if call.number in (*PUTS, SEND) else 0
+            if size < WORD or size % WORD or call.operand("pid") == rank or key in seen or len(seen) >= MOST_SITES:
+                continue
+            seen.add(key)
+            node = steps.trace.node_of(rank, TRACED, 0, call._replace(superstep=superstep))
+            own = call.operand("payload" if call.number == SEND else "src")
+            variable = known.at(own, unwound(steps.trace.code, node)[1]) if node is not None else None
+            if variable is not None and is_pointer(variable.kind):
+                begin = f"an address is sent to another rank in superstep {superstep}, {variable.part(own)} of "
+                found.append([begin, (rank, call), ": it names a place in the memory of this rank alone, so send what stands there"])
     return found
 
 

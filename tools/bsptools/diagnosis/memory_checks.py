@@ -12,9 +12,10 @@ from typing import NamedTuple
 from .. import children
 from ..framed.replays import Replays
 from ..outputs import output_records
-from ..outputs.output_demux import ERROR, OUTPUT, Marks
+from ..outputs.output_demux import ERROR, OUTPUT, Marks, digest_of
 from ..outputs.report import Report, part
 from ..portable.divergence import first_divergence
+from ..prepare.clock_rate import with_clock_rate
 from ..prepare.job import Job
 from ..prepare.library_choices import Choices
 from ..program.code import Code
@@ -100,17 +101,24 @@ def run_of(job: Job, flags: int, fill: int | None) -> tuple[Run, Report] | None:
     return Run(own + marks.left(), parted[1].outcome), parted[1]
 
 
-def memory_findings(job: Job) -> dict[str, list[str]]:
-    """What a run once more tells, by the names of what it looks for, where the program's library can look."""
+def is_as_watched(job: Job, again: Run, outcome: str, digest: bytes | None) -> bool:
+    """Whether a run once more did what the run did that was watched. That cannot be said of a program that reads the time."""
+    return with_clock_rate(job.content, job.options.rate) == job.content and again.outcome == outcome and digest_of(again.output) == digest
+
+
+def memory_findings(job: Job, outcome: str, digest: bytes | None) -> dict[str, list[str]]:
+    """What a run once more tells, by the names of what it looks for, where the program's library can look. It is compared with the run that
+    was watched, by the outcome and the digest of its output, and where these differ with a third one."""
     options = job.options
     if not job.mark or output_records.PLACE not in job.content:
         return {}
     fill = next(it for it in FILLS if it != options.fill)
     found: dict[str, list[str]] = {"memory that is written past a block of malloc": [], "memory that is read before it is written": []}
-    first, again = run_of(job, 0, options.fill), run_of(job, output_records.LOOKS, fill)
+    again = run_of(job, output_records.LOOKS, fill)
+    # Where that stopped is looked for before the job is set for another run.
+    where = [] if again is None or again[0].outcome == "ended" else Why(job.code, job.replays(), options.nodes, options.limit).lines(again[1])
+    first = again if again is None or is_as_watched(job, again[0], outcome, digest) else run_of(job, 0, options.fill)
     if first is not None and again is not None:
-        has_ended = again[0].outcome == "ended"
-        where = [] if has_ended else Why(job.code, job.replays(), options.nodes, options.limit).lines(again[1])
         overrun, read = found
         found[overrun] = overruns(again[0], where)
         found[read] = [] if found[overrun] else reads(first[0], again[0], fill)

@@ -2,17 +2,20 @@
 
 from __future__ import annotations
 
+import contextlib
+import itertools
 import re
 
-from ..framed.backtrace import place, written
-from ..framed.environment_calls import CHANGES, GETS, NAMES, POP, PUSH, PUTS, REQUESTS, SEND, TAGSIZE, WRITE, Call, Tracer, spelled
+from ..framed.backtrace import frames, place, short, users_frames, written
+from ..framed.environment_calls import CHANGES, FUNCTIONS, GETS, NAMES, POP, PUSH, PUTS, REQUESTS, SEND, TAGSIZE, WRITE
+from ..framed.environment_calls import Call, Tracer, spelled
 from ..framed.replays import Replays, bytes_of
 from ..framed.session import Node, Session, floats_of, node_of, signed
 from ..limits import MOST_AREAS, MOST_BYTES, MOST_REQUESTS, MOST_STACK, MOST_TAG, MOST_TICKS
 from ..outputs.report import Report
-from ..program.code import ECALL, Code, float_name
+from ..program.code import ECALL, Code, float_name, source_lines
 from ..program.memory_need import size_text
-from ..refusals import counted
+from ..refusals import counted, numbered
 
 # Of a run of more instructions, what was registered before its last superstep is looked for where likely mistakes are.
 MOST_TRACED = 100_000_000
@@ -20,6 +23,11 @@ LONG = "what is registered was not looked for in so long a run: --warn does"
 # How many stopped nodes are looked at, and how many of them are told of in full.
 MOST_LOOKS = 8
 MOST_TOLD = 3
+# What a line has that the compiler does not see, and the functions of the library in which a program ends whose main has returned.
+COMMENT = r"//.*|/\*.*?\*/"
+BEHIND_MAIN = {"_exit", "exit", "bsp_start", "_start", "end_of_main", "bsp_stop", "bsp_stop_with", "end_line", "abort_node", ""}
+# The functions of the library that make calls.
+LIBRARYS = {name for names in FUNCTIONS.values() for name in names}
 # What NULL points to, over and over, in a program of bspcc, and how far from it an address is that was made of it.
 NULL_WORD, NEAR = 0xE5A6D39B, 1 << 16
 # Where an instruction of floating point has its rounding mode, which is that in frm where all of these bits are set, and those modes that
@@ -76,7 +84,10 @@ class Why:
         """Has gdb come to a call of those that a rank made in a superstep, and show its line."""
         before = sum(it.stop < call.stop and it.node.pc == call.node.pc for it in made)
         self.gdb = [f"monitor superstep {superstep}", "continue"] if superstep > 0 else []
-        self.gdb += [f"break *{call.node.pc:#x} thread {rank + 1}", *([f"ignore 1 {before}"] if before else []), "continue", *self._up]
+        # By the function's name gdb comes there also in a program that bspgdb compiles otherwise than bsprun.
+        name = self.code.name_at(call.node.pc)
+        at = name if name in LIBRARYS and not self.code.lines else f"{call.node.pc:#x}"
+        self.gdb += [f"break *{at} thread {rank + 1}", *([f"ignore 1 {before}"] if before else []), "continue", *self._up]
 
     @property
     def _up(self) -> list[str]:
@@ -116,7 +127,7 @@ class Why:
         if node.state == "exhausted":
             return self.exhausted(node, superstep)
         is_call = self.code.stored(node.pc) == ECALL and node.state != "aborted"
-        where = place(self.code, node, is_call)
+        where = place(self.code, node, is_call) if not self.is_behind_main(node) else self.end_of_main()
         lines = [f"rank {node.rank} stopped in superstep {superstep}, after {node.ticks} instructions: {node.state}"]
         lines += [f"  at   {where}"] if where else []
         if node.state == "aborted":
@@ -150,11 +161,36 @@ class Why:
         ranks = "rank 0 is the only one" if self.nodes == 1 else f"the ranks are 0 to {self.nodes - 1}"
         texts = {
             "BadRank": f"there is no rank {signed(node.x[10])}: with {counted(self.nodes, 'node')} {ranks}",
-            "Break": "the compiler saw that the program goes wrong here, as at a use of NULL, and put a trap",
+            "Break": self.trap(node),
             "Misaligned": f"the program begins at {node.pc:#x}, and instructions stand at even addresses",
             "UnknownCall": f"a7 is {node.x[17]}, and calls have the numbers 1 to {max(NAMES)}",
         }
         return [texts[fault]] if fault in texts else tellers.get(fault, self.no_code)(node, superstep)
+
+    def trap(self, node: Node) -> str:
+        """What the compiler saw where it put a trap: what stands in front of that tells, or the line."""
+        function = self.code.function(node.pc)
+        before = next((it for it in self.code.body(function[0]).values() if it.end == node.pc), None) if function else None
+        if before is not None and before.is_relative and before.pointer == 0:
+            return "NULL is used as a pointer here: the compiler saw it, and put a trap"
+        lines = source_lines(self.code, node.pc)
+        if lines and re.search(r"[/%]", re.sub(COMMENT, "", source_text(lines[0][1]))):
+            return "a whole number is divided by 0 here: the compiler saw it, and put a trap"
+        return "the compiler saw that the program goes wrong here, and put a trap"
+
+    def is_behind_main(self, node: Node) -> bool:
+        """Whether a node was stopped by the library as main had returned."""
+        chain = frames(self.code, node)
+        names = {self.code.name_at(it) for it in chain}
+        return node.state == "aborted" and names <= BEHIND_MAIN and not users_frames(self.code, chain)
+
+    def end_of_main(self) -> str:
+        """The line of the end of main; nothing where it is not known."""
+        start = self.code.names.get("main")
+        body = self.code.body(start) if start is not None else {}
+        lines = [it for at in body for it in source_lines(self.code, at)[-1:] if it[0] == "main"]
+        last = max(lines, key=lambda it: int(it[1].rpartition(":")[2]), default=None)
+        return f"the end of main, {short(last[1])}" if last is not None else "the end of main"
 
     def range_outside(self, node: Node, _superstep: int) -> list[str]:
         """An operand that names bytes outside the memory."""
@@ -219,7 +255,7 @@ class Why:
     def not_registered(self, node: Node, superstep: int) -> list[str]:
         """An area that is not in effect: pushed too late, popped, named from its middle, or never pushed."""
         address = Call(node, 0).area
-        name = written(self.code, address)
+        name = written(self.code, address, node)
         for call in self.trace.calls_in(node.rank, CHANGES, superstep):
             if call.number == PUSH and call.area == address and node.x[17] != POP:
                 where = self.trace.place_of(node.rank, CHANGES, superstep, call)
@@ -228,14 +264,14 @@ class Why:
             return [LONG]
         areas = self.trace.areas(node.rank, superstep)
         if (around := areas.around(address)) is not None:
-            return [f"{name} lies in the area that begins at {written(self.code, around[0])}: name that, and give an offset"]
+            return [f"{name} lies in the area that begins at {written(self.code, around[0], node)}: name that, and give an offset"]
         if node.x[17] == POP:
             return [f"{name} is not registered any more, or never was"]
         for call in reversed(self.trace.calls(node.rank, CHANGES)):
             if call.number == POP and call.area == address:
                 where = self.trace.place_of(node.rank, CHANGES, 0, call)
                 return [f"the registration of {name} was taken back, at {where}"]
-        known = ", ".join(f"{written(self.code, at)} of {size} bytes" for at, size in areas.entries[:8])
+        known = ", ".join(f"{written(self.code, at, node)} of {size} bytes" for at, size in areas.entries[:8])
         return [f"rank {node.rank} never registered {name}; in effect are {known or 'no areas'}"]
 
     def outside_area(self, rank: int, request: int, superstep: int) -> list[str]:
@@ -246,10 +282,11 @@ class Why:
         call = made[request]
         self.bring_gdb_to(rank, superstep, call, made)
         offset, count, target = call.operand("offset"), call.operand("nbytes"), call.operand("pid")
+        node = self.trace.node_of(rank, REQUESTS, superstep, call)
         lines = [
             f"rank {rank} asked in superstep {superstep} for what its area does not have, in its request {request}",
-            f"  at   {self.trace.place_of(rank, REQUESTS, superstep, call)}",
-            f"  call {spelled(self.code, call.node)}",
+            f"  at   {place(self.code, node, is_call_told=True) if node else 'a place that was not found'}",
+            f"  call {spelled(self.code, node or call.node)}",
         ]
         if self.is_long:
             return [*lines, f"  why  {LONG}"]
@@ -271,8 +308,9 @@ class Why:
         for which, calls in zip((0, rank), made):
             if first < len(calls):
                 self.bring_gdb_to(which, superstep, calls[first], calls)
-                where = self.trace.place_of(which, CHANGES, superstep, calls[first])
-                lines.append(f"  rank {which}  {spelled(self.code, calls[first].node)}, at {where}")
+                node = self.trace.node_of(which, CHANGES, superstep, calls[first])
+                where = place(self.code, node, is_call_told=True) if node else "a place that was not found"
+                lines.append(f"  rank {which}  {spelled(self.code, node or calls[first].node)}, at {where}")
             else:
                 lines.append(f"  rank {which}  none, after {len(calls)} of them")
         return lines
@@ -313,18 +351,55 @@ class Why:
         ]
 
     def desync(self, ended: int, synced: int, superstep: int) -> list[str]:
-        """Two ranks of which one waits for the other, which has ended."""
-        waiting = self.node_at_end(synced)
-        lines = [f"rank {ended} ended in superstep {superstep}, where rank {synced} called bsp_sync once more"]
-        if waiting:
-            lines.append(f"  rank {synced}  bsp_sync, at {place(self.code, waiting, is_call_told=True)}")
+        """Ranks of which some wait for others, which have ended: how many syncs each made, and where its last one is."""
+        states = {rank: node.state for rank in range(self.nodes) if (node := self.session.node(rank))}
+        waiting = [rank for rank, state in states.items() if state == "synced"] or [synced]
+        over = [rank for rank, state in states.items() if state == "ended"] or [ended]
+        has, waits = ("have" if len(over) > 1 else "has"), ("wait in their" if len(waiting) > 1 else "waits in its")
+        begin = f"{numbered(over)} {has} ended while {numbered(waiting)} {waits} {ordinal(superstep + 1)} bsp_sync"
+        return [begin, *self.syncs(waiting, superstep, ""), *self.syncs(over, superstep - 1, self.end_of(ended, superstep))]
+
+    def syncs(self, ranks: list[int], last: int, end: str) -> list[str]:
+        """How many syncs these ranks made, the last at the end of a superstep, and where that is, by places."""
+        if last < 0:
+            return [f"  {numbered(ranks)} made none{end}"]
+        places: dict[str, list[int]] = {}
+        alike: dict[tuple[int, int, int], str] = {}
+        with self.replays.end_of(last) as session:
+            for rank in ranks:
+                node = session.node(rank)
+                if node is None:
+                    continue
+                key = (node.pc, node.x[1], node.x[2])
+                alike[key] = alike.get(key) or place(self.code, self.replays.with_stack(session, node), is_call_told=True)
+                places.setdefault(alike[key], []).append(rank)
+        told = [f"  {numbered(of)} made {last + 1}, the last at {where}{end}" for where, of in list(places.items())[:MOST_TOLD]]
+        left = sum(len(of) for of in list(places.values())[MOST_TOLD:])
+        return told + ([f"  and {left} more of the ranks"] if left else [])
+
+    def end_of(self, ended: int, superstep: int) -> str:
+        """Where a rank ended in a superstep."""
         script = [*self.replays.begin_for(ended, superstep), f"break superstep {superstep + 1}"]
         ends = [self.code.names[it] for it in ("bsp_end", "exit") if it in self.code.names]
         stops = self.replays.stops(script, ended, ends) if ends else []
         node = self.replays.look_after(superstep, ended, stops[0].ticks) if stops else self.node_at_end(ended)
-        if node:
-            lines.append(f"  rank {ended}  ended, at {place(self.code, node, is_call_told=True)}")
-        return lines
+        where = place(self.code, node, is_call_told=True) if node else ""
+        return f", and then ended, at {where}" if where else ""
+
+
+def source_text(line: str) -> str:
+    """The text of a line of a source; nothing where that is not here."""
+    path, _, number = line.rpartition(":")
+    with contextlib.suppress(OSError, ValueError):
+        with open(path, encoding="utf-8", errors="replace") as source:
+            return next(itertools.islice(source, int(number) - 1, None), "")
+    return ""
+
+
+def ordinal(number: int) -> str:
+    """`1st`, `2nd`, `3rd`, `4th`."""
+    last = number % 100 if number % 100 in (11, 12, 13) else number % 10
+    return str(number) + {1: "st", 2: "nd", 3: "rd"}.get(last, "th")
 
 
 def is_of_null(address: int) -> bool:

@@ -46,7 +46,7 @@ class Dialogue:
         self._command, self._is_interrupted = list(command), is_interrupted
         self.names = Names(command)
         self._session = Session(self._command)
-        self._lines = Lines(self._session.ask("help").accepted())
+        self._lines = Lines(self._session.line_forms())
         settings = self._session.settings()
         self._ranks, self._size = settings["nodes"], settings["memory"]
         self._points: Set[str] = set()

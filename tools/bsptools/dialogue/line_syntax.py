@@ -1,7 +1,7 @@
 """The lines of a dialogue: which there are, and what the words of one mean.
 
-They are those of the debugger, which tells them: how each is spelled, and what it does. What is added here is what a dialogue has besides:
-names of addresses, operands that can be left out, lines of its own, and the words that other debuggers have.
+They are those of the debugger, which gives a table of them: how each is spelled, and what it does. What is added here is what a dialogue
+has besides: names of addresses, operands that can be left out, lines of its own, and the words that other debuggers have.
 """
 
 from __future__ import annotations
@@ -9,7 +9,7 @@ from __future__ import annotations
 import re
 from typing import Callable, Dict, Iterator, List, NamedTuple, Sequence
 
-from ..framed.session import RefusalCode
+from ..framed.session import LineForm, RefusalCode
 from ..refusals import Refused, printable
 
 # Lines of a dialogue alone, with what they do, and behind which of the debugger's they are told.
@@ -67,9 +67,6 @@ IN_GDB = {
 MOST = (1 << 64) - 1
 
 _NUMBER = re.compile(r"[0-9]{1,99}|0[xX][0-9a-fA-F]{1,99}")
-# What the debugger tells of the lines with a first word: how they are spelled, what they do, and which of them a framed session alone has.
-_TOLD = re.compile(r"([^:]*): (.*)")
-_FRAMED = re.compile(r"with --framed (?!alone)|, with --framed alone")
 
 
 class Denied(Refused):
@@ -110,28 +107,15 @@ Reader = Callable[[str, int], int]
 
 class Lines:
     """The lines of a dialogue: each as it is spelled, with operands in capitals and in brackets what may be left out, and what it does.
-    `told` is what the debugger says to `help`."""
+    `forms` are those of the debugger."""
 
-    def __init__(self, told: Sequence[str]) -> None:
+    def __init__(self, forms: Sequence[LineForm]) -> None:
         self.purposes: Dict[str, str] = {}
-        for line in told:
-            self._take(line)
-            if line.startswith(BEFORE_OWN):
+        for form in forms:
+            self.purposes[_spelled_here(form)] = form.purpose + MORE.get(form.verb, "")
+            if form.verb == BEFORE_OWN:
                 self.purposes.update((usage, purpose + MORE.get(usage.split()[0], "")) for usage, purpose in OWN.items())
         self.verbs = sorted({usage.split()[0] for usage in self.purposes})
-
-    def _take(self, line: str) -> None:
-        """Takes what the debugger tells of the lines with one first word. What it says in parts is said of one line each."""
-        found = _TOLD.fullmatch(line)
-        if found is None:
-            raise Refused(f"the debugger tells of no line: {line}")
-        usages = _FRAMED.sub("", found[1]).split(", or ")
-        purposes = found[2].split("; ")
-        verb = usages[0].split()[0]
-        for at, usage in enumerate(usages):
-            if not any(other.startswith(f"{usage} [") for other in usages):
-                purpose = purposes[at] if len(purposes) == len(usages) else found[2]
-                self.purposes[_spelled_here(usage)] = purpose + MORE.get(verb, "")
 
     def of(self, verb: str) -> List[str]:
         """How the lines with a verb are spelled."""
@@ -191,11 +175,11 @@ class Lines:
         yield from [] if verb else [OPERANDS]
 
 
-def _spelled_here(usage: str) -> str:
+def _spelled_here(form: LineForm) -> str:
     """A line of the debugger as a dialogue takes it."""
-    verb, *names = usage.split()
-    left_out = LEFT_OUT.get(verb, ())
-    return " ".join([verb, *(f"[{name}]" if name in left_out else name for name in names), *([ADDED[verb]] if verb in ADDED else [])])
+    left_out = LEFT_OUT.get(form.verb, ())
+    names = [f"[{name}]" if name in left_out else name for name in form.operands.split()]
+    return " ".join([form.verb, *names, *([ADDED[form.verb]] if form.verb in ADDED else [])])
 
 
 def _matched(usage: Sequence[str], words: Sequence[str], ranks: int, address: Reader) -> tuple[Dict[str, int], List[str]]:

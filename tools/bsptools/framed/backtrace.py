@@ -9,9 +9,12 @@ from typing import NamedTuple
 
 from ..emulator import REPO
 from ..program.code import Code, Statement, source_lines
+from ..program.variables import Frame as Called
 from .session import Node, signed
 
 RA, SP, FP = 1, 2, 8
+# The registers that a function saves where it changes them, and where it returns to.
+KEPT = (RA, FP, 9, *range(18, 28))
 MOST_FRAMES = 40
 # Where sources lie that are none of the program's own.
 LIBRARIES = (REPO / "bsplib", pathlib.Path("/usr/include"), pathlib.Path("/usr/lib"))
@@ -35,7 +38,7 @@ class Prologue:
 
     def step(self, it: Statement) -> None:
         """Takes an instruction into account."""
-        if it.name == "sw" and it.pointer == SP and it.operand(0) in (RA, FP):
+        if it.name == "sw" and it.pointer == SP and it.operand(0) in KEPT:
             self.saved.setdefault(it.operand(0), it.operand(1) - self.size)
         elif it.name == "lui":
             self.known[it.operand(0)] = it.operand(1) << 12
@@ -83,14 +86,20 @@ def prologue_anew(code: Code, start: int, address: int) -> Prologue:
 
 def frames(code: Code, node: Node) -> list[int]:
     """Where a node stands, and the calls that led to there, innermost first."""
-    addresses = [node.pc]
+    return unwound(code, node)[0]
+
+
+def unwound(code: Code, node: Node) -> tuple[list[int], list[Called]]:
+    """The same, and the functions there of which the frame is known."""
+    addresses, called_ones = [node.pc], []
+    registers = dict(enumerate(node.x))
     pc, sp, ra, fp = node.pc, node.x[SP], node.x[RA], node.x[FP]
     called = code.call_before(ra)
     if code.name_at(pc).startswith(RESTORE):
         sp, ra, fp = restored(code, node)
         called = code.call_before(ra)
         if called is None:
-            return addresses
+            return addresses, []
         # The function that ends so stands behind the call of it.
         it = code.body((code.function(called) or (called, ""))[0]).get(called)
         addresses += [it.target, called] if it is not None and it.name == "jal" else [called]
@@ -102,6 +111,9 @@ def frames(code: Code, node: Node) -> list[int]:
         done = prologue(code, function[0], pc)
         top = fp if done.has_pointer else (sp + done.size) & 0xFFFFFFFF
         kept = {which: node.at((top + offset) & 0xFFFFFFFF) for which, offset in done.saved.items()}
+        called_ones.append(Called(pc, top, registers))
+        registers = {SP: top, **{it: registers[it] for it in KEPT if it in registers}}
+        registers.update((it, at) for it, at in kept.items() if at is not None)
         caller = kept.get(FP)
         fp = fp if caller is None else caller
         back = kept.get(RA) if RA in done.saved else (ra if len(addresses) == 1 or pc == called else None)
@@ -110,7 +122,7 @@ def frames(code: Code, node: Node) -> list[int]:
             break
         pc, sp = call, top
         addresses.append(pc)
-    return addresses
+    return addresses, called_ones
 
 
 def restored(code: Code, node: Node) -> tuple[int, int, int]:
@@ -191,7 +203,24 @@ def short(line: str) -> str:
     return f"{pathlib.PurePath(path).name}:{number}" if colon else line
 
 
-def written(code: Code, address: int) -> str:
-    """An address with the name of what stands there."""
-    name = code.variable(address) if address else "NULL"
+def written(code: Code, address: int, node: Node | None = None) -> str:
+    """An address with the name of what stands there: a variable of a function, too, where the node is given with its stack."""
+    name = named(code, address, node)
     return f"{address:#x} ({name})" if name else f"{address:#x}"
+
+
+def named(code: Code, address: int, node: Node | None) -> str:
+    """The name of what stands at an address, or nothing."""
+    if not address:
+        return "NULL"
+    known = code.described()
+    if known is None or node is None or not node.stack:
+        return code.variable(address)
+    called_ones = unwound(code, node)[1]
+    found = known.near(address, called_ones)
+    if found is not None:
+        return found.told(address)
+    pointer = known.pointing_to(address, called_ones, node.at)
+    if pointer is not None:
+        return f"where {pointer.name} points" + (f", in {pointer.function}" if pointer.function else "")
+    return code.variable(address)

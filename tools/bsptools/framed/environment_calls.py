@@ -9,7 +9,8 @@ from .backtrace import place, written
 from .replays import Replays
 from .session import Node, signed
 
-END, SYNC, PUSH, POP, PUT, GET, HPPUT, HPGET, TAGSIZE, SEND, GETTAG, MOVE, ABORT, WRITE = 1, 4, 5, 6, 7, 8, 9, 10, 11, 12, 14, 15, 16, 17
+END, SYNC, PUSH, POP, PUT, GET, HPPUT, HPGET, TAGSIZE, SEND = 1, 4, 5, 6, 7, 8, 9, 10, 11, 12
+QSIZE, GETTAG, MOVE, ABORT, WRITE = 13, 14, 15, 16, 17
 PUTS, GETS = (PUT, HPPUT), (GET, HPGET)
 REQUESTS = (*PUTS, *GETS, SEND)
 CHANGES = (PUSH, POP)
@@ -76,7 +77,7 @@ def spelled(code: Code, node: Node) -> str:
     texts = []
     for i, operand in enumerate(operands):
         value = node.x[10 + i]
-        texts.append(f"{operand[1:]} {written(code, value)}" if operand[0] == "*" else f"{operand} {signed(value)}")
+        texts.append(f"{operand[1:]} {written(code, value, node)}" if operand[0] == "*" else f"{operand} {signed(value)}")
     return f"{name}({', '.join(texts)})"
 
 
@@ -145,10 +146,13 @@ class Tracer:
         points = [f"break {rank} {site}" for site in self.sites(numbers)[:1000]]
         return [*self.replays.begin(superstep), *points, *["go"] * call.stop]
 
-    def place_of(self, rank: int, numbers: tuple[int, ...], superstep: int, call: Call) -> str:
-        """Where a call stands that a trace of these numbers from this superstep on found."""
+    def node_of(self, rank: int, numbers: tuple[int, ...], superstep: int, call: Call) -> Node | None:
+        """The node, with its stack, before a call that a trace of these numbers from this superstep on found."""
         if call.superstep is None:
-            node = self.replays.look(self.up_to(rank, numbers, superstep, call), rank)
-        else:
-            node = self.replays.look_after(call.superstep, rank, call.node.ticks)
+            return self.replays.look(self.up_to(rank, numbers, superstep, call), rank)
+        return self.replays.look_after(call.superstep, rank, call.node.ticks)
+
+    def place_of(self, rank: int, numbers: tuple[int, ...], superstep: int, call: Call) -> str:
+        """Where such a call stands."""
+        node = self.node_of(rank, numbers, superstep, call)
         return place(self.code, node, is_call_told=True) if node else "a place that was not found"

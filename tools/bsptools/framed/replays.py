@@ -24,6 +24,9 @@ class Replays:
 
     def __init__(self, words: list[str], memory: int, nodes: int = 1) -> None:
         self.words, self.memory, self.nodes = words, memory, nodes
+        # For how many seconds of the debugger stops are looked for in a run, if that has an end, and whether it has been that long.
+        self.most_seconds: float | None = None
+        self.is_cut = False
 
     @contextlib.contextmanager
     def session(self) -> Iterator[Session]:
@@ -105,8 +108,12 @@ class Replays:
         with self.session() as session:
             session.ask_all([*script, *(f"break {rank} {place}" for place in places[:1000])])
             while len(nodes) < MOST_STOPS:
-                replies = session.ask_all(["go", f"regs {rank}"] * (BATCH // 2))
-                for go, regs in zip(replies[::2], replies[1::2]):
+                session.send(*["go", f"regs {rank}"] * (BATCH // 2))
+                for _ in range(BATCH // 2):
+                    if self.most_seconds is not None and not session.has_reply_in(self.most_seconds - session.seconds):
+                        self.is_cut = True
+                        return nodes
+                    go, regs = session.reply(), session.reply()
                     node = node_of(regs.lines) if go.is_done and go.lines[0].startswith("stopped at rank") else None
                     if node is None:
                         return nodes

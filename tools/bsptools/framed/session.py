@@ -17,7 +17,7 @@ from collections.abc import Sequence
 from typing import NamedTuple
 
 from .. import children, limits
-from ..refusals import Refused
+from ..refusals import Refused, printable
 
 # As many steps as a node can make.
 ALL = (1 << 64) - 1
@@ -79,6 +79,15 @@ class Node(NamedTuple):
         """The word of the stack at an address."""
         place = address - (self.x[2] if self.x[2] < 1 << 31 else 0)
         return int.from_bytes(self.stack[place : place + 4], "little") if 0 <= place <= len(self.stack) - 4 else None
+
+
+class LineForm(NamedTuple):
+    """A form of lines, as a row of the debugger's help has it: their first word, what stands behind that, and what they do. Operands are in
+    capitals, and what can be left out is in brackets."""
+
+    verb: str
+    operands: str
+    purpose: str
 
 
 def signed(word: int) -> int:
@@ -220,6 +229,10 @@ class Session:
                 return False
         return True
 
+    def has_reply_in(self, seconds: float) -> bool:
+        """Whether the next reply is there, or comes before the debugger has computed for so many seconds."""
+        return self._taken < len(self._read) or self.is_answered_in(seconds, float("inf"))
+
     @property
     def seconds(self) -> float:
         """For how many seconds the debugger has computed since it began. Other processes of a busy host do not change that."""
@@ -243,6 +256,16 @@ class Session:
         """The number of nodes and the other settings, by the names of their options."""
         words = self.ask("nodes").accepted()[0].split()
         return {name: int(value) for name, value in zip(words[::2], words[1::2])}
+
+    def line_forms(self) -> list[LineForm]:
+        """The forms of the lines that a framed session has, from the debugger's table of help."""
+        forms = []
+        for line in self.ask("help").accepted():
+            fields = line.split("\t")
+            if len(fields) != len(LineForm._fields):
+                raise Refused(f"the debugger is of another version than this tool: its help has the row {printable(line)}")
+            forms.append(LineForm(*fields))
+        return forms
 
     def node(self, rank: int) -> Node | None:
         """A node as it is, if there is one of this rank."""

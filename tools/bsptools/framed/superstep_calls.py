@@ -5,10 +5,10 @@ from __future__ import annotations
 from collections.abc import Iterator
 from typing import List, NamedTuple, Tuple, Union
 
-from .environment_calls import CHANGES, POP, PUSH, REQUESTS, SYNC, TAGSIZE, TAKES, Areas, Call, Tracer
+from .environment_calls import CHANGES, POP, PUSH, QSIZE, REQUESTS, SEND, SYNC, TAGSIZE, TAKES, Areas, Call, Tracer
 from .replays import MOST_STOPS
 
-TRACED = (*REQUESTS, *CHANGES, *TAKES, TAGSIZE, SYNC)
+TRACED = (*REQUESTS, *CHANGES, *TAKES, QSIZE, TAGSIZE, SYNC)
 
 # Pieces of a line that tells of something that was found: texts, and calls with their ranks, of which the places are looked for where
 # the line is told, since that takes runs.
@@ -30,6 +30,8 @@ class SuperstepCalls:
     def __init__(self, trace: Tracer, nodes: int) -> None:
         self.trace, self.nodes = trace, nodes
         self.is_whole = True
+        # The supersteps of which the calls of all ranks are known; None where they are of all.
+        self.known: int | None = None
         self.made: list[list[list[Call]]] = [self.parted(rank) for rank in range(nodes)]
 
     def parted(self, rank: int) -> list[list[Call]]:
@@ -37,16 +39,24 @@ class SuperstepCalls:
         steps: list[list[Call]] = [[]]
         calls = self.trace.calls(rank, TRACED)
         self.is_whole &= not calls or calls[-1].stop < MOST_STOPS
+        replays = self.trace.replays
+        is_cut, replays.is_cut = replays.is_cut, False
         for call in calls:
             if call.number == SYNC:
                 steps.append([])
             else:
                 steps[-1].append(call)
+        if is_cut:
+            self.known = min(len(steps) - 1, self.known if self.known is not None else len(steps))
         return steps
 
     def of(self, rank: int, superstep: int) -> list[Call]:
         """The calls of a rank in a superstep."""
         return self.made[rank][superstep] if superstep < len(self.made[rank]) else []
+
+    def sent_to(self, rank: int, superstep: int) -> list[Call]:
+        """The calls that send messages to a rank in a superstep."""
+        return [it for of in range(self.nodes) for it in self.of(of, superstep) if it.number == SEND and it.operand("pid") == rank]
 
     def tag_size(self, rank: int, call: Call) -> int:
         """The tag size that a call sets."""

@@ -14,7 +14,7 @@ from typing import NamedTuple
 from .. import emulator
 from ..files import whole
 from ..limits import MOST_MEMORY, MOST_NODES, MOST_REQUESTS
-from ..refusals import Refused, about, lines_of
+from ..refusals import Refused, Unfit, about, lines_of, why_unfit
 from .report import MOST_COST
 
 COLUMNS = ("kind", "rank", "request", "byte")
@@ -60,10 +60,10 @@ def read(path: str | os.PathLike[str], nodes: int, last: int) -> Found:
     try:
         for it in rows(path):
             if it.superstep >= last or max(it.rank, it.first.rank, it.second.rank) >= nodes or (before and not is_behind(before, it)):
-                raise ValueError(f"superstep {it.superstep}, rank {it.rank}, address {it.address:#x} is not in its place")
+                raise Unfit(f"superstep {it.superstep}, rank {it.rank}, address {it.address:#x} is not in its place")
             places, first, before = places + 1, first or it, it
     except ValueError as error:
-        raise Refused(f"the contested bytes are not those of the run: {error}") from error
+        raise Refused(f"the contested bytes are not those of the run: {why_unfit(error)}") from error
     return Found(places, first)
 
 
@@ -73,11 +73,11 @@ def rows(path: str | os.PathLike[str]) -> Iterator[Contested]:
         if os.fstat(file.fileno()).st_size > MOST_BYTES:
             raise Refused(f"the contested bytes have more than {MOST_BYTES} bytes of lines: take fewer nodes, or fewer supersteps")
         if file.readline(2 * MOST_LINE) != HEADER + "\n":
-            raise ValueError("it does not begin as contested bytes do")
+            raise Unfit("it does not begin as contested bytes do")
         while line := file.readline(MOST_LINE):
             cells = line[:-1].split(",")
             if not line.endswith("\n") or len(cells) != 4 + 2 * len(COLUMNS):
-                raise ValueError(f"{line[:40]!r} is no line of contested bytes")
+                raise Unfit(f"{line[:40]!r} is no line of contested bytes")
             yield row_of(cells)
 
 
@@ -87,9 +87,9 @@ def row_of(cells: list[str]) -> Contested:
     address, size = digits(cells[2], 8), whole(cells[3], MOST_MEMORY)
     it = Contested(superstep, rank, address, size, request_of(cells[4:8]), request_of(cells[8:]))
     if size < 1 or address + size > MOST_MEMORY or it.first.byte == it.second.byte or it.first[1:3] == it.second[1:3]:
-        raise ValueError(f"no requests contest {size} bytes at address {address:#x}: {it.first}, {it.second}")
+        raise Unfit(f"no requests contest {size} bytes at address {address:#x}: {it.first}, {it.second}")
     if any(asked.kind == "get" and asked.rank != rank for asked in (it.first, it.second)):
-        raise ValueError(f"a get of another rank brings nothing to rank {rank}")
+        raise Unfit(f"a get of another rank brings nothing to rank {rank}")
     return it
 
 
@@ -97,14 +97,14 @@ def request_of(cells: list[str]) -> Request:
     """A request of its columns."""
     kind, rank, number, byte = cells
     if kind not in ("get", "put"):
-        raise ValueError(f"{kind!r} is neither get nor put")
+        raise Unfit(f"{kind!r} is neither get nor put")
     return Request(kind, whole(rank, MOST_NODES - 1), whole(number, MOST_REQUESTS - 1), digits(byte, 2))
 
 
 def digits(text: str, count: int) -> int:
     """A number in so many hexadecimal digits."""
     if len(text) != count or HEXADECIMAL.fullmatch(text) is None:
-        raise ValueError(f"{text!r} is no number in {count} hexadecimal digits")
+        raise Unfit(f"{text!r} is no number in {count} hexadecimal digits")
     return int(text, 16)
 
 

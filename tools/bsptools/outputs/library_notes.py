@@ -14,7 +14,7 @@ from ..program.code import Code, source_lines
 from ..refusals import counted
 from .output_records import Record
 
-REFUSED, ABSENT, UNWRITTEN, LOST, PENDING, EMPTY, CLOCK, STATUS, READ, LONG = "m", "r", "w", "l", "p", "i", "c", "s", "d", "o"
+ASKED, REFUSED, ABSENT, UNWRITTEN, LOST, PENDING, EMPTY, CLOCK, STATUS, READ, LONG = "a", "m", "r", "w", "l", "p", "i", "c", "s", "d", "o"
 MOST_TOLD = 10
 # What does not fit into a `long`: path, line, and what it is of which type.
 SHORT = r"(?s)(.*):(\d+): (.*'(.*)', which has 32 bits here)"
@@ -63,7 +63,7 @@ class NoteTeller:
     def lines(self, notes: list[Note]) -> list[str]:
         """A line for each kind of note, with how many more ranks made it."""
         kinds: dict[tuple[str, int, str], list[Note]] = {}
-        for it in notes:
+        for it in (it for it in notes if it.what != ASKED):
             kinds.setdefault(it.kind, []).append(it)
         lines = []
         for same in list(kinds.values())[:MOST_TOLD]:
@@ -76,14 +76,15 @@ class NoteTeller:
         """What is told of a note."""
         tellers = {REFUSED: self.refused, ABSENT: self.absent, PENDING: self.pending, LONG: too_short}
         what = self.empty() if note.what == EMPTY else ""
-        at = self.at(note) if note.what in (UNWRITTEN, LOST, EMPTY, READ) else ""
+        at = self.at(note) if note.what in (UNWRITTEN, LOST, EMPTY, READ, STATUS) else ""
+        status = note.one if note.one < 2**31 else note.one - 2**32
         texts = {
-            UNWRITTEN: f"{note.text} was to be written{at}: give --out DIR",
+            UNWRITTEN: f"{note.text} was to be written{at}, and --no-files keeps the program from that",
             LOST: f"{note.text} was to be read{at}, and the node had no memory to keep what was written: give --memory",
             EMPTY: f"a number is read{at}, and {what}",
             READ: f"{note.text.partition(' ')[0]} is read{at}, and does not fit into a long, which has 32 bits here: write long long, %lld and strtoll",
             CLOCK: f"the time is what the run has cost so far by the model, and no host's: {self.seconds}",
-            STATUS: f"the program ended with status {note.one if note.one < 2**31 else note.one - 2**32}",
+            STATUS: f"the program ended with status {status}{at}, and so did the run of all ranks",
         }
         return tellers[note.what](note) if note.what in tellers else texts.get(note.what, "a note that is not known")
 

@@ -4,8 +4,12 @@ from __future__ import annotations
 
 import struct
 from collections.abc import Iterator
+from typing import TYPE_CHECKING
 
 from . import report
+
+if TYPE_CHECKING:
+    import hashlib
 
 # In the image of a program of bspcc: what stands before standard error's bytes, to tell them apart. bsplib/src/system.c has it.
 PLACE = b"\0bsprun\2\265\36\310\73\231\7\324\0"
@@ -32,6 +36,21 @@ def marked(image: bytes, given: bytes) -> tuple[bytes, bytes]:
 
     mark = hashlib.sha256(image + given).digest()[: MARK_BYTES - 1]
     return image[:at] + FRONT.pack(MARK_BYTES + COUNT.size, mark + bytes([ERROR])) + image[at + FRONT.size :], mark
+
+
+def new_digest() -> hashlib._Hash:
+    """A digest of what a run is yet to write."""
+    # Loaded here, since most of a short run is its start.
+    import hashlib
+
+    return hashlib.sha256()
+
+
+def digest_of(content: bytes) -> bytes:
+    """The digest of what a run wrote."""
+    whole = new_digest()
+    whole.update(content)
+    return whole.digest()
 
 
 class Marks:

@@ -7,6 +7,7 @@ from collections.abc import Iterator
 from typing import NamedTuple
 
 from ..files import whole
+from ..refusals import Unfit
 
 SUPERSTEP = re.compile(rb"superstep (\d+): w (\d+) h (\d+)((?: [a-z]+ \d+)*) (turned|last)$")
 TOTAL = re.compile(rb"total (\d+)$")
@@ -75,18 +76,18 @@ def checked(report: Report) -> Report:
     """A report that the emulator may have written; what is none raises ValueError."""
     names = list(report.supersteps[0].costs) if report.supersteps else []
     if names[:2] != ["w", "h"]:
-        raise ValueError("no superstep with w and h")
+        raise Unfit("no superstep with w and h")
     last = len(report.supersteps) - 1
     for number, it in enumerate(report.supersteps):
         if it.number != number or list(it.costs) != names:
-            raise ValueError(f"superstep {it.number} is not in its place")
+            raise Unfit(f"superstep {it.number} is not in its place")
         if it.end != ("last" if number == last else "turned"):
-            raise ValueError(f"superstep {number} ends as {it.end!r}")
+            raise Unfit(f"superstep {number} ends as {it.end!r}")
     if report.outcome and not (OUTCOME.match(report.outcome.encode(errors="replace")) and "\n" not in report.outcome):
-        raise ValueError(f"{report.outcome!r} is no outcome")
+        raise Unfit(f"{report.outcome!r} is no outcome")
     w, h = (sum(it.costs[name] for it in report.supersteps) for name in ("w", "h"))
     if report.outcome and not adds_up(report.total - w, h, last + 1):
-        raise ValueError(f"the total {report.total} is not that of any prices")
+        raise Unfit(f"the total {report.total} is not that of any prices")
     return report
 
 

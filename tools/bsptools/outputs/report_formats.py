@@ -8,7 +8,7 @@ import json
 from typing import Any
 
 from ..files import whole
-from ..refusals import Refused
+from ..refusals import Refused, why_unfit
 from .report import MOST_COST, Report, Superstep, checked, part
 
 
@@ -22,7 +22,7 @@ def read(content: bytes) -> Report | None:
             return of_csv(content.decode())
         parted = part(content)
     except (ValueError, KeyError, TypeError, AttributeError, RecursionError, csv.Error) as error:
-        raise Refused(f"it begins as a report, and goes on as none: {error}") from error
+        raise Refused(f"it begins as a report, and goes on as none: {why_unfit(error)}") from error
     return parted[1] if parted else None
 
 

@@ -4,9 +4,11 @@ from __future__ import annotations
 
 import contextlib
 import os
+import stat
 import struct
+from collections.abc import Iterator, Sequence
 
-from ..files import is_same
+from ..files import beside_name, is_same
 from ..refusals import Refused, about, counted
 from .output_records import BYTES, NAME, REMOVED, SIZE, Record
 
@@ -22,12 +24,24 @@ class Written:
     def __init__(self, rank: int, name: bytes) -> None:
         self.rank, self.name = rank, name
         self.content = bytearray()
+        # Whether it was begun anew, and not with what it had.
+        self.is_anew = False
 
     @property
-    def last(self) -> str:
-        """Its last name, or nothing where it has none that a file can have."""
-        last = os.fsdecode(self.name.rpartition(b"/")[2])
-        return "" if last in (".", "..") or "\0" in last else last
+    def parts(self) -> tuple[str, ...]:
+        """The names of the folders that lead to it, and its own, below the folder where files go. Nothing where it would not be below that, or
+        has no name that a file can have."""
+        first, *names = os.fsdecode(self.name).split("/")
+        found: list[str] = []
+        for name in (first, *names):
+            if name == ".." and not found:
+                return ()
+            if name == "..":
+                found.pop()
+            elif name not in ("", "."):
+                found.append(name)
+        is_outside = not first and bool(names)
+        return () if is_outside or (first, *names)[-1] in ("", ".", "..") or b"\0" in self.name else tuple(found)
 
 
 class Files:
@@ -36,6 +50,8 @@ class Files:
     def __init__(self) -> None:
         self.files: dict[tuple[int, int], Written] = {}
         self.size = 0
+        # Those that were put, by their paths.
+        self.names: list[str] = []
         # Whether all was taken, and whether all that was put could be written.
         self.is_whole = self.is_put = True
 
@@ -58,6 +74,7 @@ class Files:
             file = self.files[key].content
             end = place + len(content)
             if record.kind == SIZE:
+                self.files[key].is_anew |= place == 0
                 self.resize(file, place)
             elif self.resize(file, max(end, len(file))):
                 file[place:end] = content
@@ -79,22 +96,31 @@ class Files:
         """The rank that wrote each file first, by the name by which it knows it."""
         return {file_name(it.name): it.rank for it in reversed(list(self.files.values()))}
 
-    def put(self, folder: str, inputs: list[str]) -> list[str]:
-        """Puts the files into a folder, those of one name one behind another by their ranks. Lines of what is to be said of that."""
+    def put(self, folder: str, kept: dict[str, str], given: dict[bytes, bytes]) -> list[str]:
+        """Puts the files below a folder, those of one name one behind another by their ranks. Nothing is put in the place of files that are
+        kept, each with what it is. What ranks add to a file that was given stands behind it once. Lines of what is to be said of that."""
         lines: list[str] = []
-        found: dict[str, list[Written]] = {}
+        found: dict[tuple[str, ...], list[Written]] = {}
         for it in self.files.values():
-            others = found.setdefault(it.last, [])
-            if not it.last or (others and others[0].name != it.name):
-                lines.append(f"{file_name(it.name)} was not written: {'it has no last name' if not it.last else file_name(others[0].name) + ' has its last name'}")
+            others = found.setdefault(it.parts, [])
+            if not it.parts:
+                lines.append(f"{file_name(it.name)} was not written: it is no name of a file below {folder}, where files go")
+            elif any(other.rank == it.rank for other in others):
+                lines.append(f"{file_name(it.name)} was not written: rank {it.rank} wrote {file_name(others[0].name)}, which is the same file")
             else:
                 others.append(it)
-        for last, parts in found.items():
+        for parts, of_ranks in found.items():
+            if not of_ranks:
+                continue
+            ranks = sorted(of_ranks, key=lambda it: it.rank)
+            without_given(ranks[1:], given)
             try:
-                lines += put_one(folder, last, sorted(parts, key=lambda it: it.rank), inputs) if parts else []
+                lines += put_one(folder, parts, ranks, kept)
+                self.names.append(os.path.normpath(os.path.join(folder, *parts)))
             except Refused as refused:
+                lines.append(f"{refused} ({file_name(of_ranks[0].name)} was not written)")
                 self.is_put = False
-                lines.append(f"{refused} ({file_name(parts[0].name)} was not written)")
+        self.is_put = self.is_put and sum(map(len, found.values())) == len(self.files)
         if not self.is_whole:
             lines.append(f"not all was written: {MOST_FILES} files and {MOST_WRITTEN} bytes are the most of a run")
         return lines[:MOST_LINES] + ([f"and {len(lines) - MOST_LINES} more such lines"] if len(lines) > MOST_LINES else [])
@@ -105,21 +131,62 @@ def file_name(name: bytes) -> str:
     return os.fsdecode(name)
 
 
-def put_one(folder: str, last: str, parts: list[Written], inputs: list[str]) -> list[str]:
-    """Puts a file into its folder, in the place of one of its name: a link there is replaced, and not followed."""
-    target = os.path.join(folder, last)
-    for other in inputs:
+def without_given(files: list[Written], given: dict[bytes, bytes]) -> None:
+    """Takes from files what they begin with because they were given so, and have been added to."""
+    for it in files:
+        old = next((content for name, content in given.items() if ends_alike(name, it.name)), b"")
+        if not it.is_anew and it.content.startswith(old):
+            del it.content[: len(old)]
+
+
+def ends_alike(one: bytes, other: bytes) -> bool:
+    """Whether one of two paths is the end of the other."""
+    short, long = sorted((os.path.normpath(one), os.path.normpath(other)), key=len)
+    return long == short or long.endswith(b"/" + short)
+
+
+@contextlib.contextmanager
+def opened(folder: str, names: Sequence[str]) -> Iterator[int]:
+    """A folder below another one, which is made where it is missing. A link on the way is refused, and not followed."""
+    place, path = os.open(folder, os.O_RDONLY | os.O_DIRECTORY), folder
+    try:
+        for name in names:
+            path = os.path.join(path, name)
+            with contextlib.suppress(FileExistsError):
+                os.mkdir(name, dir_fd=place)
+            if os.path.islink(path):
+                raise Refused(f"{path}: it is a link, which is not followed")
+            above, place = place, os.open(name, os.O_RDONLY | os.O_DIRECTORY | os.O_NOFOLLOW, dir_fd=place)
+            os.close(above)
+        yield place
+    finally:
+        os.close(place)
+
+
+def keep_mode(number: int, name: str, place: int) -> None:
+    """Gives a file the rights of the one whose place it takes, if that is a file and no link."""
+    with contextlib.suppress(OSError):
+        before = os.stat(name, dir_fd=place, follow_symlinks=False)
+        if stat.S_ISREG(before.st_mode):
+            os.fchmod(number, stat.S_IMODE(before.st_mode) & 0o777)
+
+
+def put_one(folder: str, names: tuple[str, ...], parts: list[Written], kept: dict[str, str]) -> list[str]:
+    """Puts a file below a folder, in the place of one of its name: a link there is replaced, and not followed."""
+    target = os.path.normpath(os.path.join(folder, *names))
+    for other, what in kept.items():
         if is_same(target, other):
-            return [f"{target} was not written: it is read as {other}"]
-    beside = os.path.join(folder, f".bsp-{os.getpid()}-{os.urandom(4).hex()}")
-    with about(target):
+            raise Refused(f"{target} stays as it is: {what} {other}")
+    beside = beside_name()
+    with about(target), opened(folder, names[:-1]) as place:
         try:
-            with open(beside, "xb") as file:
+            with os.fdopen(os.open(beside, os.O_WRONLY | os.O_CREAT | os.O_EXCL, 0o666, dir_fd=place), "wb") as file:
                 file.writelines(bytes(it.content) for it in parts)
-            os.replace(beside, target)
+                keep_mode(file.fileno(), names[-1], place)
+            os.replace(beside, names[-1], src_dir_fd=place, dst_dir_fd=place)
         finally:
             with contextlib.suppress(OSError):
-                os.unlink(beside)
+                os.unlink(beside, dir_fd=place)
     if len(parts) == 1:
         return []
     ranks = [it.rank for it in parts]

@@ -2,13 +2,16 @@
 
 from __future__ import annotations
 
+import contextlib
 import html
 import io
 import pathlib
 import re
 import textwrap
-from collections.abc import Sequence
+import warnings
+from collections.abc import Callable, Iterator, Sequence
 from dataclasses import dataclass, field
+from fractions import Fraction
 
 import matplotlib
 from matplotlib.artist import Artist
@@ -18,8 +21,9 @@ from matplotlib.gridspec import SubplotSpec
 from matplotlib.text import Text
 
 from .. import files
-from ..refusals import about, printable
-from .picture_formats import KINDS
+from ..prices import Exact, grouped
+from ..refusals import Refused, about, printable
+from .picture_formats import KINDS, ORIGIN
 
 # Colours that stay apart in grey too, and for those who do not see all of them. What stands beside one another differs in lightness.
 WORK, WAIT, EXCHANGE, SYNC = "#0072b2", "#dadada", "#e69f00", "#4b2a6b"
@@ -37,13 +41,19 @@ MOST_DIGITS = 100
 
 @dataclass
 class Picture:
-    """A figure with its body and, below that, a foot for the legend; and a text for each of its marks by the name that the mark has in an
-    SVG, which a browser shows under the pointer."""
+    """A figure with its body and, below that, a foot for the legend; a text for each of its marks by the name that the mark has in an
+    SVG, which a browser shows under the pointer; and where it comes from."""
 
     figure: Figure
     body: SubplotSpec
     foot: Axes
     texts: dict[str, str] = field(default_factory=dict)
+    # Where it comes from, as a file of it says.
+    origin: str = ""
+
+    def metadata(self, kind: str) -> dict[str, str | None]:
+        """What a file of this kind says beside the picture."""
+        return {**KINDS[kind], **({ORIGIN[kind]: self.origin} if self.origin else {})}
 
     def legend(self, handles: Sequence[Artist], names: Sequence[str], columns: int) -> None:
         """Says what the colours are."""
@@ -54,17 +64,19 @@ class Picture:
         artist.set_gid(name)
         self.texts[name] = shown(text)
 
-    def spell(self) -> None:
-        """Has each text stand as it is written. Between two dollars matplotlib reads a formula, and what cannot be shown is in no SVG."""
+    def spell(self, escaped: Callable[[str], str] = str) -> None:
+        """Has each text stand as it is written. Between two dollars matplotlib reads a formula, and what cannot be shown is in no SVG. TeX has
+        letters of its own that have to be escaped."""
         for text in self.figure.findobj(Text):
             text.set_parse_math(False)
-            text.set_text(shown(text.get_text()))
+            text.set_text(escaped(shown(text.get_text())))
 
     def svg(self) -> str:
         """The picture as SVG."""
         self.spell()
         written = io.StringIO()
-        self.figure.savefig(written, format="svg", metadata=KINDS[".svg"])
+        with drawing():
+            self.figure.savefig(written, format="svg", metadata=self.metadata(".svg"))
         return re.sub(r'<g id="([^"]+)">', self.named, written.getvalue())
 
     def named(self, found: re.Match[str]) -> str:
@@ -79,8 +91,19 @@ class Picture:
             files.write(path, self.svg())
             return
         self.spell()
-        with files.replaced(path) as written, about(path):
-            self.figure.savefig(written, format=kind[1:], metadata=KINDS[kind])
+        with files.replaced(path) as written, about(path), drawing():
+            self.figure.savefig(written, format=kind[1:], metadata=self.metadata(kind))
+
+
+@contextlib.contextmanager
+def drawing() -> Iterator[None]:
+    """Refuses what matplotlib cannot draw, as a picture that is too large. It also warns of a font that lacks a letter: a box stands for that."""
+    with warnings.catch_warnings():
+        warnings.simplefilter("ignore", UserWarning)
+        try:
+            yield
+        except (RuntimeError, ValueError, ArithmeticError) as error:
+            raise Refused(f"the picture cannot be drawn: {error}") from error
 
 
 def shown(text: str) -> str:
@@ -100,9 +123,9 @@ def picture(height: float, title: str, foot: float = 0.3) -> Picture:
     return Picture(figure, grid[0], below)
 
 
-def thousands(number: float) -> str:
-    """A whole number, with a comma at each thousand."""
-    return f"{number:,.0f}"
+def thousands(number: Exact | float) -> str:
+    """A number with a comma at each thousand: a whole one, or two decimals of an exact one that is not whole."""
+    return grouped(number) if isinstance(number, Fraction) else f"{number:,.0f}"
 
 
 def whole_numbers(axes: Axes, which: str) -> None:

@@ -4,8 +4,9 @@ from __future__ import annotations
 
 from matplotlib.patches import Patch
 
+from ..prices import Exact, spelled
 from .canvas import EXCHANGE, SMALL, SYNC, WORK, Picture, fits, picture, thousands, whole_numbers
-from .superstep_costs import Cost, Prices, total
+from .superstep_costs import Cost, Prices, printed, total
 
 NAMES = [("w", "work, w", WORK), ("gh", "exchange, g·h", EXCHANGE), ("l", "end, l", SYNC)]
 MOST_NAMED = 40
@@ -13,22 +14,33 @@ MOST_NAMED = 40
 MOST_LETTERS = 105
 
 
-def draw(costs: list[Cost], prices: Prices, title: str) -> Picture:
-    """A bar for each of these supersteps, of its three parts, one above the other."""
+def legend(costs: list[Cost], prices: Prices, is_apart: bool) -> list[str]:
+    """What each part comes to, and how much of the work was printing, where that is known."""
     whole = total(costs, prices)
     sums = [sum(it.parts(prices)[index] for it in costs) for index in range(len(NAMES))]
-    shares = [f"{label}: {thousands(it)} ticks, {100 * it / max(whole, 1):.1f} %" for (_, label, _), it in zip(NAMES, sums)]
+    shares = [f"{label}: {thousands(it)} ticks, {float(100 * it / max(whole, 1)):.1f} %" for (_, label, _), it in zip(NAMES, sums)]
+    if is_apart:
+        shares[0] = shares[0].replace("w:", "w without printing:", 1)
+    elif printed(costs):
+        shares[0] += f" ({thousands(printed(costs))} printing)"
+    return shares
+
+
+def draw(costs: list[Cost], prices: Prices, title: str, is_apart: bool = False) -> Picture:
+    """A bar for each of these supersteps, of its three parts, one above the other; the work may be without that of printing."""
+    shares = legend(costs, prices, is_apart)
     columns = len(NAMES) if sum(map(len, shares)) <= MOST_LETTERS else 1
     made = picture(3.2, title, 0.3 if columns > 1 else 0.65)
     axes = made.figure.add_subplot(made.body)
-    below = [0] * len(costs)
+    below: list[Exact] = [0] * len(costs)
     at = range(len(costs))
     for index, (name, label, color) in enumerate(NAMES):
         parts = [it.parts(prices)[index] for it in costs]
         bars = axes.bar(at, list(map(float, parts)), 0.8, list(map(float, below)), color=color)
         for cost, part, bar in zip(costs, parts, bars):
             if part:
-                made.mark(bar, f"{name}-{cost.number}", f"superstep {cost.number}: {label.split(', ')[1]} = {part}")
+                more = f", {cost.printed} of it printing" if cost.printed and index == 0 else ""
+                made.mark(bar, f"{name}-{cost.number}", f"superstep {cost.number}: {label.split(', ')[1]} = {spelled(part)}{more}")
             else:
                 bar.set_visible(False)
         below = [low + part for low, part in zip(below, parts)]

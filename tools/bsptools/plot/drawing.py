@@ -9,8 +9,10 @@ from typing import TypeVar
 
 from .. import files
 from ..counts.source_listing import Listing
+from ..prices import spelled
 from ..refusals import Refused, tell
-from . import annotated_source, byte_matrix, cost_split, line_bars, page, plot_inputs, sweep_curves, sweep_table, timeline
+from . import annotated_source, byte_matrix, cost_split, line_bars, page, paper_pictures, picture_origin, plot_inputs, superstep_costs
+from . import sweep_axes, sweep_curves, sweep_table, timeline
 from .canvas import Picture, thousands
 from .profile import Superstep
 from .superstep_costs import Cost, Prices, total
@@ -19,6 +21,8 @@ from .superstep_costs import Cost, Prices, total
 MOST_SUPERSTEPS = 100
 MOST_BARS = 4096
 PICTURES = ("timeline", "matrix", "costs", "lines", "sweep", "compare")
+# Those of a sweep that are for papers.
+PAPERS = tuple(paper_pictures.TEXTS)
 # What has the number of a superstep.
 Shown = TypeVar("Shown", Cost, Superstep)
 
@@ -69,7 +73,7 @@ class Plan:
         """The timeline."""
         profile = self.source.profile
         most = min(MOST_SUPERSTEPS, max(MOST_BARS // (2 * profile.nodes), 1)) if profile else 1
-        return timeline.draw(self.supersteps(most), self.prices, self.options.h, self.title)
+        return timeline.draw(self.supersteps(most), self.prices, self.options.h, self.title, self.source.is_apart)
 
     def matrix(self) -> Picture:
         """The matrix of bytes, of all supersteps that are chosen."""
@@ -77,7 +81,7 @@ class Plan:
 
     def split(self) -> Picture:
         """The split of the costs."""
-        return cost_split.draw(self.costs(), self.prices, self.title)
+        return cost_split.draw(self.costs(), self.prices, self.title, self.source.is_apart)
 
     def listing(self) -> Listing:
         """The costs of lines."""
@@ -89,11 +93,24 @@ class Plan:
         """The dearest lines."""
         return line_bars.draw(self.listing(), self.title)
 
-    def lines(self) -> list[sweep_table.Line]:
-        """The lines of a sweep."""
+    def rows(self) -> list[sweep_table.Row]:
+        """The runs of a sweep."""
         if not self.source.rows:
-            raise Refused(f"{self.source.name} has no sweep: give the table of bspsweep for --sweep and --compare")
-        return sweep_table.lines(self.source.rows)
+            raise Refused(f"{self.source.name} has no sweep: give the table of bspsweep for --sweep, --compare, --curves, --map and --table")
+        return self.source.rows
+
+    def lines(self) -> list[sweep_table.Line]:
+        """The lines of a sweep over numbers of nodes. One number of nodes makes no line."""
+        found = sweep_table.lines(self.rows())
+        if all(len(it.totals) < 2 for it in found):
+            fits = sweep_axes.Frame(self.rows(), sweep_axes.Axes()).fitting()
+            raise Refused(f"{self.source.name} has no program on several numbers of nodes, over which --sweep and --compare draw lines; for --curves {fits}")
+        return found
+
+    def origin(self, picture: str) -> str:
+        """Where a picture comes from, as its file says."""
+        source = self.source
+        return picture_origin.told(picture, self.options.words, self.options.source, source.name, source.digest)
 
     def sweep(self) -> Picture:
         """Totals, speedups, efficiencies."""
@@ -113,8 +130,16 @@ def settings(plan: Plan) -> list[tuple[str, str]]:
         known.append(("nodes", str(ran.nodes)))
     if source.costs:
         whole = f"{thousands(total(source.costs, plan.prices))} ticks in {len(source.costs)} supersteps"
-        known += [("g", f"{plan.prices.g} ticks a byte"), ("l", f"{plan.prices.l} ticks a superstep"), ("total", whole)]
+        known += [("g", f"{spelled(plan.prices.g)} ticks a byte"), ("l", f"{spelled(plan.prices.l)} ticks a superstep"), ("total", whole)]
+        known += [("printing", it) for it in [printing(plan)] if it]
     return known + ([("outcome", source.outcome)] if source.outcome else [])
+
+
+def printing(plan: Plan) -> str:
+    """What a page says of the work of output functions, where that is known."""
+    printed, w = superstep_costs.printed(plan.source.costs), sum(it.w for it in plan.source.costs)
+    share = f"{thousands(printed)} of the {thousands(w)} ticks of w, {100 * printed / max(w, 1):.1f} %; --apart printing leaves it out"
+    return "left out of w" if plan.source.is_apart else share if printed else ""
 
 
 def sections(plan: Plan) -> list[page.Section]:
@@ -152,15 +177,22 @@ def write_page(plan: Plan, path: str, made: Callable[[Plan], list[page.Section]]
 
 def draw(options: argparse.Namespace) -> None:
     """Draws all that was asked for."""
-    pictures = [getattr(options, name) for name in PICTURES]
+    pictures = [getattr(options, name) for name in (*PICTURES, *PAPERS)]
     files.expect_apart([*pictures, options.page, options.html], [options.source])
-    plan = Plan(options, plot_inputs.read(options.source, options.h))
+    source = plot_inputs.read(options.source, options.h)
+    plan = Plan(options, source.without_printing() if options.apart else source)
     drawers = (plan.timeline, plan.matrix, plan.split, plan.dearest, plan.sweep, plan.compare)
     wanted = {name: make for name, make in zip(PICTURES, drawers) if getattr(options, name)}
-    if not wanted and not options.page and not options.html:
-        raise Refused("nothing is asked for: give --timeline, --matrix, --costs, --lines, --source, --sweep, --compare or --html")
+    papers = [name for name in PAPERS if getattr(options, name)]
+    if not wanted and not papers and not options.page and not options.html:
+        all_names = ", ".join(f"--{name}" for name in ("timeline", "matrix", "costs", "lines", "source", "sweep", "compare", *PAPERS))
+        raise Refused(f"nothing is asked for: give {all_names} or --html")
     for name, make in wanted.items():
-        make().save(getattr(options, name))
+        made = make()
+        made.origin = plan.origin(name)
+        made.save(getattr(options, name))
+    for name in papers:
+        paper_pictures.write(name, plan.rows(), options, getattr(options, name), plan.origin(name))
     if options.page:
         write_page(plan, options.page, source_sections, annotated_source.style(plan.listing()))
     if options.html:

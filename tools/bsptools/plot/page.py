@@ -8,9 +8,10 @@ import re
 from collections.abc import Sequence
 from typing import NamedTuple
 
+from ..prices import spelled
 from .canvas import Picture, thousands
 from .profile import Profile, Reading
-from .superstep_costs import Cost, Prices, total
+from .superstep_costs import Cost, Prices, printed, total
 from .sweep_table import Row
 
 MOST_ROWS = 500
@@ -81,13 +82,16 @@ def cut(rows: list[list[object]]) -> tuple[list[list[object]], str]:
 def cost_table(costs: list[Cost], profile: Profile | None, prices: Prices, reading: Reading) -> Section:
     """What each superstep cost, and what a profile tells beside it."""
     whole = max(total(costs, prices), 1)
-    heads = ["superstep", "w", "h", "g·h", "l", "cost", "share"]
+    is_told = printed(costs) > 0
+    heads = ["superstep", "w", *(["printing"] if is_told else []), "h", "g·h", "l", "cost", "share"]
     rows: list[list[object]] = []
     for cost in costs:
         w, exchange, l = cost.parts(prices)
-        numbers = [thousands(it) for it in (w, cost.h, exchange, l, cost.total(prices))]
-        rows.append([cost.number, *numbers, f"{100 * cost.total(prices) / whole:.1f} %"])
+        numbers = [w, *([cost.printed or 0] if is_told else []), cost.h, exchange, l, cost.total(prices)]
+        rows.append([cost.number, *map(thousands, numbers), f"{float(100 * cost.total(prices) / whole):.1f} %"])
     text = "What each superstep cost."
+    if is_told:
+        text += " Printing is how much of w was made in output functions."
     if profile:
         heads += ["slowest", "balance", "bytes moved", "messages"]
         for row, it in zip(rows, profile.supersteps):
@@ -103,9 +107,9 @@ def sweep_table(rows: list[Row]) -> Section:
     """The total of each run."""
     values: list[list[object]] = []
     for it in rows:
-        settings = ", ".join(f"{name} {value}" for name, value in it.settings)
+        settings = ", ".join([f"{name} {value}" for name, value in it.settings] + [it.machine] * bool(it.machine))
         result = "did not end" if it.total is None else thousands(it.total)
-        values.append([it.program, settings, it.nodes, it.g, it.l, result])
+        values.append([it.program, settings, it.nodes, spelled(it.g), spelled(it.l), result])
     shown, more = cut(values)
     return Section("The table", "Each run, and what it cost." + more, table(["program", "settings", "nodes", "g", "l", "total"], shown))
 

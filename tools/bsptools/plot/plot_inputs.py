@@ -3,13 +3,14 @@
 from __future__ import annotations
 
 import pathlib
-from dataclasses import dataclass, field
+from dataclasses import dataclass, field, replace
 
 from ..counts import source_listing
 from ..files import content_of
 from ..limits import MOST_TABLE
 from ..outputs import report, report_formats
 from ..refusals import Refused, printable
+from ..sealed_results import digest
 from . import profile, superstep_costs, sweep_table
 
 
@@ -24,13 +25,25 @@ class Source:
     rows: list[sweep_table.Row] = field(default_factory=list)
     listing: source_listing.Listing | None = None
     outcome: str = ""
+    is_apart: bool = False
+    digest: str = ""
+
+    def without_printing(self) -> Source:
+        """The same, whose supersteps are without the work of output functions. What does not tell of that is refused."""
+        if not self.costs or any(it.w_without is None for it in self.costs):
+            raise Refused(
+                f"{self.name} does not say how much of the work was printing: --apart takes what `bsprun --summary --profile FILE` and"
+                " `bsprun --lines-as json=FILE` write"
+            )
+        kept = self.profile and self.profile.without_printing()
+        return replace(self, costs=superstep_costs.without_printing(self.costs), profile=kept, is_apart=True)
 
 
 def read(path: str, reading: profile.Reading) -> Source:
     """What a file tells; it refuses one that is nothing of this."""
     content = content_of(path, MOST_TABLE)
     try:
-        return understood(printable(pathlib.Path(path).name), content, reading)
+        return replace(understood(printable(pathlib.Path(path).name), content, reading), digest=digest(content))
     except Refused as refused:
         raise Refused(f"{path}: {refused}") from refused
 

@@ -10,9 +10,11 @@ from typing import NamedTuple
 
 from ..files import whole
 from ..limits import MOST_NODES, MOST_TICKS
-from ..refusals import Refused
+from ..refusals import Refused, Unfit, why_unfit
 
 HEADER = ["superstep", "rank", "to", "ticks", "sent", "received", "kept", "messages", "requests", "state"]
+# What `bsprun` adds if it has counted that: of the ticks those in output functions.
+PRINTED = "printed"
 # How a rank stands at the end of a superstep.
 STATES = ("synced", "ended", "aborted", "exhausted", "faulted")
 
@@ -28,7 +30,8 @@ class Share(NamedTuple):
     """What one rank did in one superstep.
 
     ticks are its instructions; sent and received are bytes to and from other ranks, and kept those that it moved to itself; messages
-    came from other ranks; requests are the puts, gets and messages that it asked for; state is how it stood at the end.
+    came from other ranks; requests are the puts, gets and messages that it asked for; state is how it stood at the end. printed are the
+    ticks in output functions, 0 where they were not counted.
     """
 
     ticks: int
@@ -38,6 +41,7 @@ class Share(NamedTuple):
     messages: int
     requests: int
     state: str
+    printed: int = 0
 
     def h(self, reading: Reading) -> int:
         """The bytes that this rank sent or received, whichever is more."""
@@ -68,20 +72,31 @@ class Superstep:
         return max(range(len(self.shares)), key=lambda rank: (self.shares[rank].ticks, -rank))
 
     @property
+    def printed(self) -> int:
+        """How many of the steps of the slowest rank were in output functions."""
+        return self.shares[self.slowest].printed
+
+    @property
     def balance(self) -> float:
         """The mean of the ranks' instructions by the most of them: 1 where all work alike, 1/p where one rank works alone."""
         return sum(it.ticks for it in self.shares) / len(self.shares) / self.w if self.w else 1.0
 
 
 class Profile(NamedTuple):
-    """The supersteps of a run, from 0 on."""
+    """The supersteps of a run, from 0 on, and whether it is known which of their work was printing."""
 
     supersteps: list[Superstep]
+    is_counted: bool = False
 
     @property
     def nodes(self) -> int:
         """How many ranks there are."""
         return len(self.supersteps[0].shares)
+
+    def without_printing(self) -> Profile:
+        """The same run without the work of output functions."""
+        shares = [[it._replace(ticks=it.ticks - it.printed, printed=0) for it in one.shares] for one in self.supersteps]
+        return Profile([Superstep(one.number, them, one.transfers) for one, them in zip(self.supersteps, shares)])
 
     def outcome(self) -> str:
         """How the run ended, as far as the states of the ranks at its end tell."""
@@ -104,40 +119,42 @@ def parse(text: str) -> Profile:
     rows = csv.reader(io.StringIO(text))
     supersteps: list[Superstep] = []
     try:
-        if next(rows, []) != HEADER:
-            raise ValueError("a profile begins with the line " + ",".join(HEADER))
+        head: list[str] = next(rows, [])
+        if head not in (HEADER, [*HEADER, PRINTED]):
+            raise Unfit("a profile begins with the line " + ",".join(HEADER))
         for row in rows:
-            add(supersteps, row)
+            add(supersteps, row, len(head))
     except (ValueError, IndexError, csv.Error) as error:
-        raise Refused(f"line {rows.line_num}: {error}") from error
+        raise Refused(f"line {rows.line_num}: {why_unfit(error)}") from error
     if not supersteps:
         raise Refused("it has no superstep")
     if len(supersteps[-1].shares) != len(supersteps[0].shares):
         raise Refused(f"it is cut off in superstep {supersteps[-1].number}")
     for superstep in supersteps:
         expect_sums(superstep, superstep is supersteps[-1])
-    return Profile(supersteps)
+    return Profile(supersteps, PRINTED in head)
 
 
-def add(supersteps: list[Superstep], row: list[str]) -> None:
+def add(supersteps: list[Superstep], row: list[str], columns: int) -> None:
     """Takes a row: the next rank's of a superstep, or a transfer of it."""
-    if len(row) != len(HEADER):
-        raise ValueError(f"{len(row)} columns, and a profile has {len(HEADER)}")
+    if len(row) != columns:
+        raise Unfit(f"{len(row)} columns, and a profile has {columns}")
     number, rank = whole(row[0], MOST_TICKS), whole(row[1], MOST_NODES - 1)
     if not supersteps or (number == supersteps[-1].number + 1 and is_whole(supersteps)):
         supersteps.append(Superstep(number))
     now = supersteps[-1]
     if number != now.number or number != len(supersteps) - 1:
-        raise ValueError(f"superstep {number} is not in its place")
+        raise Unfit(f"superstep {number} is not in its place")
     if row[2]:
         add_transfer(now, (rank, whole(row[2], len(now.shares) - 1)), row)
     elif rank == len(now.shares) and not now.transfers:
         ticks, sent, received, kept, messages, requests = (whole(it, MOST_TICKS) for it in row[3:9])
         if row[9] not in STATES:
-            raise ValueError(f"{row[9]!r} is no state of a rank")
-        now.shares.append(Share(ticks, sent, received, kept, messages, requests, row[9]))
+            raise Unfit(f"{row[9]!r} is no state of a rank")
+        printed = whole(row[10], ticks) if columns > len(HEADER) else 0
+        now.shares.append(Share(ticks, sent, received, kept, messages, requests, row[9], printed))
     else:
-        raise ValueError(f"rank {rank} is not in its place")
+        raise Unfit(f"rank {rank} is not in its place")
 
 
 def is_whole(supersteps: list[Superstep]) -> bool:
@@ -148,9 +165,9 @@ def is_whole(supersteps: list[Superstep]) -> bool:
 def add_transfer(superstep: Superstep, pair: tuple[int, int], row: list[str]) -> None:
     """Takes a transfer. They stand in the order of their ranks, and have bytes and nothing else."""
     if pair[0] >= len(superstep.shares) or (superstep.transfers and pair <= next(reversed(superstep.transfers))):
-        raise ValueError(f"the transfer from rank {pair[0]} to rank {pair[1]} is not in its place")
+        raise Unfit(f"the transfer from rank {pair[0]} to rank {pair[1]} is not in its place")
     if row[3] or any(row[5:]) or row[4] == "0":
-        raise ValueError("a transfer has bytes, at least 1, and nothing else")
+        raise Unfit("a transfer has bytes, at least 1, and nothing else")
     superstep.transfers[pair] = whole(row[4], MOST_TICKS)
 
 

@@ -3,12 +3,13 @@
 from __future__ import annotations
 
 import math
-from collections.abc import Callable
+from collections.abc import Callable, Sequence
 
 from matplotlib.axes import Axes
 from matplotlib.lines import Line2D
 from matplotlib.ticker import FixedLocator, FuncFormatter, MaxNLocator, NullLocator
 
+from ..prices import Exact, spelled
 from .canvas import IDEAL, LINES, SMALL, Picture, picture, thousands
 from .sweep_table import Crossing, Line, crossings, labels
 
@@ -89,12 +90,12 @@ def foot(names: int) -> float:
 def looks(them: list[Line]) -> list[dict[str, str]]:
     """How each line is drawn: a colour and a mark for each choice of settings and prices, and a style for each program, whose marks are
     full or empty. Where there is one choice alone, the programs have colours and marks too."""
-    kinds = list(dict.fromkeys((it.settings, it.g, it.l) for it in them))
+    kinds = list(dict.fromkeys((it.settings, it.prices) for it in them))
     programs = list(dict.fromkeys(it.program for it in them))
     found = []
     for line in them:
         program = programs.index(line.program)
-        kind = kinds.index((line.settings, line.g, line.l)) if len(kinds) > 1 else program
+        kind = kinds.index((line.settings, line.prices)) if len(kinds) > 1 else program
         color = LINES[kind % len(LINES)]
         # Marks go on by one where colours begin anew.
         marker = MARKERS[(kind + kind // len(LINES)) % len(MARKERS)]
@@ -110,7 +111,7 @@ def keys(them: list[Line]) -> list[Line2D]:
 
 
 def plot(
-    made: Picture, axes: Axes, kind: str, them: list[Line], names: list[str], value: Callable[[Line, int], float], room: float = PANEL
+    made: Picture, axes: Axes, kind: str, them: list[Line], names: list[str], value: Callable[[Line, int], Exact | float], room: float = PANEL
 ) -> None:
     """A line for each of them, with a mark at each number of nodes, over an axis with room for numbers of so many points."""
     for i, (line, name, look) in enumerate(zip(them, names, looks(them))):
@@ -127,10 +128,10 @@ def plot(
     axes.grid(alpha=0.25)
 
 
-def apart(nodes: list[int], room: float) -> list[int]:
-    """Those of these numbers of nodes, the fewest first, that can be written beside one another along so many points; the most is one."""
+def apart(nodes: Sequence[Exact], room: float) -> list[Exact]:
+    """Those of these numbers, as of nodes, the fewest first, that can be written beside one another along so many points; the most is one."""
     span = math.log2(nodes[-1] / nodes[0]) or 1.0
-    found: list[int] = []
+    found: list[Exact] = []
     left = math.inf
     for it in reversed(nodes):
         place, half = room * math.log2(it / nodes[0]) / span, 3 * len(thousands(it)) + 2
@@ -146,9 +147,9 @@ def show(made: Picture, axes: Axes, index: int, crossing: Crossing, color: str) 
     made.mark(mark, f"crossing-{index}-{crossing.nodes}", str(crossing))
 
 
-def figures(value: float) -> str:
-    """A total as a whole number, and a ratio with three digits."""
-    return str(value) if isinstance(value, int) else f"{value:.3g}"
+def figures(value: Exact | float) -> str:
+    """A total as it is, and a ratio with three digits."""
+    return f"{value:.3g}" if isinstance(value, float) else spelled(value)
 
 
 def powers(axes: Axes) -> None:

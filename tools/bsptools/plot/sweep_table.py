@@ -8,27 +8,62 @@ from dataclasses import dataclass, field
 from typing import Any, NamedTuple
 
 from ..files import whole
-from ..limits import MOST_NODES, MOST_PRICE
+from ..limits import MOST_NODES, MOST_POINTS
 from ..outputs.report import OUTCOME
-from ..refusals import Refused, printable
+from ..prices import TOTAL, Exact, of_table, spelled
+from ..refusals import Refused, Unfit, printable, why_unfit
 
 # The columns that each table has; between `l` and `supersteps` stand the settings, and from `supersteps` on what came out.
 FIRST = ["program", "nodes", "g", "l"]
+# The one that says whose prices a row has, if it has those of a machine: these differ from one number of nodes to another.
+MACHINE = "machine"
 RESULTS = "supersteps"
 NOT_RUN = "not run"
 # More than a sum of w, h or supersteps is.
 MOST_SUM = 1 << 60
+# A label has at most so many letters, of which so many are its end: the font's library fails at a line of 100,000.
+MOST_LABEL, LABEL_END = 60, 20
+
+
+class Prices(NamedTuple):
+    """The prices of a line: g and l, or those of a machine, which has its own on each number of nodes."""
+
+    g: Exact
+    l: Exact
+    machine: str = ""
+
+    def __str__(self) -> str:
+        return self.machine or f"g {spelled(self.g)}, l {spelled(self.l)}"
+
+
+class Sums(NamedTuple):
+    """What came of a run whatever the prices are: its supersteps, and its work and its h-relations in all."""
+
+    supersteps: int
+    w: int
+    h: int
+
+    def total(self, g: Exact, l: Exact) -> Exact:
+        """What it costs."""
+        return self.w + g * self.h + l * self.supersteps
 
 
 class Row(NamedTuple):
-    """A run: a program with its settings at these prices, and its total; none where it did not end."""
+    """A run: a program with its settings at these prices, its total and its sums; none where it did not end."""
 
     program: str
     nodes: int
-    g: int
-    l: int
+    g: Exact
+    l: Exact
     settings: tuple[tuple[str, str], ...]
-    total: int | None
+    total: Exact | None
+    machine: str = ""
+    sums: Sums | None = None
+
+    @property
+    def prices(self) -> Prices:
+        """The prices of the line that it is in."""
+        return Prices(0, 0, self.machine) if self.machine else Prices(self.g, self.l)
 
 
 @dataclass(frozen=True)
@@ -37,9 +72,8 @@ class Line:
 
     program: str
     settings: tuple[tuple[str, str], ...]
-    g: int
-    l: int
-    totals: dict[int, int] = field(default_factory=dict)
+    prices: Prices
+    totals: dict[int, Exact] = field(default_factory=dict)
 
     @property
     def fewest(self) -> int:
@@ -48,7 +82,7 @@ class Line:
 
     def speedup(self, nodes: int) -> float:
         """How many times quicker it is than on the fewest nodes."""
-        return self.totals[self.fewest] / max(self.totals[nodes], 1)
+        return float(self.totals[self.fewest] / max(self.totals[nodes], 1))
 
     def efficiency(self, nodes: int) -> float:
         """The speedup for each time that there are more nodes."""
@@ -66,42 +100,46 @@ def parse(text: str) -> list[Row]:
     try:
         names = list(table.fieldnames or [])
         if names[: len(FIRST)] != FIRST or not set(names) >= {RESULTS, "w", "h", "total", "outcome"} or len(set(names)) < len(names):
-            raise ValueError("the table of a sweep has columns supersteps, w, h, total and outcome")
+            raise Unfit("the table of a sweep has columns supersteps, w, h, total and outcome")
         settings = names[len(FIRST) : names.index(RESULTS)]
         return [row_of(row, settings) for row in table]
     except (ValueError, TypeError, csv.Error) as error:
-        raise Refused(f"line {table.line_num}: {error}") from error
+        raise Refused(f"line {table.line_num}: {why_unfit(error)}") from error
 
 
 def row_of(row: dict[Any, Any], settings: list[str]) -> Row:
     """A run from its values by their names."""
     if None in row or None in row.values():
-        raise ValueError("its columns are not those of the first line")
-    known = tuple((printable(name), printable(row[name])) for name in settings if row[name])
-    nodes, g, l = whole(row["nodes"], MOST_NODES), whole(row["g"], MOST_PRICE), whole(row["l"], MOST_PRICE)
+        raise Unfit("its columns are not those of the first line")
+    known = tuple((printable(name), printable(row[name])) for name in settings if row[name] and name != MACHINE)
+    nodes, g, l = whole(row["nodes"], MOST_NODES), of_table(row["g"]), of_table(row["l"])
     if nodes == 0:
-        raise ValueError("0 nodes")
-    total = None
-    if row["outcome"] != NOT_RUN:
-        w, h, supersteps, total = whole(row["w"], MOST_SUM), whole(row["h"], MOST_SUM), whole(row[RESULTS], MOST_SUM), whole(row["total"])
-        if not OUTCOME.match(row["outcome"].encode()):
-            raise ValueError(f"{row['outcome']!r} is no outcome")
-        if supersteps == 0 or total != w + g * h + l * supersteps:
-            raise ValueError(f"the total {total} is not {w} + {g} * {h} + {l} * {supersteps}")
-    return Row(printable(row["program"]), nodes, g, l, known, total if row["outcome"] == "ended" else None)
+        raise Unfit("0 nodes")
+    first = Row(printable(row["program"]), nodes, g, l, known, None, printable(row.get(MACHINE) or ""))
+    if row["outcome"] == NOT_RUN:
+        return first
+    total, sums = of_table(row["total"], TOTAL), Sums(*(whole(row[name], MOST_SUM) for name in (RESULTS, "w", "h")))
+    if not OUTCOME.match(row["outcome"].encode()):
+        raise Unfit(f"{row['outcome']!r} is no outcome")
+    if sums.supersteps == 0 or total != sums.total(g, l):
+        told = f"{sums.w} + {row['g']} * {sums.h} + {row['l']} * {sums.supersteps}"
+        raise Unfit(f"the total {spelled(total)} is not {told}")
+    return first._replace(total=total, sums=sums) if row["outcome"] == "ended" else first
 
 
 def lines(rows: list[Row]) -> list[Line]:
     """The lines of a table in the order in which they begin in it; runs that did not end are left out."""
-    found: dict[tuple[str, tuple[tuple[str, str], ...], int, int], Line] = {}
+    found: dict[tuple[str, tuple[tuple[str, str], ...], Prices], Line] = {}
     names = short_names({it.program for it in rows})
     for row in rows:
         if row.total is not None:
-            key = (names[row.program], row.settings, row.g, row.l)
+            key = (names[row.program], row.settings, row.prices)
             found.setdefault(key, Line(*key)).totals[row.nodes] = row.total
     if not found:
         raise Refused("no run in it ended")
-    return [Line(it.program, it.settings, it.g, it.l, dict(sorted(it.totals.items()))) for it in found.values()]
+    if len(found) > MOST_POINTS:
+        raise Refused(f"its runs make {len(found)} lines, and a picture has at most {MOST_POINTS}: draw a part of the table")
+    return [Line(it.program, it.settings, it.prices, dict(sorted(it.totals.items()))) for it in found.values()]
 
 
 def short_names(programs: set[str]) -> dict[str, str]:
@@ -112,7 +150,7 @@ def short_names(programs: set[str]) -> dict[str, str]:
 
 def labels(them: list[Line]) -> list[str]:
     """A text for each line, of what tells them apart; the program where nothing does."""
-    return telling([[*named(it), ("", f"g {it.g}, l {it.l}")] for it in them])
+    return telling([[*named(it), ("", str(it.prices))] for it in them])
 
 
 def named(line: Line) -> list[tuple[str, str]]:
@@ -127,7 +165,13 @@ def telling(parts: list[list[tuple[str, str]]]) -> list[str]:
     for part in parts:
         words = [f"{name} {value}".strip() for name, value in part if (name, value) not in common]
         texts.append(", ".join(words) or part[0][1])
-    return texts
+    return shortened(texts)
+
+
+def shortened(texts: list[str]) -> list[str]:
+    """These texts, without the middle of long ones. If two become the same, a number tells them apart."""
+    cut = [it if len(it) <= MOST_LABEL else f"{it[: MOST_LABEL - LABEL_END - 1]}\u2026{it[-LABEL_END:]}" for it in texts]
+    return cut if len(set(cut)) == len(set(texts)) else [f"{number}: {it}" for number, it in enumerate(cut, 1)]
 
 
 class Crossing(NamedTuple):
@@ -138,7 +182,9 @@ class Crossing(NamedTuple):
     name: str
 
     def __str__(self) -> str:
-        return f"from {self.nodes} nodes on {self.name} costs less, at g {self.cheaper.g} and l {self.cheaper.l}"
+        prices = self.cheaper.prices
+        where = f"on {prices.machine}" if prices.machine else f"at g {spelled(prices.g)} and l {spelled(prices.l)}"
+        return f"from {self.nodes} nodes on {self.name} costs less, {where}"
 
 
 def crossings(them: list[Line]) -> list[Crossing]:
@@ -148,7 +194,7 @@ def crossings(them: list[Line]) -> list[Crossing]:
     for i, one in enumerate(them):
         for j, other in enumerate(them[i + 1 :], i + 1):
             differing = set(named(one)).symmetric_difference(named(other))
-            if (one.g, one.l) == (other.g, other.l) and len(differing) == 2:
+            if one.prices == other.prices and len(differing) == 2:
                 found += crossings_of(one, other, (names[i], names[j]))
     return found
 

@@ -5,6 +5,7 @@ from __future__ import annotations
 from matplotlib.axes import Axes
 from matplotlib.patches import Patch, Rectangle
 
+from ..prices import Exact, spelled
 from .canvas import EXCHANGE, SMALL, SYNC, WAIT, WORK, Picture, fits, picture, thousands, whole_numbers, width
 from .profile import Reading, Superstep
 from .superstep_costs import Cost, Prices
@@ -14,12 +15,13 @@ KINDS = {WORK: "work", WAIT: "waiting for the slowest rank", EXCHANGE: "exchange
 MOST_NAMED = 32
 
 
-def draw(supersteps: list[Superstep], prices: Prices, reading: Reading, title: str) -> Picture:
-    """The timeline of these supersteps, along the time that they cost at these prices."""
+def draw(supersteps: list[Superstep], prices: Prices, reading: Reading, title: str, is_apart: bool = False) -> Picture:
+    """The timeline of these supersteps, along the time that they cost at these prices; the work may be without that of printing."""
     nodes = len(supersteps[0].shares)
     made = picture(min(1.0 + 0.3 * nodes, 7.5), title)
     axes = made.figure.add_subplot(made.body)
-    start, named = 0, 0.0
+    start: Exact = 0
+    named = 0.0
     ends = sum(Cost(it.number, it.w, it.h(reading)).total(prices) for it in supersteps)
     for superstep in supersteps:
         one = Span(superstep, start, prices, reading, max(ends, 1))
@@ -33,14 +35,16 @@ def draw(supersteps: list[Superstep], prices: Prices, reading: Reading, title: s
     axes.set_xlabel("time in ticks: work, then g·h, then l")
     whole_numbers(axes, "x")
     axes.annotate("superstep", (0, 1), (-6, 3), xycoords="axes fraction", textcoords="offset points", ha="right")
-    made.legend([Patch(color=it) for it in KINDS], list(KINDS.values()), len(KINDS))
+    printed, w = sum(it.printed for it in supersteps), sum(it.w for it in supersteps)
+    work = "work without printing" if is_apart else f"work ({100 * printed / w:.1f} % of w printing)" if printed else KINDS[WORK]
+    made.legend([Patch(color=it) for it in KINDS], [work, *list(KINDS.values())[1:]], len(KINDS))
     return made
 
 
 class Span:
     """One superstep in a timeline: where its work begins, its exchange, its end, and where the next superstep begins."""
 
-    def __init__(self, superstep: Superstep, start: int, prices: Prices, reading: Reading, whole: int) -> None:
+    def __init__(self, superstep: Superstep, start: Exact, prices: Prices, reading: Reading, whole: Exact) -> None:
         self.superstep, self.start, self.prices, self.whole = superstep, start, prices, whole
         self.h = superstep.h(reading)
         self.exchange = start + superstep.w
@@ -51,45 +55,45 @@ class Span:
         """Draws all of it."""
         number, nodes = self.superstep.number, len(self.superstep.shares)
         for rank, share in enumerate(self.superstep.shares):
-            self.rank(made, axes, rank, share.ticks)
-        text = f"g·h = {self.prices.g} × {self.h} = {self.sync - self.exchange}"
+            self.rank(made, axes, rank, share.ticks, share.printed)
+        text = f"g·h = {spelled(self.prices.g)} × {self.h} = {spelled(self.sync - self.exchange)}"
         self.bar(made, axes, f"exchange-{number}", f"superstep {number}: {text}", EXCHANGE, -0.5, nodes, (self.exchange, self.sync))
         self.text(axes, (self.exchange, self.sync), nodes / 2 - 0.5, [text, thousands(self.sync - self.exchange)], "black")
-        text = f"l = {self.end - self.sync}"
+        text = f"l = {spelled(self.end - self.sync)}"
         self.bar(made, axes, f"sync-{number}", f"superstep {number}: {text}", SYNC, -0.5, nodes, (self.sync, self.end))
         self.text(axes, (self.sync, self.end), nodes / 2 - 0.5, [text, thousands(self.end - self.sync)], "white")
         axes.axvline(float(self.end), color="black", linewidth=0.6)
 
     def name(self, axes: Axes, named: float) -> float:
         """Writes its number above its middle, where that is far enough from the last number; up to where numbers are written is answered."""
-        middle = (self.start + self.end) / 2
+        middle, whole = float(self.start + self.end) / 2, float(self.whole)
         text = str(self.superstep.number)
-        if not fits(text, 2 * (middle - named) / self.whole):
+        if not fits(text, 2 * (middle - named) / whole):
             return named
         places = {"xycoords": ("data", "axes fraction"), "textcoords": "offset points"}
         axes.annotate(text, (middle, 1), (0, 3), ha="center", **places)
-        return middle + width(text) / 2 * self.whole
+        return middle + width(text) / 2 * whole
 
-    def rank(self, made: Picture, axes: Axes, rank: int, ticks: int) -> None:
+    def rank(self, made: Picture, axes: Axes, rank: int, ticks: int, printed: int) -> None:
         """The work of a rank, with the number where there is room, and its waiting."""
         number, done = self.superstep.number, self.start + ticks
         top = rank - BAR / 2
-        self.bar(made, axes, f"work-{number}-{rank}", f"superstep {number}, rank {rank}: work {ticks}", WORK, top, BAR, (self.start, done))
-        waits = self.exchange - done
-        text = f"superstep {number}, rank {rank}: waits {waits}"
+        text = f"superstep {number}, rank {rank}: work {ticks}" + (f", {printed} of it printing" if printed else "")
+        self.bar(made, axes, f"work-{number}-{rank}", text, WORK, top, BAR, (self.start, done))
+        text = f"superstep {number}, rank {rank}: waits {spelled(self.exchange - done)}"
         self.bar(made, axes, f"wait-{number}-{rank}", text, WAIT, top, BAR, (done, self.exchange))
         if len(self.superstep.shares) <= MOST_NAMED:
             self.text(axes, (self.start, done), rank, [thousands(ticks)], "white")
 
-    def text(self, axes: Axes, x: tuple[int, int], y: float, texts: list[str], color: str) -> None:
+    def text(self, axes: Axes, x: tuple[Exact, Exact], y: float, texts: list[str], color: str) -> None:
         """The first of these texts for which there is room between two times."""
         for text in texts:
-            if x[1] > x[0] and fits(text, (x[1] - x[0]) / self.whole):
-                axes.text((x[0] + x[1]) / 2, y, text, color=color, fontsize=SMALL, ha="center", va="center")
+            if x[1] > x[0] and fits(text, float((x[1] - x[0]) / self.whole)):
+                axes.text(float(x[0] + x[1]) / 2, y, text, color=color, fontsize=SMALL, ha="center", va="center")
                 return
 
     @staticmethod
-    def bar(made: Picture, axes: Axes, name: str, text: str, color: str, top: float, height: float, x: tuple[int, int]) -> None:
+    def bar(made: Picture, axes: Axes, name: str, text: str, color: str, top: float, height: float, x: tuple[Exact, Exact]) -> None:
         """A bar from one time to another; none where both are the same."""
         if x[1] > x[0]:
             mark = axes.add_patch(Rectangle((float(x[0]), top), float(x[1] - x[0]), height, facecolor=color, linewidth=0))

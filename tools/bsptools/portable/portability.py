@@ -248,8 +248,9 @@ def with_records(content: bytes, mark: bytes) -> bytes:
     return output_records.settings_in(content, output_records.RECORDS | output_records.WRITES_FILES, 0, mark) if mark else content
 
 
-def is_portable(job: Job, folder: pathlib.Path) -> bool:
-    """Tries a program whose run as a job has ended well. Tells what was found and what was tried; answers whether nothing was found."""
+def verdict(job: Job, folder: pathlib.Path) -> Verdict | None:
+    """Tries a program whose run as a job has ended well, and answers what was found and what was tried; nothing where it does not end well by
+    itself."""
     options, mark = job.options, job.mark if job.options.out is not None else b""
     content = with_records(content_of(folder / "program.elf" if options.sources else options.program, MOST_PROGRAM), mark)
     image = folder / "plain.elf"
@@ -257,12 +258,20 @@ def is_portable(job: Job, folder: pathlib.Path) -> bool:
     subject = Subject(options, job.program, read_elf(content), [str(image), *job.settings[1:]], folder, mark)
     ended = subject.run(options.nodes, options.limit)
     if ended.outcome != "ended":
-        tell(["bsprun: not tried: other choices, since the program by itself does not end well"])
-        return True
+        return None
     trials = built(subject, ended.ticks)[0] if options.sources else Trials(subject, content, read_elf(content), ended.ticks)
     portable = Portable(subject, trials, ended)
     portable.look()
     portable.other_nodes()
     show("")
-    tell(portable.verdict.lines())
-    return not portable.verdict.found
+    return portable.verdict
+
+
+def is_portable(job: Job, folder: pathlib.Path) -> bool:
+    """Tells the verdict; answers whether nothing was found."""
+    found = verdict(job, folder)
+    if found is None:
+        tell(["bsprun: not tried: other choices, since the program by itself does not end well"])
+        return True
+    tell(found.lines())
+    return not found.found

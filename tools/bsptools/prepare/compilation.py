@@ -10,6 +10,7 @@ import subprocess
 from .. import children, emulator
 from ..limits import COMPILED_STACK, MEMORY_OF_STACK, STACK
 from ..refusals import Refused, lines_of, tell
+from .compiler_warnings import OPTIMIZED, messages, of_mistakes
 
 SOURCES = (".c", ".cc", ".cpp", ".cxx", ".C")
 
@@ -30,11 +31,37 @@ def command(options: argparse.Namespace, target: pathlib.Path, *more: str) -> tu
     return words, {**os.environ, "TMPDIR": str(target.parent)}
 
 
+def looks(options: argparse.Namespace) -> list[str]:
+    """The options of bspcc by which a program is looked at."""
+    return ["--strict"] if options.strict else ["--check"] if options.check else []
+
+
+def manner(options: argparse.Namespace, tool: str) -> list[str]:
+    """How a tool has a program compiled where the command line says nothing else: for gdb so that each variable can be looked at, and for
+    a run with warnings of what is nearly always a mistake. Where warnings are errors they are those that the person has chosen."""
+    if options.strict:
+        return []
+    has_own = not {"-w", "-Werror"}.isdisjoint(options.compiled or [])
+    return ["-Og"] if tool == "bspgdb" else [] if has_own else ["--likely"]
+
+
+def optimized(options: argparse.Namespace, names: list[str]) -> list[str]:
+    """What GCC says of accesses past arrays, which it only sees where it optimizes: a program that is looked at is not."""
+    words = [emulator.program("bspcc"), "--likely", "-S", "-o", os.devnull, *(options.compiled or []), "-O2"]
+    lines: list[str] = []
+    for name in names:
+        done = children.call([*words, name], stdout=subprocess.PIPE, stderr=subprocess.STDOUT)
+        found = messages(lines_of(done.stdout, *names)) if done.returncode == 0 else []
+        lines += [line for it in found if any(OPTIMIZED.search(line) for line in it) for line in it]
+    return lines
+
+
 def compiled(options: argparse.Namespace, target: pathlib.Path, *more: str) -> list[str]:
     """Makes an executable of the sources, with more options for bspcc. Answers what was said of them."""
-    words, environment = command(options, target, "-g", *(["--check"] if options.check else []), *more)
+    words, environment = command(options, target, "-g", *looks(options), *more)
     done = children.call(words, stdout=subprocess.PIPE, stderr=subprocess.STDOUT, env=environment)
-    said = lines_of(done.stdout, *(os.path.abspath(it) for it in options.sources))
+    names = [os.path.abspath(it) for it in options.sources]
+    said = of_mistakes([*lines_of(done.stdout, *names), *(optimized(options, names) if options.strict and not more else [])])
     if done.returncode != 0:
         tell(said)
         raise Refused(f"{' '.join(options.sources)} was not compiled")

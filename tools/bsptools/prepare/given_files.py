@@ -16,7 +16,7 @@ MOST_FILES = 1000
 
 def given_files(options: argparse.Namespace) -> list[tuple[bytes, bytes]]:
     """Files, each with its name. Those behind what fills an input are not read. Words of ARGS that are files are given as they stand."""
-    names = [*options.file, *(it for folder in options.files for it in files_of(folder))]
+    names = list(dict.fromkeys([*options.file, *(it for folder in options.files for it in files_of(folder)), *options.found]))
     found, size = [], 0
     for name in names:
         content = content_of(name, MOST_INPUT)
@@ -32,6 +32,11 @@ def given_files(options: argparse.Namespace) -> list[tuple[bytes, bytes]]:
     return found
 
 
+def given_names(options: argparse.Namespace) -> list[str]:
+    """The files that a program is given."""
+    return [*options.file, *options.found, *(it for folder in options.files for it in files_of(folder)), *filter(os.path.isfile, options.args)]
+
+
 def files_read(options: argparse.Namespace) -> list[str]:
     """All files that a run reads: the program, with more sources of it, its input, and what it is given."""
     names = [options.program, *filter(None, [options.input]), *options.file, *filter(os.path.isfile, options.args)]
@@ -45,3 +50,9 @@ def files_of(folder: str) -> list[str]:
     if len(names) > MOST_FILES:
         raise Refused(f"{folder} has {len(names)} files, and {MOST_FILES} are the most that --files gives: give those that are read by --file")
     return names
+
+
+def outputs_of(options: argparse.Namespace) -> list[str]:
+    """The files that bsprun itself writes by these options. A program is not to forge them."""
+    found = [options.report, options.profile, *(path for _, path in options.lines_as)]
+    return [it for it in found if it is not None and it != "-"]

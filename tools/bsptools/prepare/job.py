@@ -11,7 +11,7 @@ from collections.abc import Callable
 from typing import TYPE_CHECKING, NamedTuple
 
 from .. import emulator
-from ..files import content_of
+from ..files import content_of, is_here, is_text
 from ..limits import MOST_INPUT, MOST_PROGRAM, NODES
 from ..options import Parser
 from ..outputs import output_records
@@ -21,7 +21,7 @@ from ..program.code import Code, kind_of, read_elf, read_text
 from ..refusals import Refused, about, tell
 from .argument_block import MAGIC, block
 from .clock_rate import with_clock_rate
-from .compilation import compiled, take_sources
+from .compilation import compiled, looks, manner, take_sources
 from .given_files import TOO_LONG, given_files
 
 if TYPE_CHECKING:
@@ -36,8 +36,8 @@ OPEN = "open"
 
 class Job(NamedTuple):
     """A program that is ready to run: the words that start the emulator, the settings behind its verb, the file that is run and its kind,
-    what is known of its code, the bytes of the image, what stands before all in its output that is none, and whether standard input had
-    something for it."""
+    what is known of its code, the bytes of the image, what stands before all in its output that is none, whether standard input had
+    something for it, and its input without what stands in front of that."""
 
     options: argparse.Namespace
     program: list[str]
@@ -48,17 +48,19 @@ class Job(NamedTuple):
     content: bytes
     mark: bytes
     is_typed: bool
+    bare: bytes | None = None
 
     @property
     def is_for_gdb(self) -> bool:
         """Whether gdb takes it, which it does for the names and lines that it has."""
         return self.kind in ("elf", "asm")
 
-    def replays(self) -> Replays:
-        """The same run, in the debugger, of which places are to be told."""
+    def replays(self, is_named: bool = True) -> Replays:
+        """The same run, in the debugger, of which places are to be told where names are known."""
         from ..framed.replays import Replays
 
-        self.code.know_names()
+        if is_named:
+            self.code.know_names()
         return Replays([*self.program, "debug", *self.settings], self.options.memory, self.options.nodes)
 
     def set(self, flags: int, fill: int | None, is_timed: bool = True) -> None:
@@ -69,6 +71,20 @@ class Job(NamedTuple):
         content = output_records.settings_in(self.content, flags, fill or 0, self.mark)
         self.image.write_bytes(with_clock_rate(content, self.options.rate) if is_timed else content)
 
+    @property
+    def can_be_given(self) -> bool:
+        """Whether the program takes files."""
+        return MAGIC in self.content
+
+    def give(self, names: list[str], folder: pathlib.Path) -> None:
+        """Gives the program more files."""
+        self.options.found += names
+        given = with_block(self.options, self.content, self.bare)
+        with about(folder / "input"):
+            (folder / "input").write_bytes(given or b"")
+        if "--input" not in self.settings:
+            self.settings.extend(["--input", str(folder / "input")])
+
     def give_nodes(self, count: int) -> None:
         """Has this job run on so many nodes."""
         self.options.nodes = count
@@ -76,7 +92,7 @@ class Job(NamedTuple):
 
 
 def prepared(
-    options: argparse.Namespace, folder: pathlib.Path, tool: str, is_marked: bool = False, beside: Callable[[argparse.Namespace], None] | None = None
+    options: argparse.Namespace, folder: pathlib.Path, tool: str, is_marked: bool = False, beside: Callable[[argparse.Namespace, bytes], None] | None = None
 ) -> Job:
     """Finds out for a tool what the program is, and makes all files that its run wants. A job that is marked writes standard error apart.
     What goes beside the compiler begins as the sources of a program in C are known."""
@@ -84,22 +100,26 @@ def prepared(
     kind = options.format or kind_of(pathlib.Path(options.program), content)
     emulate = [options.bspemu or emulator.emulator()]
     image = pathlib.Path(os.path.abspath(options.program))
-    wanted = " ".join([*(["--check"] if options.check else []), *(options.compiled or [])])
+    wanted = " ".join([*(["--check"] if options.check and not options.strict else []), *(options.compiled or [])])
     if wanted and kind != "c":
         instead = f"and {options.program} is compiled: give {wanted} to bspcc" if kind == "elf" else f"which {options.program} is not"
         raise Refused(f"{wanted} is for a program in C, {instead}")
-    options.sources = []
+    options.sources, options.is_warned = [], False
     if kind == "c":
         take_sources(options)
         if beside is not None:
-            beside(options)
+            beside(options, b"")
         image = folder / "program.elf"
-        tell(compiled(options, image))
+        said = compiled(options, image, *manner(options, tool))
+        options.is_warned = bool(said)
+        tell(said)
         content, kind = content_of(image, MOST_PROGRAM), "elf"
     elif kind == "elf" and elf.misfit(content):
         raise Refused(f"{options.program} {elf.misfit(content)}")
     elif getattr(options, "portable", False):
         expect_choices(options.program, content)
+    elif kind == "elf" and beside is not None:
+        beside(options, content)
     if kind == "asm":
         code = read_text(emulate, str(image), content, folder)
     elif kind == "raw":
@@ -109,11 +129,13 @@ def prepared(
     code.is_float |= options.float
     memory_need.expect_room(code, options)
     given = given_input(options, content, tool)
-    is_typed = options.input is None and bool(given)
+    is_typed, bare = options.input is None and bool(given), given
     given = with_block(options, content, given)
     run, mark = marked(content, given or b"") if is_marked else (content, b"")
     if is_marked and options.out is not None and (not mark or output_records.PLACE not in content):
-        raise Refused(f"{options.program} writes no files: it was not built by this bspcc")
+        if not options.is_here:
+            raise Refused(f"{options.program} writes no files: it was not built by this bspcc")
+        options.out = None
     whole = with_clock_rate(run, options.rate)
     if mark or whole != content or not is_text(image):
         # The emulator takes no name that is no text.
@@ -128,7 +150,7 @@ def prepared(
         with about(folder / "input"):
             (folder / "input").write_bytes(given)
         settings += ["--input", str(folder / "input")]
-    job = Job(options, emulate, image, kind, code, settings, run, mark, is_typed)
+    job = Job(options, emulate, image, kind, code, settings, run, mark, is_typed, bare)
     if mark:
         job.set(0, options.fill)
     return job
@@ -142,14 +164,6 @@ def expect_choices(name: str, content: bytes) -> None:
         raise Refused(f"{name} takes no choices, as --portable makes: give a program in C, or what bspcc --portable built")
 
 
-def is_text(path: pathlib.Path) -> bool:
-    """Whether a path is text."""
-    try:
-        return bool(os.fsencode(path).decode())
-    except UnicodeDecodeError:
-        return False
-
-
 def given_input(options: argparse.Namespace, content: bytes, tool: str) -> bytes | None:
     """The input, where there is any. What is typed to bspgdb is for gdb."""
     if options.input is not None:
@@ -159,7 +173,7 @@ def given_input(options: argparse.Namespace, content: bytes, tool: str) -> bytes
 
 def with_block(options: argparse.Namespace, content: bytes, given: bytes | None) -> bytes | None:
     """An input, with arguments and files in front of it where there are any."""
-    if options.args or options.file or options.files:
+    if options.args or options.file or options.files or options.found:
         if MAGIC not in content:
             raise Refused(f"{options.program} takes neither arguments nor files: it was not built by this bspcc")
         words = [os.fsencode(word) for word in [options.argv0 or options.program, *options.args]]
@@ -191,9 +205,9 @@ def words_of(job: Job, parser: Parser) -> list[str]:
     for name in ("--input", "--argv0", "--limit", "--memory", "--stack", "--g", "--l", "--rate", "--format"):
         value = getattr(options, name.strip("-"))
         words += [name, str(value)] if value != parser.get_default(name.strip("-")) else []
-    words += [it for name in options.file for it in ("--file", name)]
+    words += [it for name in [*options.file, *options.found] for it in ("--file", name)]
     words += [it for name in options.files for it in ("--files", name)]
-    words += [*(["--float"] if options.float else []), *(["--check"] if options.check else []), *(options.compiled or [])]
+    words += [*(["--float"] if options.float else []), *looks(options), *(options.compiled or [])]
     return [*words, options.program, *options.sources[1:], *options.args]
 
 
@@ -201,6 +215,6 @@ def gdb_line(job: Job, parser: Parser, commands: list[str]) -> str:
     """The command line of bspgdb that comes to a place by these commands of gdb."""
     import shlex
 
-    tool = os.path.join(".", os.path.relpath(emulator.program("bspgdb")))
+    tool = os.path.join(".", os.path.relpath(emulator.program("bspgdb"))) if is_here() else "./.."
     tool = tool if not tool.startswith("./..") else shutil.which("bspgdb") and "bspgdb" or emulator.program("bspgdb")
     return shlex.join([tool, *words_of(job, parser), "--", *(it for command in commands for it in ("-ex", command))])

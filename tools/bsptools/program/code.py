@@ -15,6 +15,7 @@ from ..files import content_of
 from ..limits import MOST_PROGRAM, MOST_TEXT
 from ..refusals import Refused
 from . import elf
+from .variables import Variables
 
 ECALL = bytes([0x73, 0, 0, 0])
 ECALLS = re.compile(ECALL)
@@ -82,6 +83,7 @@ class Code:
         # Whether the nodes have units of floating point.
         self.is_float = False
         self.debug: elf.Debug | None = None
+        self._variables_of: Variables | None = None
         # What was found out of functions and addresses already.
         self.bodies: dict[int, dict[int, Statement]] = {}
         self.prologues: dict[int, Any] = {}
@@ -162,8 +164,18 @@ class Code:
         """The name of the function that an address lies in, or nothing."""
         return (self.function(address) or (0, ""))[1]
 
+    def described(self) -> Variables | None:
+        """The program's variables with their types, where its file has them."""
+        if self._variables_of is None and self.debug is not None:
+            self._variables_of = Variables(self.debug)
+        return self._variables_of
+
     def variable(self, address: int) -> str:
-        """A name for an address, with the bytes behind its beginning, or nothing."""
+        """A name for an address, with its index or the bytes behind its beginning, or nothing."""
+        known = self.described()
+        found = known.near(address, []) if known is not None else None
+        if found is not None:
+            return found.told(address)
         for start, size, name in self.variables:
             if start <= address < start + max(size, 1):
                 return name if address == start else f"{name} + {address - start}"

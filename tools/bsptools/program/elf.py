@@ -68,8 +68,25 @@ def wants_floats(content: bytes) -> bool:
     return int.from_bytes(content[36:40], "little") & FLOAT_ABI != 0
 
 
+def section(content: bytes, name: str) -> bytes:
+    """The bytes of a section; none of a file that has none of this name, or is broken."""
+    with contextlib.suppress(struct.error, IndexError):
+        (start,) = struct.unpack_from("<I", content, 32)
+        size, count, of_names = struct.unpack_from("<HHH", content, 46)
+        headers = [struct.unpack_from("<6I", content, start + i * size) for i in range(min(count, MOST_SECTIONS))]
+        texts, wanted = headers[of_names][4], name.encode() + b"\0"
+        found = next((it for it in headers if content[texts + it[0] :][: len(wanted)] == wanted), None)
+        return content[found[4] : found[4] + found[5]] if found is not None else b""
+    return b""
+
+
 def names(content: bytes) -> set[str]:
-    """The names of an ELF file's symbols; none of a file that has none, or is broken."""
+    """The names of an ELF file's symbols."""
+    return set(symbols(content))
+
+
+def symbols(content: bytes) -> dict[str, int]:
+    """The values of an ELF file's symbols by their names; none of a file that has none, or is broken."""
     with contextlib.suppress(struct.error, IndexError):
         (start,) = struct.unpack_from("<I", content, 32)
         size, count = struct.unpack_from("<HH", content, 46)
@@ -78,10 +95,11 @@ def names(content: bytes) -> set[str]:
         if table is not None:
             _, _, _, _, begin, length, link, *_ = table
             texts, room = sections[link][4:6]
-            places = [struct.unpack_from("<I", content, begin + at)[0] for at in range(0, length, SYMBOL_BYTES)]
+            places = [struct.unpack_from("<2I", content, begin + at) for at in range(0, length, SYMBOL_BYTES)]
             text = content[texts : texts + room]
-            return {text[at : text.index(b"\0", at)].decode(errors="replace") for at in places if b"\0" in text[at : at + MOST_NAME]}
-    return set()
+            known = [(at, it) for at, it in places if b"\0" in text[at : at + MOST_NAME]]
+            return {text[at : text.index(b"\0", at)].decode(errors="replace"): it for at, it in known}
+    return {}
 
 
 class Debug:
@@ -104,7 +122,7 @@ class Debug:
     def lines(self, address: int) -> list[tuple[str, str]]:
         """Function and line, such as `a/b.c:12`, of an address, innermost first where functions were put into others."""
         with contextlib.suppress(Exception), memory_bound.at_most(MOST_MEMORY):
-            unit = next(it for it in self.info.iter_CUs() if self._has(it.get_top_DIE(), address))
+            unit = next(it for it in self.info.iter_CUs() if self.has(it.get_top_DIE(), address))
             return list(self._lines(unit, self.info.line_program_for_CU(unit), address))
         return []
 
@@ -120,7 +138,7 @@ class Debug:
 
     def _lines(self, unit: Any, program: Any, address: int) -> Iterator[tuple[str, str]]:
         number, line = row(program, address)
-        for scope in reversed(list(self._scopes(unit.get_top_DIE(), address))):
+        for scope in reversed(list(self.scopes(unit.get_top_DIE(), address))):
             if scope.tag == BLOCK:
                 continue
             if line:
@@ -131,15 +149,15 @@ class Debug:
         if line:
             yield "", f"{path(unit, program, number)}:{line}"
 
-    def _scopes(self, parent: Any, address: int) -> Iterator[Any]:
+    def scopes(self, parent: Any, address: int) -> Iterator[Any]:
         """The functions and blocks that an address lies in, outermost first."""
         for child in parent.iter_children():
-            if child.tag in (CALLED, PUT_IN, BLOCK) and self._has(child, address):
+            if child.tag in (CALLED, PUT_IN, BLOCK) and self.has(child, address):
                 yield child
-                yield from self._scopes(child, address)
+                yield from self.scopes(child, address)
                 return
 
-    def _has(self, scope: Any, address: int) -> bool:
+    def has(self, scope: Any, address: int) -> bool:
         """Whether an address lies in the code of a unit, a function or a block."""
         low, high, ranges = (scope.attributes.get(f"DW_AT_{it}") for it in ("low_pc", "high_pc", "ranges"))
         if low and high:

@@ -4,11 +4,10 @@ from __future__ import annotations
 
 import bisect
 import os
-import pathlib
 import re
-import tempfile
 from typing import Any, Dict, List, NamedTuple, Optional, Sequence
 
+from .. import children
 from ..files import content_of
 from ..framed.backtrace import MOST_FRAMES, frames, short, users_frames
 from ..framed.session import Node
@@ -114,8 +113,8 @@ class Names:
         except (Refused, OSError):
             return Code()
         if kind == "asm":
-            with tempfile.TemporaryDirectory(prefix="bspgdb") as folder:
-                return read_text(self._command[: at - 1], path, content, pathlib.Path(folder))
+            with children.folder("bspgdb") as folder:
+                return read_text(self._command[: at - 1], path, content, folder)
         if kind == "raw":
             return Code(segments=[(0, memoryview(content))], need=len(content))
         return read_elf(content)

@@ -3,6 +3,7 @@
 from __future__ import annotations
 
 import re
+from typing import NamedTuple
 
 from ..diagnosis.stop_reasons import Why
 from ..outputs import output_records
@@ -12,7 +13,14 @@ from ..outputs.report import Report
 from ..prepare.job import Job
 
 
-def chosen_status(job: Job, found: Report, made: list[Record]) -> int | None:
+class Chosen(NamedTuple):
+    """A status other than 0 with which a program ended, and whether all ranks ended it so."""
+
+    status: int
+    is_of_all: bool
+
+
+def chosen_status(job: Job, found: Report, made: list[Record]) -> Chosen | None:
     """The status other than 0 with which the lowest rank that was stopped ended the program, where all that were stopped ended it. Where
     some ranks did, the run is made again to see the others."""
     notes = [it for it in (note_of(record) for record in made if record.kind == output_records.NOTE) if it is not None]
@@ -25,4 +33,4 @@ def chosen_status(job: Job, found: Report, made: list[Record]) -> int | None:
         why = Why(job.code, job.replays(), nodes, job.options.limit)
         if not statuses.keys() >= set(why.stopped_at_end(found)):
             return None
-    return statuses[int(outcome[1])]
+    return Chosen(statuses[int(outcome[1])], len(statuses) == nodes)

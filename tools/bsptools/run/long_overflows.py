@@ -18,28 +18,17 @@ from collections.abc import Iterator
 from typing import Tuple
 
 from .. import children
+from ..children import patience
 from ..files import content_of
 from ..limits import MOST_PROGRAM, MOST_TICKS
 from ..outputs import output_records
 from ..outputs.library_notes import LONG, SHORT, Note, NoteTeller, note_of
 from ..outputs.output_demux import Marks
 from ..prepare.clock_rate import with_clock_rate
-from ..prepare.compilation import command
 from ..prepare.job import Job
 from ..refusals import Refused
+from .second_builds import ADVICE, SecondBuild, of_executable, of_sources
 
-# Expressions that a run of an executable does not want are compiled where they are looked for.
-# What has no words of a program in it, and a `long` that is none here, since it has 64 bits or a point.
-LEFT_OUT = r'(?s)//[^\n]*|/\*.*?\*/|"(?:\\.|[^"\\\n])*"|\'(?:\\.|[^\'\\\n])\''
-OTHERS = r"\blong(?:\s+(?:unsigned|signed|int))*\s+(?:long|double)\b"
-# What makes a `long`, or what is one elsewhere: types, numbers, and functions of C and POSIX.
-LONGS = (
-    r"\blong\b|\b(?:0[xX][\da-fA-F]+|\d+)(?:[uU]?[lL]|[lL][uU])\b|\bU?LONG_M(?:AX|IN)\b"
-    r"|\b(?:s?size|ptrdiff|intptr|off|time|clock|int_fast16|int_fast32)_t\b"
-    r"|\b(?:atol|strtoul?|labs|ldiv|ftello?|random|[lmnj]rand48|lrintf?|lroundf?|clock|time)\s*\("
-)
-INCLUDED = r'(?m)^[ \t]*#[ \t]*include[ \t]*["<]([^">\n]+)[">]'
-MOST_SOURCES = 1000
 # The tables of bspcc --check=long: a text, a type, and a place with the types of the values there, of which a number with a point that becomes
 # a whole one is the first.
 TEXT = r'(?m)^(\.LC\d+):\n\t\.string\t"(.*)"$'
@@ -48,41 +37,16 @@ PLACE = (
     r"(?m)^\.Lubsan_data\d+:\n\t\.dword\t(\.LC\d+)\n\t\.word\t(\d+)\n\t\.word\t(\d+)\n\t\.dword\t(\.Lubsan_type\d+)(?:\n\t\.dword\t(\.Lubsan_type\d+))?"
 )
 WHOLE, LONG_TYPES = "0", ("long int", "long unsigned int")
-# For how long this may go on behind the run, and how many times as long where the host is busy; and in how many threads, since what looks
+# For how long this may go on behind the run, where the host is not busy, and in how many threads, since what looks
 # at values makes half as many instructions again.
-MORE_SECONDS, MOST_BUSY, MOST_WORKERS = 0.5, 4.0, 2
+MORE_SECONDS, MOST_WORKERS = 0.5, 2
+# For how long a build goes on behind the run of an executable, of which nothing was compiled before.
+AGAIN_SECONDS = 20.0
 # What is found in a superstep comes at its end. So the nodes have few instructions at first, of all of them together, and as long as they come
 # to the end of these and nothing is found, the run is made again with more.
 FIRST, TIMES = 1 << 27, 4
 EXHAUSTED = 3
 CHUNK = 1 << 16
-
-
-def has_longs(text: str) -> bool:
-    """Whether a text in C may compute in a type that has 32 bits here and 64 elsewhere."""
-    return re.search(LONGS, re.sub(OTHERS, "", re.sub(LEFT_OUT, " ", text))) is not None
-
-
-def texts(sources: list[str], folders: list[str]) -> Iterator[str]:
-    """These sources, and what they include from beside them or from these folders."""
-    left = [os.path.abspath(it) for it in sources]
-    seen = set(left)
-    while left and len(seen) < MOST_SOURCES:
-        path = left.pop()
-        with contextlib.suppress(OSError):
-            text = pathlib.Path(path).read_text(encoding="utf-8", errors="replace")
-            yield text
-            named = [os.path.abspath(os.path.join(it, name)) for name in re.findall(INCLUDED, text) for it in (os.path.dirname(path), *folders)]
-            more = [it for it in dict.fromkeys(named) if it not in seen and os.path.isfile(it)]
-            seen.update(more)
-            left += more
-
-
-def may_have_longs(options: argparse.Namespace) -> bool:
-    """Whether the program of a command line may compute in such a type."""
-    words = options.compiled or []
-    folders = [it[len("-I") :] for it in words if it.startswith("-I")]
-    return any(map(has_longs, words)) or any(map(has_longs, texts(options.sources, folders)))
 
 
 def spare(options: argparse.Namespace) -> int:
@@ -110,12 +74,6 @@ def unescaped(text: str) -> str:
     return os.fsdecode(text.encode("ascii", "replace").decode("unicode_escape").encode("latin-1", "replace"))
 
 
-def patience() -> float:
-    """How many seconds this may go on behind the run: a process has a part of a processor where there are more of them than processors."""
-    busy = os.getloadavg()[0] / len(os.sched_getaffinity(0))
-    return MORE_SECONDS * min(max(busy, 1.0), MOST_BUSY)
-
-
 class Beside:
     """A build of a program's sources that notes where something does not fit into a `long`, and then a run of it. It goes on by itself but
     for what there is to `take` from its file `number`. Where it cannot go on, it is over."""
@@ -125,6 +83,8 @@ class Beside:
         self.began = self.run_began = 0.0
         self.notes: list[Note] = []
         self._options: argparse.Namespace | None = None
+        self._second = SecondBuild([], {})
+        self._is_again = False
         self._job: Job | None = None
         self._said = b""
         self._built = b""
@@ -140,10 +100,14 @@ class Beside:
         stream = self._child.stdout if self._child is not None else None
         return -1 if stream is None else stream.fileno()
 
-    def build(self, options: argparse.Namespace) -> None:
-        """Begins the build where it may find something, once there is a processor for it."""
-        self.began = time.monotonic()
-        if not options.check and not options.no_check and may_have_longs(options):
+    def build(self, options: argparse.Namespace, content: bytes) -> None:
+        """Begins the build where it may find something, once there is a processor for it: of sources, or of those of an executable, which
+        has this content."""
+        self.began, self._is_again = time.monotonic(), bool(content)
+        if options.check or options.no_check:
+            return
+        self._second = of_executable(options.program, content, self.image) if content else of_sources(options, self.image)
+        if self._second.words:
             self._options = options
             if spare(options) > 0:
                 self._build()
@@ -176,15 +140,18 @@ class Beside:
 
     def wait(self, seconds: float) -> None:
         """Waits for its end behind a run that took so long: for as long again where it is being built, and half a second."""
-        now, begin, more = time.monotonic(), self.began, patience()
+        now, begin, more = time.monotonic(), self.began, patience(MORE_SECONDS)
         whole = now - begin
         if self._options is not None and spare(self._options) <= 0:
             begin = now
             self._build()
         while self._child is not None:
+            is_built = self._marks is not None
             # Nothing is taken of it while more is told of the run.
-            until = max(begin + 2 * whole if self._marks is None else self.run_began + seconds, now) + more
+            until = max(self.run_began + seconds if is_built else begin + 2 * whole, now) + more
+            until += 0.0 if is_built or not self._is_again else patience(AGAIN_SECONDS)
             if not select.select([self.number], [], [], max(until - time.monotonic(), 0.0))[0]:
+                self._cannot(is_built, "it was not built again in time")
                 break
             self.take()
         self.close()
@@ -193,7 +160,8 @@ class Beside:
         """What was found."""
         if self._job is None:
             return []
-        return NoteTeller(self._job.code, self._job.options.memory, {}, None, "", lambda _: "").lines(self.notes)
+        why_not = [f"bsprun: {self._second.why_not}"] if self._second.why_not else []
+        return why_not + NoteTeller(self._job.code, self._job.options.memory, {}, None, "", lambda _: "").lines(self.notes)
 
     def close(self) -> None:
         """Ends it."""
@@ -201,20 +169,25 @@ class Beside:
         self._end()
 
     def _build(self) -> None:
-        assert self._options is not None
-        words, environment = command(self._options, self.image, "--check=long")
         with self._or_over():
-            self._begin(words, signal.SIGTERM, environment)
+            self._begin(self._second.words, signal.SIGTERM, self._second.environment)
             assert self._child is not None
             self._left.enter_context(children.kept(self._child))
 
     def _take_build(self, status: int) -> None:
         for tables in self._said.decode(errors="replace").split("\t.file\t"):
             self._places.update(long_places(tables))
+        if status != 0:
+            self._cannot(False, "its sources could not be compiled again")
         if status == 0 and self._places:
             self._built = content_of(self.image, MOST_PROGRAM)
             if self._job is not None:
                 self._run_anew()
+
+    def _cannot(self, is_built: bool, why: str) -> None:
+        """Notes why an executable was not looked at."""
+        if self._is_again and not is_built and self._options is not None:
+            self._second = self._second._replace(why_not=f"{self._options.program}: {why}, {ADVICE}")
 
     def _run_anew(self) -> None:
         """Begins the run, which writes no files, and is the job's else."""

@@ -9,10 +9,14 @@ from ..framed.backtrace import place
 from ..framed.replays import Replays
 from ..framed.session import Node, Session, node_of
 from ..prepare.job import Job
+from ..refusals import numbered
 
 # A run is followed for so many seconds at the most, of the debugger's processor time, so that a busy host changes nothing; by the clock it takes
 # no longer than this. In its last superstep a rank makes so many steps at a time.
 MOST_SECONDS, MOST_OF_CLOCK, SLICE = 5.0, 60.0, 1 << 20
+# By the clock it takes this long where a person waits for it who has typed Ctrl-C: up to the superstep, and then in it. The way to the
+# superstep is gone twice, and then names are looked for, up to the last of these.
+AWAITED, AWAITED_IN_ALL, MOST_AWAITED = 0.25, 0.5, 0.8
 # Up to how many seconds some supersteps take together, and from how many on one takes long.
 PIECE, LONG = 0.02, 0.5
 # Lines are left for the last superstep's steps.
@@ -98,11 +102,12 @@ def nodes_after(session: Session, ranks: int, seconds: float, latest: float) -> 
     return [found[rank] for rank in range(ranks)]
 
 
-def ranks_at(job: Job, seconds: float, written: int) -> str:
-    """The superstep, and for each place the ranks that were there, after a run of so many seconds that has written so many bytes."""
-    replays = job.replays()
-    wanted, latest = min(seconds, MOST_SECONDS), time.monotonic() + MOST_OF_CLOCK
-    at = reached(replays, wanted, written, latest)
+def ranks_at(job: Job, seconds: float, written: int, is_awaited: bool) -> str:
+    """The superstep, and for each place the ranks that were there, after a run of so many seconds that has written so many bytes. Where a
+    person waits for it, that may be an earlier place."""
+    replays, now = job.replays(), time.monotonic()
+    wanted, latest = min(seconds, MOST_SECONDS), now + (AWAITED_IN_ALL if is_awaited else MOST_OF_CLOCK)
+    at = reached(replays, wanted, written, min(latest, now + AWAITED) if is_awaited else latest)
     texts: dict[str, list[int]] = {}
     with replays.session() as session:
         session.ask_all(replays.begin(at.superstep))
@@ -114,18 +119,5 @@ def ranks_at(job: Job, seconds: float, written: int) -> str:
             texts.setdefault(text, []).extend(it.rank for it in nodes)
     told = [f"{numbered(sorted(ranks))} at {text}" for text, ranks in list(texts.items())[:MOST_PLACES]]
     more = sum(len(it) for it in list(texts.values())[MOST_PLACES:])
-    later = " or later" if wanted < seconds or not at.is_far else ""
+    later = " or later" if wanted < seconds or not at.is_far or is_awaited and at.seconds < wanted and time.monotonic() >= latest else ""
     return f"superstep {at.superstep}{later}: " + "; ".join([*told, *([f"{more} more elsewhere"] if more else [])])
-
-
-def numbered(ranks: list[int]) -> str:
-    """Ranks in a few words: `rank 0`, `ranks 0 to 3 and 7`."""
-    runs: list[tuple[int, int]] = []
-    for rank in ranks:
-        if runs and rank == runs[-1][1] + 1:
-            runs[-1] = (runs[-1][0], rank)
-        else:
-            runs.append((rank, rank))
-    texts = [it for first, last in runs for it in ([f"{first} to {last}"] if last > first + 1 else map(str, sorted({first, last})))]
-    listed = " and ".join([", ".join(texts[:-1]), texts[-1]] if len(texts) > 1 else texts)
-    return f"rank{'s' if len(ranks) > 1 else ''} {listed}"

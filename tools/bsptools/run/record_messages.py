@@ -10,22 +10,19 @@ from ..outputs.output_records import Record
 from ..outputs.report import Report
 from ..outputs.written_files import Files
 from ..prepare.clock_rate import seconds
+from ..prepare.given_files import given_files, outputs_of
 from ..prepare.job import Job
-from ..refusals import tell
+from ..refusals import counted, tell
+
+# Of files that were written.
+MOST_NAMED = 5
 
 
 def tell_records(job: Job, made: list[Record], found: Report, untold: str = "") -> bool:
     """Puts the files that were written where they belong, and tells what the program's library noted, but for one kind of notes; whether no
     file is lacking."""
-    options, written = job.options, Files()
+    options, written = job.options, put_files(job, made)
     notes = [it for it in map(note_of, (it for it in made if it.kind == output_records.NOTE)) if it is not None]
-    for it in made:
-        if it.kind != output_records.NOTE:
-            written.take(it)
-    if options.out is not None:
-        # What ARGS and --files name is given where it is there, and may be what an earlier run has written.
-        kept = [options.program, *options.sources, *filter(None, [options.input]), *options.file]
-        tell([f"bsprun: {it}" for it in written.put(options.out, kept)])
 
     def where(note: Note) -> str:
         return place_of(job, found, notes, note)
@@ -33,6 +30,29 @@ def tell_records(job: Job, made: list[Record], found: Report, untold: str = "") 
     teller = NoteTeller(job.code, options.memory, written.writers(), options.input, seconds(options), where)
     tell(teller.lines([it for it in notes if it.what != untold]))
     return written.is_put and written.is_whole
+
+
+def put_files(job: Job, made: list[Record]) -> Files:
+    """Puts the files that were written where they belong."""
+    options, written = job.options, Files()
+    for it in made:
+        if it.kind != output_records.NOTE:
+            written.take(it)
+    if options.out is not None:
+        # What ARGS and --files name is given where it is there, and may be what an earlier run has written.
+        kept = {it: "it is read as" for it in [options.program, *options.sources, *filter(None, [options.input]), *options.file]}
+        kept.update({it: "bsprun itself writes" for it in outputs_of(options)})
+        given = dict(given_files(options)) if len(written.files) > 1 else {}
+        tell([f"bsprun: {it}" for it in written.put(options.out, kept, given)])
+        if options.is_here and written.names:
+            tell([f"bsprun: wrote {listed(written.names)}"])
+    return written
+
+
+def listed(names: list[str]) -> str:
+    """Some names, and how many more there are."""
+    more = len(names) - MOST_NAMED
+    return ", ".join(names[:MOST_NAMED]) + (f" and {counted(more, 'more file')}" if more > 0 else "")
 
 
 def place_of(job: Job, found: Report, notes: list[Note], note: Note) -> str:

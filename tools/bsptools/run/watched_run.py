@@ -6,6 +6,7 @@ import array
 import contextlib
 import errno
 import fcntl
+import importlib
 import os
 import re
 import select
@@ -19,11 +20,13 @@ from typing import NamedTuple
 
 from .. import children, files, streams
 from ..outputs import report
-from ..outputs.output_demux import ERROR, OUTPUT, Marks, Tail
+from ..outputs.output_demux import ERROR, OUTPUT, Marks, Tail, new_digest
 from ..outputs.output_records import Record, record_of
 from ..prepare.job import Job
-from ..refusals import UNWRITTEN, put, show
+from ..refusals import UNWRITTEN, put, show, tell
+from .found_files import Finder, Wanted
 from .long_overflows import Beside
+from .repeated_output import Repeated
 
 # How a program says at its start that it takes fewer nodes: bsplib/src/bsp.c.
 FEWER = re.compile(rb"^bsp: rank 0: there are more nodes than the program takes in bsp_begin: bsprun -n (\d+) ", re.MULTILINE)
@@ -32,25 +35,34 @@ PAUSE, MOST_KEPT = 0.1, 1 << 20
 # After how many seconds the time is shown, at a terminal. Where the output is a pipe, for how many nothing has come and all has been read.
 QUIET_SECONDS, PIPED_SECONDS = 2, 0.9
 CHUNK = 1 << 16
+# What a program of bspcc finds at address 0: bsplib/src/machine.h, BSP_NULL_WORD.
+NULL_TEXT = (0xE5A6D39B).to_bytes(4, "little") * 4
+# Stands behind a line that the program has not ended, in reverse video where the terminal has that.
+PLAIN_MARK = "%"
+MARK = f"\033[7m{PLAIN_MARK}\033[m"
 
 
 class Done(NamedTuple):
     """How a run ended: its status, its report where it has one, what the emulator said, and the records that it wrote. `seconds` is how
-    long it took."""
+    long it took, `is_line_whole` whether its output has ended its last line, `has_null` whether that has what NULL points to, and `digest`
+    that of its output and standard error, where it will be compared with those of other runs."""
 
     status: int
     report: report.Report | None
     said: bytes
     seconds: float
     records: list[Record]
+    is_line_whole: bool
+    has_null: bool
+    digest: bytes | None
 
 
 class Stopped(Exception):
-    """The clock has ended a run, after so long. The emulator has written so many bytes up to then."""
+    """The clock has ended a run, after so long. The emulator has written so many bytes up to then, and these records."""
 
-    def __init__(self, seconds: float, written: int) -> None:
+    def __init__(self, seconds: float, written: int, records: list[Record]) -> None:
         super().__init__(seconds, written)
-        self.seconds, self.written = seconds, written
+        self.seconds, self.written, self.records = seconds, written, records
 
 
 class Interrupted(Stopped):
@@ -68,10 +80,15 @@ class Fewer(Exception):
 class Outputs:
     """The standard streams of nodes, written as they come."""
 
-    def __init__(self, mark: bytes, nodes: int) -> None:
+    def __init__(self, mark: bytes, nodes: int, finder: Finder, repeated: Repeated, is_compared: bool) -> None:
         self.marks, self.tail = Marks(mark), Tail()
+        self.finder, self.repeated = finder, repeated
+        # Of all that was written, if that is wanted.
+        self._sum = new_digest() if is_compared else None
         self.nodes, self.received = nodes, 0
         self.records: list[Record] = []
+        # Whether what stands at address 0 was written, as by puts(NULL).
+        self.has_null = False
         self.kept: list[tuple[bool, bytes]] | None = [] if nodes > 1 else None
         # Whether the last line at the terminal, to which both may go, is a whole one, and whether the time is shown behind it.
         self.is_line_whole, self.is_shown = True, False
@@ -83,16 +100,26 @@ class Outputs:
         self.received += len(content)
         for kind, piece in self.marks.take(content):
             is_error = kind == ERROR
+            self.has_null = self.has_null or NULL_TEXT in piece
             # A report is in one piece.
             if kind != OUTPUT:
                 self._give(False, self.tail.left())
                 self.tail = Tail()
             if kind not in (OUTPUT, ERROR):
-                self.records += filter(None, [record_of(kind, piece)])
-                continue
-            self._give(is_error, piece if is_error else self.tail.take(piece))
+                self._keep(record_of(kind, piece))
+            # What a run writes behind a question for a file is another with that file.
+            elif not self.finder.names:
+                self._give(is_error, piece if is_error else self.tail.take(piece))
+        if self.finder.names and not self.repeated.is_long:
+            raise Wanted(self.finder.names)
         if sum(len(it) for _, it in self.kept or []) > MOST_KEPT:
             self.begin()
+
+    def _keep(self, record: Record | None) -> None:
+        if record is not None:
+            self.records.append(record)
+            if not self.repeated.is_long:
+                self.finder.look(record)
 
     def begin(self) -> None:
         """Writes what was kept of the first superstep."""
@@ -111,7 +138,21 @@ class Outputs:
         output, found = parted or (memoryview(left), None)
         self._give(False, last + bytes(output))
         self.begin()
+        self.clear()
+        self.end_line()
         return found
+
+    @property
+    def digest(self) -> bytes | None:
+        """That of all that was written."""
+        return self._sum.digest() if self._sum is not None else None
+
+    def end_line(self) -> None:
+        """Ends a line at the terminal that the program has not ended, so that what is shown next has a line of its own, as a shell's
+        prompt: with a mark, since it is none of the program's."""
+        if not self.is_line_whole and sys.stderr.isatty() and os.isatty(streams.STDOUT):
+            print(MARK if os.environ.get("TERM", "dumb") != "dumb" else PLAIN_MARK, file=sys.stderr, flush=True)
+            self.is_line_whole = True
 
     def _give(self, is_error: bool, content: bytes) -> None:
         if not content:
@@ -119,7 +160,12 @@ class Outputs:
         if self.kept is not None:
             self.kept.append((is_error, content))
             return
+        content = self.repeated.fresh(is_error, content)
+        if not content:
+            return
         self.clear()
+        if self._sum is not None:
+            self._sum.update(content)
         if is_error:
             sys.stderr.buffer.write(content)
         else:
@@ -150,11 +196,12 @@ def is_all_read(pipe: int) -> bool:
 class Watch:
     """A run of a job, which the clock ends after so many seconds where it is given. What goes beside it is looked after."""
 
-    def __init__(self, job: Job, wall: float | None, beside: Beside) -> None:
+    def __init__(self, job: Job, wall: float | None, beside: Beside, repeated: Repeated) -> None:
         self.job, self.wall, self.beside = job, wall, beside
         self.start = time.monotonic()
-        self.outputs = Outputs(job.mark, job.options.nodes)
+        self.outputs = Outputs(job.mark, job.options.nodes, Finder(job), repeated, job.options.warn)
         self.said = bytearray()
+        self.is_prepared = False
 
     @property
     def seconds(self) -> float:
@@ -169,8 +216,8 @@ class Watch:
             return self._run([*words, "--live"])
         # The emulator tells the output of a run with a profile at its end.
         with files.replaced(options.profile) as written:
-            with children.removed(written) if written != options.profile else contextlib.nullcontext():
-                done = self._run([*words, "--profile", written])
+            with files.as_text(written) as name, children.removed(written) if written != options.profile else contextlib.nullcontext():
+                done = self._run([*words, "--profile", name])
                 if written != options.profile and (done.status == UNWRITTEN or done.status < 0):
                     # There is a part of it at the most, and what stands in its place stays.
                     os.truncate(written, 0)
@@ -188,7 +235,7 @@ class Watch:
                 child.kill()
                 kind = Interrupted if isinstance(ended, children.Ended) else Stopped
                 try:
-                    with contextlib.suppress(Fewer):
+                    with contextlib.suppress(Fewer, Wanted):
                         self._follow(child, is_ended=True)
                         self.outputs.end()
                 except BrokenPipeError:
@@ -196,10 +243,12 @@ class Watch:
                     if kind is not Interrupted:
                         raise
                     streams.drop_output()
-                raise kind(seconds, self.outputs.received) from None
+                raise kind(seconds, self.outputs.received, self.outputs.records) from None
             finally:
                 self.outputs.clear()
-        return Done(status, self.outputs.end(), bytes(self.said), seconds, self.outputs.records)
+        found = self.outputs.end()
+        outputs = self.outputs
+        return Done(status, found, bytes(self.said), seconds, outputs.records, outputs.is_line_whole, outputs.has_null, outputs.digest)
 
     def _follow(self, child: subprocess.Popen[bytes], is_ended: bool = False) -> None:
         """Takes what an emulator writes until it ends. One that was ended is not waited for any more."""
@@ -252,6 +301,19 @@ class Watch:
 
     def _look_at_clock(self) -> None:
         if self.wall is not None and self.seconds >= self.wall:
-            raise Stopped(self.seconds, self.outputs.received)
+            raise Stopped(self.seconds, self.outputs.received, self.outputs.records)
         if self.seconds >= QUIET_SECONDS:
             self.outputs.show(self.seconds)
+            if not self.is_prepared:
+                self._prepare()
+            for name in self.outputs.finder.missing:
+                tell([f"bsprun: the program looks for {name}, which is not here: --file PATH gives a file from elsewhere"])
+            self.outputs.finder.missing.clear()
+
+    def _prepare(self) -> None:
+        """Reads what is wanted where Ctrl-C ends a long run, whose person waits then."""
+        importlib.import_module(".rank_positions", __package__)
+
+        self.is_prepared = True
+        with contextlib.suppress(OSError, MemoryError, ImportError):
+            self.job.code.know_names()

@@ -13,7 +13,7 @@ import subprocess
 from collections.abc import Sequence
 from typing import NamedTuple
 
-from .. import files
+from .. import files, own_folders
 from ..refusals import Refused
 
 PLAIN, PARALLEL, SLURM, AUTO = "plain", "parallel", "slurm", "auto"
@@ -71,13 +71,14 @@ def chosen(name: str, jobs: int, hosts: tuple[str, ...], sbatch: str) -> Engine:
 
 
 def array(commands: pathlib.Path, jobs: int) -> pathlib.Path:
-    """A script for sbatch beside a file of commands: an array of tasks, each of which makes every so manieth command."""
+    """A script for sbatch beside a file of commands, in a folder that none but this user may enter: an array of tasks, each of which makes
+    every so manieth command."""
     tasks = min(commands.read_bytes().count(b"\n"), MOST_TASKS)
     at_a_time = f"%{jobs}" if jobs else ""
     script = commands.with_suffix(".sbatch")
     said = commands.with_suffix(".said")
-    said.mkdir(exist_ok=True)
-    files.write(
+    said.mkdir(own_folders.PRIVATE)
+    files.put(
         script,
         "#!/bin/sh\n"
         "#SBATCH --job-name=bspsweep\n"

@@ -3,20 +3,22 @@
 from __future__ import annotations
 
 import argparse
-import contextlib
 import json
 import os
 import pathlib
 import shlex
 from typing import Any, Dict, NamedTuple
 
+from .. import sealed_results
 from ..emulator import proved_program
-from ..files import content_of, write
+from ..files import content_of, own_content, put
 from ..limits import MOST_INPUT, MOST_PROGRAM
+from ..sealed_results import digest
+from . import result_folders
 from .sweep_points import Run
-from .sweep_programs import digest
 
 MAIN = "run"
+PRIVATE_FILE, MOST_TICKET = 0o600, 200
 # The tools, which are part of what a result rests on. The library of a program in C is in its image.
 TOOLS = pathlib.Path(__file__).resolve().parents[1]
 # What came of a run, as `job.record` makes it and JSON keeps it.
@@ -39,30 +41,34 @@ class Place(NamedTuple):
 
     def is_over(self, copy: str = MAIN) -> bool:
         """Whether it has been made, or could not be."""
-        return self.file("failed", copy).exists() or self.found(copy) is not None
+        return os.path.lexists(self.file("failed", copy)) or self.found(copy) is not None
 
     def found(self, copy: str = MAIN) -> Record | None:
         """What came of it; nothing where it was not made, or what is kept is not what was written."""
-        with contextlib.suppress(OSError, ValueError, TypeError, KeyError, RecursionError):
-            known = json.loads(self.file("json", copy).read_bytes())
-            record: Record = known["record"]
-            return record if known["seal"] == self.seal(record) else None
-        return None
+        record: Record | None = sealed_results.found(self.file("json", copy), self.folder.name)
+        return record
+
+    @property
+    def ticket(self) -> pathlib.Path:
+        """What seals its results. It is there as long as the run is to be made, for whichever host makes it."""
+        return self.file("ticket", "job")
+
+    def give_ticket(self) -> None:
+        """Lets whoever makes the run keep what comes of it."""
+        put(self.ticket, sealed_results.ticket(self.folder.name), PRIVATE_FILE)
 
     def keep(self, record: Record, copy: str = MAIN) -> None:
         """Writes down what came of it."""
-        write(self.file("json", copy), json.dumps({"record": record, "seal": self.seal(record)}, indent=1) + "\n")
-
-    def seal(self, record: Record) -> str:
-        """What tells a record of this run from any other text."""
-        return digest(json.dumps([self.folder.name, record]).encode())
+        ticket = own_content(self.ticket, MOST_TICKET).decode("latin-1")
+        sealed_results.keep(self.file("json", copy), ticket, record)
 
 
 class Store:
     """The places of runs, in one folder."""
 
     def __init__(self, folder: pathlib.Path, options: argparse.Namespace) -> None:
-        self.folder, self.options, self.emulator = folder.resolve(), options, proved_program()
+        self.options, self.emulator = options, proved_program()
+        self.runs = result_folders.part(folder, "runs")
         self.tools = digest(b"".join(it.read_bytes() for it in sorted(TOOLS.rglob("*.py"))))
         self.digests: dict[str, str] = {}
 
@@ -85,12 +91,11 @@ class Store:
         rests = [*programs, *given]
         digests = [self.digest_of(it, MOST_PROGRAM) for it in programs] + [self.digest_of(it, MOST_INPUT) for it in given]
         key = digest(json.dumps([self.tools, words, digests, bool(run.given), options.file, shlex.split(run.words)]).encode())
-        place = Place(self.folder / "runs" / key[:32])
-        place.folder.mkdir(parents=True, exist_ok=True)
+        place = Place(result_folders.part(self.runs, key[:32]))
         words += [f"--input={run.given}"] * bool(run.given) + [f"--file={it}" for it in options.file]
         job = {
             "emulator": self.emulator, "folder": os.getcwd(), "words": words, "image": image, "args": shlex.split(run.words),
             "digests": list(zip(rests, digests)),
         }  # fmt: skip
-        write(place.job, json.dumps(job, indent=1) + "\n")
+        put(place.job, json.dumps(job, indent=1) + "\n")
         return place

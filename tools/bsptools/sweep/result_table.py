@@ -4,39 +4,46 @@ from __future__ import annotations
 
 import csv
 import io
+import os
 import pathlib
 
-from ..files import content_of
+from ..files import own_content
 from ..limits import MOST_TABLE
+from ..prices import spelled
 from ..refusals import counted
 from .result_store import Place, Record
 from .sweep_points import Point, Run
 
 FIRST = ["program", "nodes", "g", "l"]
+# The column of a table in which machines have prices.
+MACHINE = "machine"
 
 
 def table(points: list[Point], places: dict[Run, Place], defines: list[str]) -> str:
-    """All points in their order, as CSV: the program with its settings, its costs, its total at the prices, and its outcome."""
+    """All points in their order, as CSV: the program with its settings, its costs, its total at the prices, and its outcome. A machine has a
+    column if the prices of one are asked for."""
     found = {run: place.found() for run, place in places.items()}
     costs = next((list(it["costs"]) for it in found.values() if it), ["w", "h"])
     text = io.StringIO()
     rows = csv.writer(text, lineterminator="\n")
-    rows.writerow([*FIRST, "input", "args", *defines, "supersteps", *costs, "total", "outcome"])
+    has_machines = any(it.machine for it in points)
+    rows.writerow([*FIRST, *[MACHINE] * has_machines, "input", "args", *defines, "supersteps", *costs, "total", "outcome"])
     for point in points:
-        rows.writerow(row(point, found.get(point.run), costs, defines))
+        rows.writerow(row(point, found.get(point.run), costs, [point.machine] * has_machines, defines))
     return text.getvalue()
 
 
-def row(point: Point, found: Record | None, costs: list[str], defines: list[str]) -> list[object]:
+def row(point: Point, found: Record | None, costs: list[str], machine: list[str], defines: list[str]) -> list[object]:
     """The row of a point. One whose run could not be made has no costs."""
     run = point.run
     constants = dict(run.program.defines)
-    first = [run.program.name, run.nodes, point.g, point.l, run.given, run.words, *(constants.get(it, "") for it in defines)]
+    given = [*machine, run.given, run.words, *(constants.get(it, "") for it in defines)]
+    first = [run.program.name, run.nodes, spelled(point.g), spelled(point.l), *given]
     if found is None:
         return [*first, "", *("" for _ in costs), "", "not run"]
     sums = found["costs"]
     total = sums["w"] + point.g * sums["h"] + point.l * found["supersteps"]
-    return [*first, found["supersteps"], *sums.values(), total, found["outcome"]]
+    return [*first, found["supersteps"], *sums.values(), spelled(total), found["outcome"]]
 
 
 def failures(places: dict[Run, Place]) -> list[str]:
@@ -55,6 +62,6 @@ def stopped(places: dict[Run, Place]) -> list[str]:
 
 def reasons(why: pathlib.Path) -> list[str]:
     """The lines that say why a run could not be made."""
-    if not why.is_file():
+    if not os.path.lexists(why):
         return ["not made: whatever made it has ended before it"]
-    return content_of(why, MOST_TABLE).decode(errors="replace").strip().splitlines()
+    return own_content(why, MOST_TABLE).decode(errors="replace").strip().splitlines()

@@ -12,12 +12,12 @@ import time
 from typing import Any
 
 from .. import children, emulator
-from ..files import content_of, write
+from ..files import content_of, own_content, put
 from ..limits import MOST_PROGRAM, MOST_TABLE
 from ..outputs.report_formats import read
 from ..refusals import REFUSED, Refused
+from ..sealed_results import digest
 from .result_store import Place, Record
-from .sweep_programs import digest
 
 # At these prices the total is the sum of all w, all h and the number of supersteps.
 PRICES = ["--g", "1", "--l", "1"]
@@ -37,11 +37,11 @@ def make(folder: str, copy: str) -> int:
         environment = {**os.environ, "BSPEMU": job["emulator"]}
         done = children.call(words, stdout=subprocess.PIPE, stderr=subprocess.PIPE, cwd=job["folder"], env=environment)
         content = report.read_bytes() if report.exists() else b""
-    write(place.file("seconds", copy), f"{time.monotonic() - start:.3f}\n")
+    put(place.file("seconds", copy), f"{time.monotonic() - start:.3f}\n")
     other = changed(job)
     if not content or other:
         said = done.stderr.decode(errors="replace").strip() or f"bsprun has ended with status {done.returncode}, and no report"
-        write(place.file("failed", copy), other or said + "\n")
+        put(place.file("failed", copy), other or said + "\n")
         return REFUSED
     place.file("failed", copy).unlink(missing_ok=True)
     place.keep(record(content, done), copy)
@@ -51,7 +51,7 @@ def make(folder: str, copy: str) -> int:
 def described(place: Place) -> dict[str, Any]:
     """The description of a run."""
     try:
-        job: dict[str, Any] = json.loads(content_of(place.job, MOST_TABLE))
+        job: dict[str, Any] = json.loads(own_content(place.job, MOST_TABLE))
         if job.keys() >= {"emulator", "folder", "words", "image", "args", "digests"}:
             return job
     except (ValueError, AttributeError, RecursionError):

@@ -4,18 +4,24 @@ from __future__ import annotations
 
 import contextlib
 import os
+import select
 import signal
 import subprocess
 import time
 
 from .. import children
-from ..refusals import counted, show
+from ..files import own_content
+from ..refusals import Refused, counted, show
 from .result_store import Place
 from .sweep_points import Run
 
 PAUSE = 0.1
 # Files that another host wrote may be seen here a little later.
 LATE = 20
+# Of what an engine says, bytes that are read at once, and that are kept.
+CHUNK = 1 << 16
+# Bytes of a number of seconds.
+MOST_SECONDS = 40
 
 
 class Progress:
@@ -33,8 +39,8 @@ class Progress:
         for run, place in list(self.left.items()):
             if place.is_over(self.copy):
                 del self.left[run]
-                with contextlib.suppress(OSError, ValueError):
-                    self.slowest = max(self.slowest, (float(place.file("seconds", self.copy).read_bytes()), str(run)))
+                with contextlib.suppress(Refused, ValueError):
+                    self.slowest = max(self.slowest, (float(own_content(place.file("seconds", self.copy), MOST_SECONDS)), str(run)))
 
     def text(self) -> str:
         """What is done, what is left, and the slowest."""
@@ -48,17 +54,29 @@ class Progress:
         environment = {**os.environ, "SHELL": "/bin/sh"}
         given = {"stdin": subprocess.DEVNULL, "stdout": subprocess.PIPE, "stderr": subprocess.STDOUT, "env": environment}
         with children.running(words, signal.SIGTERM, **given) as child:
-            while True:
-                try:
-                    said = child.communicate(timeout=PAUSE)[0].decode(errors="replace")
-                    break
-                except subprocess.TimeoutExpired:
-                    self.look()
-                    show(self.text())
+            said = self.heard(child)
         for _ in range(LATE):
             self.look()
             if not self.left:
                 break
             time.sleep(PAUSE)
         show(self.text(), "\n")
+        return said.decode(errors="replace")
+
+    def heard(self, child: subprocess.Popen[bytes]) -> bytes:
+        """Shows how far an engine is until it ends. Of what it says the end is answered: a host may write without one."""
+        assert child.stdout is not None
+        pipe, said, shown = child.stdout.fileno(), b"", 0.0
+        is_over = False
+        while not is_over:
+            is_over = child.poll() is not None
+            if time.monotonic() - shown >= PAUSE:
+                self.look()
+                show(self.text())
+                shown = time.monotonic()
+            if select.select([pipe], [], [], 0 if is_over else PAUSE)[0]:
+                piece = os.read(pipe, CHUNK)
+                said = (said + piece)[-CHUNK:]
+                if not piece and not is_over:
+                    time.sleep(PAUSE)
         return said

@@ -1,0 +1,81 @@
+"""Figures of matplotlib that show themselves in a notebook."""
+
+from __future__ import annotations
+
+import contextlib
+import functools
+from typing import Any, Callable, Iterator
+
+from bsptools.outputs.report import Report
+from bsptools.plot.profile import Profile, Reading
+from bsptools.plot.superstep_costs import Prices, of_report
+from bsptools.refusals import Refused
+
+from ._tools import BspError, Number
+
+
+@contextlib.contextmanager
+def drawn_as_by_bspplot() -> Iterator[Any]:
+    """A block in which matplotlib draws as bspplot has it, whatever the settings of this process are; what it refuses is an exception."""
+    try:
+        import matplotlib
+    except ImportError as error:
+        raise BspError("matplotlib is missing: apt-get install python3-matplotlib, or pip install matplotlib") from error
+    import bsptools.plot
+
+    try:
+        with matplotlib.rc_context(fname=f"{bsptools.plot.__path__[0]}/matplotlibrc"):
+            yield matplotlib
+    except Refused as refused:
+        raise BspError("\n".join(refused.args)) from refused
+
+
+def shown(make: Callable[[], Any]) -> Any:
+    """The figure of a picture of bspplot. A notebook shows it, with the texts of its marks under the pointer."""
+    with drawn_as_by_bspplot():
+        made = make()
+
+    def svg() -> str:
+        with drawn_as_by_bspplot():
+            return str(made.svg())
+
+    made.figure._repr_svg_ = svg  # pylint: disable=protected-access
+    return made.figure
+
+
+def timeline(profile: Profile, g: Number, l: Number, title: str) -> Any:
+    """The run in time."""
+
+    def make() -> Any:
+        from bsptools.plot import timeline as picture
+
+        return picture.draw(profile.supersteps, Prices(g, l), Reading.OTHERS, title)
+
+    return shown(make)
+
+
+def matrix(profile: Profile, title: str) -> Any:
+    """The bytes from rank to rank."""
+
+    def make() -> Any:
+        from bsptools.plot import byte_matrix
+
+        return byte_matrix.draw(profile.supersteps, Reading.OTHERS, title)
+
+    return shown(make)
+
+
+def costs(report: Report, g: Number, l: Number, title: str) -> Any:
+    """What each superstep costs."""
+
+    def make() -> Any:
+        from bsptools.plot import cost_split
+
+        return cost_split.draw(of_report(report), Prices(g, l), title)
+
+    return shown(make)
+
+
+def of_sweep(draw: Callable[..., Any], *given: Any) -> Any:
+    """A picture of a sweep."""
+    return shown(functools.partial(draw, *given))

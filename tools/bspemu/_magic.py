@@ -1,0 +1,60 @@
+"""The cell magic `%%bsp`: a cell of C is compiled and run, and its output and pictures stand below it."""
+
+from __future__ import annotations
+
+import argparse
+import pathlib
+import shlex
+import tempfile
+from typing import Any, NoReturn
+
+from ._runs import made
+from ._tools import BspError
+
+HELP = "%%bsp [-n P] [--profile] [--matrix] [--costs] [--g G] [--l L] [--name VARIABLE] [options of bsprun] [-- ARGS]"
+
+
+class Words(argparse.ArgumentParser):
+    """A reader of the magic's line, which does not end the notebook's process."""
+
+    def error(self, message: str) -> NoReturn:
+        """Says what is wrong."""
+        raise BspError(f"{message}; {HELP}")
+
+
+def bsp(line: str, cell: str) -> Any:
+    """Compile the cell as a C program and run it; a run named by --name stays in that variable, and else in `bsp_run`."""
+    reader = Words(prog="%%bsp", add_help=False, allow_abbrev=False)
+    for name in ("--profile", "--matrix", "--costs"):
+        reader.add_argument(name, action="store_true")
+    reader.add_argument("--g", default="1")
+    reader.add_argument("--l", default="0")
+    reader.add_argument("--name", default="bsp_run")
+    words = shlex.split(line)
+    own = words[: words.index("--")] if "--" in words else words
+    asked, options = reader.parse_known_args(own)
+    with tempfile.TemporaryDirectory(prefix="bspemu-") as folder:
+        source = pathlib.Path(folder) / "cell.c"
+        source.write_text(cell, encoding="utf-8")
+        run = made([*options, str(source), *words[len(own) + 1 :]], str(source), b"", check=True)
+    show(run, asked)
+
+
+def show(run: Any, asked: argparse.Namespace) -> None:
+    """Shows the output of a run and the pictures that were asked for, and keeps it in a variable."""
+    from IPython import get_ipython
+    from IPython.display import display
+
+    print(run.output, end="")
+    print(run.told, end="")
+    for wanted, figure in ((asked.profile, run.timeline), (asked.costs, run.costs)):
+        if wanted:
+            display(figure(asked.g, asked.l))
+    if asked.matrix:
+        display(run.matrix())
+    get_ipython().user_ns[asked.name] = run
+
+
+def load_ipython_extension(shell: Any) -> None:
+    """What `%load_ext bspemu` calls."""
+    shell.register_magic_function(bsp, magic_kind="cell", magic_name="bsp")

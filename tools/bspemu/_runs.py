@@ -1,0 +1,184 @@
+"""One run of a program: what it wrote, what its supersteps cost, and pictures of it."""
+
+from __future__ import annotations
+
+import functools
+import os
+import pathlib
+import tempfile
+from typing import TYPE_CHECKING, Any, Dict, List, Mapping, Optional, Sequence, Union
+
+from . import _figures, _frames
+from ._tools import BspError, Done, Number, Price, call, exact
+
+if TYPE_CHECKING:
+    import pandas
+
+# Programs that bsprun compiles, and so which can write files.
+COMPILED = (".c", ".cc", ".cpp", ".cxx", ".C")
+Path = Union[str, "os.PathLike[str]"]
+
+
+def run(
+    program: Path,
+    *,
+    nodes: int = 1,
+    defines: Optional[Mapping[str, object]] = None,
+    args: Sequence[object] = (),
+    input: Union[bytes, str, "os.PathLike[str]"] = b"",  # pylint: disable=redefined-builtin
+    files: Sequence[Path] = (),
+    options: Sequence[str] = (),
+    check: bool = True,
+) -> Run:
+    """Compile a program if it has to be, and run it on an emulated BSP machine.
+
+    Parameters
+    ----------
+    program : path
+        A C program, an ELF file, an assembly text or a raw image, as `bsprun` takes them.
+    nodes : int
+        The number of nodes, 1 to 1024.
+    defines : mapping, optional
+        Compile-time constants of a C program: ``{"N": 64}``.
+    args : sequence
+        Arguments of `main`.
+    input : bytes, str or path
+        The program's standard input: its bytes or its text, or an `os.PathLike` that names a file with them.
+    files : sequence of paths
+        Files that the program can open.
+    options : sequence of str
+        More options of `bsprun`, as ``["--strict"]``.
+    check : bool
+        Whether a run that did not end well raises.
+
+    Returns
+    -------
+    Run
+
+    Raises
+    ------
+    BspError
+        If the run could not be made, or did not end well and `check` is true; with the text that `bsprun` prints.
+    """
+    words = ["-n", str(nodes), *(f"-D{name}={value}" for name, value in (defines or {}).items())]
+    words += [it for name in files for it in ("--file", os.fspath(name))]
+    words += [*options, os.fspath(program), *map(str, args)]
+    given = input.encode() if isinstance(input, str) else input if isinstance(input, bytes) else pathlib.Path(input).read_bytes()
+    return made(words, os.fspath(program), given, check)
+
+
+def made(words: List[str], program: str, given: bytes, check: bool) -> Run:
+    """The run of a command line of bsprun, with standard input."""
+    with tempfile.TemporaryDirectory(prefix="bspemu-") as folder:
+        report, profile, out = (os.path.join(folder, name) for name in ("report.json", "profile.csv", "out"))
+        asked = ["--report", report, "--profile", profile, *(["--out", out] if program.endswith(COMPILED) else [])]
+        (pathlib.Path(folder) / "input").write_bytes(given)
+        done = call("bsprun", [*asked, "--input", os.path.join(folder, "input"), *words] if given else [*asked, *words])
+        if not os.path.exists(report):
+            raise BspError(done.told.strip() or f"bsprun ended with status {done.status}, and wrote no report", done.status)
+        found = Run(words, given, done, pathlib.Path(report).read_bytes(), pathlib.Path(profile).read_text(encoding="utf-8"), written(out))
+    if check and (found.outcome != "ended" or done.status):
+        raise BspError(done.told.strip() or found.outcome, done.status, found)
+    return found
+
+
+def written(folder: str) -> Dict[str, bytes]:
+    """The files below a folder by their names in it."""
+    top = pathlib.Path(folder)
+    return {str(it.relative_to(top)): it.read_bytes() for it in sorted(top.rglob("*")) if it.is_file()}
+
+
+class Run:
+    """A run that was made. Its costs are those of the BSP model, in ticks and bytes.
+
+    Attributes
+    ----------
+    output : str
+        What the nodes wrote on standard output, superstep by superstep, by rank within these.
+    told : str
+        What they wrote on standard error, and what `bsprun` says of the run.
+    outcome : str
+        ``"ended"``, or how it was stopped.
+    status : int
+        The exit status of `bsprun`.
+    files : dict of str to bytes
+        The files that a C program wrote.
+    """
+
+    def __init__(self, words: List[str], given: bytes, done: Done, report: bytes, profile: str, files: Dict[str, bytes]) -> None:
+        self._words, self._given = words, given
+        self.status, self.output_bytes, self.told, self.files = done.status, done.output, done.told, files
+        self.output = done.output.decode(errors="replace")
+        self._report, self._profile = _frames.report_of(report), _frames.profile_of(profile)
+        self.outcome: str = self._report.outcome
+
+    def __repr__(self) -> str:
+        costs = f"{len(self._report.supersteps)} supersteps, w {self.w}, h {self.h}"
+        return f"<bspemu.Run: {self._profile.nodes} nodes, {costs}; {self.outcome}>"
+
+    @property
+    def w(self) -> int:
+        """The work of all supersteps, in ticks: of each, that of the rank that works most."""
+        return sum(it.costs["w"] for it in self._report.supersteps)
+
+    @property
+    def h(self) -> int:
+        """The h-relations of all supersteps, in bytes: of each, the most that a rank sent or received."""
+        return sum(it.costs["h"] for it in self._report.supersteps)
+
+    def cost(self, g: Price = 1, l: Price = 0) -> Number:
+        """What the run costs at these prices, exactly: w + g*h + l for each superstep. Nothing is run again.
+
+        Parameters
+        ----------
+        g, l : int, float, str or Fraction
+            Ticks for a byte of h, and for the end of a superstep; "31/8" is a price too.
+
+        Returns
+        -------
+        int or Fraction
+            The cost in ticks.
+        """
+        return exact(self.w + exact(g) * self.h + exact(l) * len(self._report.supersteps))
+
+    @property
+    def supersteps(self) -> pandas.DataFrame:
+        """A row for each superstep: its number, w in ticks, h and m in bytes, and how it ended."""
+        return _frames.supersteps(self._report)
+
+    @property
+    def profile(self) -> pandas.DataFrame:
+        """A row for each rank in each superstep: its ticks, bytes sent, received and kept, messages, requests, and how it stood."""
+        return _frames.ranks(self._profile)
+
+    @property
+    def transfers(self) -> pandas.DataFrame:
+        """A row for each superstep, rank and rank to which it sent: the bytes that went."""
+        return _frames.transfers(self._profile)
+
+    @functools.cached_property
+    def lines(self) -> pandas.DataFrame:
+        """A row for each source line that costs something, or function without lines: ticks of the slowest ranks, and bytes of h.
+
+        The run is made once more, with its steps counted by address.
+        """
+        with tempfile.TemporaryDirectory(prefix="bspemu-") as folder:
+            path = pathlib.Path(folder) / "lines.json"
+            (pathlib.Path(folder) / "input").write_bytes(self._given)
+            words = ["--input", os.path.join(folder, "input")] if self._given else []
+            done = call("bsprun", ["--lines-as", f"json={path}", *words, *self._words])
+            if not path.exists():
+                raise BspError(done.told.strip(), done.status, self)
+            return _frames.lines(path.read_text(encoding="utf-8"))
+
+    def timeline(self, g: Price = 1, l: Price = 0, title: str = "") -> Any:
+        """A matplotlib figure of the run in time: each rank's work and waiting, the exchanges, and the ends of supersteps."""
+        return _figures.timeline(self._profile, exact(g), exact(l), title)
+
+    def matrix(self, title: str = "") -> Any:
+        """A matplotlib figure of the bytes that went from rank to rank."""
+        return _figures.matrix(self._profile, title)
+
+    def costs(self, g: Price = 1, l: Price = 0, title: str = "") -> Any:
+        """A matplotlib figure of what each superstep costs, split into w, g*h and l."""
+        return _figures.costs(self._report, exact(g), exact(l), title)

@@ -1,0 +1,209 @@
+"""Sweeps: programs over lists of settings, on all processors or by any executor, with the store of bspsweep."""
+
+from __future__ import annotations
+
+import concurrent.futures
+import json
+import os
+import pathlib
+import tempfile
+from typing import TYPE_CHECKING, Any, Dict, Iterable, List, Mapping, Optional, Sequence, Tuple, Union
+
+from bsptools.commands import bspplot, bspsweep
+from bsptools.plot import sweep_table
+from bsptools.prices import spelled
+from bsptools.refusals import Refused
+from bsptools.sweep import result_table, table_record
+from bsptools.sweep.result_store import MAIN
+
+from . import _figures, _frames
+from ._tools import BspError, Price, call, end_all, exact
+
+if TYPE_CHECKING:
+    import pandas
+
+Path = Union[str, "os.PathLike[str]"]
+
+
+def sweep(
+    programs: Union[Path, Sequence[Path]],
+    *,
+    nodes: Optional[Iterable[int]] = None,
+    g: Iterable[Price] = (),
+    l: Iterable[Price] = (),
+    prices: Iterable[Tuple[Price, Price]] = (),
+    machines: Iterable[str] = (),
+    interpolate: Optional[str] = None,
+    defines: Optional[Mapping[str, Iterable[object]]] = None,
+    args: Iterable[str] = (),
+    inputs: Iterable[Path] = (),
+    folder: Path = ".bspsweep",
+    executor: Optional[concurrent.futures.Executor] = None,
+) -> Sweep:
+    """Run programs over lists of settings, each with each. What was run before is not run again.
+
+    Parameters
+    ----------
+    programs : path or sequence of paths
+        Programs as `bspsweep` takes them.
+    nodes : iterable of int, optional
+        Numbers of nodes; those of the machines, or 1, if not given.
+    g, l : iterables of prices
+        Ticks for a byte of h and for a superstep's end: each g with each l.
+    prices : iterable of pairs
+        Prices that belong together.
+    machines : iterable of str
+        Machines of the literature, or of the table that BSP_MACHINES in the environment names; each has prices of its own on each number
+        of nodes.
+    interpolate : {"linear"}, optional
+        Take prices of machines between the numbers of nodes that were measured.
+    defines : mapping, optional
+        Values of compile-time constants of C programs: ``{"N": [64, 128]}``.
+    args : iterable of str
+        Arguments of `main`, as a shell parts them; each is tried.
+    inputs : iterable of paths
+        Files with inputs; each is tried.
+    folder : path
+        Where results are kept, the same as that of `bspsweep`.
+    executor : concurrent.futures.Executor, optional
+        Who makes the runs: a pool of processes, of Dask or of MPI, whose workers see the same files. All processors of this host if not given.
+
+    Returns
+    -------
+    Sweep
+
+    Raises
+    ------
+    BspError
+        If a program is not compiled, or a run could not be made; with the text that `bspsweep` prints.
+    """
+    words = ["--folder", os.fspath(folder)]
+    words += [f"--nodes={','.join(map(str, nodes))}"] if nodes is not None else []
+    words += [f"--{name}={','.join(map(priced, them))}" for name, them in (("g", list(g)), ("l", list(l))) if them]
+    pairs, named = [f"{priced(one)}:{priced(other)}" for one, other in prices], list(machines)
+    words += [f"--prices={','.join(pairs)}"] if pairs else []
+    words += [f"--machine={','.join(named)}"] if named else []
+    words += [f"--interpolate={interpolate}"] if interpolate else []
+    words += [f"--define={name}={','.join(map(str, values))}" for name, values in (defines or {}).items()]
+    words += [f"--args={it}" for it in args] + [f"--input={os.fspath(it)}" for it in inputs]
+    several = [programs] if isinstance(programs, (str, os.PathLike)) else list(programs)
+    try:
+        return made([*words, "--", *(os.fspath(it) for it in several)], executor)
+    except Refused as refused:
+        raise BspError("\n".join(refused.args)) from refused
+
+
+def priced(value: Price) -> str:
+    """A price for a command line."""
+    return spelled(exact(value))
+
+
+def make_run(place: str) -> None:
+    """Makes the run that a folder of the store describes, on whichever host."""
+    call("bspsweep", ["--make", place, MAIN])
+
+
+def made(words: List[str], executor: Optional[concurrent.futures.Executor]) -> Sweep:
+    """The sweep of a command line of bspsweep."""
+    options = bspsweep.arguments(words)
+    whole = bspsweep.Sweep(options, words)
+    wanted = whole.missing()
+    for place in wanted.values():
+        place.give_ticket()
+        place.file("failed").unlink(missing_ok=True)
+    if executor is not None:
+        list(executor.map(make_run, [str(it.folder) for it in wanted.values()]))
+    elif wanted:
+        # Each run is a process of its own, which a thread waits for.
+        with concurrent.futures.ThreadPoolExecutor(len(os.sched_getaffinity(0))) as threads:
+            try:
+                list(threads.map(make_run, [str(it.folder) for it in wanted.values()]))
+            except BaseException:
+                end_all()
+                raise
+    whole.take_tickets()
+    wrong = [*whole.unplaced, *result_table.failures(whole.places)]
+    if wrong:
+        raise BspError("\n".join(wrong))
+    table = result_table.table(whole.points, whole.places, [name for name, _ in options.define])
+    return Sweep(table, table_record.made(options, words, whole.points, whole.store, table))
+
+
+class Sweep:
+    """The table of a sweep, with a row for each point, and pictures of it.
+
+    Attributes
+    ----------
+    table : str
+        The table as CSV, with exact prices and totals.
+    record : dict
+        All that the table rests on: the command, versions, digests.
+    """
+
+    def __init__(self, table: str, record: Dict[str, Any]) -> None:
+        self.table, self.record = table, record
+
+    def __repr__(self) -> str:
+        return f"<bspemu.Sweep: {self.table.count(chr(10)) - 1} points>"
+
+    @property
+    def frame(self) -> pandas.DataFrame:
+        """A row for each point: settings, w and total in ticks, h and m in bytes, and the outcome. Totals that are no whole numbers are
+        floating point here, and exact in `table`."""
+        return _frames.sweep(self.table)
+
+    def save(self, path: Path) -> None:
+        """Write the table to a file, and the record of it to the file of that name with `.json` behind it."""
+        record = table_record.beside(os.fspath(path))
+        try:
+            table_record.expect_own(record)
+        except Refused as refused:
+            raise BspError("\n".join(refused.args)) from refused
+        pathlib.Path(path).write_text(self.table, encoding="utf-8", errors="surrogateescape")
+        if record is not None:
+            pathlib.Path(record).write_text(table_record.spelled(self.record), encoding="utf-8")
+
+    def curves(self, path: Optional[Path] = None, **options: str) -> Any:
+        """Lines over any column, as `bspplot --curves` draws them: `x="N"`, `y="speedup"`, `by="program"`, `size="3.3in"`, ...
+
+        Returns
+        -------
+        matplotlib.figure.Figure or None
+            The figure; None if it was written to a path.
+        """
+        return self._draw("curves", path, options)
+
+    def map(self, path: Optional[Path] = None, **options: str) -> Any:
+        """Which program costs least over g and l, as `bspplot --map` draws it: `only="nodes=8"`, `g_range="0.1:100"`, ..."""
+        return self._draw("map", path, options)
+
+    def tex(self, path: Optional[Path] = None, **options: str) -> Optional[str]:
+        """A table for LaTeX, as `bspplot --table` writes it; as a text if no path is given."""
+        if path is not None:
+            self._draw("table", path, options)
+            return None
+        with tempfile.TemporaryDirectory(prefix="bspemu-") as folder:
+            target = pathlib.Path(folder) / "table.tex"
+            self._draw("table", target, options)
+            return target.read_text(encoding="utf-8")
+
+    def _draw(self, kind: str, path: Optional[Path], options: Mapping[str, str]) -> Any:
+        words = [f"--{name.replace('_', '-')}={value}" for name, value in options.items()]
+        if path is None:
+            return _figures.of_sweep(figure_of, kind, words, self.table)
+        with tempfile.TemporaryDirectory(prefix="bspemu-") as folder:
+            source = pathlib.Path(folder) / "table.csv"
+            source.write_text(self.table, encoding="utf-8", errors="surrogateescape")
+            source.with_suffix(".csv.json").write_text(json.dumps(self.record), encoding="utf-8")
+            done = call("bspplot", [f"--{kind}={os.fspath(path)}", *words, "--", str(source)])
+        if done.status:
+            raise BspError(done.told.strip(), done.status)
+        return None
+
+
+def figure_of(kind: str, words: List[str], table: str) -> Any:
+    """The picture of a table, as bspplot draws it."""
+    from bsptools.plot import paper_pictures
+
+    options = bspplot.arguments([*words, "--", "table"])
+    return paper_pictures.PICTURES[kind](sweep_table.parse(table), options)

@@ -1,0 +1,85 @@
+"""The tools of the repository or of the wheel, started by this Python."""
+
+from __future__ import annotations
+
+import pathlib
+import signal
+import subprocess
+import sys
+from fractions import Fraction
+from typing import Any, Iterable, List, NamedTuple, Union
+
+HERE = pathlib.Path(__file__).resolve().parent
+# Beside this package in a checkout; in a wheel, in what it has beside its modules.
+STARTER = HERE.parent if (HERE.parent / "__main__.py").exists() else HERE / "share/tools"
+# A price or a cost: exact if it is no float.
+Number = Union[int, Fraction]
+Price = Union[int, float, str, Fraction]
+# For how many seconds a tool may clear away what it has made after it was told to end.
+PATIENCE = 10
+_running: "List[subprocess.Popen[bytes]]" = []
+
+
+class BspError(Exception):
+    """A run or a sweep that could not be made, or did not end well, with the lines that the tool says of it.
+
+    Attributes
+    ----------
+    status : int
+        The exit status of the tool, as `docs/manual/statuses.md` has them.
+    run : object
+        The run, if one was made and was stopped; None otherwise.
+    """
+
+    def __init__(self, text: str, status: int = 1, run: Any = None) -> None:
+        super().__init__(text)
+        self.status, self.run = status, run
+
+
+class Done(NamedTuple):
+    """How a tool ended: its status, and what it wrote."""
+
+    status: int
+    output: bytes
+    told: str
+
+
+def words_of(name: str, words: Iterable[str]) -> List[str]:
+    """The command that starts a tool by this Python, whichever is first on the PATH."""
+    return [sys.executable, "-I", "-B", str(STARTER), name, *words]
+
+
+def call(name: str, words: Iterable[str], given: bytes = b"") -> Done:
+    """Runs a tool to its end. Where this is interrupted, as by Ctrl-C or a notebook's stop, the tool is told to end and clears away."""
+    pipes = {"stdin": subprocess.PIPE, "stdout": subprocess.PIPE, "stderr": subprocess.PIPE}
+    with subprocess.Popen(words_of(name, words), **pipes) as child:  # type: ignore[call-overload]
+        _running.append(child)
+        try:
+            output, told = child.communicate(given)
+        except BaseException:
+            _end(child)
+            raise
+        finally:
+            _running.remove(child)
+    return Done(child.returncode, output, told.decode(errors="replace"))
+
+
+def _end(child: "subprocess.Popen[bytes]") -> None:
+    """Tells a tool to end, and waits until it has cleared away."""
+    child.send_signal(signal.SIGTERM)
+    try:
+        child.wait(PATIENCE)
+    except subprocess.TimeoutExpired:
+        child.kill()
+
+
+def end_all() -> None:
+    """Ends the tools that threads of this process wait for: only the main thread is interrupted."""
+    for child in list(_running):
+        child.send_signal(signal.SIGTERM)
+
+
+def exact(value: Price) -> Number:
+    """A price as an exact number: 31/8 may be given as "31/8", 3.875, or a Fraction."""
+    found = Fraction(repr(value)) if isinstance(value, float) else Fraction(value)
+    return found.numerator if found.denominator == 1 else found

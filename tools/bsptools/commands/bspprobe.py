@@ -1,0 +1,153 @@
+"""The command line of `bspprobe`."""
+
+from __future__ import annotations
+
+import argparse
+import os
+import shlex
+
+from .. import children, files, limits, python_packages
+from ..options import P, Parser, listed
+from ..probe import machine_lines, probing, samples
+from ..probe.estimates import Estimate, Fit
+from ..probe.probing import Setting
+from ..probe.samples import Samples
+from ..refusals import Refused, put, show, tell
+
+MOST_WORD, MOST_H, MOST_ROUNDS, MOST_MILLISECONDS = 1 << 20, 1 << 16, 1000, 1000
+MILLION, NANO, MICRO = 1e6, 1e-9, 1e-6
+
+
+def parser() -> Parser:
+    """The reader of bspprobe's command line."""
+    found = Parser(
+        "bspprobe",
+        usage="bspprobe [options]",
+        description="Measures this host as bspbench does: r, its operations in a second; g, what a word of an h-relation costs; and l, what a superstep"
+        " costs. It fits a line to the times of h-relations for each number of processes, and writes lines for the file of machines, which"
+        " bsprun --machine takes.",
+    )
+    add = found.add_argument
+    add("-n", "--nodes", type=listed(P), metavar="LIST", help="numbers of processes, as 1,2,4 or 1:4; by default 1, 2, 4 and so on, up to the processors")
+    add("--mpi", action="store_true", help="by MPI, on what mpirun is given, and not by processes of this host")
+    add("--mpirun", default="mpirun -n {p}", metavar="COMMAND", help="how MPI starts a program, 'mpirun -n {p}' by default; {p} is the number of processes")
+    add("--program", metavar="COMMAND", help="run this, which was made of bsplib/native/probe.c with any BSPlib; {p} is the number of processes, which"
+        " BSP_PROCS has too")  # fmt: skip
+    add("--samples", action="append", default=[], metavar="FILE", help="measure nothing, and take what such a program has printed; any number of them")
+    found.add_number("--word", what="the bytes of a word", least=1, most=MOST_WORD, default=8, metavar="COUNT", help="bytes of a word, 8 by default")
+    found.add_number("--most", what="the greatest h", least=4, most=MOST_H, default=256, metavar="H", help="the greatest h, in words, 256 by default")
+    found.add_number("--rounds", what="the number of rounds", least=2, most=MOST_ROUNDS, default=20, metavar="COUNT", help="how often each time is"
+        " measured, 20 by default")  # fmt: skip
+    found.add_number("--milliseconds", what="the time of a measurement", least=1, most=MOST_MILLISECONDS, default=1, metavar="MS", help="how long"
+        " the longest one takes, 1 by default")  # fmt: skip
+    add("--lowest", action="store_true", help="take the lowest of all rounds in the place of their median: what a busy host comes to where it is let"
+        " alone")  # fmt: skip
+    add("--instructions", action="store_true", help="count in instructions of the emulator's nodes in the place of operations, as bsprun does")
+    add("--name", type=name, metavar="NAME", help="what the machine is called, before -P; by default as this host is")
+    add("-o", "--output", metavar="FILE", help="add the lines to this file of machines, which BSP_MACHINES names; they are printed without it")
+    return found
+
+
+def name(text: str) -> str:
+    """A name of a machine."""
+    if not text or machine_lines.UNFIT.search(text):
+        raise argparse.ArgumentTypeError(f"{text!r} is no name of a machine: letters, digits and _ . + - make one")
+    return text
+
+
+def main(words: list[str]) -> int:
+    """Measures, and tells what was found."""
+    options = parser().parse_args(words)
+    if options.samples and (options.program or options.mpi or options.nodes):
+        raise Refused("--samples takes what was measured before: leave out --program, --mpi and -n")
+    if options.program and options.mpi:
+        raise Refused("--program says itself how it is started: leave out --mpi")
+    files.expect_apart([options.output], options.samples)
+    files.expect_writable([options.output])
+    python_packages.expect(python_packages.NUMPY)
+    from ..probe.fit import fit
+
+    factor = probing.instructions_of_operation() if options.instructions else 1.0
+    found, how = taken(options) if options.samples else measured(options)
+    fits = [in_unit(fit(it, options.lowest), factor) for it in found]
+    unit = "instructions" if options.instructions else "operations"
+    tell(explained(it, unit) for it in fits)
+    lines = [machine_lines.of(options.name or machine_lines.host(), it, f"{how}, {'lowest times, ' * options.lowest}{unit}") for it in fits]
+    if options.output:
+        machine_lines.add(options.output, lines)
+    else:
+        put("".join(f"{it}\n" for it in lines))
+    return 0
+
+
+def in_unit(found: Fit, factor: float) -> Fit:
+    """The same, where an operation is so many of the unit."""
+    return found._replace(rate=found.rate.times(factor), g=found.g.times(factor), l=found.l.times(factor))
+
+
+def taken(options: argparse.Namespace) -> tuple[list[Samples], str]:
+    """What was measured before."""
+    found = []
+    for path in options.samples:
+        found += samples.read(files.content_of(path, samples.MOST_PRINTED), path)
+    expect_different(found)
+    return found, "from samples"
+
+
+def expect_different(found: list[Samples]) -> None:
+    """Refuses two runs of one number of processes, of which a file has one line."""
+    numbers = [it.p for it in found]
+    twice = [it for it in numbers if numbers.count(it) > 1]
+    if twice:
+        raise Refused(f"there are several runs on {twice[0]} processes: give one of them")
+    over = [it for it in numbers if it > limits.MOST_NODES]
+    if over:
+        raise Refused(f"a machine of {over[0]} processes has more than the {limits.MOST_NODES} nodes of the emulator")
+
+
+def measured(options: argparse.Namespace) -> tuple[list[Samples], str]:
+    """What is measured here, on each number of processes."""
+    setting = Setting(options.word, options.most, options.rounds, options.milliseconds)
+    numbers = options.nodes or usual_numbers()
+    with children.folder("bspprobe") as folder:
+        if options.program:
+            words, how = probing.command(options.program), shlex.quote(options.program)
+        else:
+            start = probing.command(options.mpirun) if options.mpi else []
+            words = [*start, probing.compiled(folder, options.mpi)]
+            how = f"{probing.compiler(options.mpi)} -O2, bsplib/native by {'MPI' if options.mpi else 'processes'}"
+        found = []
+        for p in numbers:
+            warn_of_few_processors(p, bool(options.mpi or options.program))
+            show(f"measuring on {p} {'process' if p == 1 else 'processes'} ..")
+            found.append(probing.measured(words, setting, p))
+            show("", end="")
+    return found, how
+
+
+def processors() -> int:
+    """How many processors this process may have."""
+    return len(os.sched_getaffinity(0))
+
+
+def usual_numbers() -> list[int]:
+    """1, 2, 4 and so on, up to the processors."""
+    return [1 << it for it in range(processors().bit_length())]
+
+
+def warn_of_few_processors(p: int, is_elsewhere: bool) -> None:
+    """Says where processes wait for one another's processors."""
+    if p > processors() and not is_elsewhere:
+        tell([f"bspprobe: {p} processes share {processors()} processors here: g and l have the time in it for which they wait for one another"])
+
+
+def explained(found: Fit, unit: str) -> str:
+    """What was found, in words."""
+
+    def spelled(letter: str, value: Estimate, by: float, what: str) -> str:
+        return f"{letter} = {value.value / by:.4g} {what} ({value.low / by:.4g} to {value.high / by:.4g})"
+
+    rate = spelled("r", found.rate, MILLION, f"million {unit} a second")
+    g = f"{spelled('g', found.g, 1, f'{unit} a word')}, {found.g_seconds / NANO:.4g} ns"
+    l = f"{spelled('l', found.l, 1, unit)}, {found.l_seconds / MICRO:.4g} us"
+    return f"p = {found.p}, words of {found.word} bytes: {rate}; {g}; {l}"

@@ -1,0 +1,249 @@
+"""What scripts/install puts below a prefix: a record of it, and changes that can be broken off at any time.
+
+The record is written before anything else. New files stand beside the old ones until all are there; then each gets its name. So what is
+broken off before that leaves the installation of before, and what is killed in any place can be made again, and be taken away.
+"""
+
+from __future__ import annotations
+
+import contextlib
+import fcntl
+import os
+import pathlib
+import shutil
+import signal
+import stat
+from collections.abc import Iterable, Iterator
+from typing import IO
+
+from . import children
+from .refusals import Refused
+
+# What a new file is called, beside its place, until all are there.
+FRONT, NEW = ".", ".bspemu-new"
+FOLDER_MODE, PROGRAM_MODE, FILE_MODE = 0o755, 0o755, 0o644
+
+
+class Tree:
+    """What is below a prefix, as far as it was put there. `record` is where it is listed: folders, which end with a slash, and files."""
+
+    def __init__(self, root: pathlib.Path, record: str) -> None:
+        self.root, self.record = root, record
+        # What is about to be made, where such a thing was broken off, or is under way.
+        self.journal = record + ".changing"
+        self.files: list[str] = []
+        self.folders: list[str] = []
+        self._made: list[str] = []
+        self._is_finishing = False
+        self._lock = -1
+
+    # What was recorded.
+
+    def recorded(self) -> list[str]:
+        """What the record lists, and what a change that was broken off was about to make. A name that leads out of the prefix is refused."""
+        names: list[str] = []
+        for record in (self.record, self.journal):
+            if (self.root / record).is_file():
+                self._expect_below([record])
+                names += (self.root / record).read_text(encoding="utf-8", errors="surrogateescape").splitlines()
+        self._expect_below(names)
+        return list(dict.fromkeys(names))
+
+    def _expect_below(self, names: Iterable[str]) -> None:
+        """Refuses names that lead out of the prefix, by themselves or by a link on the way. Folders above it may be named."""
+        top = os.path.realpath(self.root)
+        known: dict[str, bool] = {}
+        for name in names:
+            folder, _, last = name.rstrip("/").rpartition("/")
+            words = {*folder.split("/"), last}
+            if name.endswith("/") and words <= {"", ".", ".."} and not name.startswith("/"):
+                continue
+            is_below = not name.startswith("/") and ".." not in words and last not in ("", ".") and "\0" not in name
+            if not is_below:
+                raise Refused(f"{self.root / self.record} names {name}, which is not below {self.root}: take that line out of it")
+            if folder not in known:
+                known[folder] = os.path.commonpath([top, os.path.realpath(self.root / folder)]) == top
+            if not known[folder]:
+                raise Refused(f"{self.root / folder} leads out of {self.root} by a link: put a folder there, or name another prefix")
+
+    def expect_room(self, names: Iterable[str]) -> None:
+        """Refuses to write over a file that is there and is not recorded, and over a folder."""
+        known = set(self.recorded())
+        self._expect_below(names)
+        for name in sorted(names):
+            path = self.root / name
+            if os.path.lexists(path) and (name not in known or path.is_dir() and not path.is_symlink()):
+                raise Refused(f"{path} is there, and this script did not install it")
+
+    # Changes.
+
+    @contextlib.contextmanager
+    def changing(self, names: Iterable[str]) -> Iterator[None]:
+        """A block in which files of these names are put there. At its end they replace what was there before; what breaks it off leaves
+        that as it was."""
+        self.files = sorted(names)
+        has_journal = os.path.lexists(self.root / self.journal)
+        known = self.recorded()
+        try:
+            self._begin(known)
+            yield
+            self._finish(known)
+        except BaseException:
+            with contextlib.suppress(OSError):
+                self._give_up(has_journal)
+            raise
+        finally:
+            self._unlock()
+
+    def put(self, name: str, source: pathlib.Path) -> None:
+        """Copies a file, which all may read; and start, where its source may be started."""
+        with open(source, "rb") as given, self._opened(name, PROGRAM_MODE if os.fstat(given.fileno()).st_mode & stat.S_IXUSR else FILE_MODE) as file:
+            shutil.copyfileobj(given, file)
+
+    def write(self, name: str, text: str) -> None:
+        """Writes a file."""
+        with self._opened(name, FILE_MODE) as file:
+            file.write(text.encode(errors="surrogateescape"))
+
+    def link(self, name: str, target: str) -> None:
+        """Makes a symbolic link to another name of the tree, which goes wherever the tree goes."""
+        self._make_folders(name)
+        # A signal that comes between these would leave the link.
+        with children.put_off():
+            os.symlink(os.path.relpath(target, os.path.dirname(name)), self._place(name))
+            self._made.append(name)
+
+    def _begin(self, known: list[str]) -> None:
+        """Lists what is about to be made beside what is there, and clears away what an earlier change left beside its place."""
+        self._make_folders(self.record)
+        self._take_lock()
+        for name in filter(is_new, known):
+            (self.root / name).unlink(missing_ok=True)
+        missing = [it for name in self.files for it in self._folders_of(name) if not os.path.isdir(self.root / it)]
+        folders = [it for it in known if it.endswith("/")]
+        lines = dict.fromkeys([*folders, *self.folders, *missing, *known, *self.files, *map(new_name, [*self.files, self.record, self.journal])])
+        self.folders = [it for it in dict.fromkeys([*folders, *self.folders, *missing])]
+        (self.root / new_name(self.journal)).unlink(missing_ok=True)
+        self.write(self.journal, "".join(f"{it}\n" for it in lines))
+        os.replace(self._place(self.journal), self.root / self.journal)
+        self._made.remove(self.journal)
+
+    def _finish(self, known: list[str]) -> None:
+        """Gives all files their names, takes away what the installation of before had more, and keeps the record."""
+        made = [it for it in self.files if it in self._made]
+        folders = [it for it in self.folders if is_above(it) or any(name.startswith(it) for name in (*made, self.record))]
+        self.write(self.record, "".join(f"{it}\n" for it in [*folders, *made, self.record]))
+        mask = signal.pthread_sigmask(signal.SIG_BLOCK, {signal.SIGINT, *children.SIGNALS})
+        self._is_finishing = True
+        try:
+            for name in made:
+                os.replace(self._place(name), self.root / name)
+            more = {it for it in known if not is_new(it)}
+            self._take_away(more.difference(made, folders, [self.record, self.journal]))
+            os.replace(self._place(self.record), self.root / self.record)
+            (self.root / self.journal).unlink()
+        finally:
+            signal.pthread_sigmask(signal.SIG_SETMASK, mask)
+
+    def _give_up(self, has_journal: bool) -> None:
+        """Takes away what was put beside its place. What was there before is as it was. A change that was almost made stays listed."""
+        for name in self._made:
+            self._place(name).unlink(missing_ok=True)
+        if not has_journal and not self._is_finishing:
+            (self.root / self.journal).unlink(missing_ok=True)
+            self._remove_folders(self.folders)
+
+    def remove(self) -> bool:
+        """Takes away what the record lists, but folders that have something else. Answers whether there was a record, which goes last."""
+        names = self.recorded()
+        if not names:
+            # What is killed just as it begins leaves this.
+            names = [new_name(self.journal), f"{os.path.dirname(self.record)}/"]
+            if not os.path.lexists(self.root / names[0]):
+                return False
+        self._take_lock()
+        try:
+            records = [self.record, self.journal]
+            self._take_away(set(names).difference(records))
+            for name in (*map(new_name, records), *records):
+                (self.root / name).unlink(missing_ok=True)
+            self._remove_folders(names)
+        finally:
+            self._unlock()
+        return True
+
+    def _take_away(self, names: Iterable[str]) -> None:
+        """Takes files away, and folders that are empty then."""
+        for name in names:
+            if not name.endswith("/"):
+                (self.root / name).unlink(missing_ok=True)
+        self._remove_folders(names)
+
+    def _remove_folders(self, names: Iterable[str]) -> None:
+        """Takes folders away that are empty, the lowest first: above the prefix there are `./`, `../` and so on."""
+        for name in sorted(names, key=lambda it: (is_above(it), len(it) if is_above(it) else -it.count("/"))):
+            folder = os.path.normpath(self.root / name)
+            if name.endswith("/") and os.path.isdir(folder) and not os.path.islink(folder) and not os.listdir(folder):
+                os.rmdir(folder)
+
+    # Files and folders.
+
+    def _place(self, name: str) -> pathlib.Path:
+        """Where a new file is, until it gets its name."""
+        return self.root / new_name(name)
+
+    @contextlib.contextmanager
+    def _opened(self, name: str, mode: int) -> Iterator[IO[bytes]]:
+        """A new file."""
+        self._make_folders(name)
+        # A signal that comes between these would leave the file, which nothing lists then.
+        with children.put_off():
+            number = os.open(self._place(name), os.O_WRONLY | os.O_CREAT | os.O_EXCL | os.O_NOFOLLOW, mode)
+            self._made.append(name)
+        with os.fdopen(number, "wb") as file:
+            os.fchmod(number, mode)
+            yield file
+
+    def _folders_of(self, name: str) -> list[str]:
+        """The folders in which a file is, the topmost first, up to the prefix and above it, as a record names them."""
+        return [f"{os.path.relpath(it, self.root)}/" for it in reversed((self.root / name).parents)]
+
+    def _make_folders(self, name: str) -> None:
+        """Makes the folders of a file, and notes those that were not there."""
+        for folder in self._folders_of(name):
+            path = os.path.normpath(self.root / folder)
+            if not os.path.isdir(path):
+                os.mkdir(path)
+                os.chmod(path, FOLDER_MODE)
+                self.folders += [folder] * (folder not in self.folders)
+
+    def _take_lock(self) -> None:
+        """Refuses to go on as another change is under way. Some file systems have no locks."""
+        self._lock = os.open((self.root / self.record).parent, os.O_RDONLY | os.O_DIRECTORY)
+        try:
+            fcntl.flock(self._lock, fcntl.LOCK_EX | fcntl.LOCK_NB)
+        except BlockingIOError as error:
+            raise Refused(f"another scripts/install is at work in {self.root}") from error
+        except OSError:
+            pass
+
+    def _unlock(self) -> None:
+        if self._lock >= 0:
+            os.close(self._lock)
+        self._lock = -1
+
+
+def new_name(name: str) -> str:
+    """The name of a new file, until it gets its own."""
+    folder, last = os.path.split(name)
+    return os.path.join(folder, f"{FRONT}{last}{NEW}")
+
+
+def is_new(name: str) -> bool:
+    """Whether that is such a name."""
+    return name.endswith(NEW)
+
+
+def is_above(name: str) -> bool:
+    """Whether a recorded name is of the prefix, or of a folder above it."""
+    return set(name.split("/")) <= {"", ".", ".."}

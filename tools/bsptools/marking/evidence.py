@@ -1,0 +1,61 @@
+"""What comes of a hand-in before anything of it is judged: what the compiler said, and what each run wrote, cost and ended with."""
+
+from __future__ import annotations
+
+from dataclasses import asdict, dataclass, field
+from typing import Any, Dict, List, Optional
+
+# How a run ended beside the emulator's own outcomes: by the clock, by too much output, and by what the host did not give.
+LATE, LONG, BROKEN = "too long", "too much output", "broken off"
+WELL = "ended"
+# Supersteps that are kept for pictures.
+MOST_SHOWN = 120
+
+
+@dataclass
+class Ended:
+    """A run: its outcome, its output, what stood on its standard error, and its costs, with those of its first supersteps. `why` has lines
+    that say why it did not end well, `race` what two requests contest, and `dear` where costs come from, for each name of a cost."""
+
+    outcome: str
+    output: str = ""
+    errors: str = ""
+    costs: Dict[str, int] = field(default_factory=dict)
+    supersteps: List[List[int]] = field(default_factory=list)
+    why: List[str] = field(default_factory=list)
+    race: List[str] = field(default_factory=list)
+    dear: Dict[str, List[str]] = field(default_factory=dict)
+
+    @property
+    def is_well(self) -> bool:
+        """Whether every node came to its end."""
+        return self.outcome == WELL
+
+    @property
+    def content(self) -> bytes:
+        """The bytes of its output."""
+        return self.output.encode("latin-1")
+
+
+@dataclass
+class Evidence:
+    """All of a hand-in: why it is no program at all, or what the compiler said and whether it made one; which calls it names, of those that a
+    sheet speaks of; its runs, in the order of the sheet; and the verdict of --portable, where the sheet asks for that."""
+
+    refused: str = ""
+    is_built: bool = False
+    said: List[str] = field(default_factory=list)
+    calls: Dict[str, int] = field(default_factory=dict)
+    runs: List[Ended] = field(default_factory=list)
+    portable: Optional[List[str]] = None
+    is_portable: bool = True
+
+    def as_json(self) -> Dict[str, Any]:
+        """What JSON keeps of it."""
+        return asdict(self)
+
+
+def of_json(known: Dict[str, Any]) -> Evidence:
+    """What `as_json` made. What is none raises TypeError or KeyError."""
+    whole: Dict[str, Any] = {**known, "runs": [Ended(**it) for it in known["runs"]]}
+    return Evidence(**whole)

@@ -1,0 +1,349 @@
+"""A hand-in is tried: compiled, and run on each case and number of nodes that a sheet asks for, with limits, in a folder of its own."""
+
+from __future__ import annotations
+
+import argparse
+import contextlib
+import os
+import pathlib
+import re
+import signal
+from collections.abc import Iterator, Mapping
+from dataclasses import dataclass, field
+from typing import Dict, List, Optional, Tuple
+
+from .. import emulator, limits
+from ..counts import step_counts
+from ..counts.h_relations import Traffic
+from ..counts.line_costs import Work
+from ..diagnosis.stop_reasons import Why
+from ..diagnosis.superstep_ends import END, ends
+from ..files import content_of
+from ..framed.environment_calls import Tracer
+from ..outputs import contested_bytes
+from ..outputs.output_demux import ERROR, OUTPUT, Marks
+from ..outputs.report import Report, part
+from ..portable.portability import verdict
+from ..portable.portability_findings import told_contested
+from ..prepare.job import Job, prepared
+from ..program import elf
+from ..refusals import Refused, counted
+from . import bounded_run
+from .bounded_run import Ran
+from .evidence import BROKEN, LATE, LONG, MOST_SHOWN, Ended, Evidence
+from .sheet import Bound
+
+MOST_TEXT, MOST_LINES = 1 << 20, 30
+COMPILER_SECONDS, MOST_COMPILED, MOST_LATE = 30, 1 << 20, 2
+# Supersteps of which it is looked where they end, and places that are told.
+MOST_ENDS, MOST_PLACES = 500, 4
+# Of a report behind the output.
+MOST_REPORT = 1 << 26
+# For how long it is looked why a run did not end well, or what it costs by line.
+PATIENCE = 20
+# What is likely a mistake by the text alone. `bspcc --strict` also takes -Og and tests as the program runs, with which w would be another.
+STRICT = ("-Wall", "-Wextra", "-Wno-unused-parameter", "-Wno-sign-compare")
+ERRORS = re.compile(r"\b(?:fatal )?[eE]rror: |undefined reference")
+SAFE = re.compile(r"[A-Za-z_][\w.-]{0,80}\.(?:c|cc|cpp|cxx)", re.ASCII)
+COMMENTS = re.compile(r"//[^\n]*|/\*.*?\*/|\"(?:\\.|[^\"\\\n])*\"|'(?:\\.|[^'\\\n])*'", re.DOTALL)
+
+
+@dataclass(frozen=True)
+class RunPlan:
+    """A run that is to be made: the constants that its program is compiled with, nodes, input, arguments, files by the names under which they
+    are opened, the limits of instructions and of bytes of output, prices, what the formulas of bounds know, and what the solution costs."""
+
+    nodes: int
+    defines: Tuple[Tuple[str, str], ...] = ()
+    input: Optional[bytes] = None
+    args: Tuple[str, ...] = ()
+    given: Tuple[Tuple[str, bytes], ...] = ()
+    limit: int = limits.MOST_TICKS
+    output: int = 1 << 16
+    g: int = limits.G
+    l: int = limits.L
+    values: Dict[str, float] = field(default_factory=dict)
+    solution: Dict[str, float] = field(default_factory=dict)
+    bounds: Tuple[Bound, ...] = ()
+
+
+@dataclass(frozen=True)
+class Plan:
+    """All that a trial rests on beside the hand-in."""
+
+    runs: Tuple[RunPlan, ...]
+    files: Tuple[Tuple[str, bytes], ...] = ()
+    calls: Tuple[str, ...] = ()
+    memory: int = limits.MEMORY
+    seconds: int = 30
+    strict: bool = True
+    races: bool = True
+    portable: bool = False
+
+    @property
+    def most_memory(self) -> int:
+        """Of a process of the host: what all nodes have, twice, since an exchange has what it moves besides, and room for the compiler."""
+        return (2 << 30) + 2 * self.memory * max((it.nodes for it in self.runs), default=1)
+
+
+class Trial:
+    """A trial of one hand-in, in the folder in which this process is."""
+
+    def __init__(self, plan: Plan, text: bytes, name: str, program: str) -> None:
+        self.plan, self.text, self.program = plan, text, program
+        self.folder = pathlib.Path(os.getcwd())
+        self.name = name if SAFE.fullmatch(name) else "hand_in.c"
+        self.found = Evidence()
+
+    def make(self) -> Evidence:
+        """Tries all of it."""
+        self.found.refused = refusal(self.text)
+        if self.found.refused:
+            return self.found
+        (self.folder / self.name).write_bytes(self.text)
+        for name, content in self.plan.files:
+            self.put(name, content)
+        images = {defines: self.built(defines, at) for at, defines in enumerate(dict.fromkeys(it.defines for it in self.plan.runs))}
+        if not self.found.is_built:
+            return self.found
+        if self.plan.calls:
+            self.find_calls()
+        for number, run in enumerate(self.plan.runs):
+            # Each takes as long as the clock lets it.
+            is_late = sum(it.outcome == LATE for it in self.found.runs) >= MOST_LATE
+            ended = Ended(LATE, why=["not tried, since others have run too long"]) if is_late else self.ran(run, images[run.defines], number)
+            self.found.runs.append(ended)
+        if self.plan.portable and all(it.is_well for it in self.found.runs):
+            self.try_portable()
+        return self.found
+
+    def put(self, name: str, content: bytes) -> None:
+        """A file of the sheet beside the hand-in, by its last name."""
+        (self.folder / pathlib.PurePath(name).name).write_bytes(content)
+
+    # The compiler.
+
+    def built(self, defines: Tuple[Tuple[str, str], ...], number: int) -> pathlib.Path:
+        """The executable for these constants."""
+        target = self.folder / f"program{number}.elf"
+        room = limits.STACK if self.plan.memory >= limits.MEMORY_OF_STACK else limits.COMPILED_STACK
+        words = self.compiler(defines, "-o", target.name, "-g", "--stack", str(room))
+        ran = bounded_run.run([*words, "-lm"], COMPILER_SECONDS, MOST_COMPILED, compiler_environment(self.folder))
+        is_built = ran.how == bounded_run.ENDED and ran.status == 0 and target.is_file()
+        said = [it for it in ran.said.decode(errors="replace").replace(f"{self.folder}/", "").splitlines() if it.strip()]
+        if ran.how != bounded_run.ENDED:
+            said.insert(0, f"the compiler was ended after {COMPILER_SECONDS} s")
+        elif not is_built and not said:
+            said.append(f"the compiler ended with status {ran.status}, as where memory ran out")
+        if number == 0 or not is_built:
+            # Warnings and the files that were included come first, and may be many.
+            first = 0 if is_built else next((at for at, it in enumerate(said) if ERRORS.search(it)), 0)
+            self.found.said = said[first if first >= MOST_LINES else 0 :][:MOST_LINES]
+        self.found.is_built = is_built and (number == 0 or self.found.is_built)
+        return target
+
+    def compiler(self, defines: Tuple[Tuple[str, str], ...], *options: str) -> List[str]:
+        """The words that compile the hand-in."""
+        warnings = STRICT if self.plan.strict else ()
+        constants = [f"-D{name}={value}" for name, value in defines]
+        return [emulator.program("bspcc"), *options, *warnings, "-fdiagnostics-color=never", *constants, self.name]
+
+    def find_calls(self) -> None:
+        """Which of the calls that the sheet speaks of the hand-in's own code names, each with its line, or 0 where the text does not have it."""
+        target = self.folder / "calls.o"
+        defines = self.plan.runs[0].defines if self.plan.runs else ()
+        bounded_run.run(self.compiler(defines, "-c", "-o", target.name), COMPILER_SECONDS, MOST_COMPILED, compiler_environment(self.folder))
+        names = elf.names(content_of(target, limits.MOST_PROGRAM)) if target.is_file() else set()
+        text = COMMENTS.sub(lambda it: re.sub(r"[^\n]", " ", it[0]), self.text.decode(errors="replace"))
+        for name in self.plan.calls:
+            if name in names:
+                found = re.search(rf"\b{re.escape(name)}\b", text)
+                self.found.calls[name] = text.count("\n", 0, found.start()) + 1 if found else 0
+
+    # Runs.
+
+    def job(self, run: RunPlan, program: pathlib.Path, folder: str) -> Job:
+        """A run that is ready to be made: of an executable, or of the hand-in's text, which is compiled for it, as --portable asks."""
+        place = self.folder / folder
+        place.mkdir(exist_ok=True)
+        given = None
+        if run.input is not None:
+            given = str(place / "given")
+            pathlib.Path(given).write_bytes(run.input)
+        for name, content in run.given:
+            self.put(name, content)
+        is_text = program.suffix != ".elf"
+        constants = [f"-D{name}={value}" for name, value in run.defines] if is_text else None
+        options = argparse.Namespace(
+            program=str(program), nodes=run.nodes, input=given, file=[pathlib.PurePath(name).name for name, _ in run.given], files=[],
+            args=list(run.args), argv0="program", check=False, strict=False, compiled=constants,
+            format="c" if is_text else "elf", bspemu=self.program,
+            limit=run.limit, memory=self.plan.memory, stack=None, float=False, g=run.g, l=run.l, rate=limits.RATE, fill=None, out=None, found=[], is_here=False,
+            portable=is_text, sources=[], workers=1,
+        )  # fmt: skip
+        return prepared(options, place, "bspcheck", is_marked=True)
+
+    def ran(self, run: RunPlan, image: pathlib.Path, number: int) -> Ended:
+        """A run, with what is to be told of it."""
+        try:
+            job = self.job(run, image, f"run{number}")
+        except Refused as refused:
+            return Ended(BROKEN, why=[str(it).replace(str(image), self.name) for it in refused.args])
+        words = [*job.program, "run", *job.settings, "--workers", "1", "--report", "--live"]
+        ran = bounded_run.run(words, self.plan.seconds, run.output + MOST_REPORT)
+        ended, report = self.ended(job, ran, run.output)
+        if report is None:
+            return ended
+        if not ended.is_well:
+            ended.why = self.reasons(job, report)
+            return ended
+        if self.plan.races and run.nodes > 1:
+            ended.race = self.race(job, report)
+        wanted = self.exceeded(run, ended)
+        if wanted:
+            ended.dear = self.dear(job, report, wanted)
+        return ended
+
+    def ended(self, job: Job, ran: Ran, most: int) -> Tuple[Ended, Optional[Report]]:
+        """What a run came to, and its report where it has one."""
+        marks = Marks(job.mark)
+        pieces = list(marks.take(ran.output))
+        whole = b"".join(it for kind, it in pieces if kind == OUTPUT) + marks.left()
+        errors = b"".join(it for kind, it in pieces if kind == ERROR)[:most].decode(errors="replace")
+        parted = part(whole) if ran.how == bounded_run.ENDED else None
+        output, report = parted or (memoryview(whole), None)
+        text = bytes(output[:most]).decode("latin-1")
+        if len(output) > most:
+            return Ended(LONG, text, errors), None
+        if report is None:
+            why = f"the run was ended after {self.plan.seconds} s" if ran.how == bounded_run.LATE else ""
+            why = why or "".join(ran.said.decode(errors="replace").splitlines()[:1]) or f"the emulator ended with status {ran.status}"
+            return Ended(LATE if ran.how == bounded_run.LATE else BROKEN, text, errors, why=[why]), None
+        steps = [it.costs for it in report.supersteps]
+        costs = {name: sum(it[name] for it in steps) for name in steps[0]}
+        costs.update(supersteps=len(steps), cost=report.total, most_w=max(it["w"] for it in steps), most_h=max(it["h"] for it in steps))
+        shown = [[it["w"], it["h"], it.get("m", 0)] for it in steps[:MOST_SHOWN]]
+        return Ended(report.outcome, text, errors, costs, shown), report
+
+    def reasons(self, job: Job, report: Report) -> List[str]:
+        """Why a run did not end well."""
+        with patient():
+            return Why(job.code, job.replays(), job.options.nodes, job.options.limit).lines(report)
+        return []
+
+    def race(self, job: Job, report: Report) -> List[str]:
+        """What two requests of a superstep bring to the same bytes, if they do."""
+        with patient():
+            found = contested_bytes.in_run(job.program, job.settings, job.options.nodes, report.supersteps[-1].number, self.folder)
+            if found.first is not None:
+                job.code.know_names()
+                return told_contested(Tracer(job.code, job.replays()), found.first, found.places - 1)
+        return []
+
+    def exceeded(self, run: RunPlan, ended: Ended) -> List[str]:
+        """The costs of bounds that are not kept."""
+        names: List[str] = []
+        for bound in run.bounds:
+            with contextlib.suppress(ValueError, KeyError):
+                if not bound.formula.bound({**run.values, **ended.costs}, run.solution).is_kept:
+                    names += sorted(bound.formula.names & ended.costs.keys())
+        return list(dict.fromkeys(names))
+
+    def dear(self, job: Job, report: Report, wanted: List[str]) -> Dict[str, List[str]]:
+        """Where costs come from: the lines with most of w, and that with most of h; and where supersteps end."""
+        found: Dict[str, List[str]] = {}
+        if {"supersteps", "cost"} & set(wanted):
+            with patient():
+                job.code.know_names()
+                found["supersteps"] = barriers(ends(job.code, job.replays(), min(len(report.supersteps), MOST_ENDS)))
+        if set(wanted) == {"supersteps"}:
+            return found
+        counts = self.folder / "counts"
+        with patient():
+            bounded_run.run([*job.program, "run", *job.settings, "--report", "--counts", str(counts)], PATIENCE, MOST_REPORT)
+            trace = Tracer(job.code, job.replays())
+            job.code.know_names()
+            work = Work(job.code, step_counts.read(counts, job.options.nodes, report))
+            if {"w", "most_w", "cost"} & set(wanted):
+                found["w"] = dearest_lines(work)
+            if {"h", "most_h", "cost"} & set(wanted) and any(it.costs["h"] for it in report.supersteps):
+                found["h"] = dearest_requests(work, trace, report)
+        return found
+
+    def try_portable(self) -> None:
+        """What other choices of a library bring, in the first case, on most nodes."""
+        first = [it for it in self.plan.runs if it.defines == self.plan.runs[0].defines]
+        run = max(first, key=lambda it: it.nodes)
+        with patient(PATIENCE * 3):
+            job = self.job(run, pathlib.Path(self.name), "portable")
+            found = verdict(job, self.folder / "portable")
+            self.found.portable = [it.replace("bsprun: ", "", 1) for it in found.lines()] if found else []
+            self.found.is_portable = found is None or not found.found
+            return
+        self.found.portable = [f"nothing came of it in {PATIENCE * 3} s"]
+
+
+def compiler_environment(folder: pathlib.Path) -> Mapping[str, str]:
+    """What the compiler has in its environment."""
+    names = ("PATH", "HOME", "XDG_CACHE_HOME", "XDG_DATA_HOME", "BSPEMU_TOOLCHAIN")
+    return {**{it: os.environ[it] for it in names if it in os.environ}, "TMPDIR": str(folder), "LC_ALL": "C.UTF-8"}
+
+
+def refusal(text: bytes) -> str:
+    """Why a hand-in is no program, if it is none."""
+    if len(text) > MOST_TEXT:
+        return f"the file has more than {MOST_TEXT} bytes, which no program of a sheet has"
+    if not COMMENTS.sub("", text.decode(errors="replace")).strip():
+        return "the file is empty"
+    if b"\0" in text:
+        return "the file is no text: hand in the program's source"
+    return ""
+
+
+def barriers(places: List[str]) -> List[str]:
+    """Where supersteps end, with how many end there, in the order in which the first of each does."""
+    counts = {it: places.count(it) for it in places if it != END}
+    told = [f"{'once' if count == 1 else f'{count} times'} at {it}" for it, count in counts.items()]
+    return [f"bsp_sync is called {'; '.join(told[:MOST_PLACES])}{'; and elsewhere' if len(told) > MOST_PLACES else ''}"] if told else []
+
+
+def dearest_lines(work: Work) -> List[str]:
+    """The lines of which most of w is."""
+    lines = [it for it in work.lines() if it.paid > 0]
+    whole = sum(it.paid for it in lines)
+    where = [f"at {it.function}, {it.place.short}" if it.place.is_own else f"in {it.place.name}" for it in lines]
+    return [f"{100 * it.paid / whole:.0f} % of w {at}" for it, at in zip(lines[:3], where)]
+
+
+def dearest_requests(work: Work, trace: Tracer, report: Report) -> List[str]:
+    """The superstep with the greatest h, with the lines whose requests make it."""
+    relations = sorted(Traffic(work, trace).relations(report), key=lambda it: -it.h)
+    found = []
+    for it in relations[:1]:
+        parts = sorted(it.parts.items(), key=lambda part: -part[1].size)[:2]
+        texts = [f"{amount.size} by {counted(amount.requests, kind)} at {place.short}" for (place, kind), amount in parts]
+        way = "sends" if it.is_sent else "receives"
+        found.append(f"in superstep {it.superstep} rank {it.rank} {way} {it.h} bytes: {', '.join(texts)}")
+    return found
+
+
+class _Impatient(Exception):
+    """It has taken too long."""
+
+
+@contextlib.contextmanager
+def patient(seconds: int = PATIENCE) -> Iterator[None]:
+    """A block for what is told beside, which is left out where it takes too long, more memory than there is, or what is not known."""
+
+    def stop(_number: int, _frame: object) -> None:
+        raise _Impatient
+
+    before = signal.signal(signal.SIGALRM, stop)
+    signal.setitimer(signal.ITIMER_REAL, seconds)
+    try:
+        yield
+    except (_Impatient, Refused, OSError, MemoryError, ValueError, KeyError, IndexError, RecursionError, AssertionError):
+        pass
+    finally:
+        signal.setitimer(signal.ITIMER_REAL, 0)
+        signal.signal(signal.SIGALRM, before)

@@ -1,0 +1,373 @@
+"""All hand-ins of a sheet: tried side by side, each by a process that can read nothing but what the sheet names, and marked."""
+
+from __future__ import annotations
+
+import os
+import pathlib
+import shlex
+import shutil
+import signal
+import stat
+import subprocess
+import sys
+import sysconfig
+import tempfile
+from dataclasses import replace
+from typing import Any, Dict, Iterator, List, NamedTuple, Optional, Sequence, Tuple
+
+from .. import children, emulator, own_folders, python_packages, sealed_results
+from ..files import content_of, put
+from ..limits import MEMORY, MOST_INPUT
+from ..refusals import Refused, about, counted, show, tell
+from ..sealed_results import digest
+from . import bounded_run, compiler_files, confinement, trial_pool, wanted_file
+from .evidence import Evidence, of_json
+from .evidence_store import Store, folder_at
+from .hand_in_trial import COMPILER_SECONDS, ERRORS, MOST_TEXT, Plan, RunPlan, Trial, compiler_environment
+from .marks import UNJUDGED, WRONG, Judgement, Marks, Wanted, faults_of_solution, marks, wanted_of
+from .sheet import ALONE, INSTRUCTIONS, TIMES, Run, Sheet, settings_of
+from .sheet_inputs import SECONDS, Inputs, words_of
+
+SOURCES = (".c", ".cc", ".cpp", ".cxx")
+# What a compiler and Python read of a system, but for what lies below share: sheets and solutions may.
+SYSTEM = (
+    "/bin", "/sbin", "/lib", "/lib32", "/lib64", "/usr/bin", "/usr/lib", "/usr/lib32", "/usr/lib64", "/usr/libexec", "/usr/include",
+    "/usr/riscv64-unknown-elf", "/usr/share/locale", "/etc/ld.so.cache", "/etc/alternatives", "/dev/urandom", "/dev/zero", "/proc/self/statm",
+)  # fmt: skip
+# What Python says first where something was raised.
+TRACEBACK = "Traceback (most recent call last):"
+OF_SYSTEM = tuple(f"{it}/" for it in SYSTEM)
+MOST_FILE = 1 << 28
+# Of the solution.
+MOST_OUTPUT = 1 << 26
+NO_LANDLOCK = (
+    "this kernel cannot bound what a compiler reads (Landlock, in Linux from 5.13 on), so that a hand-in could read your files;"
+    " --trusted marks hand-ins that you trust, as your own"
+)
+
+
+class HandIn(NamedTuple):
+    """A hand-in: its name as it was given, its bytes, and why there are none."""
+
+    name: str
+    text: bytes = b""
+    why: str = ""
+
+
+def hand_in(path: str) -> HandIn:
+    """A hand-in of a file. What is no ordinary file is none: a link may lead to the solution."""
+    try:
+        found = os.lstat(path)
+    except OSError as error:
+        raise Refused(f"{path}: {error.strerror}") from error
+    if stat.S_ISLNK(found.st_mode):
+        return HandIn(path, why=f"the file is a link, to {os.readlink(path)}, and not looked into")
+    if not stat.S_ISREG(found.st_mode):
+        return HandIn(path, why="this is no ordinary file")
+    if pathlib.PurePath(path).suffix not in SOURCES:
+        return HandIn(path, why=f"a hand-in is a program in C or C++, whose name ends with {', '.join(SOURCES)}")
+    if found.st_size > MOST_TEXT:
+        return HandIn(path, why=f"the file has more than {MOST_TEXT} bytes, which no program of a sheet has")
+    with about(path):
+        number = os.open(path, os.O_RDONLY | os.O_NOFOLLOW)
+    with os.fdopen(number, "rb") as file:
+        return HandIn(path, file.read(MOST_TEXT + 1))
+
+
+class Marking:
+    """The marking of hand-ins by a sheet, in a folder for a while, with results that are kept in another."""
+
+    def __init__(self, sheet: Sheet, folder: pathlib.Path, kept: str, jobs: int, seed: Optional[int], is_trusted: bool, is_anew: bool) -> None:
+        self.sheet, self.folder, self.jobs, self.is_anew = sheet, folder, jobs or trial_pool.processors(), is_anew
+        self.is_confined = confinement.version() > 0
+        if not self.is_confined and not is_trusted:
+            raise Refused(NO_LANDLOCK)
+        self.program = emulator.proved_program()
+        os.environ["XDG_CACHE_HOME"] = self.cache = cache_at(folder)
+        self.kept = folder_at(kept)
+        self.store = Store(self.kept, self.program)
+        if sheet.checker:
+            self.expect_checker()
+        self.inputs = Inputs(sheet, seed)
+        self.given = {name: content_of(sheet.file(name), MOST_INPUT) for case in sheet.cases for name in case.given}
+        # Kinds of programs that were compiled once here; the PATH by which the compiler is found, and what it reads beside the system's files.
+        self.warmed: set[str] = set()
+        brought = compiler_files.brought()
+        self.path = ":".join([*([f"{brought}/bin"] if brought else []), os.environ.get("PATH", os.defpath)])
+        # Nothing else is in a folder of packages.
+        self.compiler = [brought] if brought else []
+        self.known = self.of_others = 0
+        self.wanted: List[Wanted] = []
+        self.plan = self.planned()
+
+    # What is to be tried.
+
+    def expect_checker(self) -> None:
+        """Refuses a checker that cannot be started: it would make each hand-in a wrong one."""
+        path = self.sheet.file(self.sheet.checker)
+        with about(path):
+            os.stat(path)
+        words_of(path)
+
+    def planned(self, wanted: Sequence[Wanted] = ()) -> Plan:
+        """The plan of a trial: without bounds, and with much more room, where what is wanted is not known yet."""
+        sheet = self.sheet
+        runs = tuple(self.run_plan(run, wanted[number] if wanted else None) for number, run in enumerate(sheet.runs))
+        files = tuple((pathlib.PurePath(it).name, content_of(sheet.file(it), MOST_INPUT)) for it in sheet.files)
+        return Plan(
+            runs, files, (*sheet.forbid, *sheet.require), sheet.memory, sheet.seconds, sheet.strict, sheet.races, sheet.portable,
+        )  # fmt: skip
+
+    def run_plan(self, run: Run, wanted: Optional[Wanted]) -> RunPlan:
+        """The plan of a run."""
+        sheet, case = self.sheet, run.case
+        given = tuple((name, self.given[name]) for name in case.given)
+        bounds = tuple(it for it in sheet.bounds if it.holds_for(run)) if wanted is not None else ()
+        costs = dict(wanted.costs) if wanted is not None else {}
+        limit = sheet.instructions or (max(INSTRUCTIONS, int(TIMES * costs["w"])) if costs else ALONE)
+        output = MOST_OUTPUT if wanted is None else max(sheet.output, 2 * len(wanted.output or b""))
+        return RunPlan(
+            run.nodes, self.inputs.defines(case), self.inputs.of(run), case.args, given, limit, output, case.g, case.l, settings_of(run), costs,
+            bounds,
+        )  # fmt: skip
+
+    def find_wanted(self) -> None:
+        """Finds what is wanted: by the solution, which is run here, or else by a file."""
+        sheet = self.sheet
+        if sheet.solution and (os.path.exists(sheet.file(sheet.solution)) or not sheet.wanted):
+            solution = hand_in(sheet.file(sheet.solution))
+            if solution.why:
+                raise Refused(f"{solution.name}: {solution.why}")
+            plan = replace(self.plan, portable=False, calls=(), races=False)
+            evidence = self.evidence([solution], plan)[0]
+            if faults := faults_of_solution(evidence, sheet):
+                raise Refused(*(f"{sheet.solution}, the solution, is none{f' on {run}' if run else ''}: {why}" for run, why in faults.items()))
+            self.wanted = wanted_of(evidence)
+        elif sheet.wanted:
+            self.wanted = wanted_file.read(sheet, sheet.runs, self.plan.runs)
+        else:
+            self.wanted = [Wanted() for _ in sheet.runs]
+        self.wanted = [self.expected(run, it) for run, it in zip(sheet.runs, self.wanted)]
+        self.plan = self.planned(self.wanted)
+
+    def expected(self, run: Run, wanted: Wanted) -> Wanted:
+        """What is wanted where a case names a file for that, in whose name {p} stands for the nodes."""
+        if not run.case.expected:
+            return wanted._replace(output=None) if self.sheet.checker and not self.sheet.solution else wanted
+        name = run.case.expected.replace("{p}", str(run.nodes))
+        return wanted._replace(output=content_of(self.sheet.file(name), MOST_OUTPUT))
+
+    # Trials.
+
+    def marks(self, names: Sequence[str]) -> List[Marks]:
+        """The marks of files, in their order."""
+        found = [hand_in(it) for it in names]
+        self.find_wanted()
+        evidence = self.evidence(found, self.plan)
+        judged = self.judged(evidence)
+        return [marks(it.name, one, self.sheet, self.wanted, said) for it, one, said in zip(found, evidence, judged)]
+
+    def evidence(self, found: Sequence[HandIn], plan: Plan) -> List[Evidence]:
+        """What comes of hand-ins: as it is kept, or tried now."""
+        keys = [self.store.key(plan, it.text, last_name(it.name)) for it in found]
+        made: Dict[str, Evidence] = {}
+        tasks: Dict[str, HandIn] = {}
+        for key, it in zip(keys, found):
+            kept = None if self.is_anew or it.why else self.store.found(key)
+            if kept is not None:
+                made[key] = kept
+            elif not it.why:
+                tasks[key] = it
+                self.of_others += self.store.is_of_others(key)
+        self.known = sum(key in made for key in keys)
+        if tasks:
+            self.warm(plan, [it.name for it in tasks.values()])
+            progress = Progress(len(tasks))
+
+            def take(task: Tuple[str, HandIn], answer: Any) -> None:
+                made[task[0]] = self.taken(task[0], answer)
+                progress.done += 1
+
+            trial_pool.each(list(tasks.items()), self.jobs, lambda task: self.tried(task[1], plan, task[0]), take, progress.show)
+            progress.end()
+        return [Evidence(refused=it.why) if it.why else made[key] for key, it in zip(keys, found)]
+
+    def taken(self, key: str, answer: Any) -> Evidence:
+        """What came of a trial. One that has broken off is none of what is kept."""
+        if isinstance(answer, str):
+            return Evidence(refused=f"bspcheck could not try it: {answer}")
+        evidence = of_json(answer)
+        self.store.keep(key, evidence)
+        return evidence
+
+    def tried(self, it: HandIn, plan: Plan, key: str) -> Dict[str, Any]:
+        """Tries a hand-in, in this process, which is for it alone."""
+        folder = self.folder / key
+        folder.mkdir(mode=0o700)
+        try:
+            return self.confined(it, plan, folder)
+        finally:
+            shutil.rmtree(folder, ignore_errors=True)
+
+    def confined(self, it: HandIn, plan: Plan, folder: pathlib.Path) -> Dict[str, Any]:
+        """Tries a hand-in in its folder, after this process has given up all other files."""
+        os.chdir(folder)
+        os.environ["TMPDIR"] = tempfile.tempdir = str(folder)
+        # ./bspemu would look at the sources, which are not for hand-ins to read.
+        os.environ["BSPEMU"], os.environ["PATH"] = self.program, self.path
+        nowhere = os.open(os.devnull, os.O_RDWR)
+        for number in (0, 1, 2):
+            os.dup2(nowhere, number)
+        confinement.limit(plan.most_memory, MOST_FILE, COMPILER_SECONDS + (len(plan.runs) + 4) * plan.seconds)
+        if self.is_confined:
+            confinement.confine(self.readable(), [str(folder), os.devnull])
+        return Trial(plan, it.text, last_name(it.name), self.program).make().as_json()
+
+    def readable(self) -> Iterator[str]:
+        """What may be read: the compiler, the library, the emulator, and the parts of these tools."""
+        yield from SYSTEM
+        top = pathlib.Path(emulator.program("bspcc")).resolve()
+        yield from (str(top), str(top.parent / "bsplib"), str(pathlib.Path(__file__).resolve().parents[1]), self.program)
+        yield from (os.path.dirname(str(it.__file__)) for it in filter(None, [sys.modules.get(python_packages.ELFTOOLS)]))
+        yield from (sysconfig.get_paths()[it] for it in ("stdlib", "platstdlib"))
+        yield from self.compiler
+        yield from (os.path.join(self.cache, "bspcc"), os.path.join(self.cache, "bspemu", "modules"))
+
+    def warm(self, plan: Plan, names: Sequence[str]) -> None:
+        """Has bspcc build its library, which who is confined cannot keep; and loads what each trial would."""
+        wanted = {pathlib.PurePath(it).suffix for it in names}
+        kinds = [(".cpp" if wanted & set(SOURCES[1:]) else ".c", option) for option in ("", *(["--portable"] if plan.portable else []))]
+        for suffix, option in kinds:
+            if suffix + option not in self.warmed:
+                self.warmed.add(suffix + option)
+                source, target = self.folder / f"warm{suffix}", self.folder / "warm.elf"
+                source.write_text("int main(void) { return 0; }\n")
+                words = [emulator.program("bspcc"), *([option] if option else []), "-g", "-v", "-o", str(target), str(source), "-lm"]
+                done = children.call(words, stdout=subprocess.PIPE, stderr=subprocess.STDOUT, env=compiler_environment(self.folder))
+                said = done.stdout.decode(errors="replace")
+                if done.returncode != 0:
+                    raise Refused("bspcc compiles nothing here", *[it for it in said.splitlines() if ERRORS.search(it) or it.startswith("bspcc: ")][:5])
+                self.compiler += [it for it in compiler_files.files_of(said, self.path) if not it.startswith(OF_SYSTEM)]
+        if not python_packages.borrow(python_packages.ELFTOOLS):
+            import elftools.dwarf.callframe
+            import elftools.elf.elffile  # noqa: F401
+
+    # Checkers.
+
+    def judged(self, found: Sequence[Evidence]) -> List[Optional[List[Judgement]]]:
+        """What the sheet's checker says of each run of each hand-in; None where there is no checker."""
+        answers: List[Optional[List[Judgement]]] = [None] * len(found)
+        if not self.sheet.checker:
+            return answers
+        tasks = [at for at, it in enumerate(found) if it.runs]
+
+        def take(at: int, answer: Any) -> None:
+            broken = [Judgement(UNJUDGED, str(answer))] * len(self.sheet.runs)
+            answers[at] = [Judgement(*it) for it in answer] if isinstance(answer, list) else broken
+
+        def make(at: int) -> List[Judgement]:
+            return [self.judgement(found[at], number) for number in range(len(self.sheet.runs))]
+
+        trial_pool.each(tasks, self.jobs, make, take, lambda: None)
+        return answers
+
+    def judgement(self, evidence: Evidence, number: int) -> Judgement:
+        """What the checker says of a run."""
+        ended, run, plan = evidence.runs[number], self.sheet.runs[number], self.plan.runs[number]
+        if not ended.is_well:
+            return Judgement()
+        with tempfile.TemporaryDirectory(dir=self.folder) as folder:
+            place = pathlib.Path(folder)
+            (place / "output").write_bytes(ended.content)
+            (place / "input").write_bytes(plan.input or b"")
+            (place / "wanted").write_bytes(self.wanted[number].output or b"")
+            path = self.sheet.file(self.sheet.checker)
+            words = [*words_of(path), str(place / "output"), str(place / "wanted"), str(place / "input"), str(run.nodes)]
+            environment = {**os.environ, **dict(plan.defines)}
+            ran = bounded_run.run(words, SECONDS, MOST_TEXT, environment)
+        return self.said_by_checker(ran)
+
+    def said_by_checker(self, ran: bounded_run.Ran) -> Judgement:
+        """What a run of the checker comes to. A text of Python that raises something ends with status 1, as one that found a fault."""
+        name, said = self.sheet.checker, ran.said.decode(errors="replace").splitlines()
+        if ran.how != bounded_run.ENDED:
+            return Judgement(UNJUDGED, f"{name} did not end in {SECONDS} s" if ran.how == bounded_run.LATE else f"{name} wrote too much")
+        if ran.status < 0:
+            return Judgement(UNJUDGED, f"{name} was ended: {signal.strsignal(-ran.status)}")
+        if ran.status != 0 and TRACEBACK in said:
+            return Judgement(UNJUDGED, f"{name} broke off: {said[-1]}")
+        told = ran.output.decode(errors="replace").splitlines() or said[-1:] or [f"{name} says that it is wrong, and not why"]
+        return Judgement() if ran.status == 0 else Judgement(WRONG, told[0])
+
+    # What a person repeats.
+
+    def again(self, name: str, number: int, is_strict: bool = False) -> str:
+        """The command that makes a run of a hand-in again, with its costs, or else to look for the usual mistakes."""
+        sheet, run, given = self.sheet, self.sheet.runs[number], self.input_file(number)
+        costs = ["--report", "-", "--g", str(run.case.g), "--l", str(run.case.l)]
+        words = [tool("bsprun"), "-n", str(run.nodes), *(["--strict"] if is_strict else costs)]
+        words += ["--memory", str(sheet.memory)] if sheet.memory != MEMORY else []
+        words += [f"-D{it}={value}" for it, value in self.plan.runs[number].defines]
+        words += ["--input", given] if given else []
+        words += [it for name in run.case.given for it in ("--file", os.path.relpath(sheet.file(name)))]
+        return shlex.join([*words, name if not name.startswith("-") else f"./{name}", *run.case.args])
+
+    def input_file(self, number: int) -> str:
+        """The file with the input of a run: the sheet's own, or one that is kept beside the results."""
+        case, content = self.sheet.runs[number].case, self.plan.runs[number].input
+        if content is None:
+            return ""
+        if isinstance(case.input, str):
+            return os.path.relpath(self.sheet.file(case.input))
+        folder = self.kept / "inputs"
+        with about(folder):
+            if why := own_folders.make(folder):
+                raise Refused(f"no input can be kept in {folder}: {why}")
+        path = folder / f"{digest(content)[:16]}.txt"
+        # Another start may have left a part of it, or another person something else.
+        put(path, content)
+        return os.path.relpath(path)
+
+
+def cache_at(folder: pathlib.Path) -> str:
+    """The folder of the user's in which bspcc keeps its library, or one for a while where there is none: to build it for each hand-in would
+    take longer than all else."""
+    kept = own_folders.cache("bspcc")
+    return os.path.dirname(kept) if kept and os.access(kept, os.W_OK) else str(folder / "cache")
+
+
+class Progress:
+    """How many hand-ins are tried."""
+
+    def __init__(self, count: int) -> None:
+        self.count, self.done, self.told = count, 0, -1
+
+    def show(self) -> None:
+        """Shows it, where there are several."""
+        if self.count > 1 and self.done != self.told:
+            self.told = self.done
+            show(f"bspcheck: {self.done} of {counted(self.count, 'hand-in')} tried")
+
+    def end(self) -> None:
+        """Takes the line away."""
+        show("")
+
+
+def tool(name: str) -> str:
+    """How a tool is started from here."""
+    path = emulator.program(name)
+    near = os.path.join(".", os.path.relpath(path))
+    return near if not near.startswith("./..") else name if shutil.which(name) else path
+
+
+def last_name(path: str) -> str:
+    """The last name of a path."""
+    return pathlib.PurePath(path).name
+
+
+def tell_known(marking: Marking, count: int) -> None:
+    """Tells how many hand-ins were tried before, and what was kept and is not believed."""
+    known = marking.known
+    unkept = [sealed_results.UNKEPT] * (not sealed_results.own_key().is_kept)
+    before = [f"{known} of {counted(count, 'hand-in')} {'was' if known == 1 else 'were'} tried before"] * bool(known and count > 1)
+    tell([*unkept, *sealed_results.told_of_others(marking.of_others, os.path.relpath(marking.kept)), *before], "bspcheck: ")

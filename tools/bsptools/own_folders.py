@@ -1,0 +1,82 @@
+"""Folders that are this user's own, and the folders of such in which the tools keep things from run to run.
+
+What is run or taken for true later is written into no other folder, and taken from no other one: docs/contributing/folders.md has the rule.
+"""
+
+from __future__ import annotations
+
+import contextlib
+import os
+import stat
+from collections.abc import Sequence
+
+OTHERS_WRITE, OTHERS_MAY_WRITE = 0o022, "other users may write there"
+# Who else may look into a folder that is made is up to its user's umask; none but this user may write there.
+MODE, PRIVATE = 0o755, 0o700
+
+
+def fault(path: str | os.PathLike[str]) -> str:
+    """Why a folder is not this user's own: it is a link, belongs to another user, or others may write there. Nothing where it is one, or is
+    not there."""
+    try:
+        found = os.lstat(path)
+    except FileNotFoundError:
+        return ""
+    if stat.S_ISLNK(found.st_mode):
+        return "it is a link"
+    if not stat.S_ISDIR(found.st_mode):
+        return "it is not a folder"
+    if found.st_uid != os.geteuid():
+        return "it belongs to another user"
+    return OTHERS_MAY_WRITE if found.st_mode & OTHERS_WRITE else ""
+
+
+def make(path: str | os.PathLike[str]) -> str:
+    """Makes a folder below one that is this user's own, if it is not there. A link in its place is replaced, and never followed. Answers why
+    it is not this user's own."""
+    if os.path.islink(path):
+        os.unlink(path)
+    with contextlib.suppress(FileExistsError):
+        os.mkdir(path, MODE)
+    return fault(path)
+
+
+def cache(*names: str) -> str:
+    """The folder of these names, one below the other, in the user's folder of what is kept from run to run and can be made again; it is made
+    where it is not there. Nothing where no absolute path leads to it, where it is not this user's own, or where it would be made in
+    another's folder, as with sudo."""
+    return _kept("XDG_CACHE_HOME", [".cache"], names)
+
+
+def state(*names: str) -> str:
+    """The same in the user's folder of what is kept, and cannot be made again."""
+    return _kept("XDG_STATE_HOME", [".local", "state"], names)
+
+
+def _kept(variable: str, below_home: list[str], names: Sequence[str]) -> str:
+    """A folder in the one that a variable of the environment names, or that is below the user's home."""
+    home, kept = os.environ.get("HOME"), os.environ.get(variable, "")
+    above = [os.path.dirname(kept)]
+    if not kept and home:
+        above = [os.path.join(home, *below_home[:count]).rstrip("/") or "/" for count in range(len(below_home) - 1, -1, -1)]
+        kept = os.path.join(home, *below_home)
+    if not os.path.isabs(kept):
+        return ""
+    places = [os.path.join(kept, *names[:count]) for count in range(1, len(names) + 1)]
+    try:
+        if not os.path.lexists(places[-1]):
+            nearest = next(filter(os.path.exists, (*reversed(places), kept, *above)))
+            if os.stat(nearest).st_uid != os.geteuid():
+                return ""
+            os.makedirs(kept, PRIVATE, exist_ok=True)
+        for place in places:
+            if not os.path.lexists(place):
+                with contextlib.suppress(FileExistsError):
+                    os.mkdir(place, PRIVATE)
+            why = fault(place)
+            # What others put into a folder above is theirs, or a link, and so is seen.
+            if why and (why != OTHERS_MAY_WRITE or place == places[-1]):
+                return ""
+    except (OSError, StopIteration, ValueError):
+        return ""
+    return places[-1]

@@ -1,0 +1,96 @@
+"""Runs of the program that measures, on each number of processes: one that is compiled for this host, or one that the person has."""
+
+from __future__ import annotations
+
+import os
+import pathlib
+import shlex
+import subprocess
+from collections.abc import Sequence
+from typing import NamedTuple
+
+from .. import children
+from ..emulator import REPO, program
+from ..refusals import Refused, lines_of
+from . import samples
+from .samples import Samples
+
+LIBRARY = REPO / "bsplib/native"
+SOURCE = LIBRARY / "probe.c"
+# Where a command has the number of processes.
+P = "{p}"
+
+
+class Setting(NamedTuple):
+    """What is measured: words of so many bytes, h up to `most`, in so many rounds, for so long each time."""
+
+    word: int
+    most: int
+    rounds: int
+    milliseconds: int
+
+    def words(self) -> list[str]:
+        """The arguments of the program that measures."""
+        return [str(it) for it in self]
+
+
+def called(words: Sequence[str], p: int) -> bytes:
+    """What a command has printed on p processes. What it says on standard error is shown as it comes."""
+    try:
+        done = children.call(words, stdout=subprocess.PIPE, env={**os.environ, "BSP_PROCS": str(p)})
+    except OSError as error:
+        raise Refused(f"{words[0]}: {error.strerror}") from error
+    if done.returncode != 0:
+        raise Refused(f"{shlex.join(words)} ended with status {done.returncode} on {p} processes")
+    return done.stdout
+
+
+def compiled(folder: pathlib.Path, is_mpi: bool) -> str:
+    """The program that measures, compiled for this host."""
+    if not SOURCE.exists():
+        raise Refused(f"{SOURCE} is missing: start bspprobe in a checkout or an installation, or give a program by --program")
+    path = str(folder / "probe")
+    words = [str(LIBRARY / "cc"), *["--mpi"] * is_mpi, "-O2", "-o", path, str(SOURCE)]
+    done = children.call(words, stdout=subprocess.PIPE, stderr=subprocess.STDOUT)
+    if done.returncode != 0:
+        raise Refused("the program that measures was not compiled", *lines_of(done.stdout))
+    return path
+
+
+def compiler(is_mpi: bool) -> str:
+    """The compiler's first line about itself."""
+    word = "mpicc" if is_mpi else "cc"
+    done = children.call([word, "--version"], stdout=subprocess.PIPE, stderr=subprocess.STDOUT)
+    return next(iter(lines_of(done.stdout)), word)
+
+
+def command(text: str) -> list[str]:
+    """The words of a command that a person gives."""
+    try:
+        words = shlex.split(text)
+    except ValueError as error:
+        raise Refused(f"--program {text!r}: {error}") from error
+    if not words:
+        raise Refused("--program is empty: give a command, as './probe' or 'mpirun -n {p} ./probe'")
+    return words
+
+
+def measured(words: Sequence[str], setting: Setting, p: int) -> Samples:
+    """What a command measures on p processes."""
+    placed = [it.replace(P, str(p)) for it in words]
+    found = samples.read(called([*placed, *setting.words()], p), placed[0])[-1]
+    if found.p != p:
+        raise Refused(f"{shlex.join(placed)} ran on {found.p} processes and not on {p}: write {P} where its command has their number")
+    return found
+
+
+def instructions_of_operation() -> float:
+    """How many instructions of the emulator's nodes an operation of the vectors takes."""
+    second = 10**9
+    done = children.call(
+        [program("bsprun"), "-n", "1", "--no-check", "--rate", str(second), str(SOURCE), "8", "4", "1", "1"],
+        stdout=subprocess.PIPE, stderr=subprocess.PIPE,
+    )  # fmt: skip
+    if done.returncode != 0:
+        raise Refused("bsprun did not run the program that measures on the emulator's nodes", *lines_of(done.stderr))
+    return second / samples.read(done.stdout, "bsprun")[-1].rates[0]

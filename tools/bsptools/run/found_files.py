@@ -1,0 +1,96 @@
+"""Files that a program asks for by a name that nobody gave, and that are here: a run is made again with them, since it is the same each time."""
+
+from __future__ import annotations
+
+import contextlib
+import os
+import pathlib
+import re
+import stat
+
+from ..limits import MOST_INPUT
+from ..outputs import output_records
+from ..outputs.library_notes import ABSENT, ASKED, note_of
+from ..outputs.output_records import Record
+from ..prepare.given_files import files_of, given_names
+from ..prepare.job import Job
+
+# What is no file of a person, and may differ from host to host.
+SYSTEM = ("/proc/", "/sys/", "/dev/")
+# Files of one form of name that are given together, and their bytes.
+MOST_TOGETHER, MOST_BYTES = 256, 1 << 22
+
+
+class Wanted(Exception):
+    """A run was given up, since its program asks for these files."""
+
+    def __init__(self, names: list[str]) -> None:
+        super().__init__(names)
+        self.names = names
+
+
+class Finder:
+    """Looks at the records of a run for files that the program asks for: for those that are here, in `names`, and for the others, in
+    `missing`."""
+
+    def __init__(self, job: Job) -> None:
+        self.names: list[str] = []
+        self.missing: list[str] = []
+        options = job.options
+        self._is_off = options.no_files or not job.can_be_given
+        self._given = {identity(it) for it in given_names(options)} - {None}
+        self._asked_for = [*options.file, *(it for folder in options.files for it in files_of(folder))]
+        self._written: set[str] = set()
+
+    def look(self, record: Record) -> None:
+        """Looks at a record."""
+        if record.kind == output_records.NAME:
+            self._written.add(os.path.normpath(os.fsdecode(record.content[4:])))
+        note = note_of(record) if record.kind == output_records.NOTE else None
+        if note is None or note.what not in (ABSENT, ASKED) or self._is_off or note.text in self.names:
+            return
+        if is_file(note.text) and os.path.normpath(note.text) not in self._written and not self._is_given(note.text):
+            self.names.append(note.text)
+        elif note.what == ABSENT and note.text not in self.missing:
+            self.missing.append(note.text)
+
+
+    def _is_given(self, name: str) -> bool:
+        """Whether a file is given, or another one that the user has given is found by its name."""
+        return identity(name) in self._given or any(has_end(it, name) or has_end(name, it) for it in self._asked_for)
+
+
+def has_end(path: str, end: str) -> bool:
+    """Whether the last folders and the name of a path are another one, as in bsplib/src/files.c."""
+    whole, last = ([it for it in pathlib.PurePath(name).parts if it not in ("/", "..")] for name in (path, end))
+    return bool(last) and whole[-len(last) :] == last
+
+
+def identity(name: str) -> tuple[int, int] | None:
+    """What two names have in common of one file."""
+    with contextlib.suppress(OSError, ValueError):
+        found = os.stat(name)
+        return found.st_dev, found.st_ino
+    return None
+
+
+def is_file(name: str) -> bool:
+    """Whether a name is that of a file that can be given."""
+    with contextlib.suppress(OSError, ValueError):
+        found = os.stat(name)
+        is_system = os.path.abspath(name).startswith(SYSTEM)
+        return stat.S_ISREG(found.st_mode) and found.st_size <= MOST_INPUT and not is_system and os.access(name, os.R_OK)
+    return False
+
+
+def with_others(name: str) -> list[str]:
+    """A name, and those beside it that differ in numbers alone, as part1.txt and part2.txt: a program that reads one of them reads more."""
+    folder, last = os.path.split(name)
+    if not re.search(r"\d", last):
+        return [name]
+    form = re.compile(re.sub(r"\d+", r"\\d+", re.escape(last)))
+    with contextlib.suppress(OSError):
+        others = sorted(it for it in os.listdir(folder or ".") if it != last and form.fullmatch(it))
+        found = [it for it in (os.path.join(folder, other) for other in others[:MOST_TOGETHER]) if is_file(it)]
+        return [name, *(found if sum(map(os.path.getsize, found)) <= MOST_BYTES else [])]
+    return [name]

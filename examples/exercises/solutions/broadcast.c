@@ -1,7 +1,8 @@
-/* Exercise 1, solved: rank 0 has N numbers, and every rank wants them. WAY says how they come there. A rank that has other numbers at the end
-   says so. */
+/* Exercise 1, solved: rank 0 has N numbers, and every rank wants them. WAY says how they come there. In the end each rank
+   says whether it has them, and else what it has and what was wanted. */
 #include <bsp.h>
 #include <stdio.h>
+#include <stdlib.h>
 
 #ifndef N
 #define N 64
@@ -73,9 +74,12 @@ int main(void)
         by_doubling(p, s);
 
     for (int i = 0; i < N; i++)
-        wrong += x[i] != 1000 + i;
-    if (wrong > 0)
+        if (x[i] != 1000 + i && wrong++ == 0)
+            printf("rank %d: x[%d] is %d, and %d was wanted\n", s, i, x[i], 1000 + i);
+    if (wrong > 1)
         printf("rank %d: %d numbers are wrong\n", s, wrong);
+    else if (wrong == 0)
+        printf("rank %d: right\n", s);
     bsp_end();
-    return 0;
+    exit(wrong > 0 ? EXIT_FAILURE : EXIT_SUCCESS);
 }

@@ -1,7 +1,8 @@
 /* Exercise 2, solved: rank s has the number (7 s + 3) mod 10, and wants the sum of the numbers of ranks 0 to s. With WAY 1 that takes about
-   log2(p) supersteps, and with WAY 2 one. A rank whose sum is wrong says so. */
+   log2(p) supersteps, and with WAY 2 one. Each rank says whether its sum is right. */
 #include <bsp.h>
 #include <stdio.h>
+#include <stdlib.h>
 
 #define MOST 1024
 
@@ -55,7 +56,9 @@ int main(void)
     for (int t = 0; t <= s; t++)
         wanted += (7 * t + 3) % 10;
     if (sum != wanted)
-        printf("rank %d: %d is wrong\n", s, sum);
+        printf("rank %d: the sum is %d, and %d was wanted\n", s, sum, wanted);
+    else
+        printf("rank %d: right\n", s);
     bsp_end();
-    return 0;
+    exit(sum != wanted ? EXIT_FAILURE : EXIT_SUCCESS);
 }

@@ -5,6 +5,7 @@ from __future__ import annotations
 import contextlib
 import os
 import pathlib
+import shutil
 import signal
 import subprocess
 from typing import Dict, List, Tuple
@@ -15,7 +16,7 @@ from pages.page import Command
 SECONDS = 600
 # The folder of what the copies share: the library that bspcc has built, and modules of Python.
 CACHE = "cache"
-BY_CONTENT = ("bspcc", "bspemu/tools")
+BY_CONTENT = ("bspcc", "bspemu/modules")
 # Two lines that the debugger refuses, which changes nothing; so its answers to the lines between them can be told apart.
 MARK = "-\nclear superstep 0xffffffffffffffff\n"
 MARKED = "refused: BadCommand: there is no such line; help tells the lines\nrefused: NoSuchBreak\n"
@@ -24,15 +25,16 @@ GDB, LINES = "(gdb) ", "(bsp) "
 
 
 def keep_caches(scratch: pathlib.Path) -> None:
-    """Has the copies in a scratch folder share what is made of their files. What goes by the content of all that it is made of is the user's
-    too, where that can be written."""
+    """Has the copies in a scratch folder share what is made of their files. What goes by the content of all that it is made of begins as the
+    user's."""
     kept = pathlib.Path(os.environ.get("XDG_CACHE_HOME") or pathlib.Path.home() / ".cache")
     for name in BY_CONTENT:
-        (scratch / CACHE / name).parent.mkdir(parents=True, exist_ok=True)
+        place = scratch / CACHE / name
+        place.mkdir(0o700, parents=True)
+        # Another check may be at work there.
         with contextlib.suppress(OSError):
-            (kept / name).mkdir(0o700, parents=True, exist_ok=True)
-            if os.access(kept / name, os.W_OK):
-                (scratch / CACHE / name).symlink_to(kept / name)
+            shutil.copytree(kept / name, place, ignore=shutil.ignore_patterns("new.*"), dirs_exist_ok=True)
+        place.chmod(0o700)
 
 
 class Shell:

@@ -11,7 +11,6 @@ import functools
 import os
 import pathlib
 import shutil
-import signal
 import subprocess
 import sys
 import tempfile
@@ -23,6 +22,7 @@ from typing import Callable, Dict, Iterable, List, Optional, Sequence, Tuple, Un
 REPO = pathlib.Path(__file__).resolve().parents[2]
 sys.path.append(str(REPO / "tools"))
 
+import ended_checks  # noqa: E402
 import lanes  # noqa: E402
 
 from bsptools import python_packages  # noqa: E402
@@ -37,7 +37,7 @@ USER_TIME, SYSTEM_TIME = 11, 12
 # For how many seconds of processor time something is computed that takes long.
 WORK = 0.2
 # What stands in a checkout and is none of its files.
-MADE = {".git", "out", "__pycache__", ".bspsweep", "pictures"}
+MADE = {".git", "out", "__pycache__", ".bspsweep", ".bspcheck", "pictures"}
 
 
 def tracked() -> List[str]:
@@ -187,13 +187,17 @@ class Tally:
         return 1 if self.failed else 0
 
 
+def started() -> str:
+    """The emulator that ./bspemu starts. If there is none, that says why, and the check ends."""
+    done = subprocess.run([str(REPO / "bspemu"), "--which"], stdin=subprocess.DEVNULL, stdout=subprocess.PIPE, check=False)
+    if done.returncode != 0:
+        sys.exit(f"{pathlib.Path(sys.argv[0]).name}: there is no emulator to check")
+    return os.fsdecode(done.stdout).rstrip("\n")
+
+
 def emulator(words: Sequence[str]) -> str:
     """The emulator that a command line names first, or the one that ./bspemu starts. The tools take it from the environment."""
-    if words:
-        program = str(pathlib.Path(words[0]).resolve())
-    else:
-        done = subprocess.run([str(REPO / "bspemu"), "--which"], stdout=subprocess.PIPE, text=True, check=True)
-        program = done.stdout.rstrip("\n")
+    program = str(pathlib.Path(words[0]).resolve()) if words else started()
     os.environ["BSPEMU"] = program
     return program
 
@@ -202,10 +206,7 @@ def try_parts(parts: Callable[[Tally, pathlib.Path], Iterable[Part]]) -> int:
     """Makes the parts of a check in a scratch folder: those that the command line names behind the emulator, or all if it names none.
     Answers the exit status."""
     tally = Tally()
-    # Signals end what a check starts, also where a shell's `&` or nohup has the check itself ignore them.
-    for number in (signal.SIGINT, signal.SIGQUIT, signal.SIGHUP):
-        if signal.getsignal(number) == signal.SIG_IGN:
-            signal.signal(number, signal.SIG_DFL)
+    ended_checks.exit_by_signals()
     emulator(sys.argv[1:])
     with tempfile.TemporaryDirectory() as folder:
         tally.make(it for it in parts(tally, pathlib.Path(folder)) if not sys.argv[2:] or it.name in sys.argv[2:])

@@ -250,4 +250,7 @@ if __name__ == "__main__":
     load(sys.argv[2:])
     if BRIDGED in sys.argv[2:]:
         bridge_from_here(sys.argv[1])
-    serve(sys.argv[1])
+    try:
+        serve(sys.argv[1])
+    except KeyboardInterrupt:  # by a Ctrl-C, which ends what asked for the runs, too
+        sys.exit(130)

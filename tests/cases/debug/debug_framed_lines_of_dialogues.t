@@ -50,6 +50,6 @@ A framed session has the lines of a dialogue, with as many lines of reply as the
   refused 1
   refused: BadRank
   done 1
-  over RANK: an instruction of a rank, with all of a function that it calls
+  over\tRANK\tan instruction of a rank, with all of a function that it calls (esc)
   refused 1
   refused: BadCommand

@@ -27,5 +27,5 @@ reads no time has no such line, and the emulator alone gives no clock.
   0.50
   $ bsprun -n 2 time.c without
   0.00
-  $ bspcc -o time.elf time.c && bspemu run time.elf --float --nodes 2
+  $ bspcc --stack 128K -o time.elf time.c && bspemu run time.elf --float --nodes 2
   0.00

@@ -7,7 +7,7 @@ Before a session with the debugger begins, since its status says nothing of node
   $ printf '\004' | dd of=image bs=1 seek=36 conv=notrunc status=none
   $ echo go | at-a-terminal "$REPO"/bspemu debug image
   rank 0 stopped: fault IllegalInstruction
-  bspemu: the program was linked for units of floating point, which --float gives the nodes (stderr)
+  bspemu: the program was compiled for floating point, and the nodes have no units for it: give --float (stderr)
   $ echo go | at-a-terminal "$REPO"/bspemu debug --float image
   rank 0 stopped: fault IllegalInstruction
   $ echo go | at-a-terminal "$REPO"/bspemu debug --framed image

@@ -22,6 +22,7 @@ instruction; --float gives the nodes units, and bspgdb and bspsweep have it too.
     at   address 0x4 (stderr)
     why  the word at 0x4 is fcvt.d.w, of floating point, for which nodes have no units: give --float, or compile by bspcc -march=rv32imc, which does without (stderr)
     gdb  bspgdb six.elf -- -ex continue (stderr)
+  bsprun: run again with --strict to look for the usual mistakes (stderr)
   [2]
   $ bsprun --float six.elf
   6 (no-eol)

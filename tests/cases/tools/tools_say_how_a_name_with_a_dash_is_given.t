@@ -14,7 +14,7 @@ A file whose name begins with a dash is taken by a path, and where it was taken 
   bspgdb: -x.elf is a file here, and begins as options do: give it as ./-x.elf (stderr)
   [1]
   $ bspsweep --folder kept -n 3 -x.elf
-  bspsweep: the following arguments are required: PROGRAM; bspsweep --help tells the options (stderr)
+  bspsweep: unrecognized arguments: -x.elf; bspsweep --help tells the options (stderr)
   bspsweep: -x.elf is a file here, and begins as options do: give it as ./-x.elf (stderr)
   [1]
   $ bspplot --costs costs.svg -x.elf

@@ -218,7 +218,7 @@ def back_in_any_order(bench: Bench) -> None:
     """However a run goes on and back, it stands where it says, and there it is as a new one is: registers and memory."""
     program = bench.build("tests/tools/gdb/rounds.c")
     command = [bench.bspemu, "debug", program, *units(program), "--nodes", "3", "--memory", "262144"]
-    addresses = bench.addresses(program, ["note", "bsp_sync", "rounds.c:44", "*bsp_sync+134"])
+    addresses = bench.addresses(program, ["note", "bsp_sync", "rounds.c:44", "*bsp_sync+146"])
     past = Past(command, addresses)
     # So that few stops are many.
     with bench.machines:

@@ -244,7 +244,7 @@ class Script:
 def back_inside(bench: Bench) -> None:
     """From wherever the ranks stand in a superstep, back to the last breakpoint, change or beginning before."""
     program = bench.build(PROGRAM)
-    names = ["note", "twice", "*bsp_sync", "44", "*bsp_sync+134"]
+    names = ["note", "twice", "*bsp_sync", "44", "*bsp_sync+146"]
     addresses = bench.addresses(program, names)
     words = bench.pointers(program, ["seen", "received.numbers[1]", "mine.numbers[2]", "received.from"])
     watched = [(rank, addr) for rank in range(RANKS) for addr in words]
@@ -258,7 +258,7 @@ def back_past_others(bench: Bench) -> None:
     """Breakpoints of other ranks, over which gdb steps by itself, pass nothing of this superstep: where another rank stands at one at the
     beginning of its superstep, and where one that is not for its rank stands there."""
     program = bench.build(PROGRAM)
-    begin = f"*{bench.address(program, '*bsp_sync+134')}"
+    begin = f"*{bench.address(program, '*bsp_sync+146')}"
     commands = ["monitor superstep 4", "continue", "monitor delete", "thread 2", "stepi 561", "thread 3", "stepi", f"break {begin}"]
     text = bench.gdb(program, [*commands, "reverse-continue", "thread 2", "reverse-continue", "info threads"], "-n", "3")
     in_order(text, 'Thread 3 "rank 2, superstep 4" hit Breakpoint 1', 'Thread 2 "rank 1, superstep 4" hit Breakpoint 1', 'rank 2, superstep 4" (running)')

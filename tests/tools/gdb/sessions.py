@@ -57,7 +57,7 @@ class Bench:
         target = self.folder / (pathlib.Path(source).stem + "".join(options) + ".elf")
         with self.built.setdefault(target.name, threading.Lock()):
             if not target.exists():
-                words = [str(REPO / "bspcc"), *self.library, "-g", "-O0", "-Wno-infinite-recursion", *options]
+                words = [str(REPO / "bspcc"), *self.library, "--stack", "128K", "-g", "-O0", "-Wno-infinite-recursion", *options]
                 subprocess.run([*words, "-o", str(target), source], cwd=REPO, check=True, timeout=SECONDS)
         return str(target)
 

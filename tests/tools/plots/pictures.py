@@ -12,12 +12,13 @@ from typing import Callable, Dict, List, Tuple
 
 import svg
 from base import REPO, SECONDS, Check, Parts
-from checks import Part
+from checks import COMPILER, Part
 from profiles import RUNS, file_of, profile_of
 
+from bsptools.limits import MOST_POINTS
 from bsptools.plot import superstep_costs, sweep_curves, sweep_table
 from bsptools.plot.canvas import EXCHANGE, thousands
-from bsptools.plot.profile import Profile, Reading
+from bsptools.plot.profile import Profile, Reading, parse
 
 G, L = 3, 70
 PRICES = superstep_costs.Prices(G, L)
@@ -75,8 +76,9 @@ def all_drawn(check: Check, kinds: List[str], source: pathlib.Path, *words: str)
 
 def parts(make: Parts) -> List[Part]:
     """A part for each profile, and what else there is to pictures."""
-    others = [same_bytes, refusals, forms, sweeps, choices, names, readings, scales]
-    return [*(make.part(it.__name__, it) for it in others), *(make.part(f"pictures of {name}", of_profile, name) for name in RUNS)]
+    others = [same_bytes, refusals, forms, sweeps, choices, names, readings, scales, printing]
+    more = [make.part("counted", counted, tools=COMPILER)]
+    return [*more, *(make.part(it.__name__, it) for it in others), *(make.part(f"pictures of {name}", of_profile, name) for name in RUNS)]
 
 
 def of_profile(check: Check, name: str) -> None:
@@ -128,7 +130,7 @@ def split(found: Profile, picture: svg.Drawing) -> str:
     sums = [0, 0, 0]
     for cost in superstep_costs.of_profile(found, Reading.OTHERS):
         low = 0
-        for i, (name, label, part) in enumerate(zip(("w", "gh", "l"), ("w", "g·h", "l"), cost.parts(PRICES))):
+        for i, (name, label, part) in enumerate(zip(("w", "gh", "l"), ("w", "g·h", "l"), map(int, cost.parts(PRICES)))):
             sums[i] += part
             if part:
                 wanted[f"{name}-{cost.number}"] = f"superstep {cost.number}: {label} = {part}"
@@ -309,6 +311,15 @@ def names(check: Check) -> None:
     for name, (text, wanted) in tried.items():
         found = sweep_table.labels(sweep_table.lines(sweep_table.parse(text)))
         check.expect(f"names of lines, {name}", found == wanted, found)
+    long = SWEEP.replace("one.s", "a" * 100_000 + "1.s").replace("two.s", "a" * 100_000 + "2.s")
+    found = sweep_table.labels(sweep_table.lines(sweep_table.parse(long)))
+    check.expect("long names of lines", len(set(found)) == 2 and max(map(len, found)) <= sweep_table.MOST_LABEL, found)
+    middle = SWEEP.replace("one.s", "a" * 100 + "1" + "a" * 100).replace("two.s", "a" * 100 + "2" + "a" * 100)
+    found = sweep_table.labels(sweep_table.lines(sweep_table.parse(middle)))
+    check.expect("long names that differ in the middle", len(set(found)) == 2, found)
+    (check.folder / "long.csv").write_text(long)
+    done = check.tool("bspplot", "--sweep", "long.png", "--compare", "long.svg", "long.csv")
+    check.expect("pictures of long names", (done.returncode, done.stderr) == (0, ""), done.stderr)
 
 
 def ends_at(picture: svg.Drawing, ends: Dict[str, Tuple[float, float, float]]) -> bool:
@@ -354,9 +365,13 @@ def refusals(check: Check) -> None:
     (check.folder / "cut.csv").write_text(file_of("one_put").read_text()[:100])
     (check.folder / "other.csv").write_text("a,b\n1,2\n")
     (check.folder / "table.csv").write_text(SWEEP)
+    first, row, *_ = SWEEP.splitlines()
+    many = [first, *(row.replace("one.s", f"{number}.s") for number in range(MOST_POINTS + 1))]
+    (check.folder / "many.csv").write_text("\n".join([*many, ""]))
     check.tool("bsprun", "-n", "4", "--report", "report.csv", str(REPO / "examples/c/lu.elf"))
     first_report(check)
     tried = {
+        ("--sweep", "t.svg", "many.csv"): f"bspplot: its runs make {MOST_POINTS + 1} lines, and a picture has at most {MOST_POINTS}",
         ("--timeline", "t.svg", "cut.csv"): "bspplot: cut.csv: line 3: ",
         ("--timeline", "t.svg", "absent.csv"): "bspplot: absent.csv: No such file or directory",
         ("--costs", "t.svg", "other.csv"): "bspplot: other.csv: this is no profile, no report, no costs of lines, and no table of a sweep",
@@ -381,5 +396,43 @@ def refusals(check: Check) -> None:
     command = [sys.executable, "-c", without, str(REPO / "tools"), "bspplot", "--costs", "t.svg", "report.csv"]
     environment = {"BSPTOOLS_AGAIN": "1"}
     done = subprocess.run(command, capture_output=True, text=True, check=False, cwd=check.folder, env=environment)
-    line = "bspplot: python3-matplotlib is missing: apt-get install python3-matplotlib\n"
+    line = "bspplot: python3-matplotlib is missing: apt-get install python3-matplotlib, or run scripts/toolchain\n"
     check.expect("without matplotlib", (done.returncode, done.stderr) == (1, line), done.stderr)
+
+
+def printing(check: Check) -> None:
+    """Pictures and pages say how much of w was printing where a profile does, and leave it out where that is asked for."""
+    plain, source = file_of("one_put").read_text().splitlines(), check.folder / "printed.csv"
+    more = {"superstep,": "printed", "1,0,,12": "10", "1,0,1": ""}
+    source.write_text("".join(f"{it},{next((text for begin, text in more.items() if it.startswith(begin)), '0')}\n" for it in plain))
+    said = {
+        (): ["work (50.0 % of w printing)", "superstep 1, rank 0: work 12, 10 of it printing", "superstep 1: w = 12, 10 of it printing",
+             "work, w: 20 ticks, 83.3 % (10 printing)"],
+        ("--apart", "printing"): ["work without printing", "superstep 1, rank 0: work 2", "superstep 1: w = 5",
+             "work, w without printing: 13 ticks, 76.5 %"],
+    }  # fmt: skip
+    for words, wanted in said.items():
+        timeline_picture, costs = all_drawn(check, ["timeline", "costs"], source, *words, "--html", str(check.folder / "page.html"))
+        found = [*timeline_picture.texts, *costs.texts]
+        found += [mark.text for picture in (timeline_picture, costs) for begin in ("work-", "w-") for mark in picture.named(begin).values()]
+        check.expect(f"what is said of printing, {words}", not set(wanted) - set(found), found)
+        row = "<tr><th>printing</th><td>left out of w</td></tr>" if words else "<tr><td>1</td><td>12</td><td>10</td><td>4</td>"
+        check.expect(f"what a page says of printing, {words}", row in (check.folder / "page.html").read_text(), row)
+    refused = check.tool("bspplot", "--apart", "printing", "--costs", "costs.svg", str(file_of("one_put")))
+    right = "does not say how much" in refused.stderr and refused.returncode == 1
+    check.expect("a profile that does not tell of printing", right, refused.stderr)
+    source.write_text(source.read_text().replace("synced,10", "synced,13"))
+    refused = check.tool("bspplot", "--costs", "costs.svg", str(source))
+    check.expect("more printing than work", "no whole number up to 12" in refused.stderr and refused.returncode == 1, refused.stderr)
+
+
+def counted(check: Check) -> None:
+    """The profile that bsprun writes beside a summary is that of the run, with a column more, of which the summary's figures are sums."""
+    image, whole = str(REPO / "examples/c/psum.c"), check.folder / "whole.csv"
+    done = check.tool("bsprun", "-n", "4", "--summary", "--profile", str(whole), image)
+    plain = check.folder / "plain.csv"
+    check.tool("bsprun", "-n", "4", "--profile", str(plain), image)
+    rows = [it.rpartition(",") for it in whole.read_text().splitlines()]
+    check.expect("the columns that each profile has", [it[0] for it in rows] == plain.read_text().splitlines(), rows[:3])
+    printed = superstep_costs.printed(superstep_costs.of_profile(parse(whole.read_text()), Reading.OTHERS))
+    check.expect("the summary's printing", printed > 0 and f" ({printed} of it printing), h 8" in done.stderr, (printed, done.stderr))

@@ -56,7 +56,7 @@ DAMAGED: Dict[str, Tuple[Callable[[List[str]], List[str]], str]] = {
         "it is ended, and a superstep follows",
     ),
     "bytes of no transfer": (lambda lines: lines[:5] + lines[6:], "superstep 1, rank 0: its bytes are not those of the transfers"),
-    "a field without an end": (lambda lines: lines[:1] + ['"' + "x" * 200_000] + lines[1:], "line 2: field larger than field limit"),
+    "a field without an end": (lambda lines: lines[:1] + ['"' + "x" * 200_000] + lines[1:], "line 2: a value is missing, or has another form"),
     "no number": (lambda lines: lines[:1] + [lines[1].replace("6", "six", 1)] + lines[2:], "line 2: 'six' is no whole number"),
 }
 
@@ -84,12 +84,14 @@ REPORTS: Dict[str, Tuple[str, str, str, str]] = {
 TABLES: Dict[str, Tuple[str, str, str]] = {
     "a total that is no sum": (",646,", ",645,", "line 2: the total 645 is not 636 + 1 * 4 + 2 * 3"),
     "no nodes": ("b.s,1,", "b.s,0,", "line 2: 0 nodes"),
-    "a price below 0": (",1,2,", ",1,-2,", "line 2: '-2' is no whole number"),
+    "a price below 0": (",1,2,", ",1,-2,", "line 2: '-2' is no number as 4, 3.875 or 31/8"),
+    "a price with an exponent": (",1,2,", ",1,2e9,", "line 2: '2e9' is no number as"),
+    "a price over nothing": (",1,2,", ",1,2/0,", "line 2: '2/0' is no number as"),
     "a column more": (",ended", ",ended,ended", "line 2: its columns are not those of the first line"),
     "a column less": (",646,ended", ",646", "line 2: its columns are not those of the first line"),
     "a column twice": (",input,args,", ",input,input,", "line 1: the table of a sweep has columns"),
     "an outcome that is none": (",ended", ",well", "line 2: 'well' is no outcome"),
-    "a field without an end": ("b.s,1,", '"' + "x" * 200_000, "field larger than field limit"),
+    "a field without an end": ("b.s,1,", '"' + "x" * 200_000, "a value is missing, or has another form"),
 }
 
 

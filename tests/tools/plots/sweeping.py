@@ -13,12 +13,14 @@ import signal
 import subprocess
 import threading
 import time
+from fractions import Fraction
 from typing import Any, Callable, Dict, List, Mapping, Optional, Sequence, Set
 
 import cluster
 from base import PARALLEL, REPO, Check, Parts
 from checks import COMPILER, Part
 
+from bsptools import sealed_results
 from bsptools.sweep.result_store import Place
 
 PROGRAMS = [str(REPO / "examples/broadcast.s"), str(REPO / "examples/broadcast2.s")]
@@ -33,6 +35,17 @@ echo "$1" >> "$(dirname "$0")/told"
 shift
 [ "$1" = -- ] && shift
 exec sh -c "$*"
+"""
+# Stands for Slurm: it makes the tasks of a script one after another.
+SBATCH = """\
+#!/bin/sh
+while [ $# -gt 1 ]; do shift; done
+last=$(sed -n 's/^#SBATCH --array=0-\\([0-9]*\\).*/\\1/p' "$1")
+task=0
+while [ "$task" -le "$last" ]; do
+    SLURM_ARRAY_TASK_ID=$task sh "$1"
+    task=$((task + 1))
+done
 """
 # Stands for an emulator, and kills who makes a run on two nodes.
 KILLING = """\
@@ -69,6 +82,10 @@ def parts(make: Parts) -> List[Part]:
         make.part("refusals of bspsweep", refusals),
         make.part("what a run rests on", keys),
         make.part("a folder of an odd name", odd),
+        make.part("results of others", others),
+        make.part("links in results", links),
+        make.part("forged results", forged),
+        make.part("odd names of hosts and folders", hostile),
         make.part("runs that do not end", ended),
         make.part("a sweep of a program in C", sources, tools=COMPILER),
         make.part("runs that cannot be made", missing),
@@ -278,6 +295,7 @@ def differing(check: Check) -> None:
         place = Place(path.parent)
         record = place.found()
         if record and json.loads(place.job.read_text())["words"][1] == "2":
+            place.give_ticket()
             place.keep({**record, "costs": {**record["costs"], "w": 5}})
     (check.folder / "old.csv").write_text("old\n")
     for target in ("", "new.csv", "old.csv"):
@@ -306,6 +324,26 @@ def damaged(check: Check) -> None:
         check.expect(f"a record that is damaged: {name}", right, done.stdout + done.stderr)
 
 
+def forged(check: Check) -> None:
+    """What was kept with another key is told, and made again; no ticket is left where all is made; and without a folder for a key, a line says
+    so, and there is no script that nobody could collect."""
+    words = ["--engine", "plain", "--folder", "forged", "--nodes", "2", PROGRAMS[0]]
+    text = check.tool("bspsweep", *words).stdout
+    path = next((check.folder / "forged/runs").glob("*/run.json"))
+    record = json.loads(path.read_text())["record"]
+    sealed_results.keep(path, "0123456789abcdef:ticket", {**record, "costs": {**record["costs"], "w": 5}})
+    done = check.tool("bspsweep", *words)
+    told = "bspsweep: 1 result in forged was not kept with your key, and was made again\n"
+    check.expect("a forged result", done.stdout == text and done.stderr.startswith(told), done)
+    check.expect("no ticket is left", not list(path.parent.glob("*.ticket")), list(path.parent.iterdir()))
+    homeless = {"HOME": None, "XDG_STATE_HOME": None}
+    done = check.tool("bspsweep", *words, environment=homeless)
+    right = done.stdout == text and done.stderr.startswith("bspsweep: no key can be kept for your results")
+    check.expect("no place for a key", right and "1 of 1 run done" in done.stderr, done)
+    done = check.tool("bspsweep", "--script", *words, environment=homeless)
+    check.expect("a script without a key", done.returncode == 1 and not done.stdout, done)
+
+
 def keys(check: Check) -> None:
     """The same bytes under another path give the same, and what changes while a sweep is under way is told."""
     image = (REPO / "tests/tools/c/found/words.elf").read_bytes()
@@ -332,22 +370,43 @@ def keys(check: Check) -> None:
 
 
 def machines(check: Check) -> None:
-    """Machines by their names give the prices of the tables, beside others; one's own stand for those of the same name."""
-    (check.folder / "own.txt").write_text("mine 2 1e9 12 70.4 4 measured here\nt3e-16 16 1e9 8 5 8 another one\n")
+    """Machines give each number of nodes the prices that were measured there, exactly, beside other prices; a table of one's own adds sizes to
+    them, and its lines count before the others."""
+    (check.folder / "own.txt").write_text("mine 2 1e9 12 70.4 4 measured here\nt3e-16 16 1e9 8 5 8 another one\nt3e-1 1 35e6 0 0.5 3 assumed\n")
     own: Dict[str, Optional[str]] = {"BSP_MACHINES": "own.txt"}
-    words = ["--engine", "plain", "--folder", "machines", "--nodes", "2,3", "--prices", "2:9"]
-    done = check.tool("bspsweep", *words, "--machine", "t3e-8,mine,t3e-16", *PROGRAMS, environment=own)
-    wanted = check.tool("bspsweep", *words[:-1], "2:9,4:1193,3:70,1:5", *PROGRAMS)
-    check.expect("prices of machines", done.returncode == 0 and done.stdout == wanted.stdout, done.stdout + done.stderr)
-    rows = [{name: int(row[name]) for name in ("g", "l", "supersteps", "w", "h", "total")} for row in csv.DictReader(io.StringIO(done.stdout))]
-    right = len(rows) == 16 and all(it["total"] == it["w"] + it["g"] * it["h"] + it["l"] * it["supersteps"] for it in rows)
-    check.expect("totals at the prices of machines", right, rows)
-    alone = check.tool("bspsweep", *words[:-2], "--machine", "t3e-8", PROGRAMS[0])
-    found = {(row["g"], row["l"]) for row in csv.DictReader(io.StringIO(alone.stdout))}
-    check.expect("the prices of a machine alone", found == {("4", "1193")}, alone.stdout + alone.stderr)
-    done = check.tool("bspsweep", *words, "--machine", "t3e-8,no", *PROGRAMS)
-    right = done.returncode == 1 and not done.stdout and done.stderr.startswith("bspsweep: 'no' is no machine that is known: t3e-2, t3e-4")
-    check.expect("no machine of this name", right, done.stdout + done.stderr)
+    words = ["--engine", "plain", "--folder", "machines"]
+    done = check.tool("bspsweep", *words, "--machine", "t3e,mine", "--prices", "1/3:9", *PROGRAMS, environment=own)
+    rows = list(csv.DictReader(io.StringIO(done.stdout)))
+    found = {(row["machine"], int(row["nodes"])): (row["g"], row["l"]) for row in rows}
+    sizes = {1: ("0", "0.5"), 2: ("3.5", "486"), 4: ("3.875", "679"), 8: ("3.875", "1193"), 16: ("1", "5"), 32: ("9", "1145"), 64: ("9.75", "1825")}
+    wanted = {("t3e", nodes): prices for nodes, prices in sizes.items()}
+    wanted.update({("", nodes): ("1/3", "9") for nodes in sizes})
+    wanted["mine", 2] = ("3", "70.4")
+    check.expect("each number of nodes has its prices", len(rows) == 30 and found == wanted, done.stdout + done.stderr)
+    check.expect("exact totals at the prices of machines", all(map(is_exact, rows)), done.stdout)
+    done = check.tool("bspsweep", *words, "--machine", "t3e-8", PROGRAMS[0])
+    found = {(row["machine"], int(row["nodes"])): (row["g"], row["l"]) for row in csv.DictReader(io.StringIO(done.stdout))}
+    check.expect("one size of a machine alone", found == {("t3e-8", 8): ("3.875", "1193")}, done.stdout + done.stderr)
+    done = check.tool("bspsweep", *words, "--machine", "t3e", "-n", "2,3", "--interpolate", "linear", PROGRAMS[0])
+    found = {(row["machine"], int(row["nodes"])): (row["g"], row["l"]) for row in csv.DictReader(io.StringIO(done.stdout))}
+    wanted = {("t3e (linear)", 2): ("3.5", "486"), ("t3e (linear)", 3): ("3.6875", "582.5")}
+    check.expect("between two sizes of a machine, and named", found == wanted, done.stdout + done.stderr)
+    refused = {
+        ("t3e-8,no",): "'no' is no machine that is known: t3e-2, t3e-4",
+        ("t3e", "-n", "2,3"): "t3e has no prices on 3 nodes; it has them on 2, 4, 8, 16, 32, 64: give such numbers by --nodes, or add --interpolate linear",
+        ("t3e", "-n", "1,2", "--interpolate", "linear"): "t3e has no prices on 1 node; it has them on 2, 4, 8, 16, 32, 64",
+        ("t3e-8", "-n", "4"): "t3e-8 has no prices on 4 nodes; it has them on 8: give such numbers by --nodes, or add a line",
+    }
+    for asked, line in refused.items():
+        done = check.tool("bspsweep", *words, "--machine", *asked, *PROGRAMS)
+        right = done.returncode == 1 and not done.stdout and done.stderr.startswith(f"bspsweep: {line}")
+        check.expect(f"the refusal of --machine {' '.join(asked)}", right, done.stdout + done.stderr)
+
+
+def is_exact(row: Mapping[str, str]) -> bool:
+    """Whether the total of a row is what its sums come to at its prices, in rational numbers."""
+    g, l, total = (Fraction(row[name]) for name in ("g", "l", "total"))
+    return total == int(row["w"]) + g * int(row["h"]) + l * int(row["supersteps"])
 
 
 def odd(check: Check) -> None:
@@ -361,6 +420,98 @@ def odd(check: Check) -> None:
     words = ["--engine", "plain", "--file=-x", "--input=-x", "--args=-n 3 --report", str(REPO / "tests/tools/c/found/words.elf")]
     done = check.tool("bspsweep", *words)
     check.expect("names that begin with a dash", done.returncode == 0 and ",ended\n" in done.stdout, done.stderr)
+    done = check.tool("bspsweep", *words[:2], "--args=1", "--", words[-1])
+    check.expect("-- in front of a program is no argument", outcomes(done.stdout) == ["ended"], done.stdout + done.stderr)
+
+
+def others(check: Check) -> None:
+    """Results, or a part of them, that are another's, or where others may write, are refused with what to do, and nothing of them is run."""
+    text = table(check, TWO)
+    words = ["--engine", "plain", "--folder", "kept", *TWO]
+    for mask in (0o002, 0o000):
+        before = os.umask(mask)
+        done = [check.tool("bspsweep", *words[:3], f"kept-{mask}", *TWO) for _ in range(2)][-1]
+        os.umask(before)
+        check.expect(f"a second sweep with umask {mask:03o}", done.returncode == 0 and done.stdout == text, done.stderr)
+    check.tool("bspsweep", *words)
+    kept = check.folder / "kept"
+    for name in ("", "runs", next((kept / "runs").iterdir()).name):
+        place = kept / "runs" / name if len(name) > 4 else kept / name
+        for told in ("; if all in it is yours, say chmod -R go-w there", *["it belongs to another user"] * (os.geteuid() == 0)):
+            if told.startswith("it"):
+                os.chown(place, 65534, 65534)
+            else:
+                place.chmod(0o775)
+            done = check.tool("bspsweep", *words)
+            place.chmod(0o755)
+            os.chown(place, os.geteuid(), -1)
+            right = done.returncode == 1 and f"no results can be kept in {place}: " in done.stderr and f"{told}; --folder names" in done.stderr
+            check.expect(f"{place.name} of others: {told}", right and (len(name) > 4) == bool(done.stdout), done.stderr)
+    (check.folder / ".bspsweep").symlink_to("kept")
+    done = check.tool("bspsweep", "--engine", "plain", *TWO)
+    check.expect("results that are a link", done.returncode == 1 and ".bspsweep: it is a link; --folder names" in done.stderr, done.stderr)
+
+
+def hostile(check: Check) -> None:
+    """Names of hosts that are commands for a shell are refused, and those of folders are none by Slurm either."""
+    for host in ("a;touch pwned", "$(touch pwned)", "`touch pwned`", "one,-oProxyCommand=touch pwned", "x y", "", "@file", "..", "one,"):
+        done = check.tool("bspsweep", f"--hosts={host}", "--folder", "kept", *TWO)
+        right = done.returncode == 1 and "is no name of a host" in done.stderr and done.stderr.count("\n") == 1
+        check.expect(f"the host {host}", right and not list(check.folder.iterdir()), done.stderr)
+    stub = check.folder / "bin"
+    stub.mkdir()
+    (stub / "sbatch").write_text(SBATCH)
+    (stub / "sbatch").chmod(0o755)
+    text, path = table(check, TWO), f"{stub}:{os.environ['PATH']}"
+    for name in ("$(touch pwned)", "a;touch pwned", "a\n'b'", "--wait", "%j #x"):
+        done = check.tool("bspsweep", "--engine", "slurm", f"--folder={name}", *TWO, environment={"PATH": path})
+        left = [it.name for it in check.folder.iterdir() if it.name not in ("bin", "plain")]
+        lists = list((check.folder / name / "lists").iterdir())
+        check.expect(f"a folder {name} by Slurm", done.stdout == text and left == [name] and not lists, (done.stderr, left, lists))
+        shutil.rmtree(check.folder / name)
+
+
+def links(check: Check) -> None:
+    """A link in the results is replaced, and not followed; so is a pipe, for which nobody waits. Lists for a shell are new files."""
+    text = table(check, TWO)
+    outside = check.folder / "outside"
+    outside.mkdir()
+    (outside / "bashrc").write_text("mine\n")
+    words = ["--engine", "plain", "--folder", "kept", *TWO]
+    check.tool("bspsweep", *words)
+    kept = check.folder / "kept"
+    keys_of = [it.name for it in (kept / "runs").iterdir()]
+
+    def expect(name: str, *more: str) -> None:
+        done = check.tool("bspsweep", *more, *words[2 * len(more[:1]):])
+        right = done.returncode == 0 and (more or done.stdout == text)
+        left = {it.name: it.read_text() for it in outside.iterdir()}
+        check.expect(f"{name} in the results", bool(right) and left == {"bashrc": "mine\n"}, (done.stderr, left))
+
+    for key in keys_of:
+        for name in ("job.json", "run.json", "run.seconds", "run.failed"):
+            (kept / "runs" / key / name).unlink(missing_ok=True)
+            (kept / "runs" / key / name).symlink_to("../../../outside/bashrc")
+    expect("links for files")
+    for key in keys_of:
+        for name in ("job.json", "run.json", "run.seconds"):
+            (kept / "runs" / key / name).unlink()
+            os.mkfifo(kept / "runs" / key / name)
+    expect("pipes for files")
+    for key in keys_of:
+        shutil.rmtree(kept / "runs" / key)
+        (kept / "runs" / key).symlink_to("../../outside")
+    expect("links for runs")
+    for name in ("runs", "lists", "programs"):
+        shutil.rmtree(kept / name, ignore_errors=True)
+        (kept / name).symlink_to("../outside")
+    expect("links for folders")
+    shutil.rmtree(kept / "runs")
+    (kept / "runs").symlink_to("../outside")
+    expect("a link for the list of a script", "--script")
+    lists = [it for it in (kept / "lists").rglob("*")]
+    is_private = all(it.parent == kept / "lists" and it.stat().st_mode & 0o777 == 0o700 for it in lists if it.name.startswith("tmp"))
+    check.expect("lists of a script", len(lists) == 4 and is_private, lists)
 
 
 def refusals(check: Check) -> None:

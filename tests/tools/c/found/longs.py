@@ -99,6 +99,9 @@ READS = BEGIN + """int main(void)
     return 0;
 }
 """
+# An option of a compiler that does nothing, and one as long that runs what somebody else has written.
+PLUGIN = "-fplugin=/tmp/absent.so"
+PLAIN = "plain".ljust(len(PLUGIN) - len("-D"), "_")
 # Texts in which a `long` is named, but none is there.
 NAMED = BEGIN + """/* as long as a long is one */
 int main(void)
@@ -207,10 +210,57 @@ class Longs:
         done = self.run("-Ideep", "main.c", "work.c")
         self.tally.expect("sources", f": work.c:{line_of(HEADER['work.c'])}: 70000 * 70000{FITS}" in done.stderr, done)
 
+    def build(self, *words: str) -> None:
+        """A call of bspcc."""
+        subprocess.run([str(REPO / "bspcc"), *words], cwd=self.folder, env=self.environment, check=True, capture_output=True, timeout=SECONDS)
+
+    def executable(self) -> None:
+        """An executable is looked at by what it records of its sources: of several folders, with options of their own, and in an archive."""
+        for name, text in HEADER.items():
+            self.write(name, text)
+        self.build("-Ideep", f"-D{PLAIN}", "-O1", "-c", "work.c", "-o", "deep/work.o")
+        self.build("-I", "deep", "-c", "main.c")
+        subprocess.run(["riscv64-unknown-elf-ar", "rcs", "libwork.a", "deep/work.o"], cwd=self.folder, check=True, timeout=SECONDS)
+        told = f": work.c:{line_of(HEADER['work.c'])}: 70000 * 70000{FITS}: {ADVICE}\n"
+        for name, words in {"objects": ["main.o", "deep/work.o"], "archive": ["main.o", "-L.", "-lwork"], "sources": ["-Ideep", "main.c", "work.c"]}.items():
+            self.build("-o", f"{name}.elf", *words)
+            done = self.run(f"{name}.elf")
+            self.tally.expect(f"an executable of {name}", done.returncode == 0 and done.stderr == f"bsprun: rank 0, superstep 0{told}", done)
+        self.tally.expect("without the look", self.run("--no-check", "objects.elf").stderr == "", "something is told")
+        # An option by which a compiler runs what a file brings is not taken.
+        content = (self.folder / "objects.elf").read_bytes()
+        (self.folder / "evil.elf").write_bytes(content.replace(f"-D{PLAIN}".encode(), PLUGIN.encode()))
+        done = self.run("evil.elf")
+        self.tally.expect("an option of others", PLUGIN.encode() not in content and told in done.stderr, done)
+        self.build("-o", "checked.elf", "--check", "-Ideep", "main.c", "work.c")
+        done = self.run("checked.elf")
+        self.tally.expect("an executable that looks by itself", done.returncode == 2 and ADVICE not in done.stderr, done)
+        self.unknown()
+
+    def unknown(self) -> None:
+        """What cannot be looked at has a line that says why, but for a program that has no names either."""
+        self.build("-s", "-o", "nameless.elf", "-Ideep", "main.c", "work.c")
+        self.tally.expect("an executable without names", self.run("nameless.elf").stderr == "", "something is told")
+        content = (self.folder / "sources.elf").read_bytes()
+        (self.folder / "silent.elf").write_bytes(content.replace(b"bspcc source", b"other source"))
+        self.write("work.c", HEADER["work.c"] + "/* more */\n")
+        wanted = {
+            "silent.elf": "silent.elf records no sources, .*: build it by this bspcc",
+            "sources.elf": r"sources.elf was built from .* \(.*/work.c has changed since then\): build it again",
+        }
+        for name, line in wanted.items():
+            done = self.run(name)
+            self.tally.expect(f"{name} is not looked at", done.returncode == 0 and re.fullmatch(f"bsprun: {line}\n", done.stderr) is not None, done)
+        (self.folder / "work.c").unlink()
+        done = self.run("objects.elf")
+        self.tally.expect("no source", done.returncode == 0 and "/work.c: No such file or directory): build it again\n" in done.stderr, done)
+
     def classes(self) -> None:
         """A program in C++."""
         done = self.run(self.write("class.cpp", CLASS))
-        self.tally.expect("C++", f": class.cpp:{line_of(CLASS)}: 1000000000 + 2000000000{FITS}" in done.stderr, done)
+        # GCC may exchange the two.
+        sums = [f": class.cpp:{line_of(CLASS)}: {it}{FITS}" for it in ("1000000000 + 2000000000", "2000000000 + 1000000000")]
+        self.tally.expect("C++", any(it in done.stderr for it in sums), done)
 
     def starts(self) -> None:
         """The emulator is started once where there is no such number, where that is left out, and for --check."""
@@ -337,6 +387,7 @@ PARTS: List[Tuple[str, Callable[[Longs], None], Tuple[Tool, ...]]] = [
     ("a sum of cubes", Longs.cubes, COMPILER),
     ("what does not fit into a long", Longs.values, COMPILER),
     ("long in several sources", Longs.sources, COMPILER),
+    ("long in an executable", Longs.executable, COMPILER),
     ("long in C++", Longs.classes, (*COMPILER, CLASSES)),
     ("runs of long", Longs.starts, COMPILER),
     ("programs without long", Longs.costs_nothing, COMPILER),

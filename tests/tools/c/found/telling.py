@@ -23,9 +23,9 @@ class Case(NamedTuple):
 
 TOLD: Dict[int, Case] = {
     1: Case([], "malloc of 100000000 bytes was refused at main, "),
-    2: Case([], "rank 0, superstep 0: life.pgm was to be written at files, .. : give --out DIR, and so 1 more rank"),
+    2: Case(["--no-files"], "rank 0, superstep 0: life.pgm was to be written at files, .. , and --no-files keeps the program from that, and so 1 more"),
     3: Case([], "rank 0, superstep 0: params.cfg was to be read at files, .. , and no file of this name is given or in this folder"),
-    4: Case([], "rank 0, superstep 0: here.cfg was to be read at files, .. : it is in this folder, give --file here.cfg"),
+    4: Case(["--no-files"], "rank 0, superstep 0: here.cfg was to be read at files, .. : it is in this folder, give --file here.cfg"),
     5: Case([], "superstep 1: what was asked for comes to nothing, since no bsp_sync follows: the last of it at messages, "),
     7: Case([], "10 bytes of malloc at 0x"),
     8: Case([], "memory that was given back before"),
@@ -37,8 +37,8 @@ TOLD: Dict[int, Case] = {
     14: Case(["--warn"], "line 1 of the output is '-910', and else '0'; first in what is printed of rank 0 in superstep 0, at memory, silent.c:51", False),
     15: Case(["--warn"], "a message is read in superstep 3, where none is left, by rank 0"),
     16: Case(["--warn"], "its tag still has 0 bytes, and 4 from the next superstep on"),
-    17: Case(["--warn"], "offset 1 is no multiple of the 8 bytes of a put"),
-    18: Case(["--warn"], "offset 1 is no multiple of the 8 bytes that are moved in superstep 1 by rank 1 at messages, "),
+    17: Case([], "offset 1 of bsp_put at messages, .. is not a multiple of 8, the size of an element of area: it counts bytes"),
+    18: Case([], "rank 1, superstep 1: offset 1 of bsp_put at messages, .. is not a multiple of 8, the size of an element of area"),
     19: Case(["--warn"], "the target of a get is read in superstep 1, before bsp_sync, by rank 0 at messages, .. ; the get is that of rank 0 at "),
 }
 NOT_FOUND = "bsprun: looked for, and not found: requests that come to nothing, areas in another order, puts that meet, offsets"
@@ -67,7 +67,75 @@ TWICE += "    free(blocks[0]);\n    free(blocks[1]);\n    free(blocks[1]);\n    
 # No processes, where rank 0 alone has the number.
 NO_PROCESSES = "#include <bsp.h>\nvoid spmd(void)\n{\n    bsp_begin(0);\n    bsp_end();\n}\n"
 NO_PROCESSES += "int main(int argc, char **argv)\n{\n    bsp_init(spmd, argc, argv);\n    spmd();\n    return 0;\n}\n"
+# Reads a file of each rank, adds to one that is there, and makes others.
+KEEP = """#include <bsp.h>
+#include <stdio.h>
+#include <stdlib.h>
+#include <sys/stat.h>
+int main(void)
+{
+    char name[40];
+    FILE *file;
+    int number;
+    bsp_begin(bsp_nprocs());
+    printf("rank %d began\\n", bsp_pid());
+    sprintf(name, "in/part%d.txt", bsp_pid());
+    if ((file = fopen(name, "r")) == NULL)
+        exit(3);
+    fscanf(file, "%d", &number);
+    fclose(file);
+    printf("rank %d read %d\\n", bsp_pid(), number);
+    bsp_sync();
+    file = fopen("log.txt", "a");
+    fprintf(file, "added by %d\\n", number);
+    fclose(file);
+    mkdir("deep", 0777);
+    sprintf(name, "deep/new%d.txt", bsp_pid());
+    file = fopen(name, "w");
+    fprintf(file, "%d\\n", number);
+    fclose(file);
+    bsp_end();
+    return 0;
+}
+"""
+# Shows a file whose name is an argument behind another one, so that bsprun does not give it, or is typed.
+SHOW = """#include <stdio.h>
+#include <stdlib.h>
+int main(int count, char **words)
+{
+    char typed[200];
+    FILE *file;
+    int byte;
+    if (count == 1 && scanf("%199s", typed) != 1)
+        return 3;
+    if ((file = fopen(count == 1 ? typed : words[2], "r")) == NULL)
+        exit(4);
+    while ((byte = getc(file)) != EOF)
+        putchar(byte);
+    return 0;
+}
+"""
+# One rank reads what another has written, which would be that of the run before.
+SHARE = """#include <bsp.h>
+#include <stdio.h>
+#include <stdlib.h>
+int main(void)
+{
+    FILE *file;
+    bsp_begin(bsp_nprocs());
+    if (bsp_pid() == 0) {
+        fputs("shared\\n", file = fopen("shared.txt", "w"));
+        fclose(file);
+    }
+    bsp_sync();
+    if (bsp_pid() == 1 && fopen("shared.txt", "r") == NULL)
+        exit(4);
+    bsp_end();
+    return 0;
+}
+"""
 ARRAYS = "#include <bsp.h>\ndouble table[SIZE], other[500];\nint main(void)\n{\n    bsp_begin(1);\n    bsp_end();\n    return table[1] != other[2];\n}\n"
+ENDLESS = "static int deep(int n) { volatile char room[1000]; room[0] = n; return deep(n + 1) + room[0]; }\nint main(void) { return deep(0); }\n"
 STACK = "int main(void)\n{\n    volatile char bytes[400000];\n    bytes[0] = 0;\n    return bytes[0];\n}\n"
 
 
@@ -128,33 +196,111 @@ class Telling:
         """Files go where --out says, and nowhere else."""
         image = self.build("writes")
         before = sorted(self.folder.iterdir())
-        (self.folder / "out").mkdir()
+        (self.folder / "made").mkdir()
         (self.folder / "elsewhere").write_text("kept\n")
-        (self.folder / "out/log.txt").symlink_to(self.folder / "elsewhere")
-        done = self.run("-n", "3", "--out", "out", image)
+        (self.folder / "made/log.txt").symlink_to(self.folder / "elsewhere")
+        done = self.run("-n", "3", "--out", "made", image)
         both = ["lines.txt was written by 3 ranks, 0 to 2: their parts stand one behind another", "log.txt was written by 3 ranks"]
         self.expect("files are written", done, 0, "rank 0 is done\nrank 1 is done\nrank 2 is done\n", *both)
-        found = {it.name: it.read_text() for it in (self.folder / "out").iterdir() if it.suffix != ".pgm"}
+        found = {it.name: it.read_text() for it in (self.folder / "made").iterdir() if it.is_file()}
         self.tally.expect("what is written", found == WRITTEN, found)
-        picture = (self.folder / "out/life.pgm").read_bytes()
-        self.tally.expect("a picture", picture == b"P5\n08 08\n255\n" + bytes(range(64)), picture)
-        after = sorted(it for it in self.folder.iterdir() if it.name not in ("out", "elsewhere"))
+        picture = (self.folder / "made/out/life.pgm").read_bytes()
+        self.tally.expect("a picture in a folder", picture == b"P5\n08 08\n255\n" + bytes(range(64)), picture)
+        after = sorted(it for it in self.folder.iterdir() if it.name not in ("made", "elsewhere"))
         kept = (self.folder / "elsewhere").read_text() == "kept\n"
         self.tally.expect("nothing elsewhere", before == after and kept, (before, after))
-        done = self.run("-n", "2", image)
-        self.expect("no --out", done, 2, "out/life.pgm: Read-only file system", "out/life.pgm was to be written at ", ": give --out DIR")
+        done = self.run("-n", "2", "--no-files", image)
+        said = "out/life.pgm was to be written at "
+        self.expect("no files", done, 2, "out/life.pgm: Read-only file system", said, ", and --no-files keeps the program from that")
         (self.folder / "place").mkdir()
         (self.folder / "place/log.txt").mkdir()
         done = self.run("--out", "place", image)
         self.expect("a file that cannot be written", done, 1, "place/log.txt: Is a directory (log.txt was not written)")
-        source = self.folder / "life.pgm"
+        source = self.folder / "out/life.pgm"
+        source.parent.mkdir()
         source.write_text("an input\n")
-        done = self.run("--out", ".", "--file", "life.pgm", image)
-        self.expect("an output that is an input", done, 0, "life.pgm was not written: it is read as life.pgm")
+        done = self.run("--out", ".", "--file", "out/life.pgm", image)
+        self.expect("an output that is an input", done, 1, "out/life.pgm stays as it is: it is read as out/life.pgm (out/life.pgm was not written)")
         self.tally.expect("an input is kept", source.read_text() == "an input\n", source.read_bytes())
+        self.placed()
+
+    def placed(self) -> None:
+        """What would be lost has a line and a status: another's place, a name without a place, two files of one place."""
         (self.folder / "more.c").write_text("int more;\n")
-        (self.folder / "over.c").write_text('#include <stdio.h>\nint main(void) { return fputs("x", fopen("more.c", "w")) < 0; }\n')
-        self.expect("an output that is a source", self.run("--out", ".", "over.c", "more.c"), 0, "more.c was not written: it is read as more.c")
+        (self.folder / "over.c").write_text(
+            "#include <stdio.h>\nint main(int n, char **names)\n{\n    while (--n)\n        fputs(names[n], fopen(names[n], \"w\"));\n    return 0;\n}\n"
+        )
+        subprocess.run([str(REPO / "bspcc"), "-o", "over.elf", "over.c"], cwd=self.folder, check=True, timeout=SECONDS)
+        (self.folder / "theirs").mkdir()
+        (self.folder / "linked").mkdir()
+        (self.folder / "linked/a").symlink_to("../theirs")
+        names = ["/outside", "..", "../outside", "a/../../outside", "a/", ".", ""]
+        for name in names:
+            self.expect(f"a file by the name {name}", self.run("--out", "p", "over.elf", name), 1, f"{name} was not written: it is no name of a file below p")
+        done = self.run("--out", "p", "over.elf", "a/x", "b/x", "./c", "a/../d")
+        found = {str(it.relative_to(self.folder / "p")): it.read_text() for it in (self.folder / "p").rglob("*") if it.is_file()}
+        self.expect("files of one last name", done, 0)
+        self.tally.expect("folders are kept", found == {"a/x": "a/x", "b/x": "b/x", "c": "./c", "d": "a/../d"}, found)
+        done = self.run("--out", "p", "over.elf", "c", "e/../c")
+        self.expect("one file by two names", done, 1, "c was not written: rank 0 wrote e/../c, which is the same file")
+        self.expect("a folder that is a file", self.run("--out", "p", "over.elf", "c/x"), 1, "p/c/x: Not a directory (c/x was not written)")
+        self.expect("a folder that is a link", self.run("--out", "linked", "over.elf", "a/x"), 1, "linked/a: it is a link, which is not followed (a/x was")
+        self.tally.expect("nothing behind a link", not list((self.folder / "theirs").iterdir()), "there is something")
+        (self.folder / "same.c").write_text('#include <stdio.h>\nint main(void) { return fputs("x", fopen("more.c", "w")) < 0; }\n')
+        done = self.run("--out", ".", "same.c", "more.c")
+        self.expect("an output that is a source", done, 1, "more.c stays as it is: it is read as more.c (more.c was not written)")
+        for words in (["--report", "p/r.csv"], ["--profile", "p/r.csv"], ["--lines-as", "json=p/r.csv"]):
+            done = self.run("--out", "p", *words, "over.elf", "r.csv")
+            self.expect(f"an output of the tool, {words[0]}", done, 1, "p/r.csv stays as it is: bsprun itself writes p/r.csv (r.csv was not written)")
+            self.tally.expect(f"what is there, {words[0]}", len((self.folder / "p/r.csv").read_text()) > 20, (self.folder / "p/r.csv").read_text())
+
+    def here(self) -> None:
+        """Without an option files are written below the current folder, and read from there, as the program on the host would."""
+        (self.folder / "keep.c").write_text(KEEP)
+        subprocess.run([str(REPO / "bspcc"), "-o", "keep.elf", "keep.c"], cwd=self.folder, check=True, timeout=SECONDS)
+        (self.folder / "log.txt").write_text("before\n")
+        (self.folder / "log.txt").chmod(0o640)
+        (self.folder / "in").mkdir()
+        for number in range(3):
+            (self.folder / f"in/part{number}.txt").write_text(f"{number}\n")
+        done = self.run("-n", "3", "keep.elf")
+        self.expect("files are here", done, 0, "wrote log.txt, deep/new0.txt, deep/new1.txt, deep/new2.txt\n")
+        self.tally.expect("output before and behind a file", done.stdout == "".join(f"rank {s} began\nrank {s} read {s}\n" for s in range(3)), done)
+        again = [line for line in done.stderr.splitlines() if "it is run again" in line]
+        wanted = ["bsprun: the program reads in/part0.txt and 2 more files: it is run again with that, as with --file",
+            "bsprun: the program reads log.txt: it is run again with that, as with --file"]  # fmt: skip
+        self.tally.expect("what it is run again for", again == wanted, done)
+        found = {str(it.relative_to(self.folder)): it.read_text() for it in (self.folder / "deep").iterdir()}
+        self.tally.expect("folders of files are kept", found == {f"deep/new{s}.txt": f"{s}\n" for s in range(3)}, found)
+        log = self.folder / "log.txt"
+        added = "before\n" + "".join(f"added by {s}\n" for s in range(3))
+        self.tally.expect("what is added", (log.read_text(), log.stat().st_mode & 0o777) == (added, 0o640), (log.read_text(), log.stat()))
+        before = {it: it.read_bytes() for it in self.folder.rglob("*") if it.is_file()}
+        done = self.run("-n", "3", "--no-files", "keep.elf")
+        after = {it: it.read_bytes() for it in self.folder.rglob("*") if it.is_file()}
+        self.expect("nothing without files", done, 3, "in/part0.txt was to be read: it is in this folder, give --file")
+        self.tally.expect("nothing changes without files", before == after and "again" not in done.stderr, done)
+        self.expect("both options", self.run("--no-files", "--out", "x", "keep.elf"), 1, "leave one of the two out")
+        self.spelled()
+
+    def spelled(self) -> None:
+        """A file is found by each path to it, and the one that is meant counts; one of another rank is no file of before."""
+        (self.folder / "show.c").write_text(SHOW)
+        (self.folder / "in/x.txt").write_text("in\n")
+        (self.folder / "other").mkdir()
+        (self.folder / "other/x.txt").write_text("other\n")
+        subprocess.run([str(REPO / "bspcc"), "-o", "show.elf", "show.c"], cwd=self.folder, check=True, timeout=SECONDS)
+        for name, text in {"x.txt": "in", "in/x.txt": "in", "./in//../in/x.txt": "in", "/far/in/x.txt": "in", "other/x.txt": "other",
+                str(self.folder / "other/x.txt"): "other"}.items():  # fmt: skip
+            done = self.run("--files", "in", "show.elf", "+", name)
+            self.tally.expect(f"{name}, which is given", (done.returncode, done.stdout) == (0, f"{text}\n"), done)
+        typed = self.run("show.elf", given="in/x.txt\n")
+        self.tally.expect("a name that is typed", (typed.returncode, typed.stdout) == (0, "in\n") and "reads in/x.txt" in typed.stderr, typed)
+        (self.folder / "share.c").write_text(SHARE)
+        for _ in range(2):
+            done = self.run("-n", "2", "share.c")
+            self.expect("a file of another rank", done, 4, "rank 0 has written it, and ranks share no files", "wrote shared.txt")
+        self.expect("a device", self.run("show.elf", given="/proc/version\n"), 4, "/proc/version was to be read")
 
     def given(self) -> None:
         """Words that are files, and all files of a folder."""
@@ -180,7 +326,14 @@ class Telling:
         self.expect("larger than said", done, 1, "the largest are table of 2400000 bytes: give --memory 2")
         self.expect("what fits", self.run("-DSIZE=1500000", "arrays.c"), 0)
         self.expect("a stack of 1M", self.run("stack.c"), 0)
-        self.expect("a stack of 128K", self.run("--stack", "128K", "stack.c"), 2, "its room is 131072 bytes; give --stack 512K")
+        done = self.run("--stack", "128K", "stack.c")
+        self.expect("a stack of 128K", done, 2, "its room is 131072 bytes; it uses 400", " bytes of a larger one: give --stack 448K, or make")
+        self.expect("a stack that was measured", self.run("--stack", "448K", "stack.c"), 0)
+        (self.folder / "endless.c").write_text(ENDLESS)
+        done = self.run("-O0", "--memory", "4M", "endless.c")
+        self.expect("a stack without an end", done, 2, "its room is 1048576 bytes; ", "K do not suffice either: end the recursion")
+        subprocess.run([str(REPO / "bspcc"), "-o", "as_given.elf", "stack.c"], cwd=self.folder, check=True, timeout=SECONDS)
+        self.expect("a stack of bspcc", self.run("as_given.elf"), 0)
         words = [str(REPO / "bspcc"), "--stack", "512K", "-o", "stack.elf", "stack.c"]
         subprocess.run(words, cwd=self.folder, check=True, timeout=SECONDS)
         self.expect("a stack of an ELF file", self.run("--stack", "512K", "stack.elf"), 0)
@@ -190,6 +343,7 @@ class Telling:
 PARTS: List[Tuple[str, Callable[[Telling], None]]] = [
     ("mistakes in silence", Telling.told),
     ("files that are written", Telling.written),
+    ("files that are here", Telling.here),
     ("files that are given", Telling.given),
     ("sizes", Telling.sizes),
 ]

@@ -100,12 +100,13 @@ class Program:
     def run_node(self, build: Build, calls: Sequence[str]) -> Tuple[List[str], str]:
         """What the node writes, in lines, and why it stopped, or nothing."""
         image, place = self.node(build), self.place_for(calls)
-        limits = ["--memory", MEMORY, "--limit", LIMIT, "--input", "input"]
+        # As on the host, in the folder of the files: a file that is written is that of exactly this name.
+        limits = ["--memory", MEMORY, "--limit", LIMIT, "--input", "../input"]
         if self.area.given:
-            words = [str(REPO / "bsprun"), "--no-check", *limits, "--files", "files", "--out", "out", str(image)]
+            words = [str(REPO / "bsprun"), "--no-check", *limits, "--files", ".", "--out", "../out", str(image)]
         else:
             words = [self.bench.emulator, "run", *limits, *units(image), str(image)]
-        done = subprocess.run(words, stdout=subprocess.PIPE, stderr=subprocess.PIPE, check=False, cwd=place, timeout=SECONDS)
+        done = subprocess.run(words, stdout=subprocess.PIPE, stderr=subprocess.PIPE, check=False, cwd=place / "files", timeout=SECONDS)
         shutil.rmtree(place)
         if done.returncode == 0:
             return lines_of(done.stdout), ""

@@ -1,0 +1,149 @@
+"""Hand-ins that try more than to be right: to read what is not theirs, to take all that there is, and to be taken for something else."""
+
+from __future__ import annotations
+
+import os
+import pathlib
+import sys
+import time
+import xml.dom.minidom
+from typing import Dict, List, Tuple
+
+sys.path.insert(0, str(pathlib.Path(__file__).resolve().parents[1]))
+
+from checks import COMPILER, PYELFTOOLS, Part, Tally, Tool  # noqa: E402
+from marked import Bench  # noqa: E402
+
+from bsptools.marking import confinement  # noqa: E402
+
+LANDLOCK = Tool("Landlock", "linux-image-amd64", lambda _: confinement.version() > 0)
+SECRET = "kept from hand-ins"
+SHEET = """title = "Secrets <b>&"
+nodes = [1, 2]
+expected = "secret.txt"
+seconds = 20
+"""
+PROGRAM = """#include <bsp.h>
+#include <stdio.h>
+%s
+int main(void)
+{
+    bsp_begin(bsp_nprocs());
+    %s
+    bsp_end();
+    return 0;
+}
+"""
+INCBIN = '__asm__(".section .rodata\\n.global stolen\\nstolen: .incbin \\"%s\\"\\n.byte 0\\n.text");\nextern const char stolen[];'
+SECTION = '__attribute__((section(".note\\n.incbin \\"%s\\"\\n#"))) int stolen;'
+MACRO = '__asm__(".macro take how\\n.\\\\how\\\\()bin \\"%s\\"\\n.endm\\ntake inc");'
+# What is printed in each form of the marks, where it would be more than a text.
+WILD = "<script>document.title='taken'</script>&amp;\\\"'=1+1\\x1b[31m\\x01]]>"
+
+
+def programs(secret: str, sheet: str) -> Dict[str, Tuple[str, str, str]]:
+    """Hand-ins by their names, with the verdict and a part of what is told."""
+    quoted = secret.replace("\\", "\\\\")
+    return {
+        "include.c": (f'#include "{quoted}"\n', "does not compile", "Permission denied"),
+        "include_sheet.c": (PROGRAM % (f'#include "{sheet}"', ""), "does not compile", "Permission denied"),
+        "has_include.c": (PROGRAM % ("", f'#if __has_include("{secret}")\nputs("{SECRET}");\n#endif'), "does not compile", "Permission denied"),
+        "incbin.c": (PROGRAM % (INCBIN % secret, "fputs(stolen, stdout);"), "does not compile", "file not found"),
+        "section.c": (PROGRAM % (SECTION % secret, ""), "does not compile", "file not found"),
+        "macro.c": (PROGRAM % (MACRO % secret, ""), "does not compile", "file not found"),
+        "fopen.c": (PROGRAM % ("", f'FILE *f = fopen("{secret}", "r"); if (f) puts("{SECRET}");'), "wrong output", "nothing was printed"),
+        "other.c": ('#include "fopen.c"\n', "does not compile", "No such file"),
+        "line.c": (PROGRAM % ("", f'\n#line 1 "{secret}"\nint *volatile p = (int *)0x7fffff00; *p = 1;'), "stopped", "rank 0 stopped"),
+        "tty.c": ('#include "/dev/stdin"\n', "does not compile", ""),
+        "proc.c": (PROGRAM % (INCBIN % "/proc/self/environ", "fputs(stolen, stdout);"), "does not compile", "file not found"),
+        "wild.c": (PROGRAM % ("", f'fputs("{WILD}\\n", stdout);'), "wrong output", "line 1 of the output is"),
+        "wild_abort.c": (PROGRAM % ("", f'bsp_abort("{WILD}\\n");'), "stopped", "it gave up"),
+        "nul.c": ("int main(void) { return 0; }\n\0", "no program", "the file is no text"),
+        "large.c": ("/*" + "x" * (1 << 20) + "*/\n", "no program", "more than"),
+        "bomb.c": ("char x[1 << 30] = {1};\n" + PROGRAM % ("", "putchar(x[5]);"), "does not compile", ""),
+        "deep.c": (PROGRAM % ("#define A(x) x x x x x x x x\n#define B(x) A(A(A(x)))\n#define C(x) B(B(B(x)))\n", "C(C(puts(\"a\");))"), "does not compile", ""),
+        "flood.c": (PROGRAM % ("", 'for (;;) puts("more");'), "too much output", "prints without an end"),
+        "syncs.c": (PROGRAM % ("", "for (;;) bsp_sync();"), "endless", "is it an endless loop?"),
+        "sends.c": (PROGRAM % ("static char x[1 << 16];", "for (;;) bsp_send(0, NULL, x, sizeof x);"), "stopped", "bytes in a superstep"),
+        "=1+1.c": (PROGRAM % ("", 'puts("=1+1");'), "wrong output", "line 1 of the output is `=1+1`"),
+        "report.c": (PROGRAM % ("", 'puts("superstep 0: w 1 h 0 m 0 last\\ntotal 1\\nended");'), "wrong output", "line 1 of the output is"),
+    }
+
+
+def tried(tally: Tally, folder: pathlib.Path) -> None:
+    """Each of them is marked as it should be, and what it tried is in none of the forms of the marks."""
+    bench = Bench(folder / "hostile")
+    secret = bench.write("secret.txt", f"{SECRET}\n")
+    sheet = bench.write("sheet.toml", SHEET)
+    known = programs(str(secret), str(sheet))
+    for name, (text, _, _) in known.items():
+        bench.write(name, text)
+    (bench.folder / "link.c").symlink_to(secret)
+    names = [*known, "link.c"]
+    began = time.monotonic()
+    done = bench.run("sheet.toml", *names, words=["-o", "m.csv", "--html", "m.html", "--junit", "m.xml"])
+    tally.expect("hostile hand-ins take no half an hour", time.monotonic() - began < 1000, time.monotonic() - began)
+    rows = {it["hand-in"].lstrip("'"): it for it in bench.rows("m.csv")}
+    for name, (_, verdict, what) in known.items():
+        row = rows.get(name, {"verdict": "none", "fault": done.stderr})
+        tally.expect(f"{name} is marked", row["verdict"] == verdict and what in row["fault"], f"{verdict}, {what}: {row}")
+    tally.expect("a link is not followed", rows["link.c"]["verdict"] == "no program" and "is a link" in rows["link.c"]["fault"], rows["link.c"])
+    texts(tally, bench, done.stdout)
+
+
+# Stands for a compiler that was installed elsewhere.
+ELSEWHERE = "#!/bin/sh\nexec /usr/bin/riscv64-unknown-elf-gcc \"$@\"\n"
+
+
+def compilers(tally: Tally, folder: pathlib.Path) -> None:
+    """A compiler in a folder of a home, or of what scripts/toolchain has brought, marks as the system's does, and hand-ins read nothing that
+    is beside it."""
+    bench = Bench(folder / "compilers")
+    home = bench.folder / "home"
+    for place in (home / "bin", home / "brought/bin"):
+        place.mkdir(parents=True)
+        (place / "riscv64-unknown-elf-gcc").write_text(ELSEWHERE)
+        (place / "riscv64-unknown-elf-gcc").chmod(0o755)
+        for it in pathlib.Path("/usr/bin").glob("riscv64-unknown-elf-*"):
+            if not os.path.lexists(place / it.name):
+                os.symlink(it, place / it.name)
+    secret = home / "secret.txt"
+    secret.write_text(f"{SECRET}\n")
+    (home / "brought/packages").write_text("it\n")
+    bench.write("sheet.toml", SHEET.replace("secret.txt", "home/secret.txt"))
+    bench.write("right.c", PROGRAM % ("", f'if (bsp_pid() == 0) puts("{SECRET}");'))
+    bench.write("steals.c", f'#include "{secret}"\n')
+    without = bench.folder / "without"
+    without.mkdir()
+    for it in pathlib.Path("/usr/bin").iterdir():
+        if not it.name.startswith("riscv64-"):
+            os.symlink(it, without / it.name)
+    environments = {
+        "a compiler of one's own": {"PATH": f"{home}/bin:{os.environ['PATH']}"},
+        "a compiler that was brought": {"PATH": str(without), "BSPEMU_TOOLCHAIN": str(home / "brought")},
+    }
+    for at, (name, environment) in enumerate(environments.items()):
+        done = bench.run("sheet.toml", "right.c", "steals.c", words=["-o", "m.csv", "--folder", f"kept{at}"], **environment)
+        found = [(it["verdict"], "Permission denied" in it["fault"]) for it in bench.rows("m.csv")] if done.returncode == 1 else []
+        tally.expect(name, found == [("right", False), ("does not compile", True)], (found, done))
+
+
+def texts(tally: Tally, bench: Bench, shown: str) -> None:
+    """What stands in the forms of the marks."""
+    page = (bench.folder / "m.html").read_text()
+    tally.expect("no markup of a hand-in in the page", page.count("<script") == 1 and "&lt;script&gt;" in page and "<b>&" not in page, "")
+    tally.expect("nothing of another's text in the page", "root:x:" not in page and "PATH=" not in page, "")
+    tally.expect("no control characters", not any(ord(it) < 32 and it not in "\n\t" for it in page + shown + (bench.folder / "m.csv").read_text()), "")
+    report = xml.dom.minidom.parse(str(bench.folder / "m.xml"))
+    suites = report.getElementsByTagName("testsuite")
+    tally.expect("JUnit XML", len(suites) == len(bench.rows("m.csv")), len(suites))
+    cells = [it for row in bench.rows("m.csv") for it in row.values() if it[:1] in ("=", "+", "-", "@")]
+    tally.expect("no formula in the table", not cells, cells)
+    left = [it.name for it in pathlib.Path(os.environ.get("TMPDIR", "/tmp")).glob("bspcheck-*") if any(it.rglob("flood.c"))]
+    tally.expect("nothing is left of what they wrote", not left, left)
+
+
+def parts(tally: Tally, folder: pathlib.Path) -> List[Part]:
+    """The parts of this file."""
+    wanted = (*COMPILER, PYELFTOOLS, LANDLOCK)
+    return [Part("hostile", lambda: tried(tally, folder), wanted), Part("compilers", lambda: compilers(tally, folder), wanted)]

@@ -1,0 +1,202 @@
+"""Pictures and texts for papers: points are where the table has them, regions where a program costs least, and misfits are refused."""
+
+from __future__ import annotations
+
+import csv
+import io
+import itertools
+import random
+import re
+import shutil
+import subprocess
+from fractions import Fraction
+from typing import Dict, List, Tuple
+
+from base import Check, Parts
+from checks import SOON, Part, Tool
+
+from bsptools.plot import best_regions, sweep_axes, sweep_table, tex_texts
+from bsptools.plot.best_regions import Candidate, Window
+
+LATEX = Tool("pdflatex", "texlive-latex-recommended")
+# Three programs on some nodes and two settings, at the prices of a machine and at others: w, h and supersteps are made up.
+SUMS = {"one": (100, 40, 1), "two_&_%": (150, 16, 2), "three": (90, 100, 1)}
+MACHINE = {1: ("0", "0.5"), 2: ("3.5", "486"), 4: ("31/3", "679")}
+MISFITS: Dict[Tuple[str, ...], str] = {
+    ("--curves", "c.svg", "--x", "M"): "the table has no column M: it has program, nodes, g, l, machine, N",
+    ("--curves", "c.svg", "--x", "program"): "--x program: 'one' is no number; what fits: --x nodes or --x N",
+    ("--curves", "c.svg", "--x", "g"): "--x g: the prices of t3e are its own on each number of nodes; what fits:",
+    ("--curves", "c.svg", "--only", "nodes=2"): "all runs have nodes 2, and a line needs several; what fits: --x N",
+    ("--curves", "c.svg", "--by", "program"): "at nodes 1 a line has two values, those of g 1 and g none: give --by program,g, --panels g or --only g=1",
+    ("--curves", "c.svg", "--panels", "nodes"): "nodes is along the axis, and so parts neither lines nor panels",
+    ("--curves", "c.svg", "--only", "N=5"): "no run in it has N 5",
+    ("--curves", "c.gif",): "its name ends with .svg, .png, .pdf, .pgf or .tex",
+    ("--table", "c.svg",): "the name of a table for LaTeX ends with .tex",
+    ("--curves", "c.svg", "--size", "3"): "a size is a width from 1in to 40in",
+    ("--curves", "c.svg", "--size", "3inx1in"): "has no room for",
+    ("--curves", "c.svg", "--font", "No Such Font"): "no font 'No Such Font' is found here; serif, sans-serif, monospace always are",
+    ("--map", "m.svg", "--only", "program=one", "--only", "N=1"): "the table has one program alone",
+    ("--map", "m.svg", "--by", "program"): "the runs differ in N: give --by program,N, --panels N or --only N=VALUE",
+    ("--map", "m.svg", "--g-range", "0:5"): "0 has no place on a logarithmic axis",
+    ("--map", "m.svg", "--g-range", "5:1"): "give a range as 0.1:100, the lesser first",
+}  # fmt: skip
+
+
+def parts(make: Parts) -> List[Part]:
+    """All but what LaTeX is wanted for."""
+    return [
+        make.part("regions of what costs least", regions),
+        make.part("points of curves", points),
+        make.part("tables that do not fit", misfits),
+        make.part("texts for TeX", texts),
+        make.part("where pictures come from", origins),
+    ]
+
+
+def for_latex(make: Parts) -> List[Part]:
+    """What LaTeX reads."""
+    return [make.part("what LaTeX reads", compiled, tools=(LATEX,))]
+
+
+def table() -> str:
+    """A table as bspsweep writes it."""
+    text = io.StringIO()
+    rows = csv.writer(text, lineterminator="\n")
+    rows.writerow("program,nodes,g,l,machine,input,args,N,supersteps,w,h,m,total,outcome".split(","))
+    for (program, (w, h, s)), (nodes, prices), n, machine in itertools.product(SUMS.items(), MACHINE.items(), (1, 16), ("", "t3e")):
+        g, l = prices if machine else ("1", "100")
+        work, bytes_ = n * w // nodes + nodes, n * h * (nodes - 1)
+        total = work + Fraction(g) * bytes_ + Fraction(l) * s
+        rows.writerow([program, nodes, g, l, machine, "", "", n, s, work, bytes_, 0, total, "ended"])
+    return text.getvalue()
+
+
+def regions(check: Check) -> None:
+    """A point at random lies in the region of the program that costs least there, of random programs; and where a boundary is, two cost the
+    same and no other less."""
+    chance = random.Random(1)
+    window = Window((0, 50), (0, 5000))
+    for number in range(60):
+        them = [
+            Candidate(f"p{i}", sweep_table.Sums(chance.randint(1, 6), chance.randint(0, 9000), chance.randint(0, 400)))
+            for i in range(chance.randint(2, 6))
+        ]
+        found = best_regions.regions(them, window)
+        for _ in range(30):
+            at = Fraction(chance.randint(1, 4999), 100), Fraction(chance.randint(1, 49999), 10)
+            costs = {it.name: it.sums.total(*at) for it in them}
+            inside = {it.best.name for it in found if holds(it.corners, at)}
+            least = {name for name, cost in costs.items() if cost == min(costs.values())}
+            check.expect(f"a point of map {number}", bool(inside & least) and inside <= least, (them, at, inside, least))
+        for it in best_regions.boundaries(found):
+            costs = {one.name: one.sums.total(*it.ends[0]) for one in them}
+            right = costs[it.one.name] == costs[it.other.name] == min(costs.values())
+            check.expect(f"a boundary of map {number}", right, (it, costs))
+
+
+def holds(corners: List[Tuple[Fraction, Fraction]], at: Tuple[Fraction, Fraction]) -> bool:
+    """Whether a convex polygon has a point, its edges among it."""
+    edges = zip(corners, [*corners[1:], *corners[:1]])
+    return all((b[0] - a[0]) * (at[1] - a[1]) - (b[1] - a[1]) * (at[0] - a[0]) >= 0 for a, b in edges)
+
+
+def points(check: Check) -> None:
+    """Each point of a picture has its value in the table, for each kind of axis."""
+    (check.folder / "table.csv").write_text(table())
+    rows = [row for row in csv.DictReader(io.StringIO(table())) if row["N"] == "16"]
+    for y in ("total", "w", "h", "supersteps", "speedup", "efficiency"):
+        done = check.tool("bspplot", "table.csv", "--curves", f"{y}.svg", "--y", y, "--only", "N=16", "--panels", "machine")
+        told = re.findall(r"<title>([^<]*)</title>", (check.folder / f"{y}.svg").read_text()) if done.returncode == 0 else []
+        check.expect(f"points over nodes: {y}", sorted(told) == sorted(wanted(rows, y)), (done.stderr, told, wanted(rows, y)))
+    done = check.tool("bspplot", "table.csv", "--curves", "n.svg", "--x", "N", "--only", "nodes=4", "--only", "machine=t3e", "--log", "x")
+    text = (check.folder / "n.svg").read_text() if done.returncode == 0 else done.stderr
+    total = next(row["total"] for row in rows if (row["program"], row["nodes"], row["machine"]) == ("one", "4", "t3e"))
+    check.expect("points over a constant", f"one, N 16: total {total}<" in text and ">N (log)<" in text, text[:200])
+    names = {curve.name for panel in frame("total").panels() for curve in panel.curves}
+    check.expect("names of lines", len(names) == 12 and {"one, t3e, N 1", "two_&_%, g 1, l 100, N 16"} <= names, names)
+
+
+def frame(y: str) -> sweep_axes.Frame:
+    """The columns of the table."""
+    return sweep_axes.Frame(sweep_table.parse(table()), sweep_axes.Axes(y=y))
+
+
+def wanted(rows: List[Dict[str, str]], y: str) -> List[str]:
+    """What the points of a picture say, worked out from the rows."""
+    found = []
+    totals = {(row["program"], row["machine"], int(row["nodes"])): Fraction(row["total"]) for row in rows}
+    for row in rows:
+        nodes, ratio = int(row["nodes"]), Fraction(0)
+        if y in ("speedup", "efficiency"):
+            ratio = totals[row["program"], row["machine"], 1] / Fraction(row["total"]) / (nodes if y == "efficiency" else 1)
+        value = f"{float(ratio):.3g}" if ratio else row[y]
+        is_decimal = "/" in value and not 1000 % Fraction(value).denominator
+        value = str(float(Fraction(value))) if is_decimal else value
+        prices = ", g 1, l 100" if not row["machine"] and y in sweep_axes.PRICED else ""
+        found.append(f"{row['program'].replace('&', '&amp;')}{prices}, nodes {nodes}: {y} {value}")
+    return found
+
+
+def misfits(check: Check) -> None:
+    """What does not fit the axes that are asked for is refused with what would, and nothing is written."""
+    (check.folder / "table.csv").write_text(table())
+    before = set(check.folder.iterdir())
+    for words, line in MISFITS.items():
+        done = check.tool("bspplot", "table.csv", *words)
+        right = done.returncode == 1 and line in done.stderr and set(check.folder.iterdir()) == before
+        check.expect(f"the refusal of {' '.join(words)}", right, (done.returncode, done.stderr))
+    one = "\n".join(it for it in table().splitlines() if ",4," not in it[:12] and ",1," not in it[:12])
+    (check.folder / "one.csv").write_text(one + "\n")
+    done = check.tool("bspplot", "one.csv", "--sweep", "s.svg")
+    line = "one.csv has no program on several numbers of nodes, over which --sweep and --compare draw lines; for --curves what fits: --x N"
+    check.expect("a sweep over one number of nodes", done.returncode == 1 and line in done.stderr, done)
+
+
+def texts(check: Check) -> None:
+    """A table has each value exactly, and nothing of a name is a command of TeX."""
+    (check.folder / "table.csv").write_text(table())
+    words = ["--only", "N=16", "--only", "machine=t3e"]
+    done = check.tool("bspplot", "table.csv", "--table", "t.tex", "--curves", "c.tex", "--map", "m.tex", *words)
+    check.expect("texts for TeX", done.returncode == 0, done.stderr)
+    lines = (check.folder / "t.tex").read_text().splitlines()
+    check.expect("names in a table", "nodes & one & two\\_\\&\\_\\% & three \\\\" in lines, lines)
+    rows = {(row["program"], row["nodes"]): row["total"] for row in csv.DictReader(io.StringIO(table())) if row["N"] == "16" and row["machine"]}
+    for nodes in ("1", "2", "4"):
+        cells = next(it for it in lines if it.startswith(f"{nodes} & "))[:-3].split(" & ")[1:]
+        right = [Fraction(it) for it in cells] == [Fraction(rows[program, nodes]) for program in SUMS]
+        check.expect(f"values on {nodes} nodes", right, cells)
+    text = (check.folder / "c.tex").read_text()
+    check.expect("coordinates", text.count("\\addplot") == 3 and "xmode=" in text and "\\addlegendentry{two\\_\\&\\_\\%}" in text, text)
+    told = tex_texts.escaped("a\\b{c}$#~^_&%")
+    right = told == r"a\textbackslash{}b\{c\}\$\#\textasciitilde{}\textasciicircum{}\_\&\%"
+    check.expect("all letters of TeX's own", right, told)
+
+
+def origins(check: Check) -> None:
+    """Pictures of each format and texts say what they were drawn from; and twice the same bytes."""
+    (check.folder / "table.csv").write_text(table())
+    for kind in ("svg", "png", "pdf", "tex"):
+        words = ["table.csv", "--curves", f"a.{kind}", "--only", "N=16", "--panels", "machine", "--size", "84mmx60mm", "--font", "serif"]
+        check.tool("bspplot", *words)
+        content = (check.folder / f"a.{kind}").read_bytes()
+        right = b"drawn by" in content and b"sha256" in content and b"84mmx60mm" in content
+        check.expect(f"where a picture comes from: {kind}", right, content[:80])
+        (check.folder / f"a.{kind}").unlink()
+        check.started("bspplot", *words)
+        check.expect(f"the same bytes again: {kind}", (check.folder / f"a.{kind}").read_bytes() == content, "others")
+
+
+def compiled(check: Check) -> None:
+    """LaTeX reads tables, curves and maps in both forms, without an error."""
+    (check.folder / "table.csv").write_text(table())
+    words = ["--only", "N=16", "--size", "3.3in"]
+    done = check.tool("bspplot", "table.csv", "--table", "t.tex", "--curves", "c.tex", "--map", "m.tex", *words)
+    pgf = check.tool("bspplot", "table.csv", "--curves", "c.pgf", "--map", "m.pgf", *words)
+    check.expect("what is written for LaTeX", done.returncode == pgf.returncode == 0, done.stderr + pgf.stderr)
+    packages = r"\usepackage{booktabs}\usepackage{pgfplots}\usepgfplotslibrary{groupplots}\usetikzlibrary{patterns}"
+    body = "\n\n".join(f"\\input{{{it}}}" for it in ("t.tex", "c.tex", "m.tex", "c.pgf", "m.pgf"))
+    (check.folder / "paper.tex").write_text(f"\\documentclass{{article}}{packages}\n\\begin{{document}}\n{body}\n\\end{{document}}\n")
+    words = [shutil.which("pdflatex") or "", "-interaction=nonstopmode", "-halt-on-error", "paper.tex"]
+    given = {"stdin": subprocess.DEVNULL, "stdout": subprocess.PIPE, "stderr": subprocess.STDOUT, "timeout": SOON}
+    latex = subprocess.run(words, cwd=check.folder, check=False, **given)  # type: ignore[call-overload]
+    check.expect("a paper", latex.returncode == 0 and (check.folder / "paper.pdf").exists(), latex.stdout[-2000:])

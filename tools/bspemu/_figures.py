@@ -37,7 +37,9 @@ def shown(make: Callable[[], Any]) -> Any:
 
     def svg() -> str:
         with drawn_as_by_bspplot():
-            return str(made.svg())
+            text = str(made.svg())
+        # nbconvert takes no declaration of XML in a page.
+        return text[text.index("<svg") :]
 
     made.figure._repr_svg_ = svg  # pylint: disable=protected-access
     return made.figure

@@ -18,6 +18,7 @@ from checks import SOON, Part, Tool
 
 from bsptools.plot import best_regions, sweep_axes, sweep_table, tex_texts
 from bsptools.plot.best_regions import Candidate, Window
+from bsptools.prices import Exact
 
 LATEX = Tool("pdflatex", "texlive-latex-recommended")
 # A file that can be opened, and takes no byte.
@@ -191,7 +192,7 @@ def placed(check: Check) -> None:
     sums = [sweep_table.Sums(2, 10, 10_000), sweep_table.Sums(3, 5000, 10)]
     window = Window((Fraction(1, 10), 100), (10, 100_000))
     found = best_regions.regions([Candidate(f"p{at}", it) for at, it in enumerate(sums)], window)
-    machines = {(Fraction(1, 8), 90): "a chip", (3, 12_000): "cluster (linear)", (5, 99_000): "grid (linear)", (4, 1200): ""}
+    machines: Dict[Tuple[Exact, Exact], str] = {(Fraction(1, 8), 90): "a chip", (3, 12_000): "cluster (linear)", (5, 99_000): "grid", (4, 1200): ""}
     made = best_map.draw([best_map.Map("4 nodes", found, machines)] * 3, window, None, paper_style.Style(3.3), "")
     made.figure.draw_without_rendering()
     for axes in made.figure.axes:

@@ -81,10 +81,11 @@ def compiled(name: str, defines: tuple[tuple[str, str], ...], options: argparse.
         target, made_of = temp / "program.elf", temp / "made-of"
         words = [emulator.program("bspcc"), *constants, *stack, f"-ffile-prefix-map={os.path.dirname(source)}=.", "-MMD", "-MF", str(made_of)]
         words += ["-o", str(target), source, "-lm"]
-        given = {"stdout": subprocess.PIPE, "stderr": subprocess.STDOUT, "env": {**os.environ, "TMPDIR": str(temp)}}
-        done = children.call(words, **given)
-        if done.returncode == 0:
-            done = children.call([*STRIP, str(target)], **given)
+        environment = {**os.environ, "TMPDIR": str(temp)}
+        for command in (words, [*STRIP, str(target)]):
+            done = children.call(command, stdout=subprocess.PIPE, stderr=subprocess.STDOUT, env=environment)
+            if done.returncode != 0:
+                break
         if done.returncode != 0:
             return Program(name, defines, why=(f"{' '.join([name, *constants])} was not compiled", *lines_of(done.stdout, source)), is_compiled=True)
         content, headers = content_of(target, MOST_PROGRAM), headers_of(name, made_of)

@@ -177,6 +177,6 @@ def notebook(check: Check) -> None:
     check.expect("its pictures", len(pictures) == 3, [list(it.get("data", {})) for it in outputs])
     done = python(check.folder, "-m", "nbconvert", "--to", "html", str(path))
     page = path.with_suffix(".html")
-    check.expect("a page of it", done.returncode == 0 and page.exists() and page.read_text().count("<svg") >= 3, done.stderr[-2000:])
+    check.expect("a page of it", done.returncode == 0 and page.exists() and page.read_text().count('src="data:image/svg+xml;base64,') == 3, done.stderr[-2000:])
     said = "".join("".join(it.get("text", [])) for it in outputs)
     check.expect("its texts", "rank 0 has 3" in said and "\\bottomrule" in said and "\\begin{tabular}" in said, said)

@@ -9,6 +9,7 @@
 #include <stdio.h>
 #include <stdlib.h>
 #include <string.h>
+#include <time.h>
 #include <unistd.h>
 
 /* What a rank tells another one before it sends. */
@@ -228,9 +229,11 @@ void transport_keep(int ranks)
     transport_ranks = ranks;
 }
 
-/* What was printed since the last meeting is written by each rank itself, as no other one waits for it. */
+/* What was printed since the last meeting is written by each rank itself, as no other one waits for it. MPI_Abort ends all at once, and mpirun
+   passes nothing on then: so rank 0, which may still write what was printed before the last meeting, and mpirun have a while for it. */
 void transport_stop(int status)
 {
+    const struct timespec a_while = {0, 300 * 1000 * 1000};
     static int is_stopping;
     if (is_stopping++)
         MPI_Abort(MPI_COMM_WORLD, status);
@@ -242,6 +245,7 @@ void transport_stop(int status)
         left.at += count;
         left.used -= (size_t)count;
     }
+    nanosleep(&a_while, NULL);
     MPI_Abort(MPI_COMM_WORLD, status);
     _exit(status);
 }

@@ -2,6 +2,7 @@
 
 from __future__ import annotations
 
+import base64
 import contextlib
 import functools
 from typing import Any, Callable, Iterator
@@ -37,9 +38,16 @@ def shown(make: Callable[[], Any]) -> Any:
 
     def svg() -> str:
         with drawn_as_by_bspplot():
-            return str(made.svg())
+            text = str(made.svg())
+        # nbconvert takes no declaration of XML in a page.
+        return text[text.index("<svg") :]
 
-    made.figure._repr_svg_ = svg  # pylint: disable=protected-access
+    def image() -> str:
+        # Of SVG by itself nbconvert leaves the texts alone in a page, and takes all else away.
+        return f'<img alt="a picture of bspemu" src="data:image/svg+xml;base64,{base64.b64encode(svg().encode()).decode()}">'
+
+    # pylint: disable=protected-access
+    made.figure._repr_svg_, made.figure._repr_html_ = svg, image
     return made.figure
 
 

@@ -3,6 +3,7 @@
 from __future__ import annotations
 
 import argparse
+import os
 import pathlib
 import shlex
 import tempfile
@@ -36,7 +37,8 @@ def bsp(line: str, cell: str) -> Any:
     with tempfile.TemporaryDirectory(prefix="bspemu-") as folder:
         source = pathlib.Path(folder) / "cell.c"
         source.write_text(cell, encoding="utf-8")
-        run = made([*options, str(source), *words[len(own) + 1 :]], str(source), b"", check=True)
+        # The headers of a cell lie beside the notebook.
+        run = made([*options, f"-I{os.getcwd()}", str(source), *words[len(own) + 1 :]], str(source), b"", check=True)
     show(run, asked)
 
 

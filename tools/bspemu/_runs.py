@@ -8,6 +8,8 @@ import pathlib
 import tempfile
 from typing import TYPE_CHECKING, Any, Dict, List, Mapping, Optional, Sequence, Union
 
+from bsptools.refusals import counted
+
 from . import _figures, _frames
 from ._tools import BspError, Done, Number, Price, call, exact
 
@@ -113,8 +115,8 @@ class Run:
         self.outcome: str = self._report.outcome
 
     def __repr__(self) -> str:
-        costs = f"{len(self._report.supersteps)} supersteps, w {self.w}, h {self.h}"
-        return f"<bspemu.Run: {self._profile.nodes} nodes, {costs}; {self.outcome}>"
+        costs = f"{counted(len(self._report.supersteps), 'superstep')}, w {self.w}, h {self.h}"
+        return f"<bspemu.Run: {counted(self._profile.nodes, 'node')}, {costs}; {self.outcome}>"
 
     @property
     def w(self) -> int:

@@ -31,7 +31,7 @@ def sweep(
     nodes: Optional[Iterable[int]] = None,
     g: Iterable[Price] = (),
     l: Iterable[Price] = (),
-    prices: Iterable[Tuple[Price, Price]] = (),
+    prices: Iterable[Union[str, Tuple[Price, Price]]] = (),
     machines: Iterable[str] = (),
     interpolate: Optional[str] = None,
     defines: Optional[Mapping[str, Iterable[object]]] = None,
@@ -51,7 +51,7 @@ def sweep(
     g, l : iterables of prices
         Ticks for a byte of h and for a superstep's end: each g with each l.
     prices : iterable of pairs
-        Prices that belong together.
+        Prices that belong together: ``[("31/8", 1193)]``, or as a text ``["31/8:1193"]``.
     machines : iterable of str
         Machines of the literature, or of the table that BSP_MACHINES in the environment names; each has prices of its own on each number
         of nodes.
@@ -66,7 +66,8 @@ def sweep(
     folder : path
         Where results are kept, the same as that of `bspsweep`.
     executor : concurrent.futures.Executor, optional
-        Who makes the runs: a pool of processes, of Dask or of MPI, whose workers see the same files. All processors of this host if not given.
+        Who makes the runs: a pool of threads or processes, of Dask or of MPI, whose workers see the same files and can import `bspemu`. All
+        processors of this host if not given.
 
     Returns
     -------
@@ -80,7 +81,7 @@ def sweep(
     words = ["--folder", os.fspath(folder)]
     words += [f"--nodes={','.join(map(str, nodes))}"] if nodes is not None else []
     words += [f"--{name}={','.join(map(priced, them))}" for name, them in (("g", list(g)), ("l", list(l))) if them]
-    pairs, named = [f"{priced(one)}:{priced(other)}" for one, other in prices], list(machines)
+    pairs, named = list(map(paired, prices)), list(machines)
     words += [f"--prices={','.join(pairs)}"] if pairs else []
     words += [f"--machine={','.join(named)}"] if named else []
     words += [f"--interpolate={interpolate}"] if interpolate else []
@@ -96,6 +97,14 @@ def sweep(
 def priced(value: Price) -> str:
     """A price for a command line."""
     return spelled(exact(value))
+
+
+def paired(value: Union[str, Tuple[Price, Price]]) -> str:
+    """Two prices that belong together, for a command line."""
+    both: List[Price] = [*value.split(":")] if isinstance(value, str) else [*value]
+    if len(both) != 2:
+        raise BspError(f"{value!r} are no prices that belong together: give a pair as ('31/8', 1193), or a text as '31/8:1193'")
+    return ":".join(map(priced, both))
 
 
 def make_run(place: str) -> None:

@@ -81,5 +81,8 @@ def end_all() -> None:
 
 def exact(value: Price) -> Number:
     """A price as an exact number: 31/8 may be given as "31/8", 3.875, or a Fraction."""
-    found = Fraction(repr(value)) if isinstance(value, float) else Fraction(value)
+    try:
+        found = Fraction(repr(value)) if isinstance(value, float) else Fraction(value)
+    except (ValueError, TypeError, ZeroDivisionError) as error:
+        raise BspError(f"{value!r} is no price: give a number as 4, 3.875 or '31/8'") from error
     return found.numerator if found.denominator == 1 else found

@@ -5,6 +5,7 @@ from __future__ import annotations
 import csv
 import io
 import itertools
+import os
 import random
 import re
 import shutil
@@ -17,8 +18,11 @@ from checks import SOON, Part, Tool
 
 from bsptools.plot import best_regions, sweep_axes, sweep_table, tex_texts
 from bsptools.plot.best_regions import Candidate, Window
+from bsptools.prices import Exact
 
 LATEX = Tool("pdflatex", "texlive-latex-recommended")
+# A file that can be opened, and takes no byte.
+FULL = Tool("/dev/full", "a kernel that has it", os.path.exists)
 # Three programs on some nodes and two settings, at the prices of a machine and at others: w, h and supersteps are made up.
 SUMS = {"one": (100, 40, 1), "two_&_%": (150, 16, 2), "three": (90, 100, 1)}
 MACHINE = {1: ("0", "0.5"), 2: ("3.5", "486"), 4: ("31/3", "679")}
@@ -29,15 +33,21 @@ MISFITS: Dict[Tuple[str, ...], str] = {
     ("--curves", "c.svg", "--only", "nodes=2"): "all runs have nodes 2, and a line needs several; what fits: --x N",
     ("--curves", "c.svg", "--by", "program"): "at nodes 1 a line has two values, those of g 1 and g none: give --by program,g, --panels g or --only g=1",
     ("--curves", "c.svg", "--panels", "nodes"): "nodes is along the axis, and so parts neither lines nor panels",
-    ("--curves", "c.svg", "--only", "N=5"): "no run in it has N 5",
+    ("--curves", "c.svg", "--only", "N=5"): "no run in it has N 5; there is N 1, 16",
+    ("--curves", "c.svg", "--only", "machine=cray"): "no run in it has machine cray; there is machine none, t3e",
+    ("--curves", "c.svg", "--x", "w"): "w is what runs cost, and no setting: it can be along --y alone",
+    ("--curves", "c.svg", "--size", "1in"): "a width of 1in has no room for a name of",
+    ("--table", "c.tex", "--decimals", "10"): "the number of decimals",
     ("--curves", "c.gif",): "its name ends with .svg, .png, .pdf, .pgf or .tex",
     ("--table", "c.svg",): "the name of a table for LaTeX ends with .tex",
     ("--curves", "c.svg", "--size", "3"): "a size is a width from 1in to 40in",
     ("--curves", "c.svg", "--size", "3inx1in"): "has no room for",
     ("--curves", "c.svg", "--font", "No Such Font"): "no font 'No Such Font' is found here; serif, sans-serif, monospace always are",
     ("--map", "m.svg", "--only", "program=one", "--only", "N=1"): "the table has one program alone",
+    ("--map", "m.svg"): "the runs differ in program and N, and a map compares what does the same work: give --by program --panels N, or --by program,N",
+    ("--map", "m.svg", "--only", "N=1", "--panels", "machine"): "g and l are the axes of a map, and machines its dots: leave machine out",
     ("--map", "m.svg", "--by", "program"): "the runs differ in N: give --by program,N, --panels N or --only N=VALUE",
-    ("--map", "m.svg", "--g-range", "0:5"): "0 has no place on a logarithmic axis",
+    ("--map", "m.svg", "--only", "N=1", "--g-range", "0:5"): "0 has no place on a logarithmic axis",
     ("--map", "m.svg", "--g-range", "5:1"): "give a range as 0.1:100, the lesser first",
 }  # fmt: skip
 
@@ -50,6 +60,8 @@ def parts(make: Parts) -> List[Part]:
         make.part("tables that do not fit", misfits),
         make.part("texts for TeX", texts),
         make.part("where pictures come from", origins),
+        make.part("names of machines in a map", placed),
+        make.part("pictures on a full disk", full, tools=(FULL,)),
     ]
 
 
@@ -112,6 +124,8 @@ def points(check: Check) -> None:
     text = (check.folder / "n.svg").read_text() if done.returncode == 0 else done.stderr
     total = next(row["total"] for row in rows if (row["program"], row["nodes"], row["machine"]) == ("one", "4", "t3e"))
     check.expect("points over a constant", f"one, N 16: total {total}<" in text and ">N (log)<" in text, text[:200])
+    titles = re.findall(r">(t3e|g 1, l 100)<", (check.folder / "total.svg").read_text())
+    check.expect("a panel of prices without a machine", sorted(titles) == ["g 1, l 100", "t3e"], titles)
     names = {curve.name for panel in frame("total").panels() for curve in panel.curves}
     check.expect("names of lines", len(names) == 12 and {"one, t3e, N 1", "two_&_%, g 1, l 100, N 16"} <= names, names)
 
@@ -132,8 +146,7 @@ def wanted(rows: List[Dict[str, str]], y: str) -> List[str]:
         value = f"{float(ratio):.3g}" if ratio else row[y]
         is_decimal = "/" in value and not 1000 % Fraction(value).denominator
         value = str(float(Fraction(value))) if is_decimal else value
-        prices = ", g 1, l 100" if not row["machine"] and y in sweep_axes.PRICED else ""
-        found.append(f"{row['program'].replace('&', '&amp;')}{prices}, nodes {nodes}: {y} {value}")
+        found.append(f"{row['program'].replace('&', '&amp;')}, nodes {nodes}: {y} {value}")
     return found
 
 
@@ -170,6 +183,35 @@ def texts(check: Check) -> None:
     told = tex_texts.escaped("a\\b{c}$#~^_&%")
     right = told == r"a\textbackslash{}b\{c\}\$\#\textasciitilde{}\textasciicircum{}\_\&\%"
     check.expect("all letters of TeX's own", right, told)
+
+
+def placed(check: Check) -> None:
+    """Names of machines lie within the axes of their map, over no dot and no other name, on a narrow picture too."""
+    from bsptools.plot import best_map, paper_style
+
+    sums = [sweep_table.Sums(2, 10, 10_000), sweep_table.Sums(3, 5000, 10)]
+    window = Window((Fraction(1, 10), 100), (10, 100_000))
+    found = best_regions.regions([Candidate(f"p{at}", it) for at, it in enumerate(sums)], window)
+    machines: Dict[Tuple[Exact, Exact], str] = {(Fraction(1, 8), 90): "a chip", (3, 12_000): "cluster (linear)", (5, 99_000): "grid", (4, 1200): ""}
+    made = best_map.draw([best_map.Map("4 nodes", found, machines)] * 3, window, None, paper_style.Style(3.3), "")
+    made.figure.draw_without_rendering()
+    for axes in made.figure.axes:
+        frame, texts = axes.get_window_extent(), [it for it in axes.texts if it.get_text()]
+        boxes = [it.get_window_extent() for it in texts]
+        dots = [axes.transData.transform((float(g), float(l))) for g, l in machines]
+        inside = all(frame.x0 <= it.x0 and it.x1 <= frame.x1 and frame.y0 <= it.y0 and it.y1 <= frame.y1 for it in boxes)
+        apart = not any(one.overlaps(other) for one, other in itertools.combinations(boxes, 2))
+        free = not any(box.contains(*dot) for box in boxes for dot in dots)
+        check.expect("names of machines", len(texts) in (0, 3) and inside and apart and free, (boxes, dots, frame))
+
+
+def full(check: Check) -> None:
+    """A disk without room is said to be full, whatever the format is."""
+    (check.folder / "table.csv").write_text(table())
+    for kind in ("svg", "png", "pdf", "tex"):
+        (check.folder / f"full.{kind}").symlink_to("/dev/full")
+        done = check.tool("bspplot", "table.csv", "--curves", f"full.{kind}", "--only", "N=16")
+        check.expect(f"a full disk: {kind}", done.returncode == 1 and done.stderr == f"bspplot: full.{kind}: No space left on device\n", done.stderr)
 
 
 def origins(check: Check) -> None:

@@ -41,12 +41,13 @@ for figure in (run.timeline(l=200), run.matrix(), run.costs(g="31/8", l=10)):
     print(type(figure).__module__, "<svg" in figure._repr_svg_())
 wrote = bspemu.run("wrote.c", input="7\\n")
 print(wrote.files, wrote.output)
-for bad in (lambda: bspemu.run("none.c"), lambda: bspemu.run("three.c"), lambda: bspemu.sweep("none.c"), lambda: sweep.curves(x="N")):
+for bad in (lambda: bspemu.run("none.c"), lambda: bspemu.run("three.c"), lambda: bspemu.sweep("none.c"), lambda: sweep.curves(x="N"),
+            lambda: bspemu.sweep("sieve.c", prices=["5"]), lambda: run.cost(g="a")):
     try:
         bad()
     except bspemu.BspError as error:
         print(json.dumps([error.status, str(error).splitlines()[0], error.run is not None]))
-        sweep = bspemu.sweep("sieve.c", nodes=[1, 2], prices=[("1/3", 5)], args=["100"], executor=concurrent.futures.ThreadPoolExecutor(2))
+        sweep = bspemu.sweep("sieve.c", nodes=[1, 2], prices=["1/3:5"], args=["100"], executor=concurrent.futures.ThreadPoolExecutor(2))
 with concurrent.futures.ProcessPoolExecutor(2) as pool:
     sweep = bspemu.sweep(["sieve.c"], nodes=[1, 2, 4], g=[1, "1/3"], l=[10], args=["100"], executor=pool)
 sweep.save("sweep.csv")
@@ -80,7 +81,7 @@ def imported(check: Check) -> None:
     (check.folder / "typed.py").write_text(SCRIPT)
     done = python(check.folder, "typed.py")
     lines = done.stdout.splitlines()
-    check.expect("what is typed", done.returncode == 0 and len(lines) == 14, done.stdout + done.stderr)
+    check.expect("what is typed", done.returncode == 0 and len(lines) == 16, done.stdout + done.stderr)
     report = check.tool("bsprun", "-n", "4", "--report", "r.json", "--g", "4", "--l", "7", "sieve.c", "1000")
     told = json.loads((check.folder / "r.json").read_text())
     w, h = (sum(it[name] for it in told["supersteps"]) for name in ("w", "h"))
@@ -96,10 +97,11 @@ def imported(check: Check) -> None:
     check.expect("figures", lines[5:8] == ["matplotlib.figure True"] * 3, lines[5:8])
     check.expect("files and input", lines[8] == "{'a.txt': b'7'} ", lines[8])
     wanted: List[Tuple[int, str]] = [(1, "none.c"), (2, "ended with status 3"), (1, "none.c"), (1, "the table has no column N")]
-    for line, (status, text) in zip(lines[9:13], wanted):
+    wanted += [(1, "'5' are no prices that belong together"), (1, "'a' is no price")]
+    for line, (status, text) in zip(lines[9:15], wanted):
         found = json.loads(line)
         check.expect(f"the exception of {text}", found[0] == status and text in found[1] and found[2] == (status == 2), line)
-    check.expect("a sweep by processes", json.loads(lines[13]) == [6, "Int64", "Float64", ["ended"]], lines[13])
+    check.expect("a sweep by processes", json.loads(lines[15]) == [6, "Int64", "Float64", ["ended"]], lines[15])
     # The key that seals results is below the home of whoever made them.
     again = [str(REPO / "bspsweep"), "--again", "sweep.csv.json", "--engine", "plain"]
     home = {**os.environ, "HOME": str(check.folder)}
@@ -173,5 +175,8 @@ def notebook(check: Check) -> None:
     outputs = [it for cell in json.loads(path.read_text())["cells"] for it in cell.get("outputs", [])]
     pictures = [it for it in outputs if "image/svg+xml" in it.get("data", {})]
     check.expect("its pictures", len(pictures) == 3, [list(it.get("data", {})) for it in outputs])
+    done = python(check.folder, "-m", "nbconvert", "--to", "html", str(path))
+    page = path.with_suffix(".html")
+    check.expect("a page of it", done.returncode == 0 and page.exists() and page.read_text().count('src="data:image/svg+xml;base64,') == 3, done.stderr[-2000:])
     said = "".join("".join(it.get("text", [])) for it in outputs)
     check.expect("its texts", "rank 0 has 3" in said and "\\bottomrule" in said and "\\begin{tabular}" in said, said)

@@ -7,6 +7,7 @@ import io
 import json
 import os
 import pathlib
+import shutil
 import subprocess
 from fractions import Fraction
 from typing import Dict, List
@@ -36,6 +37,7 @@ def parts(make: Parts) -> List[Part]:
         make.part("how prices are spelled", prices),
         make.part("records of tables", records, tools=COMPILER),
         make.part("records in odd places", odd),
+        make.part("a second author's folder", elsewhere, tools=COMPILER),
     ]
 
 
@@ -88,6 +90,34 @@ def records(check: Check) -> None:
     done = check.tool("bspsweep", "--again", "other.json", "--engine", "plain")
     check.expect("another emulator", "emulator: sha256 was 000000000000.., and is " in done.stderr, done.stderr)
     refusals(check)
+
+
+def elsewhere(check: Check) -> None:
+    """In a copy of a folder, of whichever name, no digest is another one and nothing is run again; a header is named if it has changed. What GCC
+    refuses of each choice of constants is said once."""
+    one, other = check.folder / "a paper", check.folder / "another # $name"
+    one.mkdir()
+    (one / "parts").mkdir()
+    (one / "parts/my steps.h").write_text("#define STEPS N\n")
+    source = SOURCE.replace("i < N", "i < STEPS").replace("bsp_sync();", 'if (bsp_nprocs() > 99) bsp_abort("%s", __FILE__); bsp_sync();')
+    (one / "syncs.c").write_text('#include "parts/my steps.h"\n' + source)
+    words = ["--engine", "plain", "--nodes", "2", "--define", "N=1,2,3,4,5"]
+    done = Check(one, check.tally).tool("bspsweep", *words, "-o", "table.csv", "syncs.c")
+    record = json.loads((one / "table.csv.json").read_text())
+    check.expect("headers", list(record["headers"]) == ["parts/my steps.h"], done.stderr or record)
+    shutil.copytree(one, other)
+    again, there = ["--again", "table.csv.json", "--engine", "plain", "-o", "again.csv"], Check(other, check.tally)
+    done = there.tool("bspsweep", *again)
+    lines = ["bspsweep: 5 of 5 runs were made before", "bspsweep: the table is the same, byte for byte"]
+    check.expect("the same folder elsewhere", done.stderr.splitlines() == lines, done.stderr)
+    (other / "parts/my steps.h").write_text("#define STEPS (N + 1)\n")
+    done = there.tool("bspsweep", *again)
+    right = "headers: parts/my steps.h: sha256 was " in done.stderr and "bspsweep: and so 2 more images of 5\n" in done.stderr
+    check.expect("a header that has changed", right and done.stderr.count("images: ") == 3, done.stderr)
+    (other / "parts/my steps.h").unlink()
+    done = there.tool("bspsweep", *again)
+    right = "syncs.c -DN=1 was not compiled, nor with 4 other choices of its constants" in done.stderr
+    check.expect("a header that is gone", right and done.stderr.count("No such file") == 1, done.stderr)
 
 
 def refusals(check: Check) -> None:

@@ -125,6 +125,8 @@ def add_papers(parser: Parser) -> None:
     add("--log", choices=LOGS, help="which axes are logarithmic; by default those along which values differ much")
     add("--size", type=size, metavar="WIDTH[xHEIGHT]", help="with --curves and --map: the size, as 3.3in or 84mmx60mm")
     add("--font", metavar="NAME", help="and the font: serif, sans-serif, monospace, or one that is installed")
+    parser.add_number("--decimals", what="the number of decimals", least=0, most=9, metavar="COUNT", help="with --table: so many decimals of what is no whole number; without it"
+        " totals are exact, as 1/3")  # fmt: skip
     add("--g-range", type=price_range(prices.G), metavar="LOW:HIGH", help="the g of a map, 0.1:100 by default")
     add("--l-range", type=price_range(prices.L), metavar="LOW:HIGH", help="the l of a map, 10:100000 by default")
 

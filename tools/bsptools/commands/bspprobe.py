@@ -12,10 +12,13 @@ from ..probe import machine_lines, probing, samples
 from ..probe.estimates import Estimate, Fit
 from ..probe.probing import Setting
 from ..probe.samples import Samples
-from ..refusals import Refused, put, show, tell
+from ..refusals import Refused, counted, put, show, tell
 
 MOST_WORD, MOST_H, MOST_ROUNDS, MOST_MILLISECONDS = 1 << 20, 1 << 16, 1000, 1000
 MILLION, NANO, MICRO = 1e6, 1e-9, 1e-6
+# The load for each processor from which others take a part of what is measured, and what to do then.
+BUSY = 0.3
+QUIET = "measure again when the host is idle, or with more --rounds and --lowest"
 
 
 def parser() -> Parser:
@@ -72,6 +75,7 @@ def main(words: list[str]) -> int:
     fits = [in_unit(fit(it, options.lowest), factor) for it in found]
     unit = "instructions" if options.instructions else "operations"
     tell(explained(it, unit) for it in fits)
+    tell(f"bspprobe: p = {it.p}: these times do not tell g, whose interval begins below 0: {QUIET}" for it in fits if it.g.low <= 0)
     lines = [machine_lines.of(options.name or machine_lines.host(), it, f"{how}, {'lowest times, ' * options.lowest}{unit}") for it in fits]
     if options.output:
         machine_lines.add(options.output, lines)
@@ -108,7 +112,10 @@ def expect_different(found: list[Samples]) -> None:
 def measured(options: argparse.Namespace) -> tuple[list[Samples], str]:
     """What is measured here, on each number of processes."""
     setting = Setting(options.word, options.most, options.rounds, options.milliseconds)
-    numbers = options.nodes or usual_numbers()
+    numbers, load = options.nodes or usual_numbers(), os.getloadavg()[0]
+    is_busy = load > BUSY * processors() and not options.program
+    if is_busy:
+        tell([f"bspprobe: others use this host: its load is {load:.1f}, on {counted(processors(), 'processor')}; {QUIET}"])
     with children.folder("bspprobe") as folder:
         if options.program:
             words, how = probing.command(options.program), shlex.quote(options.program)
@@ -116,6 +123,7 @@ def measured(options: argparse.Namespace) -> tuple[list[Samples], str]:
             start = probing.command(options.mpirun) if options.mpi else []
             words = [*start, probing.compiled(folder, options.mpi)]
             how = f"{probing.compiler(options.mpi)} -O2, bsplib/native by {'MPI' if options.mpi else 'processes'}"
+            how += f", load {load:.1f}" * is_busy
         found = []
         for p in numbers:
             warn_of_few_processors(p, bool(options.mpi or options.program))

@@ -3,6 +3,7 @@
 from __future__ import annotations
 
 import argparse
+import contextlib
 import pathlib
 import re
 import shlex
@@ -13,7 +14,7 @@ from ..machines import Family, family_named
 from ..options import P, Parser, listed, named, pair
 from ..prices import Exact, G, L
 from ..prices import listed as prices_listed
-from ..refusals import REFUSED, Refused, counted, put, tell
+from ..refusals import REFUSED, Refused, counted, put, show, tell
 from ..sealed_results import digest
 from ..sweep import engines, result_folders, result_table, sweep_job, table_record
 from ..sweep.result_folders import Unkept, kept_in
@@ -232,7 +233,11 @@ def sweep(options: argparse.Namespace, words: list[str], before: table_record.Re
     if known:
         tell([f"{known} of {counted(len(whole.places), 'run')} {'was' if known == 1 else 'were'} made before"], "bspsweep: ")
     if missing:
-        whole.make(engine, missing, MAIN)
+        try:
+            whole.make(engine, missing, MAIN)
+        except children.Ended:
+            tell_broken_off(whole)
+            raise
     wrong = whole.check(engine) if options.check else []
     is_whole = not wrong and not whole.missing() and not whole.unplaced
     record = whole.write() if is_whole or not options.check else None
@@ -242,6 +247,14 @@ def sweep(options: argparse.Namespace, words: list[str], before: table_record.Re
     if options.check:
         tell([f"{counted(len(whole.places), 'run')} gave the same once more" if is_whole else "no table is written"], "bspsweep: ")
     return REFUSED if not is_whole or not is_same else NOT_ENDED if stopped else 0
+
+
+def tell_broken_off(whole: Sweep) -> None:
+    """Says what there is of a sweep that was ended by Ctrl-C or another signal, and how it goes on."""
+    made, count = len(whole.places) - len(whole.missing()), counted(len(whole.places), "run")
+    # The terminal may be gone.
+    with contextlib.suppress(OSError):
+        show(f"bspsweep: broken off with {made} of {count} made: {whole.options.folder} keeps them, and the same command makes the rest", "\n")
 
 
 def tell_again(before: table_record.Record, now: table_record.Record) -> bool:

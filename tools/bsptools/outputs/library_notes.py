@@ -63,8 +63,11 @@ class NoteTeller:
     def lines(self, notes: list[Note]) -> list[str]:
         """A line for each kind of note, with how many more ranks made it."""
         kinds: dict[tuple[str, int, str], list[Note]] = {}
-        for it in (it for it in notes if it.what != ASKED):
-            kinds.setdefault(it.kind, []).append(it)
+        for it in notes:
+            # A rank that looks for a file of its own, and writes it later, begins with nothing, as it means to.
+            is_begun = it.what == ABSENT and self.written.get(it.text) == it.rank
+            if it.what != ASKED and not is_begun:
+                kinds.setdefault(it.kind, []).append(it)
         lines = []
         for same in list(kinds.values())[:MOST_TOLD]:
             ranks = len({it.rank for it in same}) - 1

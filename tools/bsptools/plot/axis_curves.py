@@ -2,6 +2,8 @@
 
 from __future__ import annotations
 
+import textwrap
+
 from matplotlib.axes import Axes
 from matplotlib.lines import Line2D
 from matplotlib.ticker import FixedLocator, FuncFormatter, LogLocator, NullLocator
@@ -18,6 +20,10 @@ LABELS = {"total": "total, in ticks", "w": "w, in ticks", "h": "h, in bytes", "n
 RATIOS = ("speedup", "efficiency")
 # Points of an inch that numbers may take, and how many times as much the most is where powers alone are named.
 POINTS, MANY = 50, 200
+# Letters of a title in an inch of a panel, and at least; the length of a line in a legend, in letters, at which its dashes are told apart.
+TITLE, LEAST_TITLE, LONG = 11, 10, 3.2
+# At most so many numbers are along an axis at the places of the points if it is not logarithmic.
+MOST_PLACES = 8
 # From how many times as much on an axis is logarithmic if nothing is said.
 WIDE = 8
 
@@ -54,8 +60,7 @@ def draw(panels: list[Panel], x: str, y: str, log: str | None, style: Style, tit
     shown = [*names, "ideal"] if y in RATIOS and x == NODES else names
     made, axes, columns = grid(style, title, len(panels), shown if len(shown) > 1 else [])
     for number, (panel, one) in enumerate(zip(panels, axes)):
-        if panel.title:
-            one.set_title(panel.title)
+        headed(one, panel.title, len(panels), style)
         for curve in panel.curves:
             line(made, one, f"{number}-{names.index(curve.name)}", curve.name, curve.values, look(names.index(curve.name)), (x, y))
         if len(shown) > len(names):
@@ -65,8 +70,15 @@ def draw(panels: list[Panel], x: str, y: str, log: str | None, style: Style, tit
     if len(shown) > 1:
         handles = [Line2D([], [], **look(at)) for at in range(len(names))]
         handles += [Line2D([], [], color=IDEAL, linestyle=":")] * (len(shown) - len(names))
-        made.legend(handles, shown, columns)
+        made.legend(handles, shown, columns, LONG)
     return made
+
+
+def headed(axes: Axes, title: str, panels: int, style: Style) -> None:
+    """The title of a panel, in as many lines as its width asks for."""
+    if title:
+        letters = int(style.width / across(panels, style) * TITLE)
+        axes.set_title("\n".join(textwrap.wrap(title, max(letters, LEAST_TITLE))), fontsize="medium")
 
 
 def line(
@@ -100,9 +112,9 @@ def scaled(axes: Axes, logarithmic: str, x: str, y: str, at: list[Exact]) -> Non
             powers(axes, name, 2 if what in (NODES, "speedup") else 10)
         # A scale has a form of numbers of its own.
         getattr(axes, f"{name}axis").set_major_formatter(FuncFormatter(lambda value, _: plain(value)))
-    if "x" in logarithmic:
+    if "x" in logarithmic or len(at) <= MOST_PLACES:
         room = axes.figure.get_figwidth() * axes.get_subplotspec().get_gridspec().ncols ** -1 * POINTS
-        axes.xaxis.set_major_locator(FixedLocator([float(it) for it in apart(at, room)]))
+        axes.xaxis.set_major_locator(FixedLocator([float(it) for it in apart(at, room, "x" in logarithmic)]))
     if y in RATIOS and "y" not in logarithmic:
         axes.set_ylim(bottom=0)
     axes.grid(alpha=0.25)
@@ -125,6 +137,8 @@ def labelled(axes: Axes, names: list[str], logarithmic: str, place: tuple[int, i
         label = (LABELS.get(what, what) if count == 1 else what) + (" (log)" if name in logarithmic else "")
         if wanted[name]:
             getattr(axes, f"set_{name}label")(label)
+    # Panels share what is along the axis at the side.
+    axes.tick_params(labelleft=wanted["y"])
 
 
 def plain(value: float) -> str:

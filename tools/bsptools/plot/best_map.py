@@ -9,10 +9,11 @@ from typing import NamedTuple
 from matplotlib.axes import Axes
 from matplotlib.patches import Patch, Polygon
 from matplotlib.ticker import FuncFormatter
+from matplotlib.transforms import Bbox
 
 from ..prices import Exact, spelled
-from ..refusals import Refused
-from .axis_curves import labelled, plain, powers
+from ..refusals import Refused, counted
+from .axis_curves import headed, labelled, plain, powers
 from .best_regions import Candidate, Region, Window, boundaries, regions
 from .canvas import Picture
 from .paper_style import Style, across, grid
@@ -25,6 +26,8 @@ L_RANGE: tuple[Exact, Exact] = (10, 100_000)
 # Colours of regions, each with a hatching, so that they are told apart in grey. Hatchings of circles would take LaTeX minutes.
 COLORS = ["#ffffff", "#9ecae1", "#fdd0a2", "#d9d9d9", "#c7e9c0", "#dadaeb", "#fcbba1", "#ffeda0"]
 HATCHES = ["", "//", "\\\\", "xx", "--", "||", "++", "////"]
+# Half of the room that a dot takes, in pixels; and points of an inch.
+DOT, POINT = 5, 72
 # Pieces of an edge, which is no straight line on logarithmic axes.
 PIECES = 48
 
@@ -40,9 +43,16 @@ class Map(NamedTuple):
 def maps(rows: list[Row], asked: Asked, window: Window) -> list[Map]:
     """A map for each number of nodes, and for each choice of what else was asked to part panels."""
     frame = Frame(rows, asked)
+    for name in PRICES:
+        if name in (*asked.panels, *(asked.by or ())):
+            raise Refused(f"g and l are the axes of a map, and machines its dots: leave {name} out of --by and --panels")
     differing = [it for it in frame.varying() if it not in PRICES]
     panels = list(dict.fromkeys([*asked.panels, *([NODES] if NODES in differing else [])]))
     by = list(asked.by) if asked.by is not None else [it for it in differing if it not in panels]
+    if asked.by is None and len(by) > 1:
+        # Of two sizes of a problem the smaller one always costs less, which is no answer.
+        raise Refused(f"the runs differ in {' and '.join(by)}, and a map compares what does the same work: give --by {by[0]} --panels"
+                      f" {','.join(by[1:])}, or --by {','.join(by)} if all of them do")  # fmt: skip
     left = [it for it in differing if it not in panels and it not in by]
     if left:
         raise Refused(f"the runs differ in {left[0]}: give --by {','.join([*by, left[0]])}, --panels {left[0]} or --only {left[0]}=VALUE")
@@ -63,7 +73,7 @@ def one_map(frame: Frame, key: tuple[str, ...], panels: list[str], by: list[str]
     parts = [[("" if name == PROGRAM else name, it) for name, it in zip(by, one) if it] or [("", "all")] for one in keys]
     names = telling(parts) if len(parts) > 1 else [part[0][1] for part in parts]
     candidates = [Candidate(name, row.sums) for name, row in zip(names, keys.values()) if row.sums is not None]
-    title = ", ".join(f"{it} nodes" if name == NODES else it if name == PROGRAM else f"{name} {it}" for name, it in zip(panels, key))
+    title = ", ".join(counted(int(it), "node") if name == NODES else it if name == PROGRAM else f"{name} {it}" for name, it in zip(panels, key))
     machines = {(row.g, row.l): frame.cell(row, MACHINE) for row in rows}
     return Map(title, regions(candidates, window), machines)
 
@@ -83,8 +93,7 @@ def draw(them: list[Map], window: Window, log: str | None, style: Style, title: 
     names, logarithmic = names_of(them), expected(window, log)
     made, axes, columns = grid(style, title, len(them), names)
     for number, (one, place) in enumerate(zip(them, axes)):
-        if one.title:
-            place.set_title(one.title)
+        headed(place, one.title, len(them), style)
         for at, region in enumerate(one.regions):
             text = f"{region.best.name} costs least here, with w {region.best.sums.w}, h {region.best.sums.h} in {region.best.sums.supersteps} supersteps"
             corners = curved(region.corners, logarithmic, is_closed=True)
@@ -92,10 +101,13 @@ def draw(them: list[Map], window: Window, log: str | None, style: Style, title: 
         for at, it in enumerate(boundaries(one.regions)):
             (line,) = place.plot(*zip(*curved(list(it.ends), logarithmic)), color="black", linewidth=1.1)
             made.mark(line, f"boundary-{number}-{at}", str(it))
-        marked(made, place, one, window, number)
         scaled(place, window, logarithmic)
         labelled(place, ["g", "l"], logarithmic, (number, len(them), across(len(them), style)))
     made.legend([Patch(**{**look(at), "edgecolor": "#555555"}) for at in range(len(names))], names, columns)
+    # Where names of machines have room is known when all else has its place.
+    made.figure.draw_without_rendering()
+    for number, (one, place) in enumerate(zip(them, axes)):
+        marked(made, place, one, window, number)
     return made
 
 
@@ -123,13 +135,40 @@ def curved(corners: list[tuple[Fraction, Fraction]], logarithmic: str, is_closed
 
 def marked(made: Picture, axes: Axes, one: Map, window: Window, number: int) -> None:
     """The prices of the table that lie in sight, by the names of machines that have them."""
-    for at, ((g, l), name) in enumerate(sorted(one.machines.items())):
-        if window.has(g, l):
-            (mark,) = axes.plot([float(g)], [float(l)], marker="o", color="black", markersize=4, linestyle="none", zorder=5)
-            made.mark(mark, f"prices-{number}-{at}", f"{name or 'prices of the table'}: g {spelled(g)}, l {spelled(l)}")
-            if name:
-                box = {"facecolor": "white", "edgecolor": "none", "pad": 0.8, "alpha": 0.85}
-                axes.annotate(name, (float(g), float(l)), (4, -11 if at % 2 else 4), textcoords="offset points", bbox=box)
+    seen = [(g, l, name) for (g, l), name in sorted(one.machines.items()) if window.has(g, l)]
+    taken = []
+    for at, (g, l, name) in enumerate(seen):
+        (mark,) = axes.plot([float(g)], [float(l)], marker="o", color="black", markersize=4, linestyle="none", zorder=5)
+        made.mark(mark, f"prices-{number}-{at}", f"{name or 'prices of the table'}: g {spelled(g)}, l {spelled(l)}")
+        taken.append(Bbox.from_bounds(*(axes.transData.transform((float(g), float(l))) - DOT), 2 * DOT, 2 * DOT))
+    for (g, l, name), dot in zip(seen, list(taken)):
+        if name:
+            taken.append(named(axes, name, (float(g), float(l)), dot, taken))
+
+
+def named(axes: Axes, name: str, at: tuple[float, float], dot: Bbox, taken: list[Bbox]) -> Bbox:
+    """Writes the name of a machine beside its dot: within the axes, and over nothing that has taken its place if there is such a place. Its own
+    is answered."""
+    box = {"facecolor": "white", "edgecolor": "none", "pad": 0.8, "alpha": 0.85}
+    text = axes.annotate(name, at, (0, 0), textcoords="offset points", bbox=box, annotation_clip=False, zorder=6, fontsize="small")
+    text.set_in_layout(False)
+    size, frame = text.get_window_extent(), axes.get_window_extent()
+    middle = (dot.x0 + dot.x1) / 2, (dot.y0 + dot.y1) / 2
+    places = []
+    for rise in (DOT, -DOT - size.height, -size.height / 2, 2 * DOT + size.height, -2 * DOT - 2 * size.height):
+        for left in (middle[0] + DOT, middle[0] - DOT - size.width):
+            x = max(frame.x0 + 1, min(left, frame.x1 - size.width - 1))
+            y = max(frame.y0 + 1, min(middle[1] + rise, frame.y1 - size.height - 1))
+            places.append(Bbox.from_bounds(x, y, size.width, size.height))
+    found = min(places, key=lambda it: sum(overlap(it, other) for other in taken))
+    text.xyann = ((found.x0 - size.x0) * POINT / axes.figure.dpi, (found.y0 - size.y0) * POINT / axes.figure.dpi)
+    return found
+
+
+def overlap(one: Bbox, other: Bbox) -> float:
+    """The area that two places share."""
+    both = Bbox.intersection(one, other)
+    return float(both.width * both.height) if both is not None else 0.0
 
 
 def scaled(axes: Axes, window: Window, logarithmic: str) -> None:

@@ -22,7 +22,7 @@ from matplotlib.text import Text
 
 from .. import files
 from ..prices import Exact, grouped
-from ..refusals import Refused, about, printable
+from ..refusals import Refused, printable
 from .picture_formats import KINDS, ORIGIN
 
 # Colours that stay apart in grey too, and for those who do not see all of them. What stands beside one another differs in lightness.
@@ -55,9 +55,9 @@ class Picture:
         """What a file of this kind says beside the picture."""
         return {**KINDS[kind], **({ORIGIN[kind]: self.origin} if self.origin else {})}
 
-    def legend(self, handles: Sequence[Artist], names: Sequence[str], columns: int) -> None:
-        """Says what the colours are."""
-        self.foot.legend(handles, names, loc="center", ncol=columns, borderaxespad=0)
+    def legend(self, handles: Sequence[Artist], names: Sequence[str], columns: int, length: float = 2.0) -> None:
+        """Says what the colours are, beside lines of so many letters."""
+        self.foot.legend(handles, names, loc="center", ncol=columns, borderaxespad=0, handlelength=length)
 
     def mark(self, artist: Artist, name: str, text: str) -> None:
         """Names a mark, and says what it stands for."""
@@ -91,8 +91,10 @@ class Picture:
             files.write(path, self.svg())
             return
         self.spell()
-        with files.replaced(path) as written, about(path), drawing():
+        written = io.BytesIO()
+        with drawing():
             self.figure.savefig(written, format=kind[1:], metadata=self.metadata(kind))
+        files.write(path, written.getvalue())
 
 
 @contextlib.contextmanager

@@ -3,6 +3,7 @@
 from __future__ import annotations
 
 import argparse
+import io
 import pathlib
 import shutil
 import warnings
@@ -10,7 +11,7 @@ import warnings
 import matplotlib
 
 from .. import files
-from ..refusals import Refused, about
+from ..refusals import Refused
 from . import axis_curves, best_map, tex_texts
 from .best_regions import Window
 from .canvas import WIDTH, Picture, drawing
@@ -21,7 +22,7 @@ from .sweep_table import Row
 
 LATEX = "pdflatex"
 # The width of a page's text in inches.
-TEXT = 4.8
+TEXT = 4.75
 
 
 def sized(options: argparse.Namespace, is_for_tex: bool) -> Style:
@@ -67,7 +68,7 @@ def regions_as_tex(rows: list[Row], options: argparse.Namespace, origin: str) ->
 def table_as_tex(rows: list[Row], options: argparse.Namespace, origin: str) -> str:
     """A table for LaTeX."""
     axes = of_options(options)
-    return tex_texts.table(Frame(rows, axes).panels(), axes.x, axes.y, origin)
+    return tex_texts.table(Frame(rows, axes).panels(), axes.x, axes.y, origin, options.decimals)
 
 
 # By the names of the options that ask for them.
@@ -96,7 +97,7 @@ def save(made: Picture, path: str, origin: str) -> None:
                       f" texlive-pictures; a {TEX} needs no TeX to be written")  # fmt: skip
     made.spell(tex_texts.escaped)
     settings = {"pgf.texsystem": LATEX, "pgf.rcfonts": False}
-    with matplotlib.rc_context(settings), files.replaced(path) as written, about(path), drawing(), warnings.catch_warnings():
+    written = io.StringIO()
+    with matplotlib.rc_context(settings), drawing(), warnings.catch_warnings():
         made.figure.savefig(written, format=PGF[1:])
-        text = pathlib.Path(written).read_text(encoding="utf-8")
-        pathlib.Path(written).write_text("\n".join([*tex_texts.front(origin, r"\usepackage{pgf}"), text]), encoding="utf-8")
+    files.write(path, "\n".join([*tex_texts.front(origin, r"\usepackage{pgf}"), written.getvalue()]))

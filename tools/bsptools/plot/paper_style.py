@@ -19,6 +19,8 @@ NARROW = 5.0
 GENERIC = ("serif", "sans-serif", "monospace")
 # The height of a panel for its width, and of a line of the legend in inches; letters of a legend in an inch.
 SLOPE, LINE, LETTERS = 0.66, 0.17, 15
+# What a line of the legend takes beside its name, in letters.
+HANDLE = 8
 # Panels side by side, at most.
 MOST_ACROSS = 3
 
@@ -56,7 +58,10 @@ def grid(style: Style, title: str, panels: int, names: list[str]) -> tuple[Pictu
     columns = across(panels, style)
     rows = math.ceil(panels / columns)
     longest = max([len(it) for it in names] or [1])
-    beside = max(1, min(len(names), 4, int(style.width * LETTERS / (longest + 6))))
+    if longest + HANDLE > style.width * LETTERS:
+        raise Refused(f"a width of {style.width:.3g}in has no room for a name of {longest} letters below the picture: give more, or part"
+                      " panels by --panels, or choose by --only, so that names are shorter")  # fmt: skip
+    beside = max(1, min(len(names), 4, int(style.width * LETTERS / (longest + HANDLE))))
     foot = 0.08 + LINE * math.ceil(len(names) / beside) if names else 0.02
     body = style.height - foot if style.height else rows * (SLOPE * style.width / columns + 0.6 * (panels > 1))
     if body <= 0.5:

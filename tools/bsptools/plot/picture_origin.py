@@ -11,7 +11,7 @@ from ..limits import MOST_TABLE
 from ..refusals import Refused
 
 # Options that a picture rests on, each of which has one value.
-SETTINGS = ("--g", "--l", "--h", "--supersteps", "--title", "--rate", "--x", "--y", "--by", "--panels", "--only", "--log", "--size", "--font",
+SETTINGS = ("--g", "--l", "--h", "--supersteps", "--title", "--rate", "--x", "--y", "--by", "--panels", "--only", "--log", "--size", "--font", "--decimals",
             "--g-range", "--l-range")  # fmt: skip
 
 

@@ -15,8 +15,12 @@ PROGRAM, NODES, G, L, MACHINE = "program", "nodes", "g", "l", "machine"
 PRICES = (G, L, MACHINE)
 # What prices change of what can be along the axis at the side.
 PRICED = ("total", "speedup", "efficiency")
+# What a table has beside its columns of settings.
+MEASURED = ("w", "h", "m", "supersteps", "total", "outcome")
 # A picture has at most so many lines in a panel, and so many panels.
 MOST_LINES, MOST_PANELS = 24, 12
+# Of the values of a column, so many are named.
+MOST_NAMED = 8
 
 
 class Curve(NamedTuple):
@@ -63,10 +67,22 @@ class Frame:
             raise Refused("no run in it ended")
         self.rows = [it for it in self.rows if all(self.cell(it, name) in values for name, values in axes.only.items())]
         if not self.rows:
-            raise Refused(f"no run in it has {', '.join(f'{name} {values[0]}' for name, values in axes.only.items())}")
+            raise Refused(self.none(rows))
+
+    def none(self, rows: list[Row]) -> str:
+        """Why no run has the values that were asked for, and what there is."""
+        for name, values in self.axes.only.items():
+            there = list(dict.fromkeys(self.cell(it, name) or "none" for it in rows))
+            if not set(values) & {self.cell(it, name) for it in rows}:
+                more = f" and {len(there) - MOST_NAMED} more" if len(there) > MOST_NAMED else ""
+                return f"no run in it has {name} {values[0]}; there is {name} {', '.join(there[:MOST_NAMED])}{more}"
+        return f"no run in it has {', '.join(f'{name} {values[0]}' for name, values in self.axes.only.items())}"
 
     def expect_column(self, name: str) -> None:
         """Refuses a column that the table does not have."""
+        if name in MEASURED:
+            raise Refused(f"{name} is what runs cost, and no setting: it can be along --y alone; --x, --by, --panels and --only take"
+                          f" {', '.join(self.columns)}")  # fmt: skip
         if name not in self.columns:
             raise Refused(f"the table has no column {name}: it has {', '.join(self.columns)}")
 
@@ -81,6 +97,10 @@ class Frame:
         if name in PRICES:
             return "" if row.machine else spelled(row.g if name == G else row.l)
         return dict(row.settings).get(name, "")
+
+    def panel(self, row: Row, name: str) -> str:
+        """What a row has in a column that parts panels. Prices that were given are a machine without a name, and have a panel of their own."""
+        return self.cell(row, name) or (f"{G} {spelled(row.g)}, {L} {spelled(row.l)}" if name == MACHINE else "")
 
     def varying(self, rows: list[Row] | None = None) -> list[str]:
         """The columns in which rows differ."""
@@ -112,7 +132,7 @@ class Frame:
         """The columns that part lines: those that were asked for, or all that differ and are on no axis."""
         if self.axes.by is not None:
             return list(self.axes.by)
-        aside = {self.axes.x, *self.axes.panels, *(PRICES if self.axes.y not in PRICED else ())}
+        aside = {self.axes.x, *self.axes.panels, *(PRICES if self.axes.y not in PRICED or MACHINE in self.axes.panels else ())}
         # One number of nodes is measured against another.
         return [it for it in self.varying() if it not in aside]
 
@@ -121,7 +141,7 @@ class Frame:
         self.expect_several()
         groups: dict[tuple[str, ...], list[Row]] = {}
         for row in self.rows:
-            groups.setdefault(tuple(self.cell(row, name) for name in self.axes.panels), []).append(row)
+            groups.setdefault(tuple(self.panel(row, name) for name in self.axes.panels), []).append(row)
         if len(groups) > MOST_PANELS:
             raise Refused(f"these are {len(groups)} panels, and a picture has at most {MOST_PANELS}: choose some by --only NAME=VALUE,..")
         titles = [", ".join(f"{name} {it}" if name not in (PROGRAM, MACHINE) else it for name, it in zip(self.axes.panels, key)) for key in groups]

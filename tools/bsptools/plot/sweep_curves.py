@@ -128,13 +128,17 @@ def plot(
     axes.grid(alpha=0.25)
 
 
-def apart(nodes: Sequence[Exact], room: float) -> list[Exact]:
+def apart(nodes: Sequence[Exact], room: float, is_logarithmic: bool = True) -> list[Exact]:
     """Those of these numbers, as of nodes, the fewest first, that can be written beside one another along so many points; the most is one."""
-    span = math.log2(nodes[-1] / nodes[0]) or 1.0
+
+    def distance(it: Exact) -> float:
+        return math.log2(it / nodes[0]) if is_logarithmic else float(it - nodes[0])
+
+    span = distance(nodes[-1]) or 1.0
     found: list[Exact] = []
     left = math.inf
     for it in reversed(nodes):
-        place, half = room * math.log2(it / nodes[0]) / span, 3 * len(thousands(it)) + 2
+        place, half = room * distance(it) / span, 3 * len(thousands(it)) + 2
         if place + half <= left:
             found.append(it)
             left = place - half

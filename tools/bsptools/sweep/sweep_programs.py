@@ -6,6 +6,7 @@ import argparse
 import itertools
 import os
 import pathlib
+import re
 import subprocess
 from typing import NamedTuple
 
@@ -13,14 +14,21 @@ from .. import children, emulator
 from ..files import content_of, put
 from ..limits import MOST_PROGRAM
 from ..program.code import kind_of
-from ..refusals import Refused, lines_of, tell
+from ..refusals import Refused, counted, lines_of, tell
 from ..sealed_results import digest
 from . import result_folders
 
 
+# A name in what GCC says of the files that a program is made of, and what is escaped in it.
+DEPENDENCY, ESCAPED = re.compile(rb"(?:\\.|[^\s\\])+"), re.compile(rb"\\([ #])|\$(\$)")
+# What an image has that follows from where it was compiled, and changes no run. Debugging information has the paths of sources, and so has the
+# list of sources that bspcc adds.
+STRIP = ["riscv64-unknown-elf-objcopy", "--strip-debug", "--remove-section=.bspcc.sources"]
+
+
 class Program(NamedTuple):
     """A program as it was named, the constants that it was compiled with, the image that is run, and what kind of file that is; or in lines
-    why there is no image. Whether it was compiled here comes last."""
+    why there is no image. Whether it was compiled here comes last, with the headers that are the user's own."""
 
     name: str
     defines: tuple[tuple[str, str], ...]
@@ -28,6 +36,7 @@ class Program(NamedTuple):
     kind: str = ""
     why: tuple[str, ...] = ()
     is_compiled: bool = False
+    headers: tuple[str, ...] = ()
 
 
 def programs(options: argparse.Namespace, folder: pathlib.Path) -> list[Program]:
@@ -44,26 +53,52 @@ def programs(options: argparse.Namespace, folder: pathlib.Path) -> list[Program]
             found += [compiled(name, choice, options, folder) for choice in choices]
         else:
             found.append(Program(name, (), pathlib.Path(name).resolve(), kind))
-    lines = [line for it in found for line in it.why]
+    lines = told(found)
     if all(it.why for it in found):
         raise Refused(*lines)
     tell(lines, "bspsweep: ")
     return found
 
 
+def told(them: list[Program]) -> list[str]:
+    """Why some of these have no image. What GCC says in the same words of several choices of constants is said once."""
+    alike: dict[tuple[str, tuple[str, ...]], list[Program]] = {}
+    for it in filter(lambda it: it.why, them):
+        alike.setdefault((it.name, it.why[1:]), []).append(it)
+    lines = []
+    for same in alike.values():
+        others = f", nor with {counted(len(same) - 1, 'other choice')} of its constants" if len(same) > 1 else ""
+        lines += [f"{same[0].why[0]}{others}", *same[0].why[1:]]
+    return lines
+
+
 def compiled(name: str, defines: tuple[tuple[str, str], ...], options: argparse.Namespace, folder: pathlib.Path) -> Program:
-    """A program in C, whose executable has a name that follows from its bytes."""
+    """A program in C, whose executable has a name that follows from its bytes, and these do not follow from the folder that it lies in."""
     constants = [f"-D{constant}={value}" for constant, value in defines]
     stack = ["--stack", str(options.stack)] if options.stack else []
     source = os.path.abspath(name)
     with children.folder("bspsweep") as temp:
-        target = temp / "program.elf"
-        words = [emulator.program("bspcc"), "-g", *constants, *stack, "-o", str(target), source, "-lm"]
+        target, made_of = temp / "program.elf", temp / "made-of"
+        words = [emulator.program("bspcc"), *constants, *stack, f"-ffile-prefix-map={os.path.dirname(source)}=.", "-MMD", "-MF", str(made_of)]
+        words += ["-o", str(target), source, "-lm"]
         environment = {**os.environ, "TMPDIR": str(temp)}
-        done = children.call(words, stdout=subprocess.PIPE, stderr=subprocess.STDOUT, env=environment)
+        for command in (words, [*STRIP, str(target)]):
+            done = children.call(command, stdout=subprocess.PIPE, stderr=subprocess.STDOUT, env=environment)
+            if done.returncode != 0:
+                break
         if done.returncode != 0:
             return Program(name, defines, why=(f"{' '.join([name, *constants])} was not compiled", *lines_of(done.stdout, source)), is_compiled=True)
-        content = content_of(target, MOST_PROGRAM)
+        content, headers = content_of(target, MOST_PROGRAM), headers_of(name, made_of)
     image = result_folders.part(folder, "programs") / f"{pathlib.Path(name).stem}-{digest(content)[:16]}.elf"
     put(image, content)
-    return Program(name, defines, image, "elf", is_compiled=True)
+    return Program(name, defines, image, "elf", is_compiled=True, headers=headers)
+
+
+def headers_of(name: str, made_of: pathlib.Path) -> tuple[str, ...]:
+    """The headers of a program, as GCC has written down what it is made of: by names that begin as the program's own does, and without those
+    of bspcc's library."""
+    source, library = os.path.abspath(name), os.path.join(os.path.dirname(os.path.realpath(emulator.program("bspcc"))), "bsplib", "")
+    written = content_of(made_of, MOST_PROGRAM).replace(b"\\\n", b" ").partition(b": ")[2]
+    paths = [os.fsdecode(ESCAPED.sub(rb"\1\2", it)) for it in DEPENDENCY.findall(written)]
+    own = [it for it in paths if it != source and not os.path.realpath(it).startswith(library)]
+    return tuple(os.path.join(os.path.dirname(name), os.path.relpath(it, os.path.dirname(source))) for it in own)

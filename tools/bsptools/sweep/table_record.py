@@ -11,7 +11,7 @@ from typing import Any, Dict
 
 from .. import VERSION, emulator, files, machines
 from ..limits import MOST_INPUT, MOST_PROGRAM, MOST_TABLE
-from ..refusals import Refused, printable
+from ..refusals import Refused, counted, printable
 from ..sealed_results import digest
 from .result_store import Store
 from .sweep_points import Point
@@ -24,6 +24,8 @@ MADE_BY, COMMAND, TABLE, MACHINES = "made by", "command", "table", "machines"
 DEVICES = ("/dev/", "/proc/")
 # A digest, and how much of it a line has.
 DIGEST, DIGITS = re.compile("[0-9a-f]{64}"), 12
+# How names of images begin in a list of differences, and of how many each has its line: a changed header changes all of them.
+IMAGES, MOST_IMAGES = "images: ", 3
 # Options that say who makes the runs and where the table goes, with how many words follow each. None of them changes the table.
 ASIDE = {"-o": 1, "--output": 1, "--folder": 1, "--engine": 1, "--jobs": 1, "--hosts": 1, "--sbatch": 1, "--again": 1, "--script": 0, "--check": 0}
 
@@ -87,6 +89,9 @@ def made(options: argparse.Namespace, words: list[str], points: list[Point], sto
     if any(it.is_compiled for it in programs):
         found["compiler"] = {"version": emulator.said(emulator.program("bspcc"), "--version").splitlines()[-1]}
     found["programs"] = {it.name: {"sha256": store.digest_of(it.name, MOST_PROGRAM)} for it in programs}
+    headers = sorted({name for it in programs for name in it.headers})
+    if headers:
+        found["headers"] = {name: {"sha256": store.digest_of(name, MOST_PROGRAM)} for name in headers}
     found["images"] = {labelled(it): {"sha256": store.digest_of(str(it.image), MOST_PROGRAM)} for it in programs if not it.why}
     given: list[str] = [*(options.input or []), *options.file]
     found["files"] = {name: {"sha256": store.digest_of(name, MOST_INPUT)} for name in given if name}
@@ -121,7 +126,12 @@ def differences(before: Record, now: Record) -> list[str]:
     """Lines that say what is not as in an older record, without the tables."""
     then, there = dict(_flat(before)), dict(_flat(now))
     names = [it for it in {**there, **then} if it.partition(":")[0] not in (TABLE, COMMAND) and then.get(it) != there.get(it)]
-    return [printable(f"{name} was {shown(then.get(name))}, and is {shown(there.get(name))}") for name in names]
+    lines = [printable(f"{name} was {shown(then.get(name))}, and is {shown(there.get(name))}") for name in names]
+    images = [line for name, line in zip(names, lines) if name.startswith(IMAGES)]
+    if len(images) <= MOST_IMAGES:
+        return lines
+    rest = f"and so {counted(len(images) - MOST_IMAGES, 'more image')} of {sum(it.startswith(IMAGES) for it in there)}"
+    return [*(it for it in lines if it not in images), *images[:MOST_IMAGES], rest]
 
 
 def shown(value: str | None) -> str:

@@ -43,6 +43,7 @@ SPECIAL: Dict[str, Program] = {
     "picture": Program(files=("small.pgm",), outputs=("blurred.pgm",)),
     "words": Program(files=("text/prose.txt",)),
     "append": Program(files=("run.log",), outputs=("run.log",)),
+    "checkpoint": Program(outputs=tuple(f"state{it}.bin" for it in range(4))),
     "components": Program(files=("edges.txt",)),
     "csv": Program(files=("table.csv",), outputs=("sums.csv",)),
     "options": Program(arguments=("-v", "--size=12", "first", "-v", "second")),

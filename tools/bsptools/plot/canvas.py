@@ -57,7 +57,10 @@ class Picture:
 
     def legend(self, handles: Sequence[Artist], names: Sequence[str], columns: int) -> None:
         """Says what the colours are."""
-        self.foot.legend(handles, names, loc="center", ncol=columns, borderaxespad=0)
+        # matplotlib leaves a name out that begins with _, unless it is given later.
+        legend = self.foot.legend(handles, ["."] * len(names), loc="center", ncol=columns, borderaxespad=0)
+        for text, name in zip(legend.get_texts(), names):
+            text.set_text(name)
 
     def mark(self, artist: Artist, name: str, text: str) -> None:
         """Names a mark, and says what it stands for."""

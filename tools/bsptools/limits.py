@@ -19,8 +19,8 @@ G, L, MOST_PRICE = 1, 0, (1 << 64) - 1
 RATE, MOST_RATE = 1e9, 1e18
 # Bytes of an input, with what stands in front of it.
 MOST_INPUT = 1 << 24
-# Bytes of a program: of an ELF file, which is the largest of all kinds, and of a text of assembly.
-MOST_PROGRAM, MOST_TEXT = 1 << 25, 1 << 22
+# Bytes of a program: of an ELF file, which is the largest of all kinds, and of a text of assembly; and of a source in C that is looked at.
+MOST_PROGRAM, MOST_TEXT, MOST_SOURCE = 1 << 25, 1 << 22, 1 << 24
 # The room of the stack of a program in C, in bytes: what bspcc gives it with --small, as the tools do where there is less memory, and
 # what it has else.
 LEAST_STACK, MOST_STACK = 16, 1 << 24

@@ -76,7 +76,7 @@ def all_drawn(check: Check, kinds: List[str], source: pathlib.Path, *words: str)
 
 def parts(make: Parts) -> List[Part]:
     """A part for each profile, and what else there is to pictures."""
-    others = [same_bytes, refusals, forms, sweeps, choices, names, readings, scales, printing]
+    others = [same_bytes, refusals, forms, sweeps, choices, names, many, readings, scales, printing]
     more = [make.part("counted", counted, tools=COMPILER)]
     return [*more, *(make.part(it.__name__, it) for it in others), *(make.part(f"pictures of {name}", of_profile, name) for name in RUNS)]
 
@@ -337,6 +337,22 @@ def are_points(picture: svg.Drawing, wanted: Dict[str, float], is_of_powers: boo
     across = [(name, math.log(int(name.split("-")[2])), picture.marks[name].left) for name in wanted]
     up = [(name, math.log(value) if is_of_powers else value, picture.marks[name].top) for name, value in wanted.items()]
     return scaled.are_at("x", across) and (scaled if is_of_powers else picture).are_at("y", up)
+
+
+def many(check: Check) -> None:
+    """A table of many programs has some of them drawn, or is refused, in little time; and the name of each that is drawn is told, also one
+    that begins with _."""
+    head = "program,nodes,g,l,input,args,supersteps,w,h,m,total,outcome\n"
+    rows = [f"_p{it}.c,{nodes},1,0,,,1,{9 * it + nodes},0,0,{9 * it + nodes},ended\n" for it in range(1000) for nodes in (1, 2)]
+    (check.folder / "many.csv").write_text(head + "".join(rows))
+    (check.folder / "few.csv").write_text(head + "".join(rows[:4]))
+    words = ["sh", "-c", 'ulimit -t "$1"; shift; exec "$@"', "sh", "20", str(REPO / "bspplot"), "many.csv"]
+    told = {"--compare": "bspplot: the first 100 of 1000 lines are drawn: --curves with", "--table": "bspplot: these are 1000 lines, and a picture has at most 24"}
+    for option, line in told.items():
+        done = subprocess.run([*words, option, f"made{option}.{'tex' if option == '--table' else 'svg'}"], capture_output=True, text=True, cwd=check.folder, check=False)
+        check.expect(f"many programs {option}", done.stderr.startswith(line) and done.stderr.count("\n") == 1, done)
+    texts = drawn(check, "compare", check.folder / "few.csv").texts
+    check.expect("programs that begin with _", {"_p0.c", "_p1.c"} <= set(texts), texts)
 
 
 def same_bytes(check: Check) -> None:

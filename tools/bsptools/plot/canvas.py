@@ -57,7 +57,10 @@ class Picture:
 
     def legend(self, handles: Sequence[Artist], names: Sequence[str], columns: int, length: float = 2.0) -> None:
         """Says what the colours are, beside lines of so many letters."""
-        self.foot.legend(handles, names, loc="center", ncol=columns, borderaxespad=0, handlelength=length)
+        # matplotlib leaves a name out that begins with _, unless it is given later.
+        legend = self.foot.legend(handles, ["."] * len(names), loc="center", ncol=columns, borderaxespad=0, handlelength=length)
+        for text, name in zip(legend.get_texts(), names):
+            text.set_text(name)
 
     def mark(self, artist: Artist, name: str, text: str) -> None:
         """Names a mark, and says what it stands for."""

@@ -17,9 +17,10 @@ from .canvas import Picture, thousands
 from .profile import Superstep
 from .superstep_costs import Cost, Prices, total
 
-# A picture has at most so many supersteps, and a timeline so many bars.
+# A picture has at most so many supersteps, a timeline so many bars, and a sweep so many lines.
 MOST_SUPERSTEPS = 100
 MOST_BARS = 4096
+MOST_DRAWN = 100
 PICTURES = ("timeline", "matrix", "costs", "lines", "sweep", "compare")
 # Those of a sweep that are for papers.
 PAPERS = tuple(paper_pictures.TEXTS)
@@ -64,9 +65,7 @@ class Plan:
         if not them:
             raise Refused(f"{self.source.name} has no such supersteps")
         if len(them) > most:
-            note = f"supersteps {them[0].number} to {them[most - 1].number} are drawn, of {len(them)}: --supersteps A:B chooses others"
-            if note not in self.notes:
-                self.notes.append(note)
+            self.note(f"supersteps {them[0].number} to {them[most - 1].number} are drawn, of {len(them)}: --supersteps A:B chooses others")
         return them[:most]
 
     def timeline(self) -> Picture:
@@ -105,7 +104,14 @@ class Plan:
         if all(len(it.totals) < 2 for it in found):
             fits = sweep_axes.Frame(self.rows(), sweep_axes.Axes()).fitting()
             raise Refused(f"{self.source.name} has no program on several numbers of nodes, over which --sweep and --compare draw lines; for --curves {fits}")
-        return found
+        if len(found) > MOST_DRAWN:
+            self.note(f"the first {MOST_DRAWN} of {len(found)} lines are drawn: --curves with --only NAME=VALUE,.. chooses others")
+        return found[:MOST_DRAWN]
+
+    def note(self, line: str) -> None:
+        """Notes once what is left out."""
+        if line not in self.notes:
+            self.notes.append(line)
 
     def origin(self, picture: str) -> str:
         """Where a picture comes from, as its file says."""

@@ -3,6 +3,7 @@
 from __future__ import annotations
 
 import argparse
+import functools
 from dataclasses import dataclass, field
 from fractions import Fraction
 from typing import NamedTuple
@@ -128,6 +129,7 @@ class Frame:
         if len(places) < 2:
             raise Refused(f"all runs have {self.axes.x} {spelled(places.pop())}, and a line needs several; {self.fitting()}")
 
+    @functools.cached_property
     def parting(self) -> list[str]:
         """The columns that part lines: those that were asked for, or all that differ and are on no axis."""
         if self.axes.by is not None:
@@ -150,7 +152,7 @@ class Frame:
 
     def key(self, row: Row) -> tuple[str, ...]:
         """What parts the line of a row from others."""
-        return tuple(self.cell(row, name) for name in self.parting())
+        return tuple(self.cell(row, name) for name in self.parting)
 
     def names(self) -> dict[tuple[str, ...], str]:
         """A name for each line, the same in all panels."""
@@ -159,7 +161,7 @@ class Frame:
             raise Refused(f"these are {len(keys)} lines, and a picture has at most {MOST_LINES}: choose some by --only NAME=VALUE,.., or part"
                           " them by --panels NAME")  # fmt: skip
         plain = (PROGRAM, MACHINE)
-        parts = [[("" if name in plain else name, it) for name, it in zip(self.parting(), key) if it] or [("", self.axes.y)] for key in keys]
+        parts = [[("" if name in plain else name, it) for name, it in zip(self.parting, key) if it] or [("", self.axes.y)] for key in keys]
         return dict(zip(keys, telling(parts)))
 
     def curves(self, rows: list[Row], names: dict[tuple[str, ...], str]) -> list[Curve]:
@@ -194,8 +196,15 @@ class Frame:
 
     def base_of(self, row: Row) -> Row:
         """The same on the fewest nodes."""
-        same = [it for it in self.rows if (it.program, it.settings, it.prices) == (row.program, row.settings, row.prices)]
-        return min(same, key=lambda it: it.nodes)
+        return self.bases[row.program, row.settings, row.prices]
+
+    @functools.cached_property
+    def bases(self) -> dict[tuple[object, ...], Row]:
+        """The row on the fewest nodes, of each program with its settings and prices."""
+        found: dict[tuple[object, ...], Row] = {}
+        for row in sorted(self.rows, key=lambda it: it.nodes):
+            found.setdefault((row.program, row.settings, row.prices), row)
+        return found
 
 
 def quotient(above: Exact, below: Exact) -> Fraction:

@@ -8,7 +8,7 @@ extern void *memmove(void *to, const void *from, size_t count);
 extern void *memset(void *to, int byte, size_t count);
 extern int memcmp(const void *left, const void *right, size_t count);
 
-enum order { AS_SENT, REVERSED, SHUFFLED };
+enum order { AS_SENT, REVERSED, SHUFFLED, NUMBERED };
 enum unbuffered { AS_BUFFERED, EARLY, LATE, WATCHED };
 
 /* tools/bsptools/prepare/library_choices.py writes these. A choice is made at each point before `until`: a superstep, in it a rank, and of
@@ -16,17 +16,28 @@ enum unbuffered { AS_BUFFERED, EARLY, LATE, WATCHED };
 struct point {
     unsigned superstep, rank, index;
 };
+/* Bytes of a put or a get that are left out, so that what another one brings to their place stays there: as if this one had landed first.
+   The request is counted among the puts, gets and messages of the rank in the superstep. */
+struct cut {
+    unsigned superstep, rank, request;
+    int from, to;
+};
+enum { MOST_CUTS = 1024 };
 struct bsp_choices {
     char magic[8];
     unsigned memory;     /* the bytes of the memory that are the program's, or 0 for all: what is kept here lies above them */
     unsigned order;      /* of the messages of a superstep */
-    unsigned seed;       /* of SHUFFLED */
+    unsigned seed;       /* of SHUFFLED; of NUMBERED which one of all orders */
     unsigned unbuffered; /* when bsp_hpput and bsp_hpget read and write */
     unsigned heap;       /* each byte of what malloc gives, or 0 for what is there */
     unsigned stack;      /* the same below the stack's top, at the start and at each bsp_sync */
+    unsigned queue;      /* each byte of the messages that bsp_hpmove gave out, once the next bsp_sync is over, or 0 for what is there */
+    unsigned is_logged;  /* whether the calls are told in records */
     struct point until;
+    unsigned cuts; /* how many there are, by their supersteps, ranks, requests and first bytes */
+    struct cut cut[MOST_CUTS];
 };
-struct bsp_choices bsp_choices __attribute__((section(".data"))) = {"\0bsprun\4", 0, 0, 0, 0, 0, 0, {0, 0, 0}};
+struct bsp_choices bsp_choices __attribute__((section(".data"))) = {.magic = "\0bsprun\4"};
 
 /* What is below the stack's top at a bsp_sync and belongs to nobody, as far as it is filled there. */
 #define BELOW 2048
@@ -35,7 +46,7 @@ struct bsp_choices bsp_choices __attribute__((section(".data"))) = {"\0bsprun\4"
 
 /* Where this rank is: its superstep, and in that its points of each kind. */
 static struct {
-    unsigned superstep, calls, pieces;
+    unsigned superstep, calls, pieces, requests;
 } here;
 
 /* The room above the program's memory: messages from below, calls from above. All of it is free again after bsp_sync. */
@@ -64,17 +75,61 @@ static int is_chosen(unsigned index)
     return rank != until->rank ? rank < until->rank : index < until->index;
 }
 
+/* Calls as tools/bsptools/portable/call_log.py reads them: the machine's number, or one of those below, and where the call goes back to. What
+   a call does not have is 0. */
+enum { LOG_DIRECT_GET = 110, LOG_NO_MESSAGE = 115, LOG_INPUT = 118, RECORD_CALLS = 'c', MOST_LOGGED = 32 };
+struct logged {
+    unsigned number, place;
+    int pid;
+    unsigned src, dst;
+    int offset, nbytes;
+    unsigned tag;
+};
+static struct {
+    int count;
+    struct logged all[MOST_LOGGED];
+} log;
+
+static void write_log(void)
+{
+    unsigned superstep = here.superstep;
+    if (log.count > 0)
+        bsp_record(RECORD_CALLS, &superstep, 1, log.all, log.count * (int)sizeof *log.all);
+    log.count = 0;
+}
+
+static void log_call(struct logged call)
+{
+    log.all[log.count++] = call;
+    if (log.count == MOST_LOGGED)
+        write_log();
+}
+#define LOG(number, pid, src, dst, offset, nbytes, tag)                                                                              \
+    do {                                                                                                                             \
+        if (bsp_choices.is_logged && bsp_part == BSP_WITHIN)                                                                         \
+            log_call((struct logged){number, (unsigned)__builtin_return_address(0), pid, (unsigned)(src), (unsigned)(dst), offset,   \
+                                     nbytes, (unsigned)(tag)});                                                                      \
+    } while (0)
+
 __attribute__((noreturn)) extern void __real_bsp_start(void);
 
-/* The stack grows down to the guard at address 0. */
-static void fill_stack(char *top, size_t most)
+/* Fills the stack from the frame of the caller on, downwards to the guard at address 0 or by so many bytes. It calls nothing, and what is
+   below its own frame belongs to nobody. */
+static __attribute__((noinline)) void fill_stack(size_t most)
 {
-    char *lowest = (char *)(bsp_null + 4);
-    size_t count = top > lowest ? (size_t)(top - lowest) : 0;
-    if (count > most)
-        count = most;
-    if (bsp_choices.stack != 0)
-        memset(top - count, (int)bsp_choices.stack, count);
+    unsigned word = bsp_choices.stack * 0x01010101u;
+    char *lowest = (char *)(bsp_null + 4), *top;
+    size_t left;
+    __asm__ volatile("mv %0, sp" : "=r"(top));
+    if (word == 0 || top <= lowest)
+        return;
+    left = (size_t)(top - lowest) / sizeof word;
+    for (left = left < most / sizeof word ? left : most / sizeof word; left >= 8; left -= 8) {
+        volatile unsigned *it = (volatile unsigned *)(top -= 8 * sizeof word);
+#pragma GCC unroll 8
+        for (int i = 0; i < 8; i++)
+            it[i] = word;
+    }
 }
 
 __attribute__((noreturn)) void __wrap_bsp_start(void)
@@ -86,8 +141,7 @@ __attribute__((noreturn)) void __wrap_bsp_start(void)
     }
     room.low = room.start;
     room.high = room.end;
-    /* Not this function's own frame, nor that of memset. */
-    fill_stack((char *)__builtin_frame_address(0) - 256, (size_t)-1);
+    fill_stack((size_t)-1);
     __real_bsp_start();
 }
 
@@ -107,6 +161,135 @@ void *__wrap_calloc(size_t count, size_t size)
 {
     void *place = size > 0 && count > (size_t)-1 / size ? NULL : __real_malloc(count * size);
     return place == NULL ? NULL : memset(place, 0, count * size);
+}
+
+/* Puts and gets, of which bytes may be left out. */
+typedef void real_put(int pid, const void *src, void *dst, int offset, int nbytes);
+typedef void real_get(int pid, const void *src, int offset, void *dst, int nbytes);
+extern real_put __real_bsp_put, __real_bsp_hpput;
+extern real_get __real_bsp_get, __real_bsp_hpget;
+extern void __real_bsp_send(int pid, const void *tag, const void *payload, int payload_nbytes);
+extern void __real_bsp_hpsend(int pid, const void *tag, const void *payload, int payload_nbytes);
+
+/* The first of the cuts that are not before a request, by halves. */
+static const struct cut *cuts_from(unsigned request)
+{
+    const struct cut *low = bsp_choices.cut, *high = low + bsp_choices.cuts;
+    unsigned rank = (unsigned)bsp_pid();
+    while (low < high) {
+        const struct cut *it = low + (high - low) / 2;
+        int is_before = it->superstep != here.superstep ? it->superstep < here.superstep
+                        : it->rank != rank              ? it->rank < rank
+                                                        : it->request < request;
+        if (is_before)
+            low = it + 1;
+        else
+            high = it;
+    }
+    return low;
+}
+
+static int is_cut(const struct cut *it, unsigned request)
+{
+    return it < bsp_choices.cut + bsp_choices.cuts && it->superstep == here.superstep && it->rank == (unsigned)bsp_pid() && it->request == request;
+}
+
+static void put_parts(real_put *put, unsigned request, int pid, const void *src, void *dst, int offset, int nbytes)
+{
+    const struct cut *it;
+    int from = 0;
+    for (it = cuts_from(request); is_cut(it, request); it++) {
+        if (it->from > from)
+            put(pid, (const char *)src + from, dst, offset + from, it->from - from);
+        from = it->to;
+    }
+    if (from < nbytes)
+        put(pid, (const char *)src + from, dst, offset + from, nbytes - from);
+}
+
+static void get_parts(real_get *get, unsigned request, int pid, const void *src, int offset, void *dst, int nbytes)
+{
+    const struct cut *it;
+    int from = 0;
+    for (it = cuts_from(request); is_cut(it, request); it++) {
+        if (it->from > from)
+            get(pid, src, offset + from, (char *)dst + from, it->from - from);
+        from = it->to;
+    }
+    if (from < nbytes)
+        get(pid, src, offset + from, (char *)dst + from, nbytes - from);
+}
+
+/* The call that is made as it is comes last, so that GCC goes on there: then the library sees where the program has made it. */
+void __wrap_bsp_put(int pid, const void *src, void *dst, int offset, int nbytes)
+{
+    unsigned request = here.requests++;
+    LOG(CALL_PUT, pid, src, dst, offset, nbytes, 0);
+    if (is_cut(cuts_from(request), request)) {
+        put_parts(__real_bsp_put, request, pid, src, dst, offset, nbytes);
+        return;
+    }
+    __real_bsp_put(pid, src, dst, offset, nbytes);
+}
+
+void __wrap_bsp_get(int pid, const void *src, int offset, void *dst, int nbytes)
+{
+    unsigned request = here.requests++;
+    LOG(CALL_GET, pid, src, dst, offset, nbytes, 0);
+    if (is_cut(cuts_from(request), request)) {
+        get_parts(__real_bsp_get, request, pid, src, offset, dst, nbytes);
+        return;
+    }
+    __real_bsp_get(pid, src, offset, dst, nbytes);
+}
+
+void __wrap_bsp_send(int pid, const void *tag, const void *payload, int payload_nbytes)
+{
+    here.requests++;
+    LOG(CALL_SEND, pid, payload, 0, 0, payload_nbytes, tag);
+    __real_bsp_send(pid, tag, payload, payload_nbytes);
+}
+
+void __wrap_bsp_hpsend(int pid, const void *tag, const void *payload, int payload_nbytes)
+{
+    here.requests++;
+    LOG(CALL_SEND, pid, payload, 0, 0, payload_nbytes, tag);
+    __real_bsp_hpsend(pid, tag, payload, payload_nbytes);
+}
+
+/* What else is told. */
+extern void __real_bsp_push_reg(const void *ident, int size);
+extern void __real_bsp_pop_reg(const void *ident);
+extern void __real_bsp_direct_get(int pid, const void *src, int offset, void *dst, int nbytes);
+
+void __wrap_bsp_push_reg(const void *ident, int size)
+{
+    LOG(CALL_PUSH_REG, 0, ident, 0, 0, size, 0);
+    __real_bsp_push_reg(ident, size);
+}
+
+void __wrap_bsp_pop_reg(const void *ident)
+{
+    LOG(CALL_POP_REG, 0, ident, 0, 0, 0, 0);
+    __real_bsp_pop_reg(ident);
+}
+
+void __wrap_bsp_pushregister(const void *ident, int size)
+{
+    LOG(CALL_PUSH_REG, 0, ident, 0, 0, size, 0);
+    __real_bsp_push_reg(ident, size);
+}
+
+void __wrap_bsp_popregister(const void *ident)
+{
+    LOG(CALL_POP_REG, 0, ident, 0, 0, 0, 0);
+    __real_bsp_pop_reg(ident);
+}
+
+void __wrap_bsp_direct_get(int pid, const void *src, int offset, void *dst, int nbytes)
+{
+    LOG(LOG_DIRECT_GET, pid, src, dst, offset, nbytes, 0);
+    __real_bsp_direct_get(pid, src, offset, dst, nbytes);
 }
 
 /* Unbuffered calls. */
@@ -138,12 +321,14 @@ static int is_kept(int nbytes, unsigned kinds)
     return bsp_part == BSP_WITHIN && nbytes > 0 && (kinds >> bsp_choices.unbuffered & 1) != 0;
 }
 
-extern void __real_bsp_hpput(int pid, const void *src, void *dst, int offset, int nbytes);
-extern void __real_bsp_hpget(int pid, const void *src, int offset, void *dst, int nbytes);
-
 void __wrap_bsp_hpput(int pid, const void *src, void *dst, int offset, int nbytes)
 {
-    unsigned index = here.calls++;
+    unsigned index = here.calls++, request = here.requests++;
+    LOG(CALL_HPPUT, pid, src, dst, offset, nbytes, 0);
+    if (is_cut(cuts_from(request), request)) {
+        put_parts(__real_bsp_hpput, request, pid, src, dst, offset, nbytes);
+        return;
+    }
     if (is_kept(nbytes, 1 << LATE | 1 << WATCHED) && is_chosen(index)) {
         keep_call(pid, src, dst, offset, nbytes, index, 0);
         if (bsp_choices.unbuffered == LATE)
@@ -156,7 +341,12 @@ void __wrap_bsp_hpput(int pid, const void *src, void *dst, int offset, int nbyte
 
 void __wrap_bsp_hpget(int pid, const void *src, int offset, void *dst, int nbytes)
 {
-    unsigned index = here.calls++;
+    unsigned index = here.calls++, request = here.requests++;
+    LOG(CALL_HPGET, pid, src, dst, offset, nbytes, 0);
+    if (is_cut(cuts_from(request), request)) {
+        get_parts(__real_bsp_hpget, request, pid, src, offset, dst, nbytes);
+        return;
+    }
     __real_bsp_hpget(pid, src, offset, dst, nbytes);
     /* A rank's own bytes may be source and target of one call. */
     if (is_kept(nbytes, 1 << EARLY | 1 << LATE) && pid != bsp_pid() && is_chosen(index)) {
@@ -218,6 +408,7 @@ extern int __real_bsp_hpmove(void **tag_ptr, void **payload_ptr);
 void __wrap_bsp_set_tagsize(int *tag_nbytes)
 {
     int wanted = *tag_nbytes;
+    LOG(CALL_SET_TAGSIZE, 0, 0, 0, 0, wanted, 0);
     __real_bsp_set_tagsize(tag_nbytes);
     queue.next_tag = wanted;
 }
@@ -225,11 +416,14 @@ void __wrap_bsp_set_tagsize(int *tag_nbytes)
 /* Swaps messages as far as they are chosen. tools/bsptools/prepare/library_choices.py makes the same swaps. */
 static void swap_messages(void)
 {
-    unsigned random = bsp_choices.seed + here.superstep * 2654435761u + (unsigned)bsp_pid() * 40503u;
+    unsigned random = bsp_choices.seed + here.superstep * 2654435761u + (unsigned)bsp_pid() * 40503u, number = bsp_choices.seed;
     int i, other;
     for (i = 0; i < queue.count - 1 && is_chosen((unsigned)i); i++) {
         other = i;
-        if (bsp_choices.order == SHUFFLED) {
+        if (bsp_choices.order == NUMBERED) {
+            other = i + (int)(number % (unsigned)(queue.count - i));
+            number /= (unsigned)(queue.count - i);
+        } else if (bsp_choices.order == SHUFFLED) {
             random = random * 1664525u + 1013904223u;
             other = i + (int)((random >> 8) % (unsigned)(queue.count - i));
         } else if (i < queue.count / 2) {
@@ -299,7 +493,9 @@ void __wrap_bsp_move(void *payload, int reception_nbytes)
 {
     if (reception_nbytes < 0 || !keeps_queue()) {
         __real_bsp_move(payload, reception_nbytes);
-    } else if (queue.next < queue.count) {
+    } else if (queue.next == queue.count) {
+        LOG(LOG_NO_MESSAGE, 0, 0, 0, 0, 0, 0);
+    } else {
         const struct message *it = &queue.all[queue.next++];
         memcpy(payload, it->payload, (size_t)(it->size < reception_nbytes ? it->size : reception_nbytes));
     }
@@ -319,21 +515,48 @@ int __wrap_bsp_hpmove(void **tag_ptr, void **payload_ptr)
 }
 
 extern void __real_bsp_sync(void);
+extern int __real_bsp_end(void);
+
+/* That this rank has read something of the input, once. */
+static void log_input(void)
+{
+    static int is_told = 0;
+    if (bsp_choices.is_logged && bsp_has_input && !is_told) {
+        is_told = 1;
+        log_call((struct logged){.number = LOG_INPUT});
+    }
+}
+
+int __wrap_bsp_end(void)
+{
+    if (bsp_part == BSP_WITHIN) {
+        log_input();
+        write_log();
+    }
+    return __real_bsp_end();
+}
 
 void __wrap_bsp_sync(void)
 {
     struct call *first = bsp_part == BSP_WITHIN ? first_call() : NULL, *it;
+    if (bsp_part == BSP_WITHIN) {
+        log_input();
+        write_log();
+    }
     for (it = first; it != NULL; it = it->next)
         end_call(it);
     __real_bsp_sync();
     for (it = first; it != NULL; it = it->next)
         keep_written(it);
+    if (bsp_choices.queue != 0 && queue.is_kept && is_chosen(0))
+        memset(room.start, (int)bsp_choices.queue, (size_t)(room.low - room.start));
     room.low = room.start;
     room.high = room.end;
     here.superstep++;
-    here.calls = here.pieces = 0;
+    here.calls = here.pieces = here.requests = 0;
     queue.is_kept = 0;
     queue.received_tag = queue.tag;
     queue.tag = queue.next_tag;
-    fill_stack((char *)__builtin_frame_address(0) - 256, BELOW);
+    /* GCC goes on there with what belongs to the caller alone. */
+    fill_stack(BELOW);
 }

@@ -9,7 +9,9 @@ import pathlib
 import shutil
 import subprocess
 import sys
+import tempfile
 import time
+from collections.abc import Sequence
 
 from . import VERSION, children, files
 from .refusals import Refused, lines_of, show, tell
@@ -109,6 +111,26 @@ def known(path: str) -> str:
         if path == f"{top}/crates/bspemu/out/bspemu":
             return "the proved program, which was proved and built here"
     return f"{path}, of which nothing is known"
+
+
+def run_all(commands: Sequence[list[str]]) -> list[subprocess.CompletedProcess[bytes]]:
+    """Runs the emulator for each command, as many of them at once as there are processors."""
+    if len(commands) == 1:
+        return [run(commands[0])]
+    most, done = len(os.sched_getaffinity(0)), []
+    with contextlib.ExitStack() as ended:
+        outputs = [(ended.enter_context(tempfile.TemporaryFile()), ended.enter_context(tempfile.TemporaryFile())) for _ in commands]
+        going: list[subprocess.Popen[bytes]] = []
+        for at, words in enumerate(commands):
+            while len(going) < min(at + most, len(commands)):
+                stdout, stderr = outputs[len(going)]
+                child = children.running(commands[len(going)], stdin=subprocess.DEVNULL, stdout=stdout, stderr=stderr)
+                going.append(ended.enter_context(child))
+            status = going[at].wait()
+            for file in outputs[at]:
+                file.seek(0)
+            done.append(subprocess.CompletedProcess(words, status, outputs[at][0].read(), outputs[at][1].read()))
+    return done
 
 
 def run(words: list[str]) -> subprocess.CompletedProcess[bytes]:

@@ -17,7 +17,7 @@ int main(void)
         bsp_put(0, &theirs, &mine, 0, sizeof theirs); /* and here */
     bsp_sync();
     if (bsp_pid() == 0)
-        printf("got\n");
+        printf("%d\n", mine);
     bsp_end();
     return 0;
 }

@@ -14,7 +14,7 @@ int main(void)
     bsp_put(0, &mine, &counter, 0, sizeof mine); /* here */
     bsp_sync();
     if (bsp_pid() == 0)
-        printf("counted\n");
+        printf("%d\n", counter);
     bsp_end();
     return 0;
 }

@@ -14,7 +14,7 @@ int main(void)
     bsp_put(1, mine, word, 0, sizeof mine); /* here */
     bsp_sync();
     if (bsp_pid() == 1)
-        printf("put\n");
+        printf("%d\n", word[0]);
     bsp_end();
     return 0;
 }

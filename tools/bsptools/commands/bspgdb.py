@@ -56,6 +56,8 @@ def arguments(words: Sequence[str]) -> argparse.Namespace:
         " `target remote | bspgdb --stdio ..`")  # fmt: skip
     parser.add_argument("--dialogue", "--lines", action="store_true", help="no gdb: the debugger's own lines, with a prompt, history, and names"
         " for addresses; help there tells them. --lines is its older name")  # fmt: skip
+    parser.add_argument("--order", metavar="CHOICES", help="debug the run of a library that chooses otherwise, as bsprun --portable says behind"
+        " again")  # fmt: skip
     parser.add_argument("--bspemu", metavar="PATH", help="the emulator, if it is another than bspemu beside this")
     asked = parser.parse_args(words[:end])
     asked.check = asked.check or asked.strict
@@ -78,6 +80,10 @@ def main(words: Sequence[str]) -> int:
     asked = arguments(words)
     with children.folder("bspgdb") as folder:
         job = prepared(asked, folder, "bspgdb")
+        if asked.order is not None:
+            from ..portable.orders import with_order
+
+            job = with_order(job, folder)
         check(job)
         if not (asked.stdio or asked.dialogue or asked.server or asked.tcp is not None):
             return start_gdb(job, folder)

@@ -62,6 +62,11 @@ def parser() -> Parser:
         help="the byte that stack and malloc have at first, for a program that reads what it did not write; 0 by default")  # fmt: skip
     add("--warn", action="store_true", help="look for what is likely a mistake, also in a run that ends well; takes long")
     add("--portable", action="store_true", help="then run a .c program again under each choice that BSPlib leaves to a library")
+    found.add_number("--tries", what="the number of orders", least=1, most=10_000, default=8, metavar="N",
+        help="in how many orders --portable has messages come, 8 by default; all where a rank has 4 at most")  # fmt: skip
+    add("--accept", metavar="FILE", help="pairs of lines that --portable finds and is to count alone: FILE:LINE FILE:LINE reason")
+    add("--accept-all", metavar="FILE", help="write what --portable finds as such a file")
+    add("--order", metavar="CHOICES", help="make the run as a library may that chooses otherwise, as --portable says behind again")
     found.add_number("--wall", what="the time of a run in seconds", least=1, most=MOST_SECONDS, metavar="SECONDS",
         help="end the run after so long, with a line that says where the ranks were")  # fmt: skip
     found.add_number("--workers", what="the number of threads", least=1, most=MOST_WORKERS, default=WORKERS, metavar="COUNT",
@@ -90,6 +95,10 @@ def arguments(words: list[str]) -> argparse.Namespace:
     words = [*flags(reader), *words]
     asked = reader.parse_args(words)
     asked.check, asked.warn = asked.check or asked.strict, asked.warn or asked.strict
+    if asked.order is not None and asked.portable:
+        raise Refused("--portable chooses by itself: leave it or --order out")
+    # Parts of requests that are left out are not of whole elements.
+    asked.no_check |= asked.order is not None
     if asked.no_files and asked.out is not None:
         raise Refused("--no-files leaves nothing for --out to do: leave one of the two out")
     asked.is_here = asked.out is None and not asked.no_files
@@ -141,7 +150,9 @@ def deliver(job: Job, done: Done) -> int:
         from ..run.closing_messages import tell_of
 
         tell_of(job, found, parser(), is_chosen=chosen is not None, are_offsets_told=is_told, digest=done.digest)
-    if options.portable and found.outcome != "ended":
+    # A program may end with a status of its own.
+    options.is_tried = found.outcome == "ended" or found.outcome.endswith("stopped: aborted")
+    if options.portable and not options.is_tried:
         tell(["bsprun: not tried: other choices, since the run does not end well as it is"])
     status = done.status if chosen is None else chosen.status
     return status if is_whole else status or REFUSED
@@ -231,9 +242,13 @@ def main(words: list[str]) -> int:
             os.mkdir(options.out)
     with children.folder("bsprun") as folder, contextlib.closing(Beside(folder)) as beside:
         job = prepared(options, folder, "bsprun", is_marked=True, beside=beside.build)
+        if options.order is not None:
+            from ..portable.orders import with_order
+
+            job = with_order(job, folder)
         status = run(job, beside, folder, Repeated())
-        if options.portable and status == 0:
+        if options.portable and (status == 0 or getattr(options, "is_tried", False)):
             from ..portable.portability import is_portable
 
-            return 0 if is_portable(job, folder) else OTHERWISE
+            return status if is_portable(job, folder) else OTHERWISE
         return status

@@ -23,7 +23,7 @@ from ..framed.environment_calls import Tracer
 from ..outputs import contested_bytes
 from ..outputs.output_demux import ERROR, OUTPUT, Marks
 from ..outputs.report import Report, part
-from ..portable.portability import verdict
+from ..portable.portability import TRIES, verdict
 from ..portable.portability_findings import told_contested
 from ..prepare.job import Job, prepared
 from ..program import elf
@@ -179,7 +179,7 @@ class Trial:
             args=list(run.args), argv0="program", check=False, strict=False, compiled=constants,
             format="c" if is_text else "elf", bspemu=self.program,
             limit=run.limit, memory=self.plan.memory, stack=None, float=False, g=run.g, l=run.l, rate=limits.RATE, fill=None, out=None, found=[], is_here=False,
-            portable=is_text, sources=[], workers=1,
+            portable=is_text, sources=[], workers=1, tries=TRIES, accept=None, accept_all=None,
         )  # fmt: skip
         return prepared(options, place, "bspcheck", is_marked=True)
 

@@ -22,6 +22,10 @@ HEADER = ",".join(["superstep", "rank", "address", "bytes", *(f"{which}_{it}" fo
 HEXADECIMAL = re.compile(r"(?:[0-9a-f]{2}){1,4}")
 # Of a file of contested bytes, and of its longest line.
 MOST_BYTES, MOST_LINE = 1 << 30, 128
+# How many places are looked at. Others are counted.
+MOST_PLACES = 1 << 14
+# The emulator's status where a node was stopped, as by its own exit.
+STOPPED = 2
 
 
 class Request(NamedTuple):
@@ -49,36 +53,48 @@ class Found(NamedTuple):
     """What is contested in a run: how many places, and the first of them."""
 
     places: int
-    first: Contested | None
+    rows: list[Contested]
+
+    @property
+    def first(self) -> Contested | None:
+        """The first place."""
+        return self.rows[0] if self.rows else None
 
 
 def read(path: str | os.PathLike[str], nodes: int, last: int) -> Found:
-    """What is contested in a run of so many nodes, of which this is the last superstep, by its file. What no emulator writes is refused."""
-    first: Contested | None = None
-    before: Contested | None = None
+    """What is contested in a run of so many nodes, of which this is the last superstep, by its file. What no emulator writes is refused, as
+    far as places are looked at."""
+    found: list[Contested] = []
     places = 0
     try:
         for it in rows(path):
-            if it.superstep >= last or max(it.rank, it.first.rank, it.second.rank) >= nodes or (before and not is_behind(before, it)):
+            if isinstance(it, int):
+                places = it
+                break
+            if it.superstep >= last or max(it.rank, it.first.rank, it.second.rank) >= nodes or (found and not is_behind(found[-1], it)):
                 raise Unfit(f"superstep {it.superstep}, rank {it.rank}, address {it.address:#x} is not in its place")
-            places, first, before = places + 1, first or it, it
+            found.append(it)
     except ValueError as error:
         raise Refused(f"the contested bytes are not those of the run: {why_unfit(error)}") from error
-    return Found(places, first)
+    return Found(places + len(found), found)
 
 
-def rows(path: str | os.PathLike[str]) -> Iterator[Contested]:
-    """The rows of a file of contested bytes; what is none raises ValueError."""
+def rows(path: str | os.PathLike[str]) -> Iterator[Contested | int]:
+    """The rows of a file of contested bytes up to MOST_PLACES, and then how many there are more; what is none raises ValueError."""
     with about(path), open(path, encoding="ascii", errors="replace", newline="") as file:
         if os.fstat(file.fileno()).st_size > MOST_BYTES:
             raise Refused(f"the contested bytes have more than {MOST_BYTES} bytes of lines: take fewer nodes, or fewer supersteps")
         if file.readline(2 * MOST_LINE) != HEADER + "\n":
             raise Unfit("it does not begin as contested bytes do")
-        while line := file.readline(MOST_LINE):
+        for _ in range(MOST_PLACES):
+            line = file.readline(MOST_LINE)
+            if not line:
+                return
             cells = line[:-1].split(",")
             if not line.endswith("\n") or len(cells) != 4 + 2 * len(COLUMNS):
                 raise Unfit(f"{line[:40]!r} is no line of contested bytes")
             yield row_of(cells)
+        yield sum(piece.count("\n") for piece in iter(lambda: file.read(1 << 20), ""))
 
 
 def row_of(cells: list[str]) -> Contested:
@@ -117,6 +133,6 @@ def in_run(program: list[str], settings: list[str], nodes: int, last: int, folde
     """What is contested in a run with these settings, which goes to this superstep."""
     file = folder / "contested.csv"
     done = emulator.run([*program, "run", *settings, "--contested", str(file)])
-    if done.returncode != 0 or not file.exists():
+    if done.returncode not in (0, STOPPED) or not file.exists():
         raise Refused("what is contested in the run is not told", *lines_of(done.stderr))
     return read(file, nodes, last)

@@ -65,18 +65,19 @@ class Marks:
         if not self.mark:
             yield OUTPUT, content
             return
-        self.rest += content
-        while (at := self.rest.find(self.mark)) >= 0:
+        # What was taken is dropped once: of many records it would be moved many times.
+        rest, start = self.rest + content, 0
+        while (at := rest.find(self.mark, start)) >= 0:
             begin = at + MARK_BYTES + COUNT.size
-            end = begin + COUNT.unpack_from(self.rest, begin - COUNT.size)[0] if begin <= len(self.rest) else begin
-            if end > len(self.rest) or begin > len(self.rest):
+            end = begin + COUNT.unpack_from(rest, begin - COUNT.size)[0] if begin <= len(rest) else begin
+            if end > len(rest) or begin > len(rest):
                 break
-            yield OUTPUT, self.rest[:at]
-            yield self.rest[at + MARK_BYTES - 1], self.rest[begin:end]
-            self.rest = self.rest[end:]
-        whole = at if at >= 0 else len(self.rest) - overlap(self.rest, self.mark)
-        yield OUTPUT, self.rest[:whole]
-        self.rest = self.rest[whole:]
+            yield OUTPUT, rest[start:at]
+            yield rest[at + MARK_BYTES - 1], rest[begin:end]
+            start = end
+        whole = at if at >= 0 else len(rest) - overlap(rest[start:][-MARK_BYTES:], self.mark)
+        self.rest = rest[whole:]
+        yield OUTPUT, rest[start:whole]
 
     def left(self) -> bytes:
         """What was kept."""

@@ -10,6 +10,7 @@ from ..files import whole
 from ..refusals import Unfit
 
 SUPERSTEP = re.compile(rb"superstep (\d+): w (\d+) h (\d+)((?: [a-z]+ \d+)*) (turned|last)$")
+BEGIN, WORK = b"superstep 0: w ", re.compile(rb"superstep \d+: w (\d+)")
 TOTAL = re.compile(rb"total (\d+)$")
 # More than any w, h or m, and than the number of any superstep: a node makes 2^40 steps at most.
 MOST_COST = 1 << 40
@@ -70,6 +71,27 @@ def part(written: bytes) -> tuple[memoryview, Report] | None:
             report = Report(supersteps[::-1], whole(total[1].decode()), outcome.decode(), written[begin:])
             return memoryview(written)[:begin], checked(report)
     return None
+
+
+class Brief(NamedTuple):
+    """What is compared of runs: the output, the outcome, the number of the last superstep, and the sum of all w."""
+
+    output: memoryview
+    outcome: str
+    last: int
+    work: int
+
+
+def brief(written: bytes) -> Brief | None:
+    """The same of what the emulator wrote without a look at each superstep, of which there may be many; None where no report stands at its
+    end."""
+    begin = max(written.rfind(BEGIN), 0)
+    lines = written[begin:].split(b"\n")
+    last = SUPERSTEP.match(lines[-4]) if len(lines) > 3 else None
+    if last is None or not (TOTAL.match(lines[-3]) and OUTCOME.match(lines[-2])) or lines[-1] or int(last[1]) != len(lines) - 4:
+        return None
+    work = sum(map(int, WORK.findall(written, begin)))
+    return Brief(memoryview(written)[:begin], lines[-2].decode(), int(last[1]), work)
 
 
 def checked(report: Report) -> Report:

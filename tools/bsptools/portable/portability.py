@@ -3,58 +3,80 @@
 from __future__ import annotations
 
 import functools
+import math
 import pathlib
 import re
 from collections.abc import Callable
 from dataclasses import dataclass, field
 
 from ..files import content_of
-from ..framed.environment_calls import Tracer
+from ..framed.environment_calls import POP, PUSH, SEND, Tracer
 from ..framed.replays import Replays
-from ..framed.superstep_calls import SuperstepCalls
 from ..limits import MOST_NODES, MOST_PROGRAM
 from ..outputs import contested_bytes, output_records
 from ..prepare.compilation import compiled
 from ..prepare.job import Job
-from ..prepare.library_choices import EARLY, LATE, REVERSED, SHUFFLED, WATCHED, Choices, Point
+from ..prepare.library_choices import EARLY, LATE, MOST_CUTS, NUMBERED, REVERSED, SHUFFLED, WATCHED, Choices, Point
 from ..program.code import read_elf
 from ..refusals import Refused, counted, show, tell
-from . import final_variables, unbuffered_races
-from .portability_findings import CALLS, QUEUE, Findings, Other, described, parted, told_contested, told_variable
+from . import exposed_bytes, final_variables, unbuffered_races
+from .accepted_places import Accepted
+from .call_log import INPUT, NO_MESSAGE, Logged, Superstep
+from .contested_pairs import Pair, pairs
+from .exposed_bytes import Exposed
+from .portability_findings import CALLS, QUEUE, Finding, Findings, Other, described, parted, told_contested, told_variable
 from .trial_runs import Ending, NoRoom, Subject, Trials
 
-ORDERS = (Choices(order=REVERSED), Choices(order=SHUFFLED, seed=1), Choices(order=SHUFFLED, seed=2))
 TIMES = (Choices(unbuffered=EARLY), Choices(unbuffered=LATE))
 PATTERNS = (0x40, 0xC1)
+# What messages of bsp_hpmove have once the next bsp_sync is over.
+SPOILT = 0x5A
 # GCC gives each variable of a function that has no value these bits, in builds for the second and third run.
 VALUES = ("pattern", "zero")
 CHANGED = "the source of an unbuffered call is other at bsp_sync: call "
-# What a program says where there are more nodes than it takes.
+# What a program says where there are more nodes than it takes, and one that ends with a status of its own.
 MORE_NODES = b"there are more nodes than the program takes in bsp_begin"
+OWN_STATUS = b": the program ended with status "
+# In how many orders messages come where --tries does not say it, and of how many messages all orders are tried.
+TRIES, MOST_ORDERED = 8, 4
+# What puts and gets, also where it is not called in the run as it is.
+ASKING = ("__wrap_bsp_put", "__wrap_bsp_get", *CALLS)
+# How many pairs of places are told of each kind.
+MOST_PAIRS = 16
+NOT_LOOKED_FOR = (
+    "memory behind free", "what rank 0 sets before bsp_begin", "bsp_time", "the order of the ranks' output", "numbers of another size",
+)  # fmt: skip
 
 
 @dataclass
 class Verdict:
-    """What was found, a list of lines for each thing, what is known exactly, what was tried without a difference, and what else is told."""
+    """What was found, what is known exactly, what was tried without a difference, what else is told, and whether something that is looked
+    for was left out."""
 
-    found: list[list[str]] = field(default_factory=list)
-    exact: str = ""
+    found: list[Finding] = field(default_factory=list)
+    exact: list[str] = field(default_factory=list)
     tried: list[str] = field(default_factory=list)
+    same: list[Finding] = field(default_factory=list)
     notes: list[str] = field(default_factory=list)
+    accepted: int = 0
+    is_whole: bool = True
 
     def lines(self) -> list[str]:
         """All lines, those of what was found first."""
-        told = [line for it in self.found for line in (f"bsprun: not portable: {it[0]}", *(f"  {line}" for line in it[1:]))]
-        told += [f"bsprun: {'' if self.found else 'portable: '}{self.exact}"] if self.exact else []
+        told = [line for it in self.found for line in it.told("not portable")] + [line for it in self.same for line in it.told("contested")]
+        told += [f"bsprun: {it}" for it in self.exact]
         told += [f"bsprun: tried: {', '.join(self.tried)}: the same output each time"] if self.tried else []
-        return told + [f"bsprun: {it}" for it in self.notes]
+        told += [f"bsprun: accepted: {counted(self.accepted, 'pair')} of lines"] if self.accepted else []
+        told += [f"bsprun: {it}" for it in self.notes]
+        is_portable = self.is_whole and not self.found
+        return [*told, f"bsprun: {'portable in all that was looked for; ' if is_portable else ''}not looked for: {', '.join(NOT_LOOKED_FOR)}"]
 
 
 class Portable:
     """Looks for what a run rests on."""
 
-    def __init__(self, subject: Subject, trials: Trials, ended: Ending) -> None:
-        self.subject, self.trials, self.ended = subject, trials, ended
+    def __init__(self, subject: Subject, trials: Trials, ended: Ending, accepted: Accepted) -> None:
+        self.subject, self.trials, self.ended, self.accepted = subject, trials, ended, accepted
         self.code = trials.code.know_names()
         self.variables = final_variables.of_program(self.code)
         self.known: dict[Choices, list[bytes]] = {}
@@ -66,15 +88,18 @@ class Portable:
         words = [*self.subject.program, "debug", *self.subject.settings]
         return Tracer(self.subject.code.know_names(), Replays(words, self.subject.options.memory))
 
-    @functools.cached_property
-    def findings(self) -> Findings:
-        """What is told of what is found."""
-        return Findings(self.trials, self.trace)
+    def findings(self, choices: Choices = Choices()) -> Findings:
+        """What is told of what is found in a run of the build that takes choices."""
+        return Findings(self.trials, Tracer(self.code, self.trials.replays(choices)))
 
     @functools.cached_property
-    def steps(self) -> SuperstepCalls:
+    def log(self) -> list[Superstep]:
         """The calls of the run as it is."""
-        return SuperstepCalls(self.trace, self.trials.nodes)
+        return self.trials.log(Choices())
+
+    def made(self, *numbers: int) -> bool:
+        """Whether a rank makes such a call in the run as it is."""
+        return any(not step.numbers.isdisjoint(numbers) for step in self.log)
 
     @property
     def is_silent(self) -> bool:
@@ -84,6 +109,19 @@ class Portable:
     def has(self, *names: str) -> bool:
         """Whether the program has one of these functions, as far as its names tell."""
         return not self.code.names or any(it in self.code.names for it in names)
+
+    def leave_out(self, line: str) -> None:
+        """Tells of something that is looked for, and was not this time."""
+        self.verdict.notes.append(line)
+        self.verdict.is_whole = False
+
+    def find(self, finding: Finding, is_other: bool = True) -> None:
+        """Takes down what was found, unless it was accepted; what comes to the same output is told as that."""
+        if self.accepted.has(finding.places):
+            self.verdict.accepted += 1
+            return
+        self.accepted.note(finding.places, finding.lines[0])
+        (self.verdict.found if is_other else self.verdict.same).append(finding)
 
     # What runs come to.
 
@@ -135,14 +173,20 @@ class Portable:
 
     def look(self) -> None:
         """Looks for all, and takes down what is found."""
-        self.contested()
+        contested = self.contested()
         base = self.base()
         if base != self.ended:
             difference = parted(self.ended, base)
-            self.verdict.found.append(["another output where code and variables lie elsewhere", f"then   {difference}"])
+            self.verdict.found.append(Finding(["another output where code and variables lie elsewhere", f"then   {difference}"]))
+            if contested.first is not None:
+                self.verdict.found.append(Finding(told_contested(self.trace, contested.first, contested.places - 1)))
             self.ended = base
             self.fresh()
             return
+        if contested.first is not None:
+            self.pairs(Choices())
+        self.exposed()
+        self.from_log()
         self.tried("messages in other orders", self.messages)
         self.tried("unbuffered calls at other times", self.unbuffered)
         self.fresh()
@@ -154,60 +198,164 @@ class Portable:
                 raise NoRoom
             look()
         except NoRoom:
-            self.verdict.notes.append(f"not tried: {what}, since the memory has no room for them above the program's own")
+            self.leave_out(f"not tried: {what}, since the memory has no room for them above the program's own")
 
-    def contested(self) -> None:
+    def contested(self) -> contested_bytes.Found:
         """Bytes to which two requests of a superstep bring different values, in the run as it is."""
         show("bsprun: looking for contested bytes")
         workers = ["--workers", str(self.subject.options.workers)]
         settings = [*self.subject.settings, *workers]
         found = contested_bytes.in_run(self.subject.program, settings, self.trials.nodes, self.ended.last, self.subject.folder)
-        if found.first is not None:
-            self.verdict.found.append(told_contested(self.trace, found.first, found.places - 1))
-        else:
-            self.verdict.exact = f"nothing contested in {counted(self.ended.last + 1, 'superstep')} (exact)"
+        what = counted(found.places, "place") if found.places else "nothing"
+        self.verdict.exact.append(f"puts and gets: {what} contested in {counted(self.ended.last + 1, 'superstep')} (exact)")
+        return found
+
+    def pairs(self, choices: Choices) -> None:
+        """The pairs of lines that contest bytes in a run, and what the run comes to where the others count."""
+        self.trials.run_all([choices], is_contested=True)
+        found, findings = self.trials.contested[choices], self.findings(choices)
+        if found.places > len(found.rows):
+            self.leave_out(f"not tried: contested bytes behind the first {len(found.rows)} places")
+        made = pairs(found.rows, self.log if choices == Choices() else self.trials.log(choices))
+        landed = [choices._replace(cuts=tuple(it.cuts[:MOST_CUTS])) for it in made[:MOST_PAIRS]]
+        self.trials.run_all(landed)
+        for number, (pair, cut) in enumerate(zip(made, landed), 1):
+            other = self.other(cut, self.is_silent)
+            if len(pair.cuts) > MOST_CUTS and other is None:
+                self.leave_out(f"not tried: the other order of more than {MOST_CUTS} requests of a pair of lines")
+            # Of more than two requests for a byte only some are known to bring other values.
+            if other is not None or pair.first.row is not None:
+                self.find(findings.pair(choices, number, pair, other), other is not None)
+        if len(made) > MOST_PAIRS:
+            self.leave_out(f"not tried: {counted(len(made) - MOST_PAIRS, 'more pair')} of lines that contest bytes")
+
+    def exposed(self) -> None:
+        """Bytes that a call reads at a time that is open while another one writes them."""
+        seen: dict[frozenset[int], tuple[int, Exposed, Logged, Logged]] = {}
+        for superstep, step in enumerate(self.log):
+            if step.has_unbuffered:
+                calls = dict(step.transfers())
+                for it in exposed_bytes.exposed(list(calls), lambda it, calls=calls: calls[it].place):  # type: ignore[misc]
+                    reader, writer = calls[it.reader], calls[it.writer]
+                    seen.setdefault(frozenset((reader.place, writer.place)), (superstep, it, reader, writer))
+        findings = self.findings()
+        for found in list(seen.values())[:MOST_PAIRS]:
+            self.find(findings.exposed(*found))
+        if len(seen) > MOST_PAIRS:
+            self.leave_out(f"not told: {counted(len(seen) - MOST_PAIRS, 'more pair')} of lines that expose bytes")
+        if any(step.has_unbuffered for step in self.log) and not seen:
+            supersteps = counted(self.ended.last + 1, "superstep")
+            self.verdict.exact.append(f"unbuffered calls: nothing exposed to other calls in {supersteps} (exact)")
+
+    def from_log(self) -> None:
+        """What the calls of the run tell by themselves."""
+        findings = self.findings()
+        empty: dict[int, tuple[int, Logged]] = {}
+        readers = set()
+        for superstep, step in enumerate(self.log):
+            for it in step.all() if not step.numbers.isdisjoint((NO_MESSAGE, INPUT)) else ():
+                if it.number == NO_MESSAGE:
+                    empty.setdefault(it.place, (superstep, it))
+                elif it.number == INPUT and it.rank > 0:
+                    readers.add(it.rank)
+        for found in list(empty.values())[:MOST_PAIRS]:
+            self.find(findings.no_message(*found))
+        if readers:
+            who = f"rank {min(readers)} reads" if len(readers) == 1 else f"{len(readers)} ranks above 0 read"
+            self.verdict.notes.append(f"for information: {who} standard input, which other libraries may give to rank 0 alone")
+        self.registered()
+
+    def registered(self) -> None:
+        """Ranks that register the same areas in another order than rank 0, which each of the other libraries may take for other areas."""
+        for superstep, step in enumerate(self.log):
+            if step.numbers.isdisjoint((PUSH, POP)):
+                continue
+            orders = {rank: [it.src for it in made if it.number in (PUSH, POP)] for rank, made in step.calls.items()}
+            first = orders.get(0, [])
+            for rank, order in orders.items():
+                if order != first and sorted(order) == sorted(first):
+                    names = [", ".join(self.code.variable(it) or f"{it:#x}" for it in which) for which in (order, first)]
+                    line = f"in superstep {superstep} rank {rank} registers {names[0]}, and rank 0 {names[1]}"
+                    self.verdict.notes.append(f"for information: {line}: areas belong together by their order")
+                    return
+
+    def orders(self) -> tuple[list[Choices], str]:
+        """The orders of messages that are tried, and their name."""
+        most, tries = max((step.most_sent() for step in self.log), default=0), self.subject.options.tries
+        reversed_ones = [Choices(order=REVERSED)] if most > 1 else []
+        if most <= MOST_ORDERED:
+            numbered = [Choices(order=NUMBERED, seed=it) for it in range(1, math.factorial(most))] if most > 2 else []
+            return reversed_ones + numbered, f"messages in all orders of the {most} or fewer of a rank"
+        seeds = range(1, max(tries, 1))
+        shuffled = [Choices(order=SHUFFLED, seed=it) for it in seeds]
+        name = f"messages in {counted(tries, 'order')} (reversed" + (f", shuffled with seeds 1 to {seeds[-1]})" if shuffled else ")")
+        return reversed_ones + shuffled, name
 
     def messages(self) -> None:
         """Messages in other orders."""
-        if not self.has(*QUEUE):
+        tried, name = self.orders()
+        if not self.made(SEND) or not self.has(*QUEUE):
             return
-        for choices in ORDERS:
+        if not tried:
+            self.verdict.exact.append("messages: no two come to one rank in a superstep (exact)")
+        asks = self.has(*ASKING)
+        self.trials.run_all(tried, asks)
+        for choices in tried:
             if (other := self.other(choices, self.is_silent)) is not None:
-                self.verdict.found.append(self.findings.messages(other))
-                return
-        seeds = ", ".join(str(it.seed) for it in ORDERS if it.order == SHUFFLED)
-        self.verdict.tried.append(f"messages in {len(ORDERS)} orders (reversed, shuffled with seeds {seeds})")
-        self.note_variables(*ORDERS)
+                self.find(self.findings().messages(other))
+                break
+        else:
+            self.verdict.tried += [name] if tried else []
+            self.note_variables(*tried[:3])
+            contested = [it for it in tried if asks and self.trials.contested[it].places]
+            if contested and not self.trials.contested.get(Choices()):
+                self.pairs(contested[0])
+        self.queue()
+
+    def queue(self) -> None:
+        """What bsp_hpmove gave out, behind the next bsp_sync."""
+        if not self.has("__wrap_bsp_hpmove"):
+            return
+        other = self.other(Choices(queue=SPOILT), self.is_silent)
+        if other is not None:
+            self.find(self.findings().queue(other))
+        else:
+            self.verdict.tried.append("messages of bsp_hpmove spoilt behind the next bsp_sync")
 
     def unbuffered(self) -> None:
         """bsp_hpput and bsp_hpget at other times."""
-        if not self.has(*CALLS):
+        if not self.has(*CALLS) or not any(it.has_unbuffered for it in self.log):
             return
-        if (touched := unbuffered_races.first_race(self.steps, self.ended.last)) is not None:
-            self.verdict.found.append(self.findings.touched(touched))
+        touched = unbuffered_races.races(self.findings().trace, self.log)
+        for race in touched[:MOST_PAIRS]:
+            self.find(self.findings().touched(race))
+        if len(touched) > MOST_PAIRS:
+            self.leave_out(f"not told: {counted(len(touched) - MOST_PAIRS, 'more unbuffered call')} whose bytes are written")
+        if touched:
             return
-        watched = self.trials.run(Choices(unbuffered=WATCHED))
+        watched, *_ = self.trials.run_all([Choices(unbuffered=WATCHED), *TIMES])
         if watched != self.ended and (rank := re.match(r"rank (\d+) stopped: aborted", watched.outcome)) is not None:
             said = re.search(rb"bsp: rank %b: %b(\d+)\n" % (rank[1].encode(), CHANGED.encode()), watched.output)
             if said is not None:
-                self.verdict.found.append(self.findings.source(Point(watched.last, int(rank[1]), int(said[1]))))
+                self.find(self.findings().source(Point(watched.last, int(rank[1]), int(said[1]))))
                 return
         for choices in TIMES:
             if (other := self.other(choices, True)) is not None:
-                self.verdict.found.append(self.findings.call(other))
+                self.find(self.findings().call(other))
                 return
         self.verdict.tried.append("unbuffered calls early and late")
 
     def fresh(self) -> None:
         """Fresh memory with other bytes."""
         patterns = [Choices(heap=it, stack=it) for it in PATTERNS]
+        self.trials.run_all(patterns)
         for choices in patterns:
             other = self.other(choices, self.is_silent)
             heap = other and self.other(choices._replace(stack=0), self.is_silent)
             if heap is not None:
-                self.verdict.found.append(self.findings.heap(heap))
+                self.find(self.findings().heap(heap))
             elif other is not None:
-                self.verdict.found.append(self.findings.stack(self.trials, choices, other.difference))
+                self.find(self.findings().stack(self.trials, choices, other.difference))
             if other is not None:
                 return
         for value in VALUES if self.subject.options.sources else ():
@@ -216,7 +364,7 @@ class Portable:
             trials.room = self.trials.room
             ending = trials.run(Choices())
             if ending != self.ended:
-                self.verdict.found.append(self.findings.stack(trials, Choices(), parted(self.ended, ending), said))
+                self.find(self.findings().stack(trials, Choices(), parted(self.ended, ending), said))
                 return
         self.verdict.tried.append(f"fresh memory in {len(PATTERNS)} patterns")
         self.note_variables(*patterns)
@@ -257,13 +405,15 @@ def verdict(job: Job, folder: pathlib.Path) -> Verdict | None:
     image.write_bytes(content)
     subject = Subject(options, job.program, read_elf(content), [str(image), *job.settings[1:]], folder, mark)
     ended = subject.run(options.nodes, options.limit)
-    if ended.outcome != "ended":
+    if ended.outcome != "ended" and OWN_STATUS not in ended.output:
         return None
-    trials = built(subject, ended.ticks)[0] if options.sources else Trials(subject, content, read_elf(content), ended.ticks)
-    portable = Portable(subject, trials, ended)
+    trials = built(subject, ended.ticks)[0] if options.sources else Trials(subject, content, subject.code, ended.ticks)
+    accepted = Accepted(options.accept, options.accept_all)
+    portable = Portable(subject, trials, ended, accepted)
     portable.look()
     portable.other_nodes()
     show("")
+    accepted.write()
     return portable.verdict
 
 

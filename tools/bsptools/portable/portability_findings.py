@@ -2,23 +2,27 @@
 
 from __future__ import annotations
 
+import functools
 import pathlib
 import re
 from collections.abc import Callable
 from typing import NamedTuple
 
-from ..framed.backtrace import place
-from ..framed.environment_calls import HPGET, HPPUT, REQUESTS, SEND, Tracer, spelled
+from ..framed.backtrace import Frame, place
+from ..framed.environment_calls import HPGET, HPPUT, REQUESTS, SEND, Call, Tracer, spelled
 from ..framed.replays import Replays
 from ..framed.session import ALL, Node
-from ..framed.superstep_calls import TRACED
 from ..outputs.contested_bytes import Contested
 from ..outputs.written_files import file_name
 from ..prepare.compilation import compiled
-from ..prepare.library_choices import EARLY, REVERSED, Choices, Point, swaps
+from ..prepare.library_choices import EARLY, EVERYWHERE, NUMBERED, REVERSED, Choices, Point, swaps
+from ..program.code import source_lines
 from ..refusals import Refused, counted
-from . import final_variables
+from . import final_variables, orders
+from .call_log import Logged
+from .contested_pairs import Pair
 from .divergence import first_divergence, shown
+from .exposed_bytes import DIRECT_GET, Bytes, Exposed
 from .trial_runs import Ending, Stop, Trials, least, looked, memory_of, stops
 from .unbuffered_races import Race
 
@@ -26,12 +30,15 @@ from .unbuffered_races import Race
 TAKING = ("__wrap_bsp_move", "__wrap_bsp_hpmove")
 QUEUE = (*TAKING, "__wrap_bsp_qsize", "__wrap_bsp_get_tag")
 CALLS = ("__wrap_bsp_hpput", "__wrap_bsp_hpget")
+LINE = re.compile(r"[^\s,]+:\d+")
 UNSET = re.compile(r"^(.*?):(\d+):\d+: warning: (.*) \[-W(?:maybe-)?uninitialized\]$")
 MOST_TOLD = 3
 
 WHY_PUTS = "BSPlib leaves open in which order the puts and gets of a superstep write"
 WHY_MESSAGES = "BSPlib leaves open in which order the messages of a superstep come"
 WHY_UNBUFFERED = "BSPlib lets bsp_hpput and bsp_hpget read and write at any time from the call to the end of bsp_sync"
+WHY_EMPTY = "BSPlib leaves open what bsp_move does where no message is left"
+WHY_QUEUE = "BSPlib keeps what bsp_hpmove gives out up to the end of the superstep alone"
 WHY_HEAP = "C leaves open which bytes malloc's memory has"
 WHY_STACK = "C leaves open what a variable of a function has before it is given a value"
 
@@ -44,14 +51,100 @@ class Other(NamedTuple):
     difference: str
 
 
+class Finding(NamedTuple):
+    """Something that was found: its lines, and the places in the program that make it, as FILE:LINE, where these are known."""
+
+    lines: list[str]
+    places: tuple[str, ...] = ()
+
+    def told(self, what: str) -> list[str]:
+        """The lines as they are told."""
+        return [f"bsprun: {what}: {self.lines[0]}", *(f"  {line}" for line in self.lines[1:])]
+
+
 class Findings:
-    """Tells of a program by runs of its build that takes choices. `trace` has the run as it is."""
+    """Tells of a program by runs of its build that takes choices. `trace` has the run of which something is told."""
 
     def __init__(self, trials: Trials, trace: Tracer) -> None:
         self.trials, self.trace = trials, trace
         self.code = trials.code.know_names()
 
-    def messages(self, other: Other) -> list[str]:
+    def bytes_at(self, superstep: int, where: Bytes) -> str:
+        """Some bytes of a rank, with the variable that they are of."""
+        variable = self.code.variable(where.start)
+        named = f" ({variable})" if variable else ""
+        end = f" to {where.end - 1:#x}" if where.end > where.start + 1 else ""
+        return f"superstep {superstep}, rank {where.rank}: byte {where.start:#x}{named}{end}"
+
+    @functools.lru_cache(maxsize=64)
+    def made(self, rank: int, superstep: int) -> list[Call]:
+        """The puts, gets and messages of a rank in a superstep."""
+        return self.trace.calls_in(rank, REQUESTS, superstep)
+
+    def call_at(self, superstep: int, it: Logged) -> tuple[str, str]:
+        """Where a call stands, and the call with its operands by name."""
+        made = self.made(it.rank, superstep) if it.number in REQUESTS else []
+        if it.request >= len(made):
+            return self.place_behind(it), "" if it.number in REQUESTS else DIRECT_GET
+        call = made[it.request]
+        node = self.trace.node_of(it.rank, REQUESTS, superstep, call)
+        where = place(self.code, node, is_call_told=True) if node else self.place_behind(it)
+        return where, spelled(self.code, node or call.node)
+
+    def place_behind(self, it: Logged) -> str:
+        """Where a call stands, by the place to which it goes back."""
+        call = self.code.call_before(it.place) or it.place - 2
+        known = [Frame(*found, "") for found in source_lines(self.code, call)]
+        return ", called from ".join(map(str, known)) or self.code.name_at(call) or f"address {call:#x}"
+
+    def pair(self, choices: Choices, number: int, pair: Pair, other: Other | None) -> Finding:
+        """Two places in the code that contest bytes, and what comes of the other order."""
+        it = pair.first
+        head = "another output" if other is not None else "the same output"
+        lines = [f"{head} where two requests of a superstep land in the other order", self.bytes_at(it.superstep, it.where)]
+        if choices != Choices():
+            lines[0] += f", and {described(choices)}"
+        lines[1] += f", and {counted(pair.count - 1, 'more place')}" if pair.count > 1 else ""
+        places = []
+        for asked in sorted((it.last, it.other)):
+            where, call = self.call_at(it.superstep, asked)
+            known = (it.row.first, it.row.second) if it.row is not None else ()
+            byte = next((f"{of.byte:02x}" for of in known if (of.rank, of.number) == (asked.rank, asked.request)), "lands")
+            lines.append(f"{byte:6} by rank {asked.rank} at {where}: {call}")
+            places.append(line_in(where))
+        lines += [f"then   {other.difference}"] if other is not None else []
+        return Finding([*lines, again(choices, number), f"why    {WHY_PUTS}"], tuple(places))
+
+    def exposed(self, superstep: int, it: Exposed, reader: Logged, writer: Logged) -> Finding:
+        """A call that reads what another one, or itself, writes, where who comes first is open."""
+        is_own = it.reader == it.writer
+        head = f"{it.reader.kind} from a rank to itself writes bytes that it reads" if is_own else ""
+        lines = [head or f"{it.reader.kind} reads what {it.writer.kind} of the same superstep writes", self.bytes_at(superstep, it.where)]
+        places = []
+        for what, asked in (("read  ", reader), *(() if is_own else (("write ", writer),))):
+            where, call = self.call_at(superstep, asked)
+            lines.append(f"{what} by rank {asked.rank} at {where}: {call}")
+            places.append(line_in(where))
+        return Finding([*lines, f"why    {WHY_UNBUFFERED}"], tuple(places))
+
+    def no_message(self, superstep: int, it: Logged) -> Finding:
+        """A bsp_move where no message is left."""
+        where = self.place_behind(it)
+        lines = ["bsp_move takes a message from a queue that has none", f"superstep {superstep}, rank {it.rank}: at {where}"]
+        return Finding([*lines, f"why    {WHY_EMPTY}"], (line_in(where),))
+
+    def queue(self, other: Other) -> Finding:
+        """A message of bsp_hpmove that is used once the next bsp_sync is over."""
+        chosen = self.trials.first(other.choices, other.is_other)
+        lines = ["another output where messages of bsp_hpmove are other bytes once the next bsp_sync is over"]
+        point = Point(chosen.until.superstep, chosen.until.rank, 0)
+        taker = self.entries(self.trials.replays(Choices()), point, "__wrap_bsp_hpmove")
+        where = place(self.code, taker.node) if taker is not None else ""
+        lines += [f"superstep {point.superstep}, rank {point.rank}: given out at {where}"] if where else []
+        lines += [f"then   {other.difference}", again(chosen), f"why    {WHY_QUEUE}"]
+        return Finding(lines, (line_in(where),) if where else ())
+
+    def messages(self, other: Other) -> Finding:
         """Two messages of which the order counts: where they were sent, and where they are taken."""
         lines = [f"another output where {described(other.choices)}"]
         chosen = self.trials.first(other.choices, other.is_other)
@@ -70,7 +163,7 @@ class Findings:
         taker = self.entries(replays, chosen.until, *TAKING) or self.entries(replays, Point(superstep, rank, 0), *QUEUE)
         if taker is not None:
             lines.append(f"taken  by rank {rank}, at {place(self.code, taker.node)}")
-        return [*lines, f"then   {other.difference}", f"why    {WHY_MESSAGES}"]
+        return Finding([*lines, f"then   {other.difference}", again(chosen), f"why    {WHY_MESSAGES}"])
 
     def messages_to(self, replays: Replays, superstep: int, rank: int) -> list[Stop]:
         """The messages that are sent to a rank in a superstep, in the order in which they come here; none where ranks are too many."""
@@ -87,7 +180,7 @@ class Findings:
         calls = stops(replays, self.code, script, points, lambda node: (node.x[11], node.x[14]))
         return next((it for it in calls if it.number == point.which), None) if points else None
 
-    def source(self, point: Point) -> list[str]:
+    def source(self, point: Point) -> Finding:
         """A bsp_hpput whose source is another one at bsp_sync."""
         replays = self.trials.replays(Choices())
         lines = ["bsp_hpput has other bytes at its source at bsp_sync than at the call"]
@@ -95,7 +188,7 @@ class Findings:
         lines += self.entry(point, call)
         if call is not None:
             lines += self.change(replays, point, call)
-        return [*lines, f"why    {WHY_UNBUFFERED}"]
+        return Finding([*lines, f"why    {WHY_UNBUFFERED}"])
 
     def entry(self, point: Point, call: Stop | None) -> list[str]:
         """An unbuffered call."""
@@ -127,23 +220,25 @@ class Findings:
         steps = least(0, end.ticks - after(0)[0].ticks, lambda it: after(it)[1] != content)
         return place(trace.code, after(steps - 1)[0]), other
 
-    def touched(self, it: Race) -> list[str]:
-        """An unbuffered call whose bytes at the other rank are written there."""
-        lines = [f"rank {it.owner} writes in a superstep what an unbuffered call of rank {it.rank} names there"]
-        lines.append(f"superstep {it.superstep}, rank {it.rank}: {spelled(self.trace.code, it.call.node)}")
-        lines.append(f"at     {self.trace.place_of(it.rank, TRACED, 0, it.call)}")
-        where, _ = self.changed_at(self.trace, it.script, it.owner, it.address, it.before)
-        lines.append(f"and    rank {it.owner} at {where}: {differing(it.before, it.after)}")
-        return [*lines, f"why    {WHY_UNBUFFERED}"]
+    def touched(self, it: Race) -> Finding:
+        """An unbuffered call whose bytes are written by the rank in whose memory they lie."""
+        owner, rank = it.where.rank, it.call.rank
+        lines = [f"rank {owner} writes in a superstep what an unbuffered call of rank {rank} names there"]
+        where, call = self.call_at(it.superstep, it.call)
+        lines += [f"superstep {it.superstep}, rank {rank}: {call}", f"at     {where}"]
+        writer, _ = self.changed_at(self.trace, it.script, owner, it.where.start, it.before)
+        lines.append(f"and    rank {owner} at {writer}: {differing(it.before, it.after)}")
+        return Finding([*lines, f"why    {WHY_UNBUFFERED}"], (line_in(where), line_in(writer)))
 
-    def call(self, other: Other) -> list[str]:
+    def call(self, other: Other) -> Finding:
         """An unbuffered call of which the time counts."""
         chosen = self.trials.first(other.choices, other.is_other)
         call = self.entries(self.trials.replays(chosen), chosen.until, *CALLS)
         lines = [f"something else where {described(other.choices)}", *self.entry(chosen.until, call)]
-        return [*lines, f"then   {other.difference}", f"why    {WHY_UNBUFFERED}"]
+        lines += [f"then   {other.difference}", again(chosen)]
+        return Finding([*lines, f"why    {WHY_UNBUFFERED}"])
 
-    def heap(self, other: Other) -> list[str]:
+    def heap(self, other: Other) -> Finding:
         """A piece of malloc's memory of which the bytes count."""
         chosen = self.trials.first(other.choices, other.is_other)
         superstep, rank, index = chosen.until
@@ -152,9 +247,10 @@ class Findings:
         if piece is not None:
             size = counted(piece.node.x[10], "byte")
             lines.append(f"superstep {superstep}, rank {rank}: {size} are taken at {place(self.code, piece.node)}")
-        return [*lines, f"then   {other.difference}", f"why    {WHY_HEAP}"]
+        lines += [f"then   {other.difference}", again(chosen)]
+        return Finding([*lines, f"why    {WHY_HEAP}"])
 
-    def stack(self, trials: Trials, choices: Choices, difference: str, said: list[str] | None = None) -> list[str]:
+    def stack(self, trials: Trials, choices: Choices, difference: str, said: list[str] | None = None) -> Finding:
         """A variable of a function that is used before it has a value: what GCC says of such, and where the runs part."""
         lines = ["something else where a variable of a function that was given no value has other bytes"]
         for found in list(filter(None, map(UNSET.match, said if said is not None else self.warned())))[:MOST_TOLD]:
@@ -164,7 +260,8 @@ class Findings:
             lines.append(f"superstep {divergence.one.superstep}, rank {divergence.rank}: the first call that is another one")
             lines.append(f"at     {divergence.where}: {divergence.one.told}")
             lines.append(f"before {divergence.other.told if divergence.other else 'no call'}")
-        return [*lines, f"then   {difference}", f"why    {WHY_STACK}"]
+        more = [again(choices)] if choices.stack else []
+        return Finding([*lines, f"then   {difference}", *more, f"why    {WHY_STACK}"])
 
     def warned(self) -> list[str]:
         """What GCC says of variables that have no value."""
@@ -188,6 +285,19 @@ def told_contested(trace: Tracer, it: Contested, others: int) -> list[str]:
     return [*lines, *([f"and    {counted(others, 'more place')}"] if others else []), f"why    {WHY_PUTS}"]
 
 
+def again(choices: Choices, pair: int | None = None) -> str:
+    """How to make a run once more, up to and with the choice at the point that was found, which the choices themselves leave out."""
+    until = choices.until
+    choices = choices if until == EVERYWHERE else choices._replace(until=until._replace(which=until.which + 1))
+    return f"again  give --order {orders.spelled(choices, pair)} to bsprun or bspgdb"
+
+
+def line_in(where: str) -> str:
+    """The first FILE:LINE of a place, or what else it has."""
+    found = LINE.search(where)
+    return found[0] if found else where.replace(" ", "_")
+
+
 def differing(one: bytes, other: bytes) -> str:
     """The first bytes in which two texts of the same length differ."""
     at = next((i for i, (a, b) in enumerate(zip(one, other)) if a != b), 0)
@@ -204,10 +314,14 @@ def told_variable(found: final_variables.Difference) -> str:
 def described(choices: Choices) -> str:
     """What is chosen."""
     if choices.order:
+        if choices.order == NUMBERED:
+            return f"messages come in another order (order {choices.seed})"
         return "messages come in reverse" if choices.order == REVERSED else f"messages come shuffled (seed {choices.seed})"
     if choices.unbuffered:
         when = "at the call" if choices.unbuffered == EARLY else "at bsp_sync"
         return f"bsp_hpput and bsp_hpget read and write {when}"
+    if choices.queue:
+        return f"messages of bsp_hpmove have bytes {choices.queue:#04x} once the next bsp_sync is over"
     return f"fresh memory{'' if choices.stack else ' of malloc'} has bytes {choices.heap:#04x}"
 
 

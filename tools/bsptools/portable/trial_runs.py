@@ -3,10 +3,9 @@
 from __future__ import annotations
 
 import argparse
-import functools
 import pathlib
 import subprocess
-from collections.abc import Callable, Iterator
+from collections.abc import Callable, Iterator, Sequence
 from dataclasses import dataclass, field
 from typing import NamedTuple
 
@@ -14,16 +13,19 @@ from .. import emulator
 from ..framed.replays import Replays, bytes_of
 from ..framed.session import Node, Session
 from ..limits import MOST_MEMORY, MOST_POINTS, MOST_TICKS
-from ..outputs import output_records, report
+from ..outputs import contested_bytes, output_records, report
 from ..outputs.output_demux import OUTPUT, Marks
 from ..outputs.written_files import Files
 from ..prepare.library_choices import WORD, Choices, Point, image_with
 from ..program.code import Code
 from ..refusals import Refused, lines_of, show
+from .call_log import CALLS, Superstep, supersteps
 
 # Bytes above the program's memory, where messages and calls are kept, and what the library says where they are too few.
 ROOM = 1 << 22
 NO_ROOM = b": there is no room for what bsprun --portable keeps\n"
+# What stands in front of the records of a run that is logged, where its program writes no others. No text has such bytes.
+LOG_MARK = b"\0bsprun\5\0\1\2\3\4\5\6"
 # How many more instructions a run under choices may make, and how many times as many.
 MORE_TICKS, TIMES = 100_000_000, 20
 # Bytes that are looked at where a call names some.
@@ -57,6 +59,11 @@ class Subject(NamedTuple):
     folder: pathlib.Path
     mark: bytes
 
+    @property
+    def log_mark(self) -> bytes:
+        """What stands before the records of a run that is logged."""
+        return self.mark or LOG_MARK
+
     def run(self, nodes: int, limit: int) -> Ending:
         """The program as it is, on some number of nodes and with another limit."""
         settings = list(self.settings)
@@ -67,25 +74,30 @@ class Subject(NamedTuple):
 
 def ending_of(done: subprocess.CompletedProcess[bytes], mark: bytes) -> Ending:
     """What a run with a report came to."""
-    parted = report.part(done.stdout)
-    if parted is None:
+    found = report.brief(done.stdout)
+    if found is None:
         raise Refused("the program could not be run once more", *lines_of(done.stderr))
-    output, written = with_files(bytes(parted[0]), mark)
-    found = parted[1]
-    return Ending(output, found.outcome, written, found.supersteps[-1].number, sum(it.costs["w"] for it in found.supersteps))
+    output, written = with_files(bytes(found.output), mark)
+    return Ending(output, found.outcome, written, found.last, found.work)
 
 
 def with_files(content: bytes, mark: bytes) -> tuple[bytes, tuple[tuple[int, bytes, bytes], ...]]:
     """The output of a run without its records, and the files that these tell of."""
-    marks, written, output = Marks(mark), Files(), b""
+    marks, written, output = Marks(mark), Files(), bytearray()
     for kind, piece in marks.take(content):
         record = output_records.record_of(kind, piece) if kind != OUTPUT else None
         if kind == OUTPUT:
             output += piece
-        elif record is not None and kind != output_records.NOTE:
+        elif record is not None and kind not in (output_records.NOTE, CALLS):
             written.take(record)
     files = tuple((it.rank, it.name, bytes(it.content)) for it in written.files.values())
-    return output + marks.left(), files
+    return bytes(output + marks.left()), files
+
+
+def with_log(content: bytes, mark: bytes, writes_files: bool) -> bytes:
+    """An image that writes records of its calls behind this mark."""
+    flags = output_records.RECORDS | (output_records.WRITES_FILES if writes_files else 0)
+    return output_records.settings_in(content, flags, 0, mark)
 
 
 class Stop(NamedTuple):
@@ -104,7 +116,9 @@ class Trials:
         # The program has as much memory behind its variables as it has as it is, but where a node has not so much.
         self.memory = min(subject.options.memory + max(code.need - subject.code.need, 0), MOST_MEMORY - ROOM)
         self.room = ROOM if code.need <= self.memory else 0
-        self.run = functools.lru_cache(maxsize=None)(self._run)
+        self.known: dict[Choices, Ending] = {}
+        self.contested: dict[Choices, contested_bytes.Found] = {}
+        self.images = 0
 
     @property
     def nodes(self) -> int:
@@ -118,26 +132,53 @@ class Trials:
 
     def _settings_for(self, choices: Choices) -> list[str]:
         """The settings of a run, of which the image is written."""
-        image = self.subject.folder / "chosen.elf"
-        image.write_bytes(image_with(self.content, choices._replace(memory=self.memory if self.room else 0)))
+        image = self.subject.folder / f"chosen{self.images}.elf"
+        self.images += 1
+        content = image_with(self.content, self.with_memory(choices))
+        image.write_bytes(with_log(content, self.subject.log_mark, bool(self.subject.mark)) if choices.is_logged else content)
         settings = [str(image), *self.subject.settings[1:]]
         settings[settings.index("--memory") + 1] = str(min(self.subject.options.memory + self.room, MOST_MEMORY))
         settings[settings.index("--limit") + 1] = str(self.limit)
         return settings
 
+    def with_memory(self, choices: Choices) -> Choices:
+        """Choices with the memory that is left to the program."""
+        return choices._replace(memory=self.memory if self.room else 0)
+
     def go_without_room(self) -> None:
         """Leaves messages and calls to the machine, which has room for them."""
         self.room = 0
-        self.run.cache_clear()
+        self.known.clear()
 
-    def _run(self, choices: Choices) -> Ending:
-        show("bsprun: trying other choices")
+    def run(self, choices: Choices) -> Ending:
+        """What a run comes to."""
+        return self.run_all([choices])[0]
+
+    def run_all(self, tried: Sequence[Choices], is_contested: bool = False) -> list[Ending]:
+        """What runs come to, which are made side by side; also what is contested in each, if that is asked for."""
+        left = [it for it in dict.fromkeys(tried) if it not in self.known or (is_contested and it not in self.contested)]
+        if left:
+            show("bsprun: trying other choices")
+        files = [self.subject.folder / f"contested{at}.csv" for at in range(len(left))]
+        commands = [self._command(it, file if is_contested else None) for it, file in zip(left, files)]
+        for it, file, done in zip(left, files, emulator.run_all(commands) if left else []):
+            ending = ending_of(done, self.subject.log_mark if it.is_logged else self.subject.mark)
+            if NO_ROOM in ending.output and ending.outcome != "ended":
+                raise NoRoom
+            self.known[it] = ending
+            if is_contested:
+                self.contested[it] = contested_bytes.read(file, self.nodes, ending.last)
+        return [self.known[it] for it in tried]
+
+    def _command(self, choices: Choices, file: pathlib.Path | None) -> list[str]:
         workers = ["--workers", str(self.subject.options.workers)]
-        done = emulator.run([*self.subject.program, "run", *self._settings_for(choices), *workers, "--report"])
-        ending = ending_of(done, self.subject.mark)
-        if NO_ROOM in ending.output and ending.outcome != "ended":
-            raise NoRoom
-        return ending
+        more = ["--contested", str(file)] if file is not None else []
+        return [*self.subject.program, "run", *self._settings_for(choices), *workers, "--report", *more]
+
+    def log(self, choices: Choices) -> list[Superstep]:
+        """The calls of a run."""
+        done = emulator.run(self._command(choices._replace(is_logged=True), None))
+        return supersteps(done.stdout, self.subject.log_mark)
 
     def replays(self, choices: Choices) -> Replays:
         """The same run in the debugger, up to the next one that is asked for."""

@@ -1,19 +1,21 @@
-"""Unbuffered calls whose bytes at the other rank are written there in the same superstep.
+"""Unbuffered calls whose bytes are written by the rank in whose memory they lie, in the same superstep.
 
-Who comes first is open.
+Who comes first is open. A run in the debugger shows these bytes where each superstep begins, and where all ranks have come to its end.
 """
 
 from __future__ import annotations
 
-import itertools
-from typing import NamedTuple
+from collections.abc import Iterator
+from typing import Dict, List, NamedTuple, Sequence, Tuple
 
-from ..framed.environment_calls import HPGET, HPPUT, Call
-from ..framed.superstep_calls import TRACED, Landing, SuperstepCalls, landings_in
-from .trial_runs import memory_of
+from ..framed.environment_calls import HPGET, HPPUT, REQUESTS, Tracer
+from ..framed.session import Session
+from .call_log import Logged, Superstep
+from .exposed_bytes import Bytes
+from .trial_runs import MOST_SHOWN, memory_of
 
-# How many supersteps with such calls are looked at.
-MOST_SUPERSTEPS = 64
+# Of the lines that a session takes, so many bytes are left where another one begins.
+LEAST_ROOM = 1 << 16
 
 
 class Race(NamedTuple):
@@ -21,37 +23,66 @@ class Race(NamedTuple):
     and what when that rank has come to the end of the superstep."""
 
     superstep: int
-    rank: int
-    call: Call
-    owner: int
-    address: int
-    script: list[str]
+    call: Logged
+    where: Bytes
+    script: List[str]
     before: bytes
     after: bytes
 
 
-def first_race(steps: SuperstepCalls, last: int) -> Race | None:
-    """The first such call of a run."""
-    with_calls = ((superstep, made) for superstep, made in landings_in(steps, last, (HPPUT, HPGET)) if made)
-    found = (race_in(steps, superstep, made) for superstep, made in itertools.islice(with_calls, MOST_SUPERSTEPS))
-    return next((it for it in found if it is not None), None)
+def races(trace: Tracer, steps: Sequence[Superstep]) -> List[Race]:
+    """The first such call of each place in the code."""
+    found: Dict[int, Race] = {}
+    superstep = 0
+    while superstep < len(steps):
+        with trace.replays.session() as session:
+            session.ask_all(trace.replays.begin(superstep))
+            while superstep < len(steps) and session.room > LEAST_ROOM:
+                for it in races_in(trace, session, superstep, steps[superstep]):
+                    here = it if it.where.rank != it.call.rank else behind_call(trace, it)
+                    if here.before != here.after:
+                        found.setdefault(it.call.place, here)
+                session.ask("turn")
+                superstep += 1
+    return sorted(found.values(), key=lambda it: (it.superstep, it.call.rank, it.call.request))
 
 
-def race_in(steps: SuperstepCalls, superstep: int, made: list[tuple[int, Landing]]) -> Race | None:
-    """The first such call of a superstep."""
-    replays = steps.trace.replays
-    script = replays.begin(superstep)
+def named_in(step: Superstep) -> Iterator[Tuple[Bytes, Logged]]:
+    """The bytes of areas that unbuffered calls name."""
+    for made in step.requests.values():
+        for it in made:
+            if it.number in (HPPUT, HPGET) and it.nbytes > 0:
+                where = step.written(it) if it.number == HPPUT else next(iter(step.read(it)), None)
+                if where is not None:
+                    yield where, it
+
+
+def races_in(trace: Tracer, session: Session, superstep: int, step: Superstep) -> Iterator[Race]:
+    """The calls of a superstep, at whose beginning a session is, whose bytes are others at its end. It comes to there."""
+    named = list(named_in(step)) if step.has_unbuffered else []
+    before = [content(session, where) for where, _ in named]
+    session.ask("phase")
+    for (where, it), one in zip(named, before):
+        other = content(session, where)
+        if one != other:
+            yield Race(superstep, it, where, trace.replays.begin(superstep), one, other)
+
+
+def content(session: Session, where: Bytes) -> bytes:
+    """Bytes of a rank's memory, piece by piece."""
+    pieces = range(where.start, where.end, MOST_SHOWN)
+    return b"".join(memory_of(session, where.rank, it, min(where.end - it, MOST_SHOWN)) for it in pieces)
+
+
+def behind_call(trace: Tracer, it: Race) -> Race:
+    """The same from the call on: what a rank has written before its own call comes before it."""
+    rank, replays = it.call.rank, trace.replays
+    script = replays.begin(it.superstep)
+    made, start = trace.calls_in(rank, REQUESTS, it.superstep), replays.look(script, rank)
+    if start is None or it.call.request >= len(made):
+        return it
+    here = [*script, f"step {rank} {made[it.call.request].node.ticks - start.ticks}"]
     with replays.session() as session:
-        session.ask_all(script)
-        before = [memory_of(session, owner, it.start, it.end - it.start) for owner, it in made]
-        session.ask("phase")
-        after = [memory_of(session, owner, it.start, it.end - it.start) for owner, it in made]
-        for (owner, it), one, other in zip(made, before, after):
-            here = script
-            if owner == it.rank and one != other:
-                # What a rank has written before its own call comes before it.
-                here = steps.trace.up_to(it.rank, TRACED, 0, it.call)
-                one = replays.bytes(here, owner, it.start, it.end - it.start)
-            if one != other:
-                return Race(superstep, it.rank, it.call, owner, it.start, here, one, other)
-    return None
+        session.ask_all(here)
+        return it._replace(script=here, before=content(session, it.where))
+    return it

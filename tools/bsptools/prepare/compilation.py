@@ -39,10 +39,11 @@ def looks(options: argparse.Namespace) -> list[str]:
 def manner(options: argparse.Namespace, tool: str) -> list[str]:
     """How a tool has a program compiled where the command line says nothing else: for gdb so that each variable can be looked at, and for
     a run with warnings of what is nearly always a mistake. Where warnings are errors they are those that the person has chosen."""
+    choices = ["--portable"] if getattr(options, "order", None) is not None else []
     if options.strict:
-        return []
+        return choices
     has_own = not {"-w", "-Werror"}.isdisjoint(options.compiled or [])
-    return ["-Og"] if tool == "bspgdb" else [] if has_own else ["--likely"]
+    return [*choices, *(["-Og"] if tool == "bspgdb" else [] if has_own else ["--likely"])]
 
 
 def optimized(options: argparse.Namespace, names: list[str]) -> list[str]:

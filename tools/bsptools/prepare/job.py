@@ -116,7 +116,7 @@ def prepared(
         content, kind = content_of(image, MOST_PROGRAM), "elf"
     elif kind == "elf" and elf.misfit(content):
         raise Refused(f"{options.program} {elf.misfit(content)}")
-    elif getattr(options, "portable", False):
+    elif getattr(options, "portable", False) or getattr(options, "order", None) is not None:
         expect_choices(options.program, content)
     elif kind == "elf" and beside is not None:
         beside(options, content)
@@ -161,7 +161,7 @@ def expect_choices(name: str, content: bytes) -> None:
     from .library_choices import MAGIC as CHOICES
 
     if CHOICES not in content:
-        raise Refused(f"{name} takes no choices, as --portable makes: give a program in C, or what bspcc --portable built")
+        raise Refused(f"{name} takes no choices, as --portable and --order make: give a program in C, or what bspcc --portable built")
 
 
 def given_input(options: argparse.Namespace, content: bytes, tool: str) -> bytes | None:

@@ -6,16 +6,18 @@ BSPlib and C leave them open. bsplib/src/choices.c makes them.
 from __future__ import annotations
 
 import struct
-from typing import NamedTuple
+from typing import NamedTuple, Tuple
 
 from ..refusals import Refused
 
 # What stands before the choices in an image. No text has such a byte at its end.
 MAGIC = b"\0bsprun\4"
 # The order in which messages are handed out, and when bsp_hpput and bsp_hpget read and write.
-AS_SENT, REVERSED, SHUFFLED = range(3)
+AS_SENT, REVERSED, SHUFFLED, NUMBERED = range(4)
 AS_BUFFERED, EARLY, LATE, WATCHED = range(4)
 WORD = (1 << 32) - 1
+# How many parts of requests can be left out.
+MOST_CUTS = 1024
 
 
 class Point(NamedTuple):
@@ -26,12 +28,24 @@ class Point(NamedTuple):
     which: int
 
 
+class Cut(NamedTuple):
+    """Bytes of a put or a get that are left out, from one up to before another one: as if another request had landed behind this one. The
+    request is counted among the puts, gets and messages of a rank in a superstep."""
+
+    superstep: int
+    rank: int
+    request: int
+    start: int
+    end: int
+
+
 EVERYWHERE = Point(WORD, WORD, WORD)
 
 
 class Choices(NamedTuple):
     """What is chosen at each point before `until`. `memory` is the bytes of a node's memory that are the program's; `heap` and `stack` are
-    each byte of fresh memory, or 0 for what is there."""
+    each byte of fresh memory, and `queue` each byte of what bsp_hpmove gave out, once the next bsp_sync is over, or 0 for what is there. A
+    run that is logged tells its calls in records."""
 
     memory: int = 0
     order: int = AS_SENT
@@ -39,7 +53,10 @@ class Choices(NamedTuple):
     unbuffered: int = AS_BUFFERED
     heap: int = 0
     stack: int = 0
+    queue: int = 0
+    is_logged: bool = False
     until: Point = EVERYWHERE
+    cuts: Tuple[Cut, ...] = ()
 
 
 def image_with(content: bytes, choices: Choices) -> bytes:
@@ -47,17 +64,21 @@ def image_with(content: bytes, choices: Choices) -> bytes:
     if content.count(MAGIC) != 1:
         raise Refused("the program has no one place for choices: it was not built by bspcc --portable")
     at = content.index(MAGIC) + len(MAGIC)
-    words = struct.pack("<9I", *choices[:-1], *choices.until)
+    cuts = sorted(choices.cuts)[:MOST_CUTS]
+    words = struct.pack(f"<{12 + 5 * len(cuts)}I", *choices[:-2], *choices.until, len(cuts), *(number for it in cuts for number in it))
     return content[:at] + words + content[at + len(words) :]
 
 
 def swaps(choices: Choices, superstep: int, rank: int, count: int) -> list[tuple[int, int]]:
     """The places that change their messages, swap by swap, where so many are in a rank's queue in a superstep."""
-    random = choices.seed + superstep * 2654435761 + rank * 40503 & WORD
+    random, number = choices.seed + superstep * 2654435761 + rank * 40503 & WORD, choices.seed
     found = []
     for i in range(count - 1):
         other = count - 1 - i if choices.order == REVERSED and i < count // 2 else i
-        if choices.order == SHUFFLED:
+        if choices.order == NUMBERED:
+            number, step = divmod(number, count - i)
+            other = i + step
+        elif choices.order == SHUFFLED:
             random = random * 1664525 + 1013904223 & WORD
             other = i + (random >> 8) % (count - i)
         found.append((i, other))

@@ -1,0 +1,118 @@
+/* Memory that was given no value, and other things that are C's, and such as look like it. */
+#include "cases.h"
+
+static int __attribute__((noinline)) unset_sum(const int *values)
+{
+    int seen[6], i, sum = 0;
+    for (i = 0; i < 5; i++)
+        seen[values[i] % 6] += 1;
+    for (i = 0; i < 6; i++)
+        sum += seen[i] * (i + 1);
+    return sum;
+}
+
+CASE(unset_array, FRESH)
+{
+    say(unset_sum(a));
+}
+
+CASE(fresh_malloc, FRESH)
+{
+    int *place = malloc(40); /* ! */
+    say(place[3]);
+}
+
+CASE(partly_set, FRESH)
+{
+    int *place = malloc(40), i; /* ! */
+    for (i = 0; i < 9; i++)
+        place[i] = i;
+    say(weighed(place, 10));
+}
+
+CASE(put_of_fresh, FRESH)
+{
+    int *place = malloc(40); /* ! */
+    bsp_put(next, place, b, 0, sizeof(int));
+    bsp_sync();
+    say(b[0]);
+}
+
+CASE(sent_fresh, FRESH)
+{
+    int *place = malloc(40); /* ! */
+    bsp_send(next, NULL, place, sizeof(int));
+    bsp_sync();
+    bsp_move(&b[0], sizeof(int));
+    say(b[0]);
+}
+
+CASE(text_without_end, FRESH)
+{
+    char *text = malloc(8); /* ! */
+    memcpy(text, "abc", 3);
+    say((int)strnlen(text, 8));
+}
+
+CASE(grown, FRESH)
+{
+    int *place = malloc(8); /* ! */
+    place[0] = 1;
+    say(place[0] + place[1]);
+}
+
+CASE(by_calloc, INNOCENT)
+{
+    int *place = calloc(10, 4);
+    say(place[3]);
+}
+
+CASE(set_first, INNOCENT)
+{
+    int *place = malloc(40);
+    memset(place, 0, 40);
+    say(place[3]);
+}
+
+CASE(never_read, INNOCENT)
+{
+    int *place = malloc(40);
+    place[2] = 7;
+    say(place[2]);
+}
+
+CASE(static_array, INNOCENT)
+{
+    static int table[10];
+    say(table[3]);
+}
+
+CASE(zeroed_array, INNOCENT)
+{
+    int seen[10] = {0};
+    seen[a[1] % 10]++;
+    say(weighed(seen, 10));
+}
+
+CASE(freed_and_had_again, INNOCENT)
+{
+    int *place = malloc(40);
+    free(place);
+    place = malloc(40);
+    place[0] = 3;
+    say(place[0]);
+}
+
+CASE(received_into_fresh, INNOCENT)
+{
+    int *place = malloc(40);
+    bsp_get(next, a, 0, place, 40);
+    bsp_sync();
+    say(weighed(place, 10));
+}
+
+CASE(null_when_nothing, INNOCENT)
+{
+    void *place = malloc(1);
+    say(place != NULL);
+}

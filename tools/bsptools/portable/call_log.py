@@ -1,0 +1,161 @@
+"""The calls of a run as the library of `bspcc --portable` tells them in records, superstep by superstep.
+
+One run has all of them, with the places in the code from which they were made. bsplib/src/choices.c writes them.
+"""
+
+from __future__ import annotations
+
+import functools
+import struct
+from collections.abc import Iterator
+from dataclasses import dataclass, field
+from typing import Counter, Dict, List, NamedTuple, Set, Tuple
+
+from ..framed import environment_calls
+from ..framed.environment_calls import GETS, POP, PUSH, PUTS, REQUESTS, SEND, TAGSIZE
+from ..outputs.output_demux import Marks
+from ..outputs.output_records import record_of
+from . import exposed_bytes
+from .exposed_bytes import Bytes, Transfer
+
+# The kind of the library's records of calls, and the numbers of what is no call of the machine.
+CALLS = ord("c")
+DIRECT_GET, NO_MESSAGE, INPUT = 110, 115, 118
+KINDS = {
+    environment_calls.PUT: exposed_bytes.PUT, environment_calls.GET: exposed_bytes.GET, environment_calls.HPPUT: exposed_bytes.HPPUT,
+    environment_calls.HPGET: exposed_bytes.HPGET, SEND: exposed_bytes.SEND, DIRECT_GET: exposed_bytes.DIRECT_GET,
+}  # fmt: skip
+_CALL = struct.Struct("<IIiIIiiI")
+_WORDS, _PID = _CALL.size // 4, 2
+
+
+class Logged(NamedTuple):
+    """A call of a rank, as the program makes it: its number, the place behind it, and its operands, of which those that it does not have are
+    0. `src` is also an area that is registered, and `dst` of a put is its area. `request` counts it among the puts, gets and messages of its
+    rank in the superstep, and is that of the next one where it is none."""
+
+    rank: int
+    request: int
+    number: int
+    place: int
+    pid: int
+    src: int
+    dst: int
+    offset: int
+    nbytes: int
+    tag: int
+
+
+@dataclass
+class Superstep:
+    """The records of calls of each rank in a superstep, which are read where they are asked for; the areas of each rank in it, as the
+    addresses of what it has registered, and the sizes of its tags."""
+
+    records: Dict[int, bytearray] = field(default_factory=dict)
+    areas: Dict[int, List[int]] = field(default_factory=dict)
+    tag_sizes: Dict[int, int] = field(default_factory=dict)
+
+    @functools.cached_property
+    def numbers(self) -> Set[int]:
+        """The numbers of its calls. Each is a byte."""
+        return {number for content in self.records.values() for number in set(content[:: _CALL.size])}
+
+    @functools.cached_property
+    def calls(self) -> Dict[int, List[Logged]]:
+        """Its calls, by their ranks."""
+        found: Dict[int, List[Logged]] = {}
+        for rank, content in sorted(self.records.items()):
+            made, request = found.setdefault(rank, []), 0
+            for operands in _CALL.iter_unpack(content):
+                made.append(Logged(rank, request, *operands))
+                request += operands[0] in REQUESTS
+        return found
+
+    def all(self) -> Iterator[Logged]:
+        """All of them, by their ranks."""
+        for made in self.calls.values():
+            yield from made
+
+    @property
+    def has_unbuffered(self) -> bool:
+        """Whether a call of the superstep is unbuffered."""
+        return not self.numbers.isdisjoint((environment_calls.HPPUT, environment_calls.HPGET))
+
+    def most_sent(self) -> int:
+        """How many messages come to one rank, where most do."""
+        if SEND not in self.numbers:
+            return 0
+        counts: Counter[int] = Counter()
+        for content in self.records.values():
+            words = struct.unpack(f"<{len(content) // 4}I", content)
+            counts.update(pid for number, pid in zip(words[::_WORDS], words[_PID::_WORDS]) if number == SEND)
+        return max(counts.values())
+
+    @functools.cached_property
+    def requests(self) -> Dict[int, List[Logged]]:
+        """The puts, gets and messages of each rank."""
+        return {rank: [it for it in made if it.number in REQUESTS] for rank, made in self.calls.items()}
+
+    def area(self, it: Logged, name: int) -> int | None:
+        """Where the area lies at the other rank that a call names by an address of its own: that of the last registration there."""
+        here, there = self.areas.get(it.rank, []), self.areas.get(it.pid, [])
+        at = next((i for i in range(len(here) - 1, -1, -1) if here[i] == name), None)
+        return there[at] if at is not None and at < len(there) else None
+
+    def written(self, it: Logged) -> Bytes | None:
+        """The bytes that a put or a get writes."""
+        if it.number in GETS:
+            return Bytes(it.rank, it.dst, it.dst + it.nbytes)
+        start = self.area(it, it.dst) if it.number in PUTS else None
+        return None if start is None else Bytes(it.pid, start + it.offset, start + it.offset + it.nbytes)
+
+    def read(self, it: Logged) -> List[Bytes]:
+        """The bytes that a call reads. A message with a tag has two parts."""
+        if it.number in PUTS:
+            return [Bytes(it.rank, it.src, it.src + it.nbytes)]
+        if it.number == SEND:
+            size = self.tag_sizes.get(it.rank, 0)
+            return [Bytes(it.rank, it.src, it.src + it.nbytes), *([Bytes(it.rank, it.tag, it.tag + size)] if size else [])]
+        start = it.src if it.number == DIRECT_GET else self.area(it, it.src) if it.number in GETS else None
+        rank = it.rank if it.number == DIRECT_GET else it.pid
+        return [] if start is None else [Bytes(rank, start + it.offset, start + it.offset + it.nbytes)]
+
+    def transfers(self) -> Iterator[Tuple[Transfer, Logged]]:
+        """What the calls read and write."""
+        for made in self.calls.values():
+            for number, it in enumerate(made):
+                if it.number in KINDS and it.nbytes > 0:
+                    for read in self.read(it):
+                        yield Transfer(it.rank, number, KINDS[it.number], read, self.written(it)), it
+
+
+def supersteps(content: bytes, mark: bytes) -> List[Superstep]:
+    """The supersteps of a run up to the last that has a call, by what the run wrote."""
+    found: List[Superstep] = []
+    for kind, piece in Marks(mark).take(content):
+        record = record_of(kind, piece) if kind == CALLS else None
+        if record is not None:
+            superstep = int.from_bytes(record.content[:4], "little")
+            found += [Superstep() for _ in range(len(found), superstep + 1)]
+            found[superstep].records.setdefault(record.rank, bytearray()).extend(record.content[4:])
+    _register(found)
+    return found
+
+
+def _register(found: List[Superstep]) -> None:
+    """Finds areas and sizes of tags in each superstep: what is registered or set takes effect in the next one."""
+    areas: Dict[int, List[int]] = {}
+    sizes: Dict[int, int] = {}
+    for superstep in found:
+        superstep.areas, superstep.tag_sizes = areas, sizes
+        if superstep.numbers.isdisjoint((PUSH, POP, TAGSIZE)):
+            continue
+        areas, sizes = {rank: list(it) for rank, it in areas.items()}, dict(sizes)
+        for it in superstep.all():
+            here = areas.setdefault(it.rank, [])
+            if it.number == TAGSIZE:
+                sizes[it.rank] = it.nbytes
+            elif it.number == PUSH:
+                here.append(it.src)
+            elif it.number == POP and it.src in here:
+                del here[len(here) - 1 - here[::-1].index(it.src)]

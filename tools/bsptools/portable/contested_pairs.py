@@ -1,0 +1,106 @@
+"""Contested bytes by the two places in the code that contest them, and what has the other of two requests count.
+
+A request of which bytes are left out comes to the same as one that lands before those that write there too.
+"""
+
+from __future__ import annotations
+
+from collections.abc import Iterator, Sequence
+from dataclasses import dataclass, field
+from typing import Dict, List, NamedTuple, Tuple
+
+from ..framed.environment_calls import PUTS
+from ..outputs.contested_bytes import Contested, Request
+from ..prepare.library_choices import Cut
+from .call_log import Logged, Superstep
+from .exposed_bytes import Bytes
+
+# A request in the order in which the machine has them land: gets, then puts, each by rank and then by number.
+Landing = Tuple[bool, int, int]
+
+
+class Place(NamedTuple):
+    """Bytes of a superstep that are contested: a request, one that lands before it and counts in the other order, what has it count, and the
+    row that says of these two that they bring other values, where there is one."""
+
+    superstep: int
+    where: Bytes
+    last: Logged
+    other: Logged
+    cuts: Tuple[Cut, ...]
+    row: Contested | None
+
+
+@dataclass
+class Pair:
+    """Two places in the code that contest bytes: the first of these, how many there are, and what has the others count everywhere."""
+
+    first: Place
+    count: int = 0
+    cuts: List[Cut] = field(default_factory=list)
+
+
+def pairs(rows: Sequence[Contested], steps: Sequence[Superstep]) -> List[Pair]:
+    """The pairs of places that contest bytes, in the order of the first of each."""
+    found: Dict[Tuple[int, ...], Pair] = {}
+    for place in places(rows, steps):
+        pair = found.setdefault(tuple(sorted((place.last.place, place.other.place))), Pair(place))
+        pair.count += 1
+        pair.cuts += place.cuts
+        pair.first = place if pair.first.row is None and place.row is not None else pair.first
+    return list(found.values())
+
+
+def places(rows: Sequence[Contested], steps: Sequence[Superstep]) -> Iterator[Place]:
+    """The places of contested bytes, each of which two requests contest as a whole."""
+    known: Tuple[int, int] | None = None
+    landed: List[Tuple[Bytes, Logged]] = []
+    going: List[Tuple[Bytes, Logged]] = []
+    at = 0
+    for row in rows:
+        if (row.superstep, row.rank) != known:
+            known, at, going = (row.superstep, row.rank), 0, []
+            landed = landings(steps[row.superstep], row.rank) if row.superstep < len(steps) else []
+        start, end = row.address, row.address + row.size
+        going = [it for it in going if it[0].end > start]
+        while at < len(landed) and landed[at][0].start < end:
+            going += [landed[at]] if landed[at][0].end > start else []
+            at += 1
+        yield from places_in(row, going)
+
+
+def landings(step: Superstep, rank: int) -> List[Tuple[Bytes, Logged]]:
+    """What a superstep writes into a rank's memory, by the first bytes."""
+    found = ((step.written(it), it) for made in step.requests.values() for it in made if it.nbytes > 0)
+    return sorted((where, it) for where, it in found if where is not None and where.rank == rank)
+
+
+def places_in(row: Contested, landed: Sequence[Tuple[Bytes, Logged]]) -> Iterator[Place]:
+    """The parts of a row between the ends of what has landed there."""
+    start, end = row.address, row.address + row.size
+    edges = sorted({start, end, *(edge for it, _ in landed for edge in (it.start, it.end) if start < edge < end)})
+    for low, high in zip(edges, edges[1:]):
+        here = sorted(((order(it), where, it) for where, it in landed if where.start <= low and high <= where.end), key=lambda it: it[0])
+        if len(here) < 2:
+            continue
+        named = [at for at, (_, _, it) in enumerate(here) if is_asked(it, row.first) or is_asked(it, row.second)]
+        is_known = len(named) == 2
+        both = [(named[0], named[1]) if is_known else (0, len(here) - 1)]
+        # Of more than two the others may bring other values, too: the first of each place in the code.
+        firsts = {it.place: at for at, (_, _, it) in reversed(list(enumerate(here)))}
+        both += [(at, len(here) - 1) for at in firsts.values() if at < len(here) - 1] if len(here) > 2 else []
+        both = list({tuple(sorted((here[one][2].place, here[two][2].place))): (one, two) for one, two in reversed(both)}.values())[::-1]
+        for which, (other, last) in enumerate(both):
+            cuts = [Cut(row.superstep, it.rank, it.request, low - where.start, high - where.start) for _, where, it in here[other + 1 :]]
+            known = row if is_known and which == 0 else None
+            yield Place(row.superstep, Bytes(row.rank, low, high), here[last][2], here[other][2], tuple(cuts), known)
+
+
+def order(it: Logged) -> Landing:
+    """Where the machine has a request land."""
+    return it.number in PUTS, it.rank, it.request
+
+
+def is_asked(it: Logged, request: Request) -> bool:
+    """Whether a request of a row is this one."""
+    return (it.rank, it.request) == (request.rank, request.number)

@@ -1,0 +1,98 @@
+"""The choices of a run as `--order` spells them, and a job that makes them.
+
+A text has parts with a + between: each is what is chosen, a colon, how, and at the end a point behind an @, up to which it is, where it is
+not everywhere.
+"""
+
+from __future__ import annotations
+
+import pathlib
+import re
+from collections.abc import Sequence
+
+from ..limits import MOST_MEMORY, WORKERS
+from ..prepare.job import Job
+from ..prepare.library_choices import EARLY, EVERYWHERE, LATE, MOST_CUTS, NUMBERED, REVERSED, SHUFFLED, WORD, Choices, Cut, Point, image_with
+from ..program.code import read_elf
+from ..refusals import Refused
+from .contested_pairs import pairs
+from .trial_runs import Subject, Trials
+
+FORMS = "messages:reversed, messages:shuffle:SEED, messages:order:N, unbuffered:early, unbuffered:late, malloc:BYTE, memory:BYTE, queue:BYTE," \
+    " puts:reversed or puts:PAIR, with a + between those that go together"  # fmt: skip
+ORDERS = {"reversed": REVERSED, "shuffle": SHUFFLED, "order": NUMBERED}
+# All pairs of lines that contest bytes.
+ALL = -1
+
+
+def spelled(choices: Choices, pair: int | None = None) -> str:
+    """The text of choices, and of a pair of lines whose puts and gets land in the other order."""
+    parts = []
+    if choices.order:
+        name = next(it for it, order in ORDERS.items() if order == choices.order)
+        parts.append(f"messages:{name}" + (f":{choices.seed}" if choices.order != REVERSED else ""))
+    if choices.unbuffered:
+        parts.append(f"unbuffered:{'early' if choices.unbuffered == EARLY else 'late'}")
+    if choices.heap:
+        parts.append(f"{'memory' if choices.stack else 'malloc'}:{choices.heap:#04x}")
+    if choices.queue:
+        parts.append(f"queue:{choices.queue:#04x}")
+    parts += [f"puts:{pair}"] if pair is not None else []
+    point = "" if choices.until == EVERYWHERE else f"@{'/'.join(map(str, choices.until))}"
+    return "+".join(parts) + point
+
+
+def choices_of(text: str) -> tuple[Choices, list[int]]:
+    """The choices of a text, and the pairs of lines whose puts and gets land in the other order, from 1 on."""
+    body, at, point = text.partition("@")
+    choices, turned = Choices(), []
+    for part in body.split("+"):
+        what, _, how = part.partition(":")
+        name, _, number = how.partition(":")
+        if what == "messages" and name in ORDERS and (not number if name == "reversed" else number.isdecimal()):
+            choices = choices._replace(order=ORDERS[name], seed=int(number or 0) & WORD)
+        elif part in ("unbuffered:early", "unbuffered:late"):
+            choices = choices._replace(unbuffered=EARLY if how == "early" else LATE)
+        elif what in ("malloc", "memory", "queue") and re.fullmatch(r"0x[0-9a-fA-F]{1,2}|\d{1,3}", how) and 1 <= int(how, 0) <= 255:
+            byte = int(how, 0)
+            heap, stack = (byte if what != "queue" else choices.heap), (byte if what == "memory" else choices.stack)
+            choices = choices._replace(heap=heap, stack=stack, queue=byte if what == "queue" else choices.queue)
+        elif what == "puts" and (how == "reversed" or (how.isdecimal() and int(how) > 0)):
+            turned.append(ALL if how == "reversed" else int(how))
+        else:
+            raise Refused(f"--order takes {FORMS}; {part!r} is none of these")
+    if at:
+        numbers = point.split("/")
+        if len(numbers) != 3 or not all(it.isdecimal() for it in numbers):
+            raise Refused(f"--order has behind @ a superstep, a rank and a number, as @1/0/2, and not {point!r}")
+        choices = choices._replace(until=Point(*(int(it) & WORD for it in numbers)))
+    return choices, turned
+
+
+def with_order(job: Job, folder: pathlib.Path) -> Job:
+    """A job of a program that takes choices, with those of --order."""
+    choices, turned = choices_of(job.options.order)
+    job.options.workers = getattr(job.options, "workers", WORKERS)
+    subject = Subject(job.options, job.program, job.code, job.settings, folder, b"")
+    trials = Trials(subject, job.content, read_elf(job.content), job.options.limit)
+    if turned:
+        choices = choices._replace(cuts=tuple(cuts_of(trials, choices, turned)[:MOST_CUTS]))
+    whole = job._replace(content=image_with(job.content, trials.with_memory(choices)))
+    memory = min(job.options.memory + trials.room, MOST_MEMORY)
+    job.settings[job.settings.index("--memory") + 1] = str(memory)
+    if job.mark:
+        whole.set(0, getattr(job.options, "fill", None))
+        return whole
+    image = folder / "ordered.elf"
+    image.write_bytes(whole.content)
+    whole.settings[0] = str(image)
+    return whole._replace(image=image)
+
+
+def cuts_of(trials: Trials, choices: Choices, turned: Sequence[int]) -> list[Cut]:
+    """What has pairs of lines land in the other order in a run."""
+    trials.run_all([choices], is_contested=True)
+    made = pairs(trials.contested[choices].rows, trials.log(choices))
+    if max(turned) > len(made):
+        raise Refused(f"--order names pair {max(turned)} of lines that contest bytes, and there are {len(made)}")
+    return [cut for at, pair in enumerate(made, 1) if at in turned or ALL in turned for cut in pair.cuts]

@@ -40,7 +40,7 @@ module _ (image : Image) (s : Settings) where
       thirty_two = refl;
       x0 = refl;
       memory = rw (length-image_bytes image s.memory) range.memory;
-      communication = IsCommunication-none _ _ _;
+      communication = IsCommunication-none _ _ s.large;
     };
   }
 

@@ -22,20 +22,16 @@ use Rattle.machine_core.proofs.Sound.{length-nodes}
 larger : (n : ℕ) → nat_le n (2 ^ 24) ≡ true → nat_le n (2 ^ 31) ≡ true
 larger n small = grind (arith, nat_tests)
 
+and_false : (b : Bool) → (b && false) ≡ false
+and_false true = refl
+and_false false = refl
+
 sizes_by : (n : ℕ) (least small whole : Bool) → nat_le n (2 ^ 24) ≡ small → (small ≡ true → nat_le n (2 ^ 31) ≡ true)
     → ((least && nat_le n (2 ^ 31) && whole) && small) ≡ (least && small && whole)
 sizes_by n true true true is more = rw (more refl) refl
 sizes_by n true true false is more = rw (more refl) refl
 sizes_by n true false true is more = and_false (nat_le n (2 ^ 31) && true)
-  where
-    and_false : (b : Bool) → (b && false) ≡ false
-    and_false true = refl
-    and_false false = refl
 sizes_by n true false false is more = and_false (nat_le n (2 ^ 31) && false)
-  where
-    and_false : (b : Bool) → (b && false) ≡ false
-    and_false true = refl
-    and_false false = refl
 sizes_by n false small whole is more = refl
 
 sizes : (n : ℕ) → (is_memory_size n && nat_le n (2 ^ 24)) ≡ (nat_le 4096 n && nat_le n (2 ^ 24) && n % 4096 == 0)
@@ -62,7 +58,8 @@ limits_are_kept m sound standard =
 pub costs_less : (m : MachineState) → IsSoundMachine m → m.settings.large ≡ false
     → ((cost_row m).h_all ≤ 2 ^ 34) × ((cost_row m).messages ≤ 2 ^ 26)
 costs_less m sound standard =
-    let few : length m.nodes ≤ 1024 = omega (arith, rw standard at sound.settings.few, length-nodes m sound) in
+    let most = rw standard at sound.settings.few in
+    let few : length m.nodes ≤ 1024 = omega (arith, most, length-nodes m sound) in
     let moved : (h_of m.nodes ≤ h_all_of m.nodes) × (h_all_of m.nodes ≤ 2 ^ 34) × (messages_of m.nodes ≤ 2 ^ 26) =
     traffic_bounded_standard m.nodes few
     (All-weaker (IsNodeOf m.settings) (λ (n : NodeState). IsHart n.hart) (λ n of. of.sound.hart) m.nodes sound.nodes)

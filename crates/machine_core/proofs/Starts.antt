@@ -19,9 +19,6 @@ use Rattle.machine_core.specs.Machine.{MachineState, fresh, node_at_start, most_
 use Rattle.machine_core.specs.Sound.{AreInRange}
 use Rattle.machine_core.proofs.States.{state_at_place}
 
-pub settings_fault-nodes : (s : Settings) → settings_fault s ≡ None → 1 ≤ s.nodes
-settings_fault-nodes s good = grind arith
-
 -- what the tests say of the settings that pass them
 first_passed : {E : Type 0} (b : Bool) (e : E) (rest : Option E) → (if b then rest else Some e) ≡ None → (b ≡ true) × (rest ≡ None)
 first_passed true e rest none = (refl, none)
@@ -40,16 +37,12 @@ both_true : (a b : Bool) → (a && b) ≡ true → (a ≡ true) × (b ≡ true)
 both_true true b is = (refl, is)
 both_true false b is = absurd cc
 
-settings_fault-few : (s : Settings) → settings_fault s ≡ None → s.nodes ≤ most_nodes s.large
-settings_fault-few s good =
-    let few = (both_true (nat_le 1 s.nodes) (nat_le s.nodes (most_nodes s.large)) (all_passed s good).0).1 in
-    grind (arith, nat_tests)
+at_most : (a b : ℕ) → nat_le a b ≡ true → a ≤ b
+at_most a b is = grind (arith, nat_tests)
 
-settings_fault-memory : (s : Settings) → settings_fault s ≡ None → IsTrue (is_memory_size s.memory) × (s.memory ≤ most_memory s.large)
-settings_fault-memory s good =
-    let passed = both_true (is_memory_size s.memory) (nat_le s.memory (most_memory s.large)) (all_passed s good).1 in
-    let small = passed.1 in
-    (passed.0, grind (arith, nat_tests))
+pub settings_fault-nodes : (s : Settings) → settings_fault s ≡ None → 1 ≤ s.nodes
+settings_fault-nodes s good =
+    at_most 1 s.nodes (both_true (nat_le 1 s.nodes) (nat_le s.nodes (most_nodes s.large)) (all_passed s good).0).0
 
 most_nodes-at_most : (large : Bool) → most_nodes large ≤ max_nodes
 most_nodes-at_most true = omega arith
@@ -60,14 +53,18 @@ pub few_in_range : (s : Settings) → AreInRange s → s.nodes ≤ max_nodes
 few_in_range s range = omega (arith, range.few, most_nodes-at_most s.large)
 
 pub AreInRange-from : (s : Settings) → settings_fault s ≡ None → AreInRange s
-AreInRange-from s good = record {
-  some = omega (arith, settings_fault-nodes s good);
-  few = settings_fault-few s good;
-  memory = (settings_fault-memory s good).0;
-  small = (settings_fault-memory s good).1;
-  ticks = grind arith;
-  limit = grind arith;
-}
+AreInRange-from s good =
+    let nodes = both_true (nat_le 1 s.nodes) (nat_le s.nodes (most_nodes s.large)) (all_passed s good).0 in
+    let memory = both_true (is_memory_size s.memory) (nat_le s.memory (most_memory s.large)) (all_passed s good).1 in
+    let limit = both_true (nat_le 1 s.limit) (nat_le s.limit (2 ^ 40)) (all_passed s good).2 in
+    record {
+      some = at_most 1 s.nodes nodes.0;
+      few = at_most s.nodes (most_nodes s.large) nodes.1;
+      memory = memory.0;
+      small = at_most s.memory (most_memory s.large) memory.1;
+      ticks = at_most 1 s.limit limit.0;
+      limit = at_most s.limit (2 ^ 40) limit.1;
+    }
 
 -- the nodes of the first ranks
 abbrev pub AreFirst : Image → Settings → List PreparedNode → ℕ → Type 0

@@ -1,6 +1,7 @@
 //! What a machine is made of.
 
-ghost use Rattle.std.specs.Prelude.{◌≡◌};
+ghost use Rattle.std.specs.Prelude.{◌≡◌, ◌&&◌, nat_le};
+ghost use Rattle.node_memory.specs.Bytes.{is_memory_size};
 ghost use Rattle.machine_core.specs.Machine.{most_nodes, most_memory};
 
 use crate::error::MachineError;
@@ -59,7 +60,7 @@ impl Settings {
         if !(1..=most_nodes(self.large)).contains(&self.nodes) {
             return Err(MachineError::BadNodes);
         }
-        if !is_memory_size(self.memory) || self.memory > most_memory(self.large) {
+        if !is_memory_of(self.memory, self.large) {
             return Err(MachineError::BadMemory);
         }
         if !(1..=1 << 40).contains(&self.limit) {
@@ -74,6 +75,13 @@ fn most_nodes(large: bool) -> u32
     ensures { result ≡ most_nodes large }
 {
     if large { LARGE_NODES } else { MAX_NODES }
+}
+
+/// Whether a node may have `size` bytes of memory.
+fn is_memory_of(size: u32, large: bool) -> bool
+    ensures { result ≡ (is_memory_size size && nat_le size (most_memory large)) }
+{
+    is_memory_size(size) && size <= most_memory(large)
 }
 
 /// The most bytes of memory of a node.

@@ -8,7 +8,7 @@ ghost use Rattle.bsp_session.specs.Session.{IsErrorOfFiles, IsErrorOfImage, Read
 ghost use Rattle.bsp_console.specs.Console.{IsDebuggerOf, console_fault};
 
 use bsp_debug::Debugger;
-use bsp_session::{INPUT_BYTES, Job, SessionError, image_of};
+use bsp_session::{Job, SessionError, image_of, most_input};
 use counted_io::{Counted, read_at_most};
 use machine_core::Machine;
 use std::alloc::Allocator;
@@ -30,7 +30,7 @@ pub(crate) fn read_files<A: Allocator + Copy, I: Read, R: Read>(
 {
     check_settings(job)?;
     let file = read_at_most(alloc, image, job.format.most_bytes())?;
-    let input = read_at_most(alloc, input, INPUT_BYTES)?;
+    let input = read_at_most(alloc, input, most_input(job.settings.large))?;
     Ok((file, input))
 }
 

@@ -20,7 +20,6 @@ use Rattle.bsp_slots.specs.declared.area.Area.{Area}
 use Rattle.bsp_requests.specs.Inbox.{IsQueue}
 use Rattle.bsp_requests.specs.Message.{Message, IsShort}
 use Rattle.bsp_requests.specs.Request.{Asked, asks_put, asks_get, asks_send, size_of}
-use Rattle.bsp_requests.specs.Requests.{max_requests, max_bytes}
 use Rattle.node_core.specs.Communication.{LiesIn, IsWellAddressed}
 use Rattle.node_core.specs.Hart.{IsHart, max_nodes, with_memory}
 use Rattle.node_core.specs.Node.{NodeState}
@@ -33,6 +32,8 @@ use Rattle.bsp_exchange.specs.Landings.{landed_byte, memory_after}
 use Rattle.bsp_exchange.specs.Arrivals.{LieIn, received_at, after_landing, FitsIn}
 use Rattle.bsp_exchange.specs.Parts.{Patch, patch_of, laid}
 use Rattle.bsp_exchange.specs.Queues.{message_to, queue_after}
+use Rattle.bsp_exchange.proofs.Bounds.{queue-light}
+use Rattle.bsp_exchange.proofs.Limits.{bytes_at_most, requests_at_most}
 use Rattle.bsp_exchange.proofs.Patches.{length-patched, length-range}
 
 -- the first of two options that is there, or else a default
@@ -198,7 +199,7 @@ has_room nprocs places size (asks_send m) addressed = tt
 -- what calls keep true of a request, as the exchange needs it
 record IsKept (nodes : List NodeState) (i : Issued) : Type 0 where
   room : HasRoom (length (memory_of nodes i.rank)) i.request
-  small : size_of i.request ≤ max_bytes
+  small : size_of i.request ≤ 2 ^ 30
 
 kept_by : (nodes : List NodeState) (n : NodeState) → memory_of nodes n.hart.rank ≡ n.hart.memory → IsHart n.hart
     → All (IsKept nodes) (issued_by n)
@@ -207,12 +208,12 @@ kept_by nodes n here hart =
     let requests : List Asked = c.requests.requests in
     let sound = hart.communication in
     let size : length (memory_of nodes n.hart.rank) ≡ length n.hart.memory = ap length here in
-    let P : Asked → Type 0 = λ (q : Asked). HasRoom (length (memory_of nodes n.hart.rank)) q × (size_of q ≤ max_bytes) in
+    let P : Asked → Type 0 = λ (q : Asked). HasRoom (length (memory_of nodes n.hart.rank)) q × (size_of q ≤ 2 ^ 30) in
     let each : All P requests = λ k d below. (
       rw size
           (has_room n.hart.nprocs (length c.registrations.in_effect) (length n.hart.memory) (get_or requests k d)
           (sound.targets k d below)),
-      omega (arith, get_or-le-sum_by size_of requests k d below, sound.requests.bytes),
+      omega (arith, get_or-le-sum_by size_of requests k d below, bytes_at_most c.requests sound.requests),
     ) in
     let numbered : All (λ (p : ℕ × Asked). P p.1) (enumerate_from 0 requests) = All-enumerate_from P 0 requests each in
     All-map (IsKept nodes) (issued_as n.hart.rank) (enumerate_from 0 requests)
@@ -292,7 +293,7 @@ LieIn-filter nodes rank ls all =
     subst P (eqb-true l.rank rank (filter_passes here ls k d below)) (All-filter here (HasPlace nodes) ls all k d below))
 
 -- a message of a request within the limits is short
-sent_is_short : (rank caller : ℕ) (q : Asked) → size_of q ≤ max_bytes → IfSome (message_to rank caller q) IsShort
+sent_is_short : (rank caller : ℕ) (q : Asked) → size_of q ≤ 2 ^ 30 → IfSome (message_to rank caller q) IsShort
 sent_is_short rank caller (asks_put p) small = tt
 sent_is_short rank caller (asks_get g) small = tt
 sent_is_short rank caller (asks_send m) small =
@@ -301,21 +302,21 @@ sent_is_short rank caller (asks_send m) small =
     (λ _. record { tag = omega arith; payload = omega arith }) (λ _. tt)
 
 -- a node has at most as many requests as a superstep may have of one
-few_of : (n : NodeState) → IsHart n.hart → length (issued_by n) ≤ max_requests
+few_of : (n : NodeState) → IsHart n.hart → length (issued_by n) ≤ 2 ^ 24
 few_of n hart =
     let requests : List Asked = n.hart.communication.requests.requests in
     omega (
       arith,
       length-map (enumerate_from 0 requests) (issued_as n.hart.rank),
       length-enumerate_from 0 requests,
-      hart.communication.requests.requests,
+      requests_at_most n.hart.communication.requests hart.communication.requests,
     )
 
 few_issued : (nodes : List NodeState) → length nodes ≤ max_nodes → All (λ (n : NodeState). IsHart n.hart) nodes
-    → length (issued nodes) < 2 ^ 32
+    → length (issued nodes) < 2 ^ 41
 few_issued nodes few harts =
-    let most : sum_by (λ (n : NodeState). length (issued_by n)) nodes ≤ length nodes * max_requests =
-    sum_by-le (λ (n : NodeState). length (issued_by n)) max_requests nodes (λ k d below. few_of (get_or nodes k d) (harts k d below)) in
+    let most : sum_by (λ (n : NodeState). length (issued_by n)) nodes ≤ length nodes * 2 ^ 24 =
+    sum_by-le (λ (n : NodeState). length (issued_by n)) (2 ^ 24) nodes (λ k d below. few_of (get_or nodes k d) (harts k d below)) in
     omega (arith, length-flat_map issued_by nodes)
 
 -- the messages sent to a rank are a queue
@@ -326,6 +327,7 @@ sent_are_queue nodes rank few harts all = record {
   short = All-filter_map IsShort (λ (i : Issued). message_to rank i.rank i.request) (issued nodes) (λ k d below.
       let i : Issued = get_or (issued nodes) k d in
       sent_is_short rank i.rank i.request (all k d below).small);
+  light = queue-light nodes rank few harts;
 }
 
 -- what the node at a place receives has its place there

@@ -8,6 +8,7 @@ pub mod KeyOrder
 pub mod Landed
 pub mod LandedRow
 pub mod Latest
+pub mod Limits
 pub mod Loads
 pub mod Lookups
 pub mod PartOrder

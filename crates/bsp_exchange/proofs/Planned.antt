@@ -168,5 +168,5 @@ few_planned ps arrivals can planned =
 
 -- what they move keeps to bounds
 pub bounded_planned : (nodes : List NodeState) (t : Traffic) → CanExchange nodes → t ≡ traffic_of nodes
-    → (t.h ≤ t.h_all) × (t.h_all ≤ 2 ^ 34) × (t.messages ≤ 2 ^ 26)
+    → (t.h ≤ t.h_all) × (t.h_all ≤ 2 ^ 46) × (t.messages ≤ 2 ^ 40)
 bounded_planned nodes t can is = rw is (traffic_bounded nodes (few_nodes nodes can) can.sound)

@@ -44,14 +44,14 @@ owns_spanned private s (p ∷ patches) owned all =
 end_within : (size addr len : ℕ) → IsTrue (fits size addr len) → addr + len ≤ size
 end_within size addr len within = grind (arith, nat_tests)
 
--- a node's memory has at most 2 ^ 24 bytes
-pub memory_most : (h : Hart) → IsHart h → length h.memory ≤ 2 ^ 24
+-- a node's memory has at most 2 ^ 31 bytes
+pub memory_most : (h : Hart) → IsHart h → length h.memory ≤ 2 ^ 31
 memory_most h sound =
     let size = sound.memory in
     grind (arith, nat_tests)
 
 -- what lies in a memory ends where a word can say
-pub ends_below : (size addr len : ℕ) → size ≤ 2 ^ 24 → IsTrue (fits size addr len) → addr + len < 2 ^ 32
+pub ends_below : (size addr len : ℕ) → size ≤ 2 ^ 31 → IsTrue (fits size addr len) → addr + len < 2 ^ 32
 ends_below size addr len most within =
     let end : addr + len ≤ size = end_within size addr len within in
     omega (arith, most, end)

@@ -24,6 +24,7 @@ use Rattle.bsp_exchange.specs.Loads.{larger, larger_all, greatest_of, greatest}
 use Rattle.bsp_exchange.specs.Parts.{changed_at, target_of}
 use Rattle.bsp_exchange.specs.Traffic.{Transfer, transfer, transfers, between_ranks, bytes_sent, bytes_received, messages_received, most}
 use Rattle.bsp_exchange.specs.Traffic.{h_relation, traffic_of}
+use Rattle.bsp_exchange.proofs.Limits.{bytes_at_most, requests_at_most}
 use Rattle.bsp_exchange.proofs.Loads.{weight, weight_of, sizes_moved, within_transfers, within_at_most}
 
 abbrev pub AreHarts : List NodeState → Type 0
@@ -114,7 +115,7 @@ sound_taken (p ∷ ps) (suc i) below =
 
 -- so many of them weigh no more than a load may
 pub taken_fit : (ps : List PreparedNode) (i : ℕ) → AreAtSync (states ps) → i ≤ length ps
-    → ((k : ℕ) (n : NodeState) → k < i → slice_get (states ps) k ≡ Some n → IsHart n.hart) → i * 2 ^ 25 ≤ 2 ^ 35
+    → ((k : ℕ) (n : NodeState) → k < i → slice_get (states ps) k ≡ Some n → IsHart n.hart) → i * 2 ^ 31 ≤ 2 ^ 47
 taken_fit ps zero row within below = omega arith
 taken_fit [] (suc i) row within below = absurd (omega (arith, within))
 taken_fit (p ∷ ps) (suc i) row within below =
@@ -123,7 +124,7 @@ taken_fit (p ∷ ps) (suc i) row within below =
     omega (arith, hart.few, count, within)
 
 -- what nodes move weighs no more than their limits of bytes and of requests
-weight_limited : (ns : List NodeState) → AreHarts ns → weight_of (transfers ns) ≤ length ns * 2 ^ 25
+weight_limited : (ns : List NodeState) → AreHarts ns → weight_of (transfers ns) ≤ length ns * 2 ^ 31
 weight_limited [] harts = omega arith
 weight_limited (n ∷ ns) harts =
     let rs = n.hart.communication.requests.requests in
@@ -132,11 +133,18 @@ weight_limited (n ∷ ns) harts =
     let private : weight_of (asked_by n) ≤ sum_by size_of rs + length rs = sizes_moved n.hart.rank rs in
     let parts : weight_of (transfers (n ∷ ns)) ≡ weight_of (asked_by n) + weight_of (transfers ns) =
     ap weight_of (transfers-cons n ns) ∙ sum_by-append weight (asked_by n) (transfers ns) in
-    omega (arith, private, parts, rest, hart.communication.requests.bytes, hart.communication.requests.requests)
+    omega (
+      arith,
+      private,
+      parts,
+      rest,
+      bytes_at_most n.hart.communication.requests hart.communication.requests,
+      requests_at_most n.hart.communication.requests hart.communication.requests,
+    )
 
 -- no load is more than what the nodes move together
 pub loads_limited : (loads : List Load) (ns : List NodeState) → All (λ l. l ≡ no_load) loads → AreHarts ns
-    → All (IsWithin (length ns * 2 ^ 25)) (with_transfers loads (transfers ns))
+    → All (IsWithin (length ns * 2 ^ 31)) (with_transfers loads (transfers ns))
 loads_limited loads ns empty harts =
     let none : All (IsWithin 0) loads = All-weaker (λ l. l ≡ no_load) (IsWithin 0)
     (λ l h. record {
@@ -145,16 +153,16 @@ loads_limited loads ns empty harts =
       kept = omega (arith, ap (λ (k : Load). k.kept) h);
       messages = omega (arith, ap (λ (k : Load). k.messages) h);
     }) loads empty in
-    within_at_most (length ns * 2 ^ 25) (0 + weight_of (transfers ns)) (with_transfers loads (transfers ns))
+    within_at_most (length ns * 2 ^ 31) (0 + weight_of (transfers ns)) (with_transfers loads (transfers ns))
     (omega (arith, weight_limited ns harts)) (within_transfers 0 loads (transfers ns) none)
 
 -- and so no number of a load is more than so much
 pub loads_bounded : (first loads : List Load) (ps : List PreparedNode) → All (λ l. l ≡ no_load) first → AreAtSync (states ps)
-    → AreHarts (states ps) → loads ≡ with_transfers first (transfers (states ps)) → All (IsWithin (2 ^ 35)) loads
+    → AreHarts (states ps) → loads ≡ with_transfers first (transfers (states ps)) → All (IsWithin (2 ^ 47)) loads
 loads_bounded first loads ps empty row harts is =
     let count : length (states ps) ≡ length ps = length-map ps (λ (p : PreparedNode). p.node) in
     let few : length ps ≤ max_nodes = few_nodes ps row harts in
-    rw is (within_at_most (2 ^ 35) (length (states ps) * 2 ^ 25) (with_transfers first (transfers (states ps))) (omega (arith, few, count))
+    rw is (within_at_most (2 ^ 47) (length (states ps) * 2 ^ 31) (with_transfers first (transfers (states ps))) (omega (arith, few, count))
     (loads_limited first (states ps) empty harts))
 
 changed_here : {X : Type 0} (f : X → X) (i : ℕ) (xs : List X) (d : X) → i < length xs → get_or (changed_at f i xs) i d ≡ f (get_or xs i d)

@@ -28,7 +28,7 @@ memory_at ps rank p there is =
     (slice_get-map (λ (q : PreparedNode). q.node) ps rank
     ∙ ap (option_map (λ (q : PreparedNode). q.node)) (slice_get_read ps (length ps) rank p refl there is))
 
-memory_size : (n : ℕ) → IsTrue (is_memory_size n) → n ≤ 2 ^ 24
+memory_size : (n : ℕ) → IsTrue (is_memory_size n) → n ≤ 2 ^ 31
 memory_size n is = grind (arith, nat_tests, is)
 
 fits_from : (size addr len : ℕ) → addr + len ≤ size → IsTrue (fits size addr len)
@@ -61,10 +61,10 @@ transfer_within ps rank slot offset len area p there is hart found inside =
 -- and so its end is no more than that of the greatest memory
 pub transfer_most : (ps : List PreparedNode) (rank slot offset len : ℕ) (area : Area) (p : PreparedNode) → rank < length ps
     → p ≡ get_or ps rank p → IsHart p.node.hart → area_at (states ps) rank slot ≡ Some area
-    → is_outside (states ps) rank slot offset len ≡ false → area.addr + offset + len ≤ 2 ^ 24
+    → is_outside (states ps) rank slot offset len ≡ false → area.addr + offset + len ≤ 2 ^ 31
 transfer_most ps rank slot offset len area p there is hart found inside =
     let within = transfer_within ps rank slot offset len area p there is hart found inside in
-    let size : length p.node.hart.memory ≤ 2 ^ 24 = memory_size (length p.node.hart.memory) hart.memory in
+    let size : length p.node.hart.memory ≤ 2 ^ 31 = memory_size (length p.node.hart.memory) hart.memory in
     omega (arith, within, size)
 
 pub transfer_range : (ps : List PreparedNode) (rank slot offset len : ℕ) (area : Area) (p : PreparedNode) → rank < length ps

@@ -36,7 +36,7 @@ pub fn exchange<A: Allocator + Copy>(
     ensures ok { OnOk result (states nodes.new ≡ exchanged (states nodes.old)) }
     ensures unready { OnOk result (AreUnready nodes.new) }
     ensures traffic { IfOk result (λ t. t ≡ traffic_of (states nodes.old)) }
-    ensures bounded { IfOk result (λ t. (t.h ≤ t.h_all) × (t.h_all ≤ 2 ^ 34) × (t.messages ≤ 2 ^ 26)) }
+    ensures bounded { IfOk result (λ t. (t.h ≤ t.h_all) × (t.h_all ≤ 2 ^ 46) × (t.messages ≤ 2 ^ 40)) }
     ensures fault { NamesFault result (exchange_fault (states nodes.old)) }
     ensures err { OnErr result (states nodes.new ≡ states nodes.old) }
     ensures private { EachKeepsPrivate nodes.old nodes.new }

@@ -98,7 +98,7 @@ fn add_all_requests<A: Allocator + Copy>(
     ensures ok { OnOk result (parts.new ≡ with_issued (states nodes.now) parts.old (issued (states nodes.now))) }
     ensures sound { OnOk result (All (λ (n : NodeState). IsHart n.hart) (states nodes.now)) }
     ensures loads { OnOk result (loads.new ≡ with_transfers loads.old (transfers (states nodes.now))) }
-    ensures bounded { OnOk result (All (IsWithin (2 ^ 35)) loads.new) }
+    ensures bounded { OnOk result (All (IsWithin (2 ^ 47)) loads.new) }
 {
     for node in nodes {
         add_requests(nodes, node, parts, loads)?;
@@ -118,7 +118,7 @@ fn add_requests<A: Allocator + Copy>(
     requires count { node.now.node.hart.nprocs ≡ length nodes.now }
     requires parts { length parts.old ≡ length nodes.now }
     requires ranks { length loads.old ≡ length nodes.now }
-    requires room { All (IsWithin (2 ^ 35)) loads.old }
+    requires room { All (IsWithin (2 ^ 47)) loads.old }
     ensures inside { OnOk result (first_outside (states nodes.now) (issued_by node.now.node) ≡ None) }
     ensures ok { OnOk result (parts.new ≡ with_issued (states nodes.now) parts.old (issued_by node.now.node)) }
     ensures sound { IsHart node.now.node.hart }
@@ -147,7 +147,7 @@ fn add_request<A: Allocator + Copy>(
     requires caller { caller < length nodes.now }
     requires target { target_of (asked request.now) < length nodes.now }
     requires limit { size_of (asked request.now) ≤ 2 ^ 32 }
-    requires room { All (IsWithin (2 ^ 36)) loads.old }
+    requires room { All (IsWithin (2 ^ 48)) loads.old }
     ensures inside { OnOk result (leaves_area (states nodes.now) (asked request.now) ≡ false) }
     ensures ok { OnOk result (parts.new ≡ with_asked (states nodes.now) caller parts.old (asked request.now)) }
     ensures loads { OnOk result (loads.new ≡ with_transfer loads.old (transfer caller (asked request.now))) }
@@ -236,7 +236,7 @@ fn start_inside<A: Allocator + Copy>(
     ensures inside { is_none result ≡ is_outside (states nodes.now) target slot offset len }
     ensures value { IfSome result (λ start. start ≡ area_start (states nodes.now) target slot + offset) }
     ensures within { IfSome result (λ start. IsTrue (fits (length (memory_of (states nodes.now) target)) start len)) }
-    ensures most { IfSome result (λ start. start + len ≤ 2 ^ 24) }
+    ensures most { IfSome result (λ start. start + len ≤ 2 ^ 31) }
 {
     let Some(area) = area_at(nodes, target, slot) else {
         return None;
@@ -267,7 +267,7 @@ pub fn start_of<A: Allocator + Copy>(
     requires inside { is_outside (states nodes.now) target slot offset len ≡ false }
     ensures value { result ≡ area_start (states nodes.now) target slot + offset }
     ensures within { IsTrue (fits (length (memory_of (states nodes.now) target)) result len) }
-    ensures most { result + len ≤ 2 ^ 24 }
+    ensures most { result + len ≤ 2 ^ 31 }
 {
     start_inside(nodes, target, slot, offset, len).unwrap_or(0)
 }

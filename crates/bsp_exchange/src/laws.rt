@@ -1,8 +1,10 @@
 //! Laws of the exchange, over its definitions alone. Each is the contract of a function that does nothing.
 
-ghost use Rattle.std.specs.Prelude.{◌≡◌, ◌≢◌, ◌≤◌, ℕ, false, List, length, slice_get, All, Contains, IsPermutation, IsTrue};
+ghost use Rattle.std.specs.Prelude.{◌≡◌, ◌≢◌, ◌≤◌, ◌^◌, ℕ, false, List, length, slice_get, All, Contains, IsPermutation, IsTrue};
 ghost use Rattle.std.specs.List.{AllZip};
 ghost use Rattle.node_memory.specs.Bytes.{byte_at};
+ghost use Rattle.node_core.specs.Communication.{HasLimits};
+ghost use Rattle.node_core.specs.Hart.{IsHart};
 ghost use Rattle.node_core.specs.Node.{NodeState};
 ghost use Rattle.bsp_exchange.specs.Exchange.{AreAtSync, exchanged};
 ghost use Rattle.bsp_exchange.specs.Landings.{Landing, IsAtMost, KeysDoNotFall, HaveOwnKeys, AreSameLandings, landings_at, covers};
@@ -10,7 +12,7 @@ ghost use Rattle.bsp_exchange.specs.Landings.{landing_byte, landed_byte, memory_
 ghost use Rattle.bsp_exchange.specs.Parts.{CanExchange, PartState, landed, landed_in_turn, parts_of};
 ghost use Rattle.bsp_exchange.specs.Queues.{from_others, queue_after};
 ghost use Rattle.bsp_exchange.specs.SameNode.{IsSameNode};
-ghost use Rattle.bsp_exchange.specs.Traffic.{Transfer, transfers, between_ranks, messages_received, h_of, h_all_of};
+ghost use Rattle.bsp_exchange.specs.Traffic.{Transfer, transfers, between_ranks, messages_received, h_of, h_all_of, messages_of};
 
 /// The landings in a memory come in the order of their keys, and each has a key of its own.
 pub fn landings_come_in_the_order_of_their_keys()
@@ -67,6 +69,15 @@ pub fn h_is_at_most_h_all()
     ensures same { (nodes : List NodeState)
         → All (λ (t : Transfer). t.from ≡ t.to → t.bytes ≡ 0) (transfers nodes)
         → h_of nodes ≡ h_all_of nodes }
+{}
+
+/// In a machine that is not large, with at most 1,024 nodes, an exchange moves less than the contracts of all machines say: no h is
+/// more than 2^34, and no node receives more than 2^26 messages.
+#[tactic(auto, using(crate::proofs::Bounds::traffic_bounded_standard))]
+pub fn an_exchange_that_is_not_large_is_bounded()
+    ensures { (nodes : List NodeState) → length nodes ≤ 1024 → All (λ (n : NodeState). IsHart n.hart) nodes
+        → All (λ (n : NodeState). HasLimits false n.hart.communication) nodes
+        → (h_of nodes ≤ h_all_of nodes) × (h_all_of nodes ≤ 2 ^ 34) × (messages_of nodes ≤ 2 ^ 26) }
 {}
 
 /// The messages that are counted for a rank are those in its queue after the exchange that others sent.

@@ -32,7 +32,7 @@ pub(crate) trait PatchList {
 
 /// Whether the pages in which they come to lie are private already, as far as a look at the whole range tells.
 fn lie_in_private<P: PatchList, A: Allocator>(patches: &P, memory: &Memory<A>) -> bool
-    requires most { length memory.now.bytes ≤ 2 ^ 24 }
+    requires most { length memory.now.bytes ≤ 2 ^ 31 }
     requires within { LieIn (length memory.now.bytes) (P.patches patches.now) }
     ensures { IsTrue result → OwnsEach memory.now.private (P.patches patches.now) }
 {

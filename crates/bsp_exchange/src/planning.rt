@@ -39,7 +39,7 @@ pub fn plan<A: Allocator + Copy>(alloc: A, nodes: &mut [Node<A>]) -> Result<Plan
     ensures exchanges { OnOk result (CanExchange (states nodes.old)) }
     ensures traffic { IfOk result (λ plan. plan.traffic ≡ traffic_of (states nodes.old)) }
     ensures bounded { IfOk result (λ plan. (plan.traffic.h ≤ plan.traffic.h_all)
-        × (plan.traffic.h_all ≤ 2 ^ 34) × (plan.traffic.messages ≤ 2 ^ 26)) }
+        × (plan.traffic.h_all ≤ 2 ^ 46) × (plan.traffic.messages ≤ 2 ^ 40)) }
     ensures fault { NamesFault result (exchange_fault (states nodes.old)) }
 {
     let drafted = draft(alloc, nodes)?;
@@ -61,7 +61,7 @@ pub fn draft<A: Allocator + Copy>(alloc: A, nodes: &[Node<A>]) -> Result<Plan<A>
     ensures exchanges { OnOk result (CanExchange (states nodes.now)) }
     ensures traffic { IfOk result (λ plan. plan.traffic ≡ traffic_of (states nodes.now)) }
     ensures bounded { IfOk result (λ plan. (plan.traffic.h ≤ plan.traffic.h_all)
-        × (plan.traffic.h_all ≤ 2 ^ 34) × (plan.traffic.messages ≤ 2 ^ 26)) }
+        × (plan.traffic.h_all ≤ 2 ^ 46) × (plan.traffic.messages ≤ 2 ^ 40)) }
     ensures fault { NamesFault result (exchange_fault (states nodes.now)) }
 {
     let Ok(Gathered { arrivals, traffic }) = gather(alloc, nodes) else {

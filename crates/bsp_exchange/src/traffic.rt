@@ -51,7 +51,7 @@ pub(crate) fn add_transfer(from: usize, to: usize, bytes: u64, messages: u64, lo
     requires to { to < length loads.old }
     requires limit { bytes ≤ 2 ^ 32 }
     requires one { messages ≤ 1 }
-    requires room { All (IsWithin (2 ^ 36)) loads.old }
+    requires room { All (IsWithin (2 ^ 48)) loads.old }
     ensures { loads.new ≡ with_transfer loads.old (record { from = from; to = to; bytes = bytes; messages = messages }) }
 {
     if from == to {
@@ -65,7 +65,7 @@ pub(crate) fn add_transfer(from: usize, to: usize, bytes: u64, messages: u64, lo
 
 /// The greatest that the loads have of each.
 pub(crate) fn greatest(loads: &[Load]) -> Traffic
-    requires { All (IsWithin (2 ^ 35)) loads.now }
+    requires { All (IsWithin (2 ^ 47)) loads.now }
     ensures { result ≡ greatest loads.now }
 {
     let mut most = Traffic {

@@ -8,6 +8,7 @@ use Rattle.std.proofs.lemmas.Option.{slice_get_within, get_or_from_slice_get}
 use Rattle.bsp_requests.specs.Request.{Asked, asks_put, asks_get, asks_send, size_of}
 use Rattle.node_core.specs.Node.{NodeState, PreparedNode}
 use Rattle.bsp_exchange.specs.Exchange.{states}
+use Rattle.bsp_exchange.proofs.Limits.{bytes_at_most, requests_at_most}
 use Rattle.std.proofs.lemmas.List.{length-map, get_or-map}
 use Rattle.bsp_profile.specs.Tally.{messages_added, bytes_added, added, added_by, IsNodeAmong}
 use Rattle.bsp_exchange.specs.Traffic.{Transfer, transfer}
@@ -51,8 +52,8 @@ sum_added-le count cell caller (q ∷ rs) =
     )
 
 -- some first requests add no more than all may
-pub taken_added-le : (count cell caller i : ℕ) (rs : List Asked) → sum_by size_of rs ≤ 2 ^ 24 → length rs ≤ 65536
-    → sum_by (added count cell caller) (take i rs) ≤ 2 ^ 24 + 65536
+pub taken_added-le : (count cell caller i : ℕ) (rs : List Asked) → sum_by size_of rs ≤ 2 ^ 30 → length rs ≤ 2 ^ 24
+    → sum_by (added count cell caller) (take i rs) ≤ 2 ^ 30 + 2 ^ 24
 taken_added-le count cell caller i rs bytes few =
     omega (arith, sum_by-take-le (added count cell caller) rs i, sum_added-le count cell caller rs)
 
@@ -65,13 +66,18 @@ next_added f rs i r first now new found before more =
     let here : f (get_or rs i r) ≡ f r = ap f (get_or_from_slice_get rs i r r found) in
     omega (arith, next, here, before, more)
 
-node-le : (count cell : ℕ) (n : NodeState) → IsNodeAmong count n → added_by count cell n ≤ 2 ^ 25
+node-le : (count cell : ℕ) (n : NodeState) → IsNodeAmong count n → added_by count cell n ≤ 2 ^ 31
 node-le count cell n among =
     let limits = among.hart.communication.requests in
-    omega (arith, sum_added-le count cell n.hart.rank n.hart.communication.requests.requests, limits.bytes, limits.requests)
+    omega (
+      arith,
+      sum_added-le count cell n.hart.rank n.hart.communication.requests.requests,
+      bytes_at_most n.hart.communication.requests limits,
+      requests_at_most n.hart.communication.requests limits,
+    )
 
 -- nodes add no more than each of them may
-pub nodes-le : (count cell : ℕ) (ns : List NodeState) → All (IsNodeAmong count) ns → sum_by (added_by count cell) ns ≤ length ns * 2 ^ 25
+pub nodes-le : (count cell : ℕ) (ns : List NodeState) → All (IsNodeAmong count) ns → sum_by (added_by count cell) ns ≤ length ns * 2 ^ 31
 nodes-le count cell [] among = omega arith
 nodes-le count cell (n ∷ ns) among =
     let here = node-le count cell n (All-head (IsNodeAmong count) n ns among) in

@@ -13,12 +13,13 @@ use Rattle.machine_core.specs.Machine.{MachineState}
 use Rattle.machine_core.specs.Sound.{IsSoundMachine, IsNodeOf}
 use Rattle.machine_core.specs.Turn.{makes_exchange}
 use Rattle.machine_core.proofs.Sound.{length-nodes}
+use Rattle.machine_core.proofs.Starts.{few_in_range}
 use Rattle.bsp_profile.specs.Moves.{moved}
 use Rattle.bsp_profile.specs.Tally.{place, added_by, IsNodeAmong, IsWithin, Tells}
 use Rattle.bsp_profile.proofs.Told.{nodes-told, messages-told}
 
 pub few_nodes : (m : MachineState) → IsSoundMachine m → length m.nodes ≤ max_nodes
-few_nodes m sound = omega (arith, length-nodes m sound, sound.settings.few)
+few_nodes m sound = omega (arith, length-nodes m sound, few_in_range m.settings sound.settings)
 
 pub length-row : (ps : List PreparedNode) (nodes : List NodeState) → states ps ≡ nodes → length ps ≡ length nodes
 length-row ps nodes is = sym (length-map ps (λ (p : PreparedNode). p.node)) ∙ ap (λ (ns : List NodeState). length ns) is
@@ -44,7 +45,7 @@ message_within count rank r =
 module _ (m : MachineState) (count : ℕ) (cells : List ℕ) (sound : IsSoundMachine m) (counts : count ≡ length m.nodes)
     (size : length cells ≡ (count + 1) * count) where
   pub tells_made : makes_exchange m.nodes ≡ true → ((k : ℕ) → k < length cells → slice_index cells k ≡ sum_by (added_by count k) m.nodes)
-      → IsWithin (2 ^ 35) cells → Tells m.nodes count cells
+      → IsWithin (2 ^ 47) cells → Tells m.nodes count cells
   tells_made makes each bounded = record {
     long = sym counts;
     few = omega (arith, counts, few_nodes m sound);

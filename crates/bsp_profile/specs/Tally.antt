@@ -49,4 +49,4 @@ pub record Tells (nodes : List NodeState) (count : ℕ) (cells : List ℕ) : Typ
   pub size : length cells ≡ (count + 1) * count
   pub bytes : (from to : ℕ) → from < count → to < count → slice_index cells (place count (from + 1) to) ≡ moved (moves nodes) from to
   pub messages : (rank : ℕ) → rank < count → slice_index cells rank ≡ length (from_others rank (arrivals nodes rank))
-  pub bounded : IsWithin (2 ^ 35) cells
+  pub bounded : IsWithin (2 ^ 47) cells

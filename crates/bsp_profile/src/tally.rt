@@ -48,9 +48,9 @@ impl<A: Allocator> Tally<A> {
         requires size { length self.now.cells.items ≡ (self.now.count + 1) * self.now.count }
         requires from { from < self.now.count }
         requires to { to < self.now.count }
-        requires bounded { IsWithin (2 ^ 35) self.now.cells.items }
+        requires bounded { IsWithin (2 ^ 47) self.now.cells.items }
         ensures value { result ≡ slice_index self.now.cells.items (place_of self.now.count (from + 1) to) }
-        ensures bounded { result ≤ 2 ^ 35 }
+        ensures bounded { result ≤ 2 ^ 47 }
     {
         self.cells[place(self.count, from + 1, to)]
     }
@@ -67,7 +67,7 @@ impl<A: Allocator> Tally<A> {
     pub(crate) fn moved_out(&self, rank: usize) -> u64
         requires few { self.now.count ≤ max_nodes }
         requires size { length self.now.cells.items ≡ (self.now.count + 1) * self.now.count }
-        requires bounded { IsWithin (2 ^ 35) self.now.cells.items }
+        requires bounded { IsWithin (2 ^ 47) self.now.cells.items }
         requires rank { rank < self.now.count }
         ensures { result ≡ sum_by (λ to. slice_index self.now.cells.items (place_of self.now.count (rank + 1) to))
             (others self.now.count rank) }
@@ -85,7 +85,7 @@ impl<A: Allocator> Tally<A> {
     pub(crate) fn moved_in(&self, rank: usize) -> u64
         requires few { self.now.count ≤ max_nodes }
         requires size { length self.now.cells.items ≡ (self.now.count + 1) * self.now.count }
-        requires bounded { IsWithin (2 ^ 35) self.now.cells.items }
+        requires bounded { IsWithin (2 ^ 47) self.now.cells.items }
         requires rank { rank < self.now.count }
         ensures { result ≡ sum_by (λ from. slice_index self.now.cells.items (place_of self.now.count (from + 1) rank))
             (others self.now.count rank) }
@@ -129,7 +129,7 @@ fn add_nodes<A: Allocator + Copy>(count: usize, nodes: &[Node<A>], cells: &mut [
     requires empty { IsWithin 0 cells.old }
     ensures cells { (k : ℕ) → k < length cells.old
         → slice_index cells.new k ≡ sum_by (added_by count k) (states nodes.now) }
-    ensures bounded { IsWithin (2 ^ 35) cells.new }
+    ensures bounded { IsWithin (2 ^ 47) cells.new }
 {
     for node in nodes {
         add_requests(count, node.rank() as usize, node.requests(), cells);
@@ -148,7 +148,7 @@ fn add_requests<A: Allocator + Copy>(
     requires caller { caller < count }
     requires targets { All (λ r. target_of r < count) requests.now.requests }
     requires limits { IsWithinLimits requests.now }
-    requires room { IsWithin (2 ^ 35) cells.old }
+    requires room { IsWithin (2 ^ 47) cells.old }
     ensures { (k : ℕ) → k < length cells.old
         → slice_index cells.new k ≡ slice_index cells.old k + sum_by (added count k caller) requests.now.requests }
 {
@@ -170,8 +170,8 @@ fn add_request<A: Allocator + Copy>(
     requires size { length cells.old ≡ (count + 1) * count }
     requires caller { caller < count }
     requires target { target_of (asked request.now) < count }
-    requires limit { size_of (asked request.now) ≤ 2 ^ 24 }
-    requires room { IsWithin (2 ^ 36) cells.old }
+    requires limit { size_of (asked request.now) ≤ 2 ^ 30 }
+    requires room { IsWithin (2 ^ 48) cells.old }
     ensures { (k : ℕ) → k < length cells.old
         → slice_index cells.new k ≡ slice_index cells.old k + added count k caller (asked request.now) }
 {
@@ -198,8 +198,8 @@ fn add_bytes(count: usize, from: usize, to: usize, bytes: u64, cells: &mut [u64]
     requires size { length cells.old ≡ (count + 1) * count }
     requires from { from < count }
     requires to { to < count }
-    requires limit { bytes ≤ 2 ^ 24 }
-    requires room { IsWithin (2 ^ 36) cells.old }
+    requires limit { bytes ≤ 2 ^ 30 }
+    requires room { IsWithin (2 ^ 48) cells.old }
     ensures { (k : ℕ) → k < length cells.old
         → slice_index cells.new k
         ≡ slice_index cells.old k + bytes_added count k (record { from = from; to = to; bytes = bytes; messages = 0 }) }
@@ -210,7 +210,7 @@ fn add_bytes(count: usize, from: usize, to: usize, bytes: u64, cells: &mut [u64]
 /// Adds a message from one rank to another; one to itself is not counted.
 fn add_message(from: usize, to: usize, cells: &mut [u64])
     requires to { to < length cells.old }
-    requires room { IsWithin (2 ^ 37) cells.old }
+    requires room { IsWithin (2 ^ 49) cells.old }
     ensures { (k : ℕ) → k < length cells.old
         → slice_index cells.new k ≡ slice_index cells.old k + message_added k from to }
 {
@@ -222,8 +222,8 @@ fn add_message(from: usize, to: usize, cells: &mut [u64])
 /// Adds to a cell.
 fn add(place: usize, more: u64, cells: &mut [u64])
     requires place { place < length cells.old }
-    requires limit { more ≤ 2 ^ 24 }
-    requires room { IsWithin (2 ^ 37) cells.old }
+    requires limit { more ≤ 2 ^ 30 }
+    requires room { IsWithin (2 ^ 49) cells.old }
     ensures { cells.new ≡ slice_set cells.old place (slice_index cells.old place + more) }
 {
     cells[place] += more;

@@ -7,7 +7,7 @@ pub record Message : Type 0 where
   pub tag : List ℕ
   pub payload : List ℕ
 
--- own limit: a tag and a payload have at most 2^24 bytes each
+-- own limit: a tag and a payload have at most 2^30 bytes each
 pub record IsShort (m : Message) : Type 0 where
-  pub tag : length m.tag ≤ 2 ^ 24
-  pub payload : length m.payload ≤ 2 ^ 24
+  pub tag : length m.tag ≤ 2 ^ 30
+  pub payload : length m.payload ≤ 2 ^ 30

@@ -39,8 +39,8 @@ impl<A: Allocator> Message<A> {
     }
 }
 
-/// The messages that a node has not read yet, in order (the queue of BSPlib's bulk synchronous messages): fewer than 2^32,
-/// each with a tag and a payload of at most 2^24 bytes.
+/// The messages that a node has not read yet, in order (the queue of BSPlib's bulk synchronous messages): fewer than 2^41,
+/// each with a tag and a payload of at most 2^30 bytes, and fewer than 2^64 bytes of payload in all.
 #[derive(Drop)]
 pub struct Inbox<A: Allocator> {
     messages: VecDeque<Message<A>, A>,
@@ -62,12 +62,10 @@ impl<A: Allocator> Model for Inbox<A> {
 
 impl<A: Allocator> Inbox<A> {
     /// An inbox of these messages, of which the first is read first. They keep their memory.
-    ///
-    /// The conditions keep the sum of the payloads' bytes within 64 bits.
-    #[tactic(auto, using(crate::proofs::Payloads::payload_bytes_fit))]
     pub fn of(messages: Vec<Message<A>, A>) -> Self
-        requires few { length messages.items < 2 ^ 32 }
+        requires few { length messages.items < 2 ^ 41 }
         requires short { All IsShort messages.items }
+        requires light { payload_bytes messages.items < 2 ^ 64 }
         ensures { result ≡ messages.items }
     {
         let bytes = payload_bytes(messages.as_slice()) as u64;

@@ -9,7 +9,8 @@
 //! - Requests are kept in the order in which they were added, whatever their kind: a request's place is its issue
 //!   number in the superstep.
 //! - A request or an output that would pass [`MAX_REQUESTS`] or [`MAX_BYTES`] is refused as [`AddError::TooMuch`],
-//!   before any memory is asked for. A refused call changes nothing.
+//!   before any memory is asked for. A large machine has limits of its own, [`LARGE_REQUESTS`] and [`LARGE_BYTES`]. A refused
+//!   call changes nothing.
 //! - Only the four calls that add and those that copy take memory. All else, an inbox too, works on the memory that it was given.
 //!
 //! An add takes amortised constant time, beside the bytes that it copies. Taking the first message of an inbox takes
@@ -17,9 +18,10 @@
 #![tactic(auto)]
 
 mod inbox;
+pub mod laws;
 mod request;
 mod requests;
 
 pub use inbox::{Inbox, Message, payload_bytes};
 pub use request::{Get, Outgoing, Put, Request};
-pub use requests::{AddError, MAX_BYTES, MAX_REQUESTS, Requests};
+pub use requests::{AddError, LARGE_BYTES, LARGE_REQUESTS, MAX_BYTES, MAX_REQUESTS, Requests};

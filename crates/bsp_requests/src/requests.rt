@@ -1,6 +1,6 @@
 //! The requests and the output of one node in one superstep, and their limits.
 
-ghost use Rattle.std.specs.Prelude.{◌≡◌, ◌≤◌, ◌↔◌, length, map, IsTrue, IsErrOf, IfOk, OnOk, OnErr, option_map, option_copied, slice_get};
+ghost use Rattle.std.specs.Prelude.{◌≡◌, ◌^◌, ◌≤◌, ◌↔◌, length, map, IsTrue, IsErrOf, IfOk, OnOk, OnErr, option_map, option_copied, slice_get};
 ghost use Rattle.bsp_requests.specs.Request.{asked, asks_put, asks_get, asks_send};
 ghost use Rattle.bsp_requests.specs.Requests.{IsIssued, no_requests, with_output, total_bytes, max_requests, max_bytes, are_too_many};
 ghost use Rattle.bsp_requests.specs.Requests.{is_full_for};
@@ -17,10 +17,16 @@ pub const MAX_REQUESTS: usize = 65_536;
 /// (own limit).
 pub const MAX_BYTES: u64 = 16_777_216;
 
+/// The most requests of a node of a large machine in a superstep (own limit).
+pub const LARGE_REQUESTS: usize = 1 << 24;
+
+/// The most bytes of a node of a large machine in a superstep (own limit).
+pub const LARGE_BYTES: u64 = 1 << 30;
+
 /// Why nothing was added.
 #[derive(Clone, Copy, Debug, PartialEq, Eq)]
 pub enum AddError {
-    /// [`MAX_REQUESTS`] or [`MAX_BYTES`] would be passed.
+    /// [`MAX_REQUESTS`] or [`MAX_BYTES`] would be passed, or in a large machine [`LARGE_REQUESTS`] or [`LARGE_BYTES`].
     TooMuch,
     NoMemory,
 }
@@ -48,6 +54,7 @@ pub struct Requests<A: Allocator> {
     output: Vec<u8, A>,
     // The bytes of all requests and of the output.
     bytes: u64,
+    large: bool,
 }
 
 impl<A: Allocator> Model for Requests<A> {
@@ -58,19 +65,22 @@ impl<A: Allocator> Model for Requests<A> {
 
     ghost use Rattle.bsp_requests.specs.Request.{asked};
 
-    ghost view = { λ r. record { requests = map asked r.requests.items; output = r.output.items } };
+    ghost view = { λ r. record { requests = map asked r.requests.items; output = r.output.items; large = r.large } };
 
-    ghost invariant = { λ r. IsCounted (record { requests = map asked r.requests.items; output = r.output.items }) r.bytes };
+    ghost invariant = { λ r.
+        IsCounted (record { requests = map asked r.requests.items; output = r.output.items; large = r.large }) r.bytes };
 }
 
 impl<A: Allocator + Copy> Requests<A> {
-    pub fn new(alloc: A) -> Self
-        ensures { result ≡ no_requests }
+    /// No requests and no output, with the limits of a large machine or with the others.
+    pub fn new(alloc: A, large: bool) -> Self
+        ensures { result ≡ no_requests large }
     {
         Requests {
             requests: Vec::new(alloc),
             output: Vec::new(alloc),
             bytes: 0,
+            large,
         }
     }
 
@@ -90,6 +100,7 @@ impl<A: Allocator + Copy> Requests<A> {
             requests,
             output: Vec::from_slice(alloc, &self.output)?,
             bytes: self.bytes,
+            large: self.large,
         })
     }
 }
@@ -120,7 +131,7 @@ impl<A: Allocator> Requests<A> {
         ensures err { OnErr result (self.new ≡ self.old) }
     {
         let count = bytes.len() as u64;
-        if count > MAX_BYTES - self.bytes {
+        if self.are_too_many(count) {
             return Err(AddError::TooMuch);
         }
         self.output.extend_from_slice(bytes)?;
@@ -131,7 +142,7 @@ impl<A: Allocator> Requests<A> {
     /// How many requests there are, which is the next one's issue number.
     pub fn len(&self) -> usize
         ensures len { result ≡ length self.now.requests }
-        ensures limit { result ≤ max_requests }
+        ensures limit { result ≤ max_requests self.now.large }
     {
         self.requests.len()
     }
@@ -153,7 +164,7 @@ impl<A: Allocator> Requests<A> {
     /// The bytes of all requests and of the output, as one sum.
     pub fn bytes(&self) -> u64
         ensures sum { result ≡ total_bytes self.now }
-        ensures limit { result ≤ max_bytes }
+        ensures limit { result ≤ max_bytes self.now.large }
     {
         self.bytes
     }
@@ -162,7 +173,21 @@ impl<A: Allocator> Requests<A> {
     pub fn is_full_for(&self, size: u64) -> bool
         ensures { result ≡ is_full_for self.now size }
     {
-        self.len() >= MAX_REQUESTS || size > MAX_BYTES - self.bytes
+        self.len() >= most_requests(self.large) || self.are_too_many(size)
+    }
+
+    /// Whether `count` bytes more would be too many.
+    pub fn are_too_many(&self, count: u64) -> bool
+        ensures { result ≡ are_too_many self.now count }
+    {
+        count > most_bytes(self.large) - self.bytes
+    }
+
+    /// Whether the limits are those of a large machine.
+    pub fn is_large(&self) -> bool
+        ensures { result ≡ self.now.large }
+    {
+        self.large
     }
 
     pub fn output(&self) -> &[u8]
@@ -173,7 +198,7 @@ impl<A: Allocator> Requests<A> {
 
     /// Leaves no request and no output, for the next superstep. The memory stays with it.
     pub fn clear(&mut self)
-        ensures { self.new ≡ no_requests }
+        ensures { self.new ≡ no_requests self.old.large }
     {
         self.requests.clear();
         self.output.clear();
@@ -193,4 +218,18 @@ impl<A: Allocator> Requests<A> {
         self.bytes += size;
         Ok(())
     }
+}
+
+/// The most requests of a node in a superstep.
+fn most_requests(large: bool) -> usize
+    ensures { result ≡ max_requests large }
+{
+    if large { LARGE_REQUESTS } else { MAX_REQUESTS }
+}
+
+/// The most bytes of a node in a superstep.
+fn most_bytes(large: bool) -> u64
+    ensures { result ≡ max_bytes large }
+{
+    if large { LARGE_BYTES } else { MAX_BYTES }
 }

@@ -36,8 +36,8 @@ of_file f (Some x) e each is =
     subst IsOfFile same (each x)
 
 is_of_file : (format : Format) (file : List ℕ) (e : SessionError) → image_fault format file ≡ Some e → IsOfFile e
-is_of_file Elf file e is = of_file BadImage (file_fault file) e (λ cause. tt) is
-is_of_file Raw file e is = cc
+is_of_file (Elf large) file e is = of_file BadImage (file_fault large file) e (λ cause. tt) is
+is_of_file (Raw large) file e is = cc
 is_of_file (Asm float) file e is =
     of_file (λ fault. Text (record { line = fault.0; kind = fault.1 })) (text_fault float file) e (λ fault. tt) is
 

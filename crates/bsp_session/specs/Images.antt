@@ -1,5 +1,5 @@
 -- The image that the bytes of a file give, by their format, and what they are refused for where they give none.
-use Rattle.std.specs.Prelude.{◌≡◌, ℕ, ◌^◌, Bool, List, Option, None, option_map}
+use Rattle.std.specs.Prelude.{◌≡◌, ℕ, ◌^◌, Bool, if◌then◌else◌, List, Option, None, option_map}
 use Rattle.node_memory.specs.Image.{Image}
 use Rattle.elf_image.specs.Presents.{Presents, raw_image}
 use Rattle.elf_image.specs.Faults.{file_fault}
@@ -12,8 +12,8 @@ use Rattle.bsp_session.specs.declared.errors.SessionError.TheVariants.{BadImage,
 
 -- the most bytes that a file has (own limits)
 abbrev pub most_bytes : Format → ℕ
-most_bytes Elf = 2 ^ 25
-most_bytes Raw = 2 ^ 24
+most_bytes (Elf large) = if large then 2 ^ 28 else 2 ^ 25
+most_bytes (Raw large) = if large then 2 ^ 28 else 2 ^ 24
 most_bytes (Asm float) = 2 ^ 22
 
 -- a text without a fault, and its image, in the language with statements of floating point or in that without them
@@ -21,15 +21,15 @@ pub record Assembles (float : Bool) (text : List ℕ) (image : Image) : Type 0 w
   pub faultless : text_fault float text ≡ None
   pub is : IsImageOfText float text image
 
--- an ELF file without a fault, and the image that it presents
-pub record Loads (file : List ℕ) (image : Image) : Type 0 where
-  pub faultless : file_fault file ≡ None
+-- an ELF file without a fault, for a large machine or another, and the image that it presents
+pub record Loads (large : Bool) (file : List ℕ) (image : Image) : Type 0 where
+  pub faultless : file_fault large file ≡ None
   pub is : Presents file image
 
 -- bytes give an image
 abbrev pub Gives : Format → List ℕ → Image → Type 0
-Gives Elf bytes image = Loads bytes image
-Gives Raw bytes image = image ≡ raw_image bytes
+Gives (Elf large) bytes image = Loads large bytes image
+Gives (Raw large) bytes image = image ≡ raw_image bytes
 Gives (Asm float) bytes image = Assembles float bytes image
 
 -- what a text is refused for
@@ -38,6 +38,6 @@ refused_text float text = option_map (λ fault. Text (record { line = fault.0; k
 
 -- what bytes are refused for, if they are; a raw file gives an image whatever it holds
 abbrev pub image_fault : Format → List ℕ → Option SessionError
-image_fault Elf bytes = option_map BadImage (file_fault bytes)
-image_fault Raw bytes = None
+image_fault (Elf large) bytes = option_map BadImage (file_fault large bytes)
+image_fault (Raw large) bytes = None
 image_fault (Asm float) bytes = refused_text float bytes

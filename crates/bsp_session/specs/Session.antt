@@ -1,6 +1,6 @@
 -- A session over the bytes of its readers and its writer, where they are known. The order of the stages is an own rule:
 -- settings, image read, input read, image understood, machine made, run, report written.
-use Rattle.std.specs.Prelude.{◌≡◌, ℕ, ◌^◌, ◌<◌, ◌⊎◌, false, true, List, length, Option, None, Some, option_map, Result, IfErr, OnOk, IsSome}
+use Rattle.std.specs.Prelude.{◌≡◌, ℕ, ◌^◌, ◌<◌, ◌⊎◌, Bool, false, true, if◌then◌else◌, List, length, Option, None, Some, option_map, Result, IfErr, OnOk, IsSome}
 use Rattle.std.specs.Option.{option_or}
 use Rattle.std.specs.Io.KnownBytes.{Appends}
 use Rattle.counted_io.specs.Transfers.{AppendsPrefix}
@@ -30,9 +30,9 @@ pub record Session : Type 0 where
 abbrev pub session_of : (image input out : Stream) → Job → Session
 session_of image input out job = record { image = image; input = input; out = out; job = job }
 
--- the most bytes of an input (own limit)
-abbrev pub most_input : ℕ
-most_input = 2 ^ 24
+-- the most bytes of an input, of a large machine and of any other (own limits)
+abbrev pub most_input : Bool → ℕ
+most_input large = if large then 2 ^ 30 else 2 ^ 24
 
 -- ---- what the sessions that make a machine share; `fault` is their test of a job's settings
 
@@ -40,14 +40,14 @@ most_input = 2 ^ 24
 pub record ReadsFiles (fault : Job → Option SessionError) (job : Job) (image input : Stream) (i n : List ℕ) : Type 0 where
   pub settings : fault job ≡ None
   pub image_read : ReadsWhole image i (most_bytes job.format)
-  pub input_read : ReadsWhole input n most_input
+  pub input_read : ReadsWhole input n (most_input job.settings.large)
 
 -- the settings are good; the image was not read whole, for this, and the input was not touched, or the image was read, and the input was
 -- not read whole
 pub record EndsAtFile (fault : Job → Option SessionError) (job : Job) (image input : Stream) (why : ReadError) : Type 0 where
   pub settings : fault job ≡ None
   pub ended : (IsReadErrorOf (most_bytes job.format) image why × IsUntouched input)
-      ⊎ ((i : List ℕ) × ReadsWhole image i (most_bytes job.format) × IsReadErrorOf most_input input why)
+      ⊎ ((i : List ℕ) × ReadsWhole image i (most_bytes job.format) × IsReadErrorOf (most_input job.settings.large) input why)
 
 -- why they were not both read
 abbrev pub IsErrorOfFiles : (fault : Job → Option SessionError) → Job → (image input : Stream) → SessionError → Type 0

@@ -22,8 +22,8 @@ pub fn image_of<A: Allocator + Copy>(
         e ≢ SessionError.NoMemory → image_fault format bytes.now ≡ Some e) }
 {
     match format {
-        Format::Elf => Ok(load(alloc, bytes)?),
-        Format::Raw => Ok(raw(alloc, bytes)?),
+        Format::Elf { large } => Ok(load(alloc, bytes, large)?),
+        Format::Raw { .. } => Ok(raw(alloc, bytes)?),
         Format::Asm { float } => Ok(assemble(alloc, float, bytes)?),
     }
 }

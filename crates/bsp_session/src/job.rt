@@ -3,13 +3,16 @@
 use cost_ledger::LedgerText;
 use machine_core::Settings;
 
+/// The most bytes of an ELF file or a raw file for a large machine.
+const LARGE_BYTES: usize = 1 << 28;
+
 /// How the bytes of an image file are read.
 #[derive(Clone, Copy)]
 pub enum Format {
-    /// An ELF file: a static executable of 32 bits for RISC-V; at most 2^25 bytes.
-    Elf,
-    /// The bytes are the memory's, from address 0 on, and pc starts there; there are at most 2^24 of them.
-    Raw,
+    /// An ELF file: a static executable of 32 bits for RISC-V; at most 2^25 bytes, or 2^28 for a large machine.
+    Elf { large: bool },
+    /// The bytes are the memory's, from address 0 on, and pc starts there; there are at most 2^24 of them, or 2^28 for a large machine.
+    Raw { large: bool },
     /// A text in assembly language, with statements of floating point where `float` says so; at most 2^22 bytes.
     Asm { float: bool },
 }
@@ -23,8 +26,8 @@ impl Format {
         ensures { result ≡ most_bytes_of self }
     {
         match self {
-            Format::Elf => 1 << 25,
-            Format::Raw => 1 << 24,
+            Format::Elf { large } => { if large { LARGE_BYTES } else { 1 << 25 } }
+            Format::Raw { large } => { if large { LARGE_BYTES } else { 1 << 24 } }
             Format::Asm { .. } => 1 << 22,
         }
     }

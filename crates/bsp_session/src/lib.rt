@@ -62,4 +62,4 @@ pub use listing::{asm_session, list_session};
 pub use live::live_session;
 pub use machine_core::{Outcome, Prices, Settings};
 pub use profiles::profile_session;
-pub use sessions::{INPUT_BYTES, session};
+pub use sessions::{most_input, session};

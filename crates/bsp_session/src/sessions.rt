@@ -5,7 +5,7 @@ ghost use Rattle.std.specs.Result.{result_err};
 ghost use Rattle.worker_pool.specs.Numbers.{numbers_fault};
 ghost use Rattle.bsp_session.specs.declared.errors.BadSetting.{BadSetting as BadSettingCause};
 ghost use Rattle.bsp_session.specs.Streams.{IsUntouched, Stream, stream};
-ghost use Rattle.bsp_session.specs.Session.{ComesToEnd, IsErrorOf, IsErrorOfFiles, ReadsFiles, Reports, StartsAt, job_fault, session_of};
+ghost use Rattle.bsp_session.specs.Session.{ComesToEnd, IsErrorOf, IsErrorOfFiles, ReadsFiles, Reports, StartsAt, job_fault, most_input, session_of};
 
 use crate::errors::SessionError;
 use crate::images::image_of;
@@ -20,7 +20,21 @@ use std::thread::Threads;
 use worker_pool::{check_numbers, run_sparing};
 
 /// The most bytes of an input (own rule).
-pub const INPUT_BYTES: usize = 1 << 24;
+const INPUT_BYTES: usize = 1 << 24;
+
+/// The most bytes of an input of a large machine (own rule).
+const LARGE_INPUT_BYTES: usize = 1 << 30;
+
+/// The most bytes of an input, of a large machine or of another.
+pub fn most_input(large: bool) -> usize
+    ensures { result ≡ most_input large }
+{
+    if large {
+        LARGE_INPUT_BYTES
+    } else {
+        INPUT_BYTES
+    }
+}
 
 /// Runs the program that `image` gives on every node of the machine, each with the bytes of `input` as its input, superstep
 /// by superstep to the outcome, and writes the report to `out`: what the nodes wrote, superstep by superstep and in rank order
@@ -108,7 +122,7 @@ fn read_both<A: Allocator + Copy, I: Read, R: Read>(
 {
     check_job(job)?;
     let file = read_at_most(alloc, image, job.format.most_bytes())?;
-    let input = read_at_most(alloc, input, INPUT_BYTES)?;
+    let input = read_at_most(alloc, input, most_input(job.settings.large))?;
     Ok((file, input))
 }
 

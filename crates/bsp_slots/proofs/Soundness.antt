@@ -22,8 +22,8 @@ module _ (s : Registrations) where
   pub next_list-more : (change : Change) → registrations_after s.in_effect (s.changes ++ change ∷ []) ≡ changed (next_list s) change
   next_list-more change = fold-append changed s.in_effect s.changes (change ∷ [])
 
-  IsSound-more : (change : Change) → IsSound s → length (changed (next_list s) change) ≤ max_entries
-      → push_count s + cond (is_push change) 1 0 ≤ max_pushes → NamesRemoval (next_list s) change
+  IsSound-more : (change : Change) → IsSound s → length (changed (next_list s) change) ≤ max_entries s.large
+      → push_count s + cond (is_push change) 1 0 ≤ max_pushes s.large → NamesRemoval (next_list s) change
       → IsSound (record s { changes = s.changes ++ change ∷ [] })
   IsSound-more change sound fits few names = record {
     in_effect_fits = sound.in_effect_fits;
@@ -32,7 +32,8 @@ module _ (s : Registrations) where
     names_removals = NamesRemovals-push s.in_effect s.changes change sound.names_removals names;
   }
 
-  pub IsSound-pushed : (area : Area) → IsSound s → length (next_list s) < max_entries → push_count s < max_pushes → IsSound (pushed s area)
+  pub IsSound-pushed : (area : Area) → IsSound s → length (next_list s) < max_entries s.large → push_count s < max_pushes s.large
+      → IsSound (pushed s area)
   IsSound-pushed area sound fits few = IsSound-more (Push area) sound (grind (arith, common_steps)) (omega arith) tt
 
   pub IsSound-popped : (addr slot : ℕ) → IsSound s → last_position (next_list s) addr ≡ Some slot → IsSound (popped s addr slot)
@@ -42,8 +43,9 @@ module _ (s : Registrations) where
       IsSound-more (Pop addr slot) sound (rw found (omega arith)) (omega (arith, sound.pushes_fit)) found
 
   pub KeepsPace-pushed : {next next' : List Area} {changes' : List Change} {pushes : ℕ} (area : Area) → KeepsPace s next pushes
-      → next' ≡ next ++ area ∷ [] → changes' ≡ s.changes ++ Push area ∷ [] → length next < max_entries → pushes < max_pushes
-      → KeepsPace (record { in_effect = s.in_effect; changes = changes' }) next' (pushes + 1)
+      → next' ≡ next ++ area ∷ [] → changes' ≡ s.changes ++ Push area ∷ [] → length next < max_entries s.large
+      → pushes < max_pushes s.large
+      → KeepsPace (record { in_effect = s.in_effect; changes = changes'; large = s.large }) next' (pushes + 1)
   KeepsPace-pushed {next} {next'} {changes'} {pushes} area pace next_is changes_is fits few = rw changes_is (record {
     next_is = next_is ∙ ap (λ (xs : List Area). xs ++ area ∷ []) pace.next_is ∙ sym (next_list-more (Push area));
     pushes_are = grind (arith, common_steps, pace.pushes_are);
@@ -52,7 +54,7 @@ module _ (s : Registrations) where
 
   pub KeepsPace-popped : {next next' : List Area} {changes' : List Change} {pushes : ℕ} (addr slot : ℕ) → KeepsPace s next pushes
       → next' ≡ remove next slot → changes' ≡ s.changes ++ Pop addr slot ∷ [] → last_position next addr ≡ Some slot
-      → KeepsPace (record { in_effect = s.in_effect; changes = changes' }) next' pushes
+      → KeepsPace (record { in_effect = s.in_effect; changes = changes'; large = s.large }) next' pushes
   KeepsPace-popped {next} {next'} {changes'} {pushes} addr slot pace next_is changes_is found =
       let found' = rw pace.next_is at found in
       let removed : remove (next_list s) slot ≡ changed (next_list s) (Pop addr slot) = rw found' in

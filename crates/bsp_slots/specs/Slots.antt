@@ -5,7 +5,10 @@ use Rattle.bsp_slots.specs.declared.slots.Slots.TheInside.{Inside}
 use Rattle.bsp_slots.specs.Registrations.{Registrations, PreparedRegistrations, next_list, push_count, IsSound}
 
 abbrev pub slots_view : {A : Type 0} → Inside A → PreparedRegistrations
-slots_view s = record { registrations = record { in_effect = s.in_effect.items; changes = s.changes.items }; ready = s.ready }
+slots_view s = record {
+  registrations = record { in_effect = s.in_effect.items; changes = s.changes.items; large = s.large };
+  ready = s.ready;
+}
 
 -- a list and a number are the next list and the pushes of sound registrations
 pub record KeepsPace (s : Registrations) (next : List Area) (pushes : ℕ) : Type 0 where

@@ -1,11 +1,11 @@
 //! Laws of the definitions that the contracts of [`Slots`](crate::Slots) cite. Each function does nothing; its contract
 //! is the law.
-ghost use Rattle.std.specs.Prelude.{◌≡◌, ◌≢◌, ℕ, ◌∷◌, ◌++◌, [], List, length, remove, All, MatchOption, false, Some};
+ghost use Rattle.std.specs.Prelude.{◌≡◌, ◌≢◌, ◌≤◌, ◌^◌, ℕ, Bool, ◌∷◌, ◌++◌, [], List, length, remove, All, MatchOption, false, Some};
 ghost use Rattle.bsp_slots.specs.declared.area.Area.{Area};
 ghost use Rattle.bsp_slots.specs.declared.change.Change.{Change};
 ghost use Rattle.bsp_slots.specs.Area.{last_position, IsLastEntry};
 ghost use Rattle.bsp_slots.specs.Registrations.{Registrations, no_registrations, registrations_after, next_list, is_full, pushed, popped};
-ghost use Rattle.bsp_slots.specs.Registrations.{turned, HasSameShape, IsSound};
+ghost use Rattle.bsp_slots.specs.Registrations.{turned, HasSameShape, IsSound, max_entries, max_pushes};
 
 /// The position that is found is that of the last entry of the address, and where none is found no entry has it.
 pub fn the_last_entry_is_found()
@@ -35,7 +35,7 @@ pub fn replays_go_on()
 /// Soundness holds at the start, and each push that is not refused, each pop of a registered address and each turn
 /// keeps it.
 pub fn soundness_is_kept()
-    ensures start { IsSound no_registrations }
+    ensures start { (large : Bool) → IsSound (no_registrations large) }
     ensures push { (s : Registrations) (area : Area)
         → IsSound s → is_full s ≡ false → IsSound (pushed s area) }
     ensures pop { (s : Registrations) (addr slot : ℕ)
@@ -56,4 +56,12 @@ pub fn same_shape_is_an_equivalence()
 pub fn same_shape_keeps_lengths_equal()
     ensures { (s t : Registrations) → IsSound s → IsSound t → HasSameShape s t
         → length s.in_effect ≡ length t.in_effect → length (next_list s) ≡ length (next_list t) }
+{}
+
+/// A machine that is not large has 1,024 entries and 65,536 pushes in a superstep for a node, and no machine has more than 65,536 and 2^24.
+pub fn registrations_have_these_limits()
+    ensures standard_entries { max_entries false ≡ 1024 }
+    ensures standard_pushes { max_pushes false ≡ 65536 }
+    ensures entries { (large : Bool) → max_entries large ≤ 65536 }
+    ensures pushes { (large : Bool) → max_pushes large ≤ 2 ^ 24 }
 {}

@@ -17,7 +17,8 @@
 //! - Only [`Slots::push`], [`Slots::pop`], [`Slots::prepare_turn`] and [`Slots::try_clone`] take memory. [`Slots::turn`] uses
 //!   the room that [`Slots::prepare_turn`] made.
 //!
-//! A push takes amortised constant time. A pop and a search scan a list of at most [`MAX_ENTRIES`] entries.
+//! A push takes amortised constant time. A pop and a search scan a list of at most [`MAX_ENTRIES`] entries, or [`LARGE_ENTRIES`]
+//! in a large machine.
 #![tactic(auto)]
 
 mod area;
@@ -26,4 +27,4 @@ pub mod laws;
 mod slots;
 
 pub use area::Area;
-pub use slots::{MAX_ENTRIES, MAX_PUSHES, PopError, PushError, Slots};
+pub use slots::{LARGE_ENTRIES, LARGE_PUSHES, MAX_ENTRIES, MAX_PUSHES, PopError, PushError, Slots};

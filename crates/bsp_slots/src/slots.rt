@@ -3,6 +3,7 @@
 ghost use Rattle.std.specs.Prelude.{◌≡◌, ◌↔◌, length, slice_get, false, true, IsTrue, IsNone, IsSomeAnd, IfOk, OnOk, OnErr, IsErrOf};
 ghost use Rattle.bsp_slots.specs.Area.{last_position};
 ghost use Rattle.bsp_slots.specs.Registrations.{no_registrations, next_list, is_full, pushed, popped, turned, HasSameShape, IsSound};
+ghost use Rattle.bsp_slots.specs.Registrations.{max_entries, max_pushes};
 
 use crate::area::{Area, last_position};
 use crate::change::{Change, have_same_shape};
@@ -14,6 +15,12 @@ pub const MAX_ENTRIES: usize = 1_024;
 
 /// The most pushes in a superstep, whatever is popped.
 pub const MAX_PUSHES: usize = 65_536;
+
+/// The most entries of the next list of a node of a large machine.
+pub const LARGE_ENTRIES: usize = 65_536;
+
+/// The most pushes of a node of a large machine in a superstep.
+pub const LARGE_PUSHES: usize = 1 << 24;
 
 /// Why a push was refused; the first that applies.
 #[derive(Clone, Copy, Debug, PartialEq, Eq)]
@@ -61,6 +68,7 @@ pub struct Slots<A: Allocator> {
     changes: Vec<Change, A>,
     pushes: usize,
     ready: bool,
+    large: bool,
 }
 
 impl<A: Allocator> Model for Slots<A> {
@@ -76,9 +84,9 @@ impl<A: Allocator> Model for Slots<A> {
 }
 
 impl<A: Allocator + Copy> Slots<A> {
-    /// Nothing is registered, and no memory is taken.
-    pub fn new(alloc: A) -> Self
-        ensures { result ≡ record { registrations = no_registrations; ready = false } }
+    /// Nothing is registered, with the limits of a large machine or with the others, and no memory is taken.
+    pub fn new(alloc: A, large: bool) -> Self
+        ensures { result ≡ record { registrations = no_registrations large; ready = false } }
     {
         Slots {
             in_effect: Vec::new(alloc),
@@ -86,6 +94,7 @@ impl<A: Allocator + Copy> Slots<A> {
             changes: Vec::new(alloc),
             pushes: 0,
             ready: false,
+            large,
         }
     }
 
@@ -102,6 +111,7 @@ impl<A: Allocator + Copy> Slots<A> {
             changes: Vec::from_slice(alloc, &self.changes)?,
             pushes: self.pushes,
             ready: false,
+            large: self.large,
         })
     }
 
@@ -113,7 +123,7 @@ impl<A: Allocator + Copy> Slots<A> {
         ensures too_many { IsErrOf result PushError.TooMany ↔ IsTrue (is_full self.old.registrations) }
         ensures err { OnErr result (self.new ≡ self.old) }
     {
-        if self.next.len() >= MAX_ENTRIES || self.pushes >= MAX_PUSHES {
+        if self.next.len() >= most_entries(self.large) || self.pushes >= most_pushes(self.large) {
             return Err(PushError::TooMany);
         }
         self.next.reserve(1)?;
@@ -156,6 +166,13 @@ impl<A: Allocator + Copy> Slots<A> {
         ensures { result ≡ slice_get self.now.registrations.in_effect slot }
     {
         self.in_effect.get(slot).copied()
+    }
+
+    /// Whether the limits are those of a large machine.
+    pub fn is_large(&self) -> bool
+        ensures { result ≡ self.now.registrations.large }
+    {
+        self.large
     }
 
     /// The number of entries of the list in effect.
@@ -203,4 +220,18 @@ impl<A: Allocator + Copy> Slots<A> {
         self.pushes = 0;
         self.ready = false;
     }
+}
+
+/// The most entries of the next list.
+fn most_entries(large: bool) -> usize
+    ensures { result ≡ max_entries large }
+{
+    if large { LARGE_ENTRIES } else { MAX_ENTRIES }
+}
+
+/// The most pushes in a superstep.
+fn most_pushes(large: bool) -> usize
+    ensures { result ≡ max_pushes large }
+{
+    if large { LARGE_PUSHES } else { MAX_PUSHES }
 }

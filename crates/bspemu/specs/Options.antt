@@ -29,14 +29,16 @@ abbrev pub IsNeverMet : {X : Type 0} → (X → Type 0) → Type 0
 IsNeverMet {X} P = (x : X) → P x → ⊥
 
 abbrev pub name_of_format : Format → Text
-name_of_format Elf = codes "elf"
-name_of_format Raw = codes "raw"
+name_of_format (Elf large) = codes "elf"
+name_of_format (Raw large) = codes "raw"
 name_of_format (Asm float) = codes "asm"
 
--- a text may have statements of floating point where they are asked for, and only there
-abbrev pub IsFormatFor : (float : Bool) → Format → Type 0
-IsFormatFor float (Asm names) = names ≡ float
-IsFormatFor float _ = Unit {0}
+-- a text may have statements of floating point where they are asked for, and only there; another file has the limits of a large machine
+-- where that is asked for, and only there
+abbrev pub IsFormatFor : (float large : Bool) → Format → Type 0
+IsFormatFor float large (Asm names) = names ≡ float
+IsFormatFor float large (Elf is_large) = is_large ≡ large
+IsFormatFor float large (Raw is_large) = is_large ≡ large
 
 -- a value spells this number of so many bits in decimal digits, which a plus may precede
 pub record GivesNumber (bits : ℕ) (value : Option Text) (n : ℕ) : Type 0 where
@@ -78,6 +80,7 @@ pub record GivesSettings (rows : List Row) (s : Settings) : Type 0 where
   pub limit : GivesNumber 64 (one_of (codes "limit") rows) s.limit
   pub clock : GivesClock rows s.clock
   pub float : GivesFlag (one_of (codes "float") rows) s.float
+  pub large : GivesFlag (one_of (codes "large") rows) s.large
 
 -- the text of a path that may be there
 abbrev pub text_of : Option (Bor Text) → Option Text
@@ -89,7 +92,7 @@ pub record GivesMachineOptions (rows : List Row) (o : MachineOptions) : Type 0 w
   pub input : first_of (codes "input") rows ≡ text_of o.input
   pub format : first_of (codes "format") rows ≡ Some (name_of_format o.job.format)
   pub settings : GivesSettings rows o.job.settings
-  pub language : IsFormatFor o.job.settings.float o.job.format
+  pub language : IsFormatFor o.job.settings.float o.job.settings.large o.job.format
   pub g : GivesNumber 32 (one_of (codes "g") rows) o.job.g
   pub l : GivesNumber 32 (one_of (codes "l") rows) o.job.l
   pub ledger : GivesLedger rows o.job.ledger
@@ -144,7 +147,7 @@ pub record GivesListOptions (rows : List Row) (o : ListOptions) : Type 0 where
   pub image : first_of (codes "image") rows ≡ Some o.image.now
   pub format : first_of (codes "format") rows ≡ Some (name_of_format o.format)
   pub float : GivesFlag (one_of (codes "float") rows) o.float
-  pub language : IsFormatFor o.float o.format
+  pub language : IsFormatFor o.float false o.format
 
 -- the matches of `asm` give these options
 pub record GivesAsmOptions (rows : List Row) (o : AsmOptions) : Type 0 where

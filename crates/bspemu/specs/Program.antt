@@ -1,5 +1,5 @@
 -- How the program ends (own rules).
-use Rattle.std.specs.Prelude.{◌≡◌, ◌≢◌, ◌⊎◌, ◌++◌, ℕ, Bool, true, false, Option, None, List, Some, Result, Ok, Err, codes}
+use Rattle.std.specs.Prelude.{◌≡◌, ◌≢◌, ◌⊎◌, ◌++◌, ◌<◌, ℕ, Bool, true, false, Option, None, List, Some, Result, Ok, Err, codes}
 use Rattle.std.specs.Borrow.{Bor}
 use Rattle.clap.specs.Words.{Text, kind_of}
 use Rattle.clap.specs.declared.error.Error.{Error}
@@ -31,12 +31,13 @@ use Rattle.bspemu.specs.declared.options.AsmOptions.{AsmOptions}
 use Rattle.bspemu.specs.declared.options.Action.{Action}
 use Rattle.bspemu.specs.declared.options.Action.TheVariants as action
 use Rattle.bspemu.specs.declared.program.RunError.{RunError}
-use Rattle.bspemu.specs.declared.program.RunError.TheVariants.{CannotOpen, Session}
+use Rattle.bspemu.specs.declared.program.RunError.TheVariants.{CannotOpen, TooManyNodes, Session}
 use Rattle.bspemu.specs.Options.{AsksFor, IsFaultOf}
 
 -- what an error prints as, after the program's name; a session's is its own text
 abbrev pub text_of_error : RunError → Option Text
 text_of_error (CannotOpen path) = Some (codes "cannot open " ++ path.now)
+text_of_error TooManyNodes = Some (codes "a profile is of at most 1024 nodes")
 text_of_error (Session error) = None
 
 -- the options name this file: as the image, which is not standard input, or as the input
@@ -49,6 +50,15 @@ TellsTo (WithProfile file) path = file ≡ path
 TellsTo (WithCounts file) path = file ≡ path
 TellsTo (WithContested file) path = file ≡ path
 TellsTo _ path = ⊥
+
+-- own limit: the nodes of a run with a profile, whose table has a row and a column for each
+abbrev pub most_profiled : ℕ
+most_profiled = 1024
+
+-- a profile was asked for of a large machine with more nodes
+abbrev pub HasTooManyNodes : MachineOptions → OutputMode → Type 0
+HasTooManyNodes o (WithProfile file) = (o.job.settings.large ≡ true) × (most_profiled < o.job.settings.nodes)
+HasTooManyNodes o _ = ⊥
 
 -- the answer of a session, and of one that has no outcome
 abbrev pub answer_of_session : Result Outcome SessionError → Result Outcome RunError
@@ -79,6 +89,7 @@ IsErrorTold (WithContested file) s error = (contested : Stream) × IsErrorOfCont
 abbrev pub IsAnswerOfRun : MachineOptions → OutputMode → Result Outcome RunError → Type 0
 IsAnswerOfRun o output_mode (Ok outcome) = (s : BatchSession) × (s.job ≡ o.job) × IsOutcomeOf output_mode s outcome
 IsAnswerOfRun o output_mode (Err (CannotOpen path)) = NamesFile o path ⊎ TellsTo output_mode path
+IsAnswerOfRun o output_mode (Err TooManyNodes) = HasTooManyNodes o output_mode
 IsAnswerOfRun o output_mode (Err (Session error)) = (s : BatchSession) × (s.job ≡ o.job) × IsErrorTold output_mode s error
 
 -- lines were all answered with a debugger of such a job, in frames or not, and an error that this can have, whatever is read and written
@@ -94,6 +105,7 @@ IsDebugError false job error = (c : Console) × (c.job ≡ job) × (IsErrorOfScr
 abbrev pub IsAnswerOfDebug : DebugOptions → Result Outcome RunError → Type 0
 IsAnswerOfDebug o (Ok outcome) = (outcome ≡ Ended) × AnswersLines o.framed o.machine.job
 IsAnswerOfDebug o (Err (CannotOpen path)) = NamesFile o.machine path
+IsAnswerOfDebug o (Err TooManyNodes) = ⊥
 IsAnswerOfDebug o (Err (Session error)) = IsDebugError o.framed o.machine.job error
 
 -- a file in this format was listed, with the names of instructions of floating point or without them, and an error that this can have
@@ -107,6 +119,7 @@ IsListError float format error = (c : Conversion) × (c.format ≡ format) × Is
 abbrev pub IsAnswerOfList : ListOptions → Result Outcome RunError → Type 0
 IsAnswerOfList o (Ok outcome) = (outcome ≡ Ended) × IsListed o.float o.format
 IsAnswerOfList o (Err (CannotOpen path)) = (o.image.now ≢ codes "-") × (o.image ≡ path)
+IsAnswerOfList o (Err TooManyNodes) = ⊥
 IsAnswerOfList o (Err (Session error)) = IsListError o.float o.format error
 
 -- the image of a text, with statements of floating point or without them, was saved, and an error that this can have
@@ -120,6 +133,7 @@ IsAsmError float error = (c : Conversion) × (c.format ≡ Asm float) × IsError
 abbrev pub IsAnswerOfAsm : AsmOptions → Result Outcome RunError → Type 0
 IsAnswerOfAsm o (Ok outcome) = (outcome ≡ Ended) × IsSaved o.float
 IsAnswerOfAsm o (Err (CannotOpen path)) = (o.text ≡ path) ⊎ (o.image ≡ path)
+IsAnswerOfAsm o (Err TooManyNodes) = ⊥
 IsAnswerOfAsm o (Err (Session error)) = IsAsmError o.float error
 
 -- an answer that an action can have
@@ -133,6 +147,7 @@ IsAnswer (action.Asm o) answer = IsAnswerOfAsm o answer
 abbrev pub status_of_answer : Result Outcome RunError → ℕ
 status_of_answer (Ok outcome) = status_of (Ok outcome)
 status_of_answer (Err (CannotOpen path)) = 6
+status_of_answer (Err TooManyNodes) = 1
 status_of_answer (Err (Session error)) = status_of (Err error)
 
 -- the exit status where words ask for nothing; help, or a version, that can't be written is a failed write

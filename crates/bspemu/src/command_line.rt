@@ -68,6 +68,9 @@ const CLOCK: &str =
 
 const FLOAT: &str = "Give each node a unit of floating point, for the instructions of F and D";
 
+const LARGE: &str =
+    "Allow a large machine: up to 65536 nodes, 2147483648 bytes of memory and 1073741824 bytes of input, and more in a superstep";
+
 const FLOAT_NAMES: &str =
     "Name instructions of floating point, as on nodes with units for them; without it they are data";
 
@@ -233,6 +236,7 @@ fn machine_command<'a>(
         ledger(alloc),
         flag(alloc, "clock", CLOCK),
         flag(alloc, "float", FLOAT),
+        flag(alloc, "large", LARGE),
     ]?;
     Command::new(alloc, name).args(arguments)
 }

@@ -290,7 +290,7 @@ fn options_of_machine<'a>(
         image: found.get_str("image")?,
         input: found.get_str("input"),
         job: Job {
-            format: format_named(found.get_str("format")?, settings.float)?,
+            format: format_named(found.get_str("format")?, settings.float, settings.large)?,
             settings,
             workers,
             slice,
@@ -309,7 +309,7 @@ fn options_of_list<'a>(list: &ArgMatches<'a>) -> Option<ListOptions<'a>>
     let float = list.get_one("float")?;
     Some(ListOptions {
         image: list.get_str("image")?,
-        format: format_named(list.get_str("format")?, float)?,
+        format: format_named(list.get_str("format")?, float, false)?,
         float,
     })
 }
@@ -335,6 +335,7 @@ fn settings_of_machine(found: &ArgMatches<'_>) -> Option<Settings>
         limit: found.get_one("limit")?,
         clock: clock_of(found)?,
         float: found.get_one("float")?,
+        large: found.get_one("large")?,
     })
 }
 
@@ -380,14 +381,15 @@ fn ledger_numbered(number: u32) -> Option<LedgerText>
     }
 }
 
-/// The format with a name; a text may have statements of floating point where `float` says so.
-fn format_named(name: &str, float: bool) -> Option<Format>
-    ensures some { IfSome result (λ format. (name.now ≡ name_of_format format) × IsFormatFor float format) }
+/// The format with a name; a text may have statements of floating point where `float` says so, and another file has the limits of a large
+/// machine where `large` says so.
+fn format_named(name: &str, float: bool, large: bool) -> Option<Format>
+    ensures some { IfSome result (λ format. (name.now ≡ name_of_format format) × IsFormatFor float large format) }
     ensures none { IfNone result (IsNeverMet (λ format. name.now ≡ name_of_format format)) }
 {
     match name {
-        "elf" => Some(Format::Elf),
-        "raw" => Some(Format::Raw),
+        "elf" => Some(Format::Elf { large }),
+        "raw" => Some(Format::Raw { large }),
         "asm" => Some(Format::Asm { float }),
         _ => None,
     }

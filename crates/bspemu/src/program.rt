@@ -35,11 +35,16 @@ const REFUSED: u8 = 1;
 /// The status where a file can't be opened.
 const NOT_OPENED: u8 = 6;
 
+/// The most nodes of a run with a profile.
+const PROFILED_NODES: u32 = 1_024;
+
 /// Why what was asked for was not done.
 #[derive(Clone, Copy)]
 pub enum RunError<'a> {
     /// The file at this path can't be opened.
     CannotOpen(&'a str),
+    /// A profile was asked for of a large machine that has more nodes than a profile is of.
+    TooManyNodes,
     Session(SessionError),
 }
 
@@ -51,6 +56,7 @@ impl fmt::Display for RunError<'_> {
     fn fmt<W: fmt::Write>(&self, f: &mut fmt::Formatter<W>) -> fmt::Result {
         match self {
             RunError::CannotOpen(path) => write!(f, "cannot open {path}"),
+            RunError::TooManyNodes => f.write_str("a profile is of at most 1024 nodes"),
             RunError::Session(error) => write!(f, "{error}"),
         }
     }
@@ -219,7 +225,8 @@ fn run_live<'a, R: AllocGlobal + Files + Input + Print + Threads + Wait + Sync>(
     ))
 }
 
-/// Creates the file of the profile, or empties it, and runs the session. That file may be neither the image nor the input.
+/// Creates the file of the profile, or empties it, and runs the session. That file may be neither the image nor the input. A profile's
+/// table has a row and a column for each node, so it is not made for more than 1,024.
 #[inline(never)]
 fn run_profiled<'a, R: AllocGlobal + Files + Input + Print + Threads + Wait + Sync>(
     rt: &R,
@@ -229,6 +236,9 @@ fn run_profiled<'a, R: AllocGlobal + Files + Input + Print + Threads + Wait + Sy
 ) -> Result<Outcome, RunError<'a>>
     ensures { IsAnswerOfRun options.now (OutputMode.WithProfile path.entry) result }
 {
+    if options.job.settings.large && options.job.settings.nodes > PROFILED_NODES {
+        return Err(RunError::TooManyNodes);
+    }
     let mut profile = Counted::new(create_beside(
         rt,
         path,
@@ -415,6 +425,7 @@ fn finish<R: Eprint>(rt: &R, answer: Result<Outcome, RunError<'_>>) -> u8
             let _ = eprintln!(rt; "bspemu: {error}");
             match error {
                 RunError::CannotOpen(_) => NOT_OPENED,
+                RunError::TooManyNodes => REFUSED,
                 RunError::Session(error) => status(&Err(error)),
             }
         }

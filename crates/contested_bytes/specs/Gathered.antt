@@ -17,5 +17,5 @@ landings_of nodes requests = filter_map (λ (i : Issued). landing_of nodes i.ran
 -- what a get fetches has room in a memory
 abbrev pub HasRoom : Asked → Type 0
 HasRoom (asks_put p) = Unit {0}
-HasRoom (asks_get g) = g.dst + g.len ≤ 2 ^ 24
+HasRoom (asks_get g) = g.dst + g.len ≤ 2 ^ 31
 HasRoom (asks_send m) = Unit {0}

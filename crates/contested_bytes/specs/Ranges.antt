@@ -45,4 +45,4 @@ AreApart found = AllPairs EndsBefore found
 
 -- no memory has bytes behind this
 abbrev pub EndsWithin : ContestedRange → Type 0
-EndsWithin c = c.addr + c.len ≤ 2 ^ 24
+EndsWithin c = c.addr + c.len ≤ 2 ^ 31

@@ -35,14 +35,14 @@ impl<A: Allocator> Model for Landing<A> {
       key = record { kind = number_of l.kind; caller = l.caller; issue = l.issue };
     } };
 
-    ghost invariant = { λ l. l.addr + length l.bytes ≤ 2 ^ 24 };
+    ghost invariant = { λ l. l.addr + length l.bytes ≤ 2 ^ 31 };
 }
 
 impl<A: Allocator> Landing<A> {
     /// Where its bytes end.
     pub(crate) fn end(&self) -> u32
         ensures value { result ≡ self.now.addr + length self.now.bytes }
-        ensures most { result ≤ 2 ^ 24 }
+        ensures most { result ≤ 2 ^ 31 }
     {
         self.addr + self.bytes.len() as u32
     }

@@ -75,10 +75,10 @@ few_bytes bytes (p ∷ ps) =
     let of_headers = sum_by-cons (λ (q : ProgramHeader). q.p_filesz) p ps in
     omega (arith, rest, first, of_segments, of_headers)
 
-pub within_limits : (bytes : List ℕ) (entry n : ℕ) (segments loaded : List Segment) → first_fault (table_checks bytes) ≡ None
+pub within_limits : (large : Bool) (bytes : List ℕ) (entry n : ℕ) (segments loaded : List Segment) → first_fault (table_checks large bytes) ≡ None
     → n ≡ (file_header bytes).e_phnum → n ≤ 65534 → loaded ≡ segments_of bytes n → segments ≡ loaded
     → IsWithinLimits (record { entry = entry; segments = segments })
-within_limits bytes entry n segments loaded none all few was same = record {
+within_limits large bytes entry n segments loaded none all few was same = record {
   few =
       let headers = take n (program_headers bytes) in
       omega (
@@ -91,7 +91,7 @@ within_limits bytes entry n segments loaded none all few was same = record {
       );
   small =
       rw (same, was)
-      (omega (arith, few_bytes bytes (filter is_load (take n (program_headers bytes))), filesz_small bytes n none (omega arith)));
+      (omega (arith, few_bytes bytes (filter is_load (take n (program_headers bytes))), filesz_small large bytes n none (omega arith)));
 }
 
 -- ---- raw files
@@ -114,7 +114,7 @@ pub raw_none : (bytes : List ℕ) (empty : Bool) (segments : List Segment) → e
 raw_none [] empty segments test none is = is
 raw_none (b ∷ bs) empty segments test none is = let some = not_zero (length bs) in absurd (let never : false ≡ true = cc in cc)
 
-raw_image_limits : (bytes : List ℕ) → length bytes ≤ 2 ^ 24 → IsWithinLimits (raw_image bytes)
+raw_image_limits : (bytes : List ℕ) → length bytes ≤ 2 ^ 28 → IsWithinLimits (raw_image bytes)
 raw_image_limits [] h = record { few = omega arith; small = omega arith }
 raw_image_limits (b ∷ bs) h = record { few = omega arith; small = omega arith }
 
@@ -123,15 +123,15 @@ pub raw_is : (bytes : List ℕ) (segments : List Segment) → segments ≡ (raw_
 raw_is [] segments same = ap (λ (ss : List Segment). record { entry = 0; segments = ss }) same
 raw_is (b ∷ bs) segments same = ap (λ (ss : List Segment). record { entry = 0; segments = ss }) same
 
-pub raw_limits : (bytes : List ℕ) (segments : List Segment) → length bytes ≤ 2 ^ 24 → segments ≡ (raw_image bytes).segments
+pub raw_limits : (bytes : List ℕ) (segments : List Segment) → length bytes ≤ 2 ^ 28 → segments ≡ (raw_image bytes).segments
     → IsWithinLimits (record { entry = 0; segments = segments })
 raw_limits bytes segments h same = rw (raw_is bytes segments same) (raw_image_limits bytes h)
 
-pub raw_segment : (bytes copied : List ℕ) → length bytes ≤ 2 ^ 24 → copied ≡ bytes
+pub raw_segment : (bytes copied : List ℕ) → length bytes ≤ 2 ^ 28 → copied ≡ bytes
     → IsSegment (record { addr = 0; bytes = copied; size = length bytes })
 raw_segment bytes copied h same = record { holds_bytes = omega (arith, ap length same); in_addresses = omega arith }
 
-pub raw_size : (n : ℕ) → n ≤ 2 ^ 24 → Fits w32 n
+pub raw_size : (n : ℕ) → n ≤ 2 ^ 28 → Fits w32 n
 raw_size n h = omega arith
 
 -- ---- faults of files
@@ -159,60 +159,60 @@ is_fault-first_fault (c ∷ checks) d all found =
     let parts = both (is_fault c.1) (all_faults checks) all in
     first_is_fault c.0 c.1 d (first_fault checks) parts.0 (is_fault-first_fault checks d parts.1) found
 
-all_faults-entries : (bytes : List ℕ) (a n : ℕ) → all_faults (flat_map (entry_checks bytes) (range_with_len a n)) ≡ true
+all_faults-entries : (large : Bool) (bytes : List ℕ) (a n : ℕ) → all_faults (flat_map (entry_checks large bytes) (range_with_len a n)) ≡ true
 unfolding entry_checks
-all_faults-entries bytes a zero = refl
-all_faults-entries bytes a (suc n) = all_faults-entries bytes (a + 1) n
+all_faults-entries large bytes a zero = refl
+all_faults-entries large bytes a (suc n) = all_faults-entries large bytes (a + 1) n
 
-all_faults-file : (bytes : List ℕ) → all_faults (file_checks bytes) ≡ true
+all_faults-file : (large : Bool) (bytes : List ℕ) → all_faults (file_checks large bytes) ≡ true
 unfolding file_checks file_header_checks table_checks
-all_faults-file bytes = all_faults-entries bytes 0 (file_header bytes).e_phnum
+all_faults-file large bytes = all_faults-entries large bytes 0 (file_header bytes).e_phnum
 
 is_some_fault : (d : ElfError) → is_fault d ≡ true → d ≢ NoMemory
 is_some_fault d is same = let e : is_fault d ≡ false = ap is_fault same in cc
 
 -- want of memory is no fault of a file
-pub file_fault-ne : (bytes : List ℕ) (e : ElfError) → file_fault bytes ≡ Some e → e ≢ NoMemory
-file_fault-ne bytes e found = is_some_fault e (is_fault-first_fault (file_checks bytes) e (all_faults-file bytes) found)
+pub file_fault-ne : (large : Bool) (bytes : List ℕ) (e : ElfError) → file_fault large bytes ≡ Some e → e ≢ NoMemory
+file_fault-ne large bytes e found = is_some_fault e (is_fault-first_fault (file_checks large bytes) e (all_faults-file large bytes) found)
 
 -- the first fault of a file is that of its file header, or else of the table
-pub fault_of_header : (bytes : List ℕ) (e : ElfError) → Some e ≡ first_fault (file_header_checks bytes) → file_fault bytes ≡ Some e
+pub fault_of_header : (large : Bool) (bytes : List ℕ) (e : ElfError) → Some e ≡ first_fault (file_header_checks bytes) → file_fault large bytes ≡ Some e
 unfolding file_checks
-fault_of_header bytes e found =
-    first_fault-append (file_header_checks bytes) (table_checks bytes)
-    ∙ ap (λ (o : Option ElfError). option_or o (first_fault (table_checks bytes))) (sym found)
+fault_of_header large bytes e found =
+    first_fault-append (file_header_checks bytes) (table_checks large bytes)
+    ∙ ap (λ (o : Option ElfError). option_or o (first_fault (table_checks large bytes))) (sym found)
 
-pub fault_after_header : (bytes : List ℕ) (o : Option ElfError) → None ≡ first_fault (file_header_checks bytes)
-    → o ≡ first_fault (table_checks bytes) → file_fault bytes ≡ o
+pub fault_after_header : (large : Bool) (bytes : List ℕ) (o : Option ElfError) → None ≡ first_fault (file_header_checks bytes)
+    → o ≡ first_fault (table_checks large bytes) → file_fault large bytes ≡ o
 unfolding file_checks
-fault_after_header bytes o none found =
-    first_fault-append (file_header_checks bytes) (table_checks bytes)
-    ∙ ap (λ (o : Option ElfError). option_or o (first_fault (table_checks bytes))) (sym none)
+fault_after_header large bytes o none found =
+    first_fault-append (file_header_checks bytes) (table_checks large bytes)
+    ∙ ap (λ (o : Option ElfError). option_or o (first_fault (table_checks large bytes))) (sym none)
     ∙ sym found
 
 -- an answer's clause on faults, at each kind of answer
-abbrev pub TellsFault : {T : Type 0} → List ℕ → Result T ElfError → Type 0
-TellsFault bytes r = (e : ElfError) → (file_fault bytes ≡ Some e) ↔ ((r ≡ Err e) × (e ≢ NoMemory))
+abbrev pub TellsFault : {T : Type 0} → Bool → List ℕ → Result T ElfError → Type 0
+TellsFault large bytes r = (e : ElfError) → (file_fault large bytes ≡ Some e) ↔ ((r ≡ Err e) × (e ≢ NoMemory))
 
-pub TellsFault-at_fault : {T : Type 0} → (bytes : List ℕ) (r : Result T ElfError) (d : ElfError) → file_fault bytes ≡ Some d → r ≡ Err d
-    → TellsFault bytes r
-TellsFault-at_fault bytes r d found is e = (
-  λ h. let same : d ≡ e = cc in (is ∙ ap Err same, file_fault-ne bytes e h),
+pub TellsFault-at_fault : {T : Type 0} → (large : Bool) (bytes : List ℕ) (r : Result T ElfError) (d : ElfError) → file_fault large bytes ≡ Some d → r ≡ Err d
+    → TellsFault large bytes r
+TellsFault-at_fault large bytes r d found is e = (
+  λ h. let same : d ≡ e = cc in (is ∙ ap Err same, file_fault-ne large bytes e h),
   λ h. let same : d ≡ e = cc (is, h.0) in
       found ∙ ap Some same,
 )
 
-pub TellsFault-at_memory : {T : Type 0} → (bytes : List ℕ) (r : Result T ElfError) → file_fault bytes ≡ None → r ≡ Err NoMemory
-    → TellsFault bytes r
-TellsFault-at_memory bytes r none is e =
+pub TellsFault-at_memory : {T : Type 0} → (large : Bool) (bytes : List ℕ) (r : Result T ElfError) → file_fault large bytes ≡ None → r ≡ Err NoMemory
+    → TellsFault large bytes r
+TellsFault-at_memory large bytes r none is e =
     (λ h. absurd cc, λ h. absurd (h.1 (let same : e ≡ NoMemory = cc (is, h.0) in same)))
 
-pub TellsFault-at_ok : {T : Type 0} → (bytes : List ℕ) (r : Result T ElfError) (x : T) → file_fault bytes ≡ None → r ≡ Ok x
-    → TellsFault bytes r
-TellsFault-at_ok bytes r x none is e = (λ h. absurd cc, λ h. absurd (cc (is, h.0)))
+pub TellsFault-at_ok : {T : Type 0} → (large : Bool) (bytes : List ℕ) (r : Result T ElfError) (x : T) → file_fault large bytes ≡ None → r ≡ Ok x
+    → TellsFault large bytes r
+TellsFault-at_ok large bytes r x none is e = (λ h. absurd cc, λ h. absurd (cc (is, h.0)))
 
 -- the error of an answer that tells the fault
-pub IfErr-from_TellsFault : {T : Type 0} → (bytes : List ℕ) (r : Result T ElfError) → TellsFault bytes r
-    → IfErr r (λ e. e ≢ NoMemory → file_fault bytes ≡ Some e)
-IfErr-from_TellsFault bytes (Ok x) tells = tt
-IfErr-from_TellsFault bytes (Err e) tells = λ other. (tells e).1 (refl, other)
+pub IfErr-from_TellsFault : {T : Type 0} → (large : Bool) (bytes : List ℕ) (r : Result T ElfError) → TellsFault large bytes r
+    → IfErr r (λ e. e ≢ NoMemory → file_fault large bytes ≡ Some e)
+IfErr-from_TellsFault large bytes (Ok x) tells = tt
+IfErr-from_TellsFault large bytes (Err e) tells = λ other. (tells e).1 (refl, other)

@@ -1,4 +1,5 @@
 -- What a spelling reads as: the image that was spelled, with no fault.
+use Rattle.std.proofs.Common.{Bool, sum_by}
 use Rattle.std.proofs.Common.{◌≡◌, ℕ, zero, suc, ◌+◌, ◌*◌, ◌^◌, ◌<◌, ◌≤◌, true, false, cond, not, ◌&&◌, nat_lt, ◌==◌, List, [], ◌∷◌, ◌++◌}
 use Rattle.std.proofs.Common.{length, map, filter, take, get_or, None, refl, sym, ap, ◌∙◌, arith}
 use Rattle.std.specs.List.{range_with_len}
@@ -16,7 +17,7 @@ use Rattle.elf_image.specs.Headers.{FileHeader, ProgramHeader, ehdr_size, file_h
 use Rattle.elf_image.specs.Headers.{is_load}
 use Rattle.elf_image.specs.Presents.{segment_of, Presents}
 use Rattle.elf_image.specs.Faults.{first_fault, start_checks, identity_checks, layout_checks, file_header_checks, program_header_checks}
-use Rattle.elf_image.specs.Faults.{filesz_of, entry_checks, table_checks, file_checks, file_fault}
+use Rattle.elf_image.specs.Faults.{most_segment_bytes, filesz_of, entry_checks, table_checks, file_checks, file_fault}
 use Rattle.elf_image.specs.Spelling.{spelled_file_header, spelled_program_header, bytes_offset, spelling_of, IsImage}
 use Rattle.elf_image.proofs.Checks.{none_from_NoneHolds, none-append, none_all}
 use Rattle.elf_image.proofs.Table.{filesz_of_more}
@@ -77,8 +78,12 @@ entry_read offset s a b c d =
       from_le_bytes-to_le_bytes_4 s.size d,
     ) refl
 
-pub short : (i : Image) → IsImage i → length (spelling_of i) ≤ 2 ^ 25
-short i fits = omega (arith, length-spelling_of i, fits.limits.few, fits.limits.small)
+-- no offset in the file passes 32 bits
+shorter : (i : Image) → IsImage i → length (spelling_of i) ≤ 2 ^ 29
+shorter i fits = omega (arith, length-spelling_of i, fits.limits.few, fits.limits.small)
+
+pub short : (i : Image) → IsImage i → sum_by (λ (s : Segment). length s.bytes) i.segments ≤ 2 ^ 24 → length (spelling_of i) ≤ 2 ^ 25
+short i fits small = omega (arith, length-spelling_of i, fits.limits.few, small)
 
 abbrev no_segment : Segment
 no_segment = record { addr = 0; bytes = []; size = 0 }
@@ -99,7 +104,7 @@ entry-spelling_of i k fits h =
     let numbers =
     All-get_or (λ (s : Segment). (s.addr < 2 ^ 32) × (s.size < 2 ^ 32) × IsSegment s) i.segments k no_segment h fits.segments in
     let ends = segment_ends i k s h (segment-is i k h) in
-    let len = short i fits in
+    let len = shorter i fits in
     ap (λ (h : FileHeader). program_header (bytes_at b (h.e_phoff + k * h.e_phentsize) h.e_phentsize)) (file_header-spelling_of i fits)
     ∙ ap program_header (entry_at i k s h (segment-is i k h))
     ∙ entry_read (bytes_offset i k) s (omega arith) numbers.0 (omega arith) numbers.1
@@ -200,35 +205,45 @@ filesz-spelling_of i (suc k) fits h =
     let of_segments = bytes_offset-more i k s within (segment-is i k within) in
     rw len (omega (arith, here, before, of_headers, of_segments))
 
-entry_passes : (len so_far offset : ℕ) (s : Segment) → IsSegment s → so_far ≤ 2 ^ 24 → offset + length s.bytes ≤ len
-    → first_fault (program_header_checks len so_far (load_header offset s)) ≡ None
-entry_passes len so_far offset s valid small within =
+entry_passes : (large : Bool) (len so_far offset : ℕ) (s : Segment) → IsSegment s → so_far ≤ 2 ^ 24 → offset + length s.bytes ≤ len
+    → first_fault (program_header_checks large len so_far (load_header offset s)) ≡ None
+entry_passes large len so_far offset s valid small within =
     let holds : nat_lt s.size (length s.bytes) ≡ false = grind (arith, nat_tests, valid.holds_bytes) in
     let ends : nat_lt (2 ^ 32) (s.addr + s.size) ≡ false = grind (arith, nat_tests, valid.in_addresses) in
-    let few : nat_lt (2 ^ 24) so_far ≡ false = grind (arith, nat_tests) in
+    let few : nat_lt (most_segment_bytes large) so_far ≡ false = few_by large in
     let in_file : (nat_lt 0 (length s.bytes) && nat_lt len (offset + length s.bytes)) ≡ false = grind (arith, nat_tests) in
-    none_from_NoneHolds (program_header_checks len so_far (load_header offset s)) (refl, (holds, (ends, (few, (in_file, tt)))))
+    none_from_NoneHolds (program_header_checks large len so_far (load_header offset s)) (refl, (holds, (ends, (few, (in_file, tt)))))
+  where
+    few_by : (l : Bool) → nat_lt (most_segment_bytes l) so_far ≡ false
+    few_by true = grind (arith, nat_tests)
+    few_by false = grind (arith, nat_tests)
 
-table_has_none : (i : Image) → IsImage i → first_fault (table_checks (spelling_of i)) ≡ None
+-- the bytes of the segments of an image
+abbrev image_size : Image → ℕ
+image_size i = sum_by (λ (s : Segment). length s.bytes) i.segments
+
+table_has_none : (large : Bool) (i : Image) → IsImage i → image_size i ≤ 2 ^ 24 → first_fault (table_checks large (spelling_of i)) ≡ None
 unfolding table_checks entry_checks
-table_has_none i fits =
+table_has_none large i fits small =
     let b = spelling_of i in
     let number : (file_header b).e_phnum ≡ length i.segments = ap (λ (h : FileHeader). h.e_phnum) (file_header-spelling_of i fits) in
-    let at : (k : ℕ) → k < (file_header b).e_phnum → first_fault (entry_checks b k) ≡ None = λ k h.
+    let at : (k : ℕ) → k < (file_header b).e_phnum → first_fault (entry_checks large b k) ≡ None = λ k h.
     let within : k < length i.segments = omega arith in
     let s = segment i k in
     let numbers =
     All-get_or (λ (s : Segment). (s.addr < 2 ^ 32) × (s.size < 2 ^ 32) × IsSegment s) i.segments k no_segment within fits.segments in
     let so_far = filesz-spelling_of i (k + 1) fits (omega arith) in
     let total = sum_by-take-le (λ (t : Segment). length t.bytes) i.segments (k + 1) in
-    ap (λ (p : ProgramHeader). first_fault (program_header_checks (length b) (filesz_of (k + 1) (program_headers b)) p))
+    ap (λ (p : ProgramHeader). first_fault (program_header_checks large (length b) (filesz_of (k + 1) (program_headers b)) p))
     (entry-spelling_of i k fits within)
-    ∙ entry_passes (length b) (filesz_of (k + 1) (program_headers b)) (bytes_offset i k) s numbers.2
-    (omega (arith, so_far, total, fits.limits.small)) (segment_ends i k s within (segment-is i k within))
+    ∙ entry_passes large (length b) (filesz_of (k + 1) (program_headers b)) (bytes_offset i k) s numbers.2
+    (omega (arith, so_far, total, small)) (segment_ends i k s within (segment-is i k within))
     in
-    none_all (entry_checks b) (file_header b).e_phnum at
+    none_all (entry_checks large b) (file_header b).e_phnum at
 
-pub no_fault : (i : Image) → IsImage i → file_fault (spelling_of i) ≡ None
+pub no_fault : (large : Bool) (i : Image) → IsImage i → sum_by (λ (s : Segment). length s.bytes) i.segments ≤ 2 ^ 24
+    → file_fault large (spelling_of i) ≡ None
 unfolding file_checks
-no_fault i fits =
-    none-append (file_header_checks (spelling_of i)) (table_checks (spelling_of i)) (header_has_none i fits) (table_has_none i fits)
+no_fault large i fits small =
+    none-append (file_header_checks (spelling_of i)) (table_checks large (spelling_of i)) (header_has_none i fits)
+    (table_has_none large i fits small)

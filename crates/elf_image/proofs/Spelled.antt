@@ -78,7 +78,7 @@ table_fits read segments same few = rw same (omega arith)
 pub offset_fits : (i inside : Image) (n offset : ℕ) → inside ≡ i → IsWithinLimits inside → offset ≡ bytes_offset i n → Fits w32 offset
 offset_fits i inside n offset same limits at =
     let few : length i.segments ≤ 65534 = rw (← same) limits.few in
-    let small : sum_by (λ (s : Segment). length s.bytes) i.segments ≤ 2 ^ 24 = rw (← same) limits.small in
+    let small : sum_by (λ (s : Segment). length s.bytes) i.segments ≤ 2 ^ 28 = rw (← same) limits.small in
     let so_far = sum_by-take-le (λ (s : Segment). length s.bytes) i.segments n in
     omega arith
 
@@ -86,9 +86,9 @@ pub next_offset_fits : (offset len : ℕ) (s : Segment) → Fits w32 offset → 
 next_offset_fits offset len s fits is segment = omega (arith, segment.holds_bytes, segment.in_addresses)
 
 pub bytes_small : (read segments : List Segment) (n : ℕ) (s : Segment) → read ≡ segments → n < length read → s ≡ get_or read n s
-    → sum_by (λ (t : Segment). length t.bytes) segments ≤ 2 ^ 24 → length s.bytes < 2 ^ 32
+    → sum_by (λ (t : Segment). length t.bytes) segments ≤ 2 ^ 28 → length s.bytes < 2 ^ 32
 bytes_small read segments n s same h is small =
-    let most : sum_by (λ (t : Segment). length t.bytes) read ≤ 2 ^ 24 = rw same small in
+    let most : sum_by (λ (t : Segment). length t.bytes) read ≤ 2 ^ 28 = rw same small in
     let part = get_or-le-sum_by (λ (t : Segment). length t.bytes) read n s h in
     omega (arith, ap (λ (t : Segment). length t.bytes) is)
 

@@ -11,7 +11,7 @@ use Rattle.elf_image.specs.declared.error.ElfError.{ElfError}
 use Rattle.elf_image.specs.Headers.{FileHeader, ProgramHeader, ehdr_size, phdr_size, file_header, program_header, program_header_at}
 use Rattle.elf_image.specs.Headers.{program_headers, is_load}
 use Rattle.elf_image.specs.Faults.{first_fault, start_checks, identity_checks, layout_checks, file_header_checks, program_header_checks}
-use Rattle.elf_image.specs.Faults.{filesz_of, entry_checks, table_checks}
+use Rattle.elf_image.specs.Faults.{most_segment_bytes, filesz_of, entry_checks, table_checks}
 use Rattle.elf_image.proofs.Checks.{NoneHolds-from_none, none_of_append, none_at, fault_at}
 
 -- the file header is whole, and the table lies in the file
@@ -100,7 +100,7 @@ filesz_of_more bytes i h =
 pub record IsLoadable (len so_far : ℕ) (p : ProgramHeader) : Type 0 where
   pub holds_bytes : p.p_filesz ≤ p.p_memsz
   pub in_addresses : p.p_vaddr + p.p_memsz ≤ 2 ^ 32
-  pub small : so_far ≤ 2 ^ 24
+  pub small : so_far ≤ 2 ^ 28
   pub in_file : 0 < p.p_filesz → p.p_offset + p.p_filesz ≤ len
 
 load_test : (b c : Bool) → b ≡ true → (b && c) ≡ false → c ≡ false
@@ -110,42 +110,46 @@ in_file_from : (len : ℕ) (p : ProgramHeader) → is_load p ≡ true
     → (is_load p && nat_lt 0 p.p_filesz && nat_lt len (p.p_offset + p.p_filesz)) ≡ false → 0 < p.p_filesz → p.p_offset + p.p_filesz ≤ len
 in_file_from len p is passed some = grind (arith, nat_tests)
 
-pub IsLoadable-from_none : (len so_far : ℕ) (p : ProgramHeader) → first_fault (program_header_checks len so_far p) ≡ None → is_load p ≡ true
+few_from : (large : Bool) (so_far : ℕ) → nat_lt (most_segment_bytes large) so_far ≡ false → so_far ≤ 2 ^ 28
+few_from true so_far few = grind (arith, nat_tests)
+few_from false so_far few = grind (arith, nat_tests)
+
+pub IsLoadable-from_none : (large : Bool) (len so_far : ℕ) (p : ProgramHeader) → first_fault (program_header_checks large len so_far p) ≡ None → is_load p ≡ true
     → IsLoadable len so_far p
-IsLoadable-from_none len so_far p none is =
-    let tests = NoneHolds-from_none (program_header_checks len so_far p) none in
+IsLoadable-from_none large len so_far p none is =
+    let tests = NoneHolds-from_none (program_header_checks large len so_far p) none in
     record {
       holds_bytes = grind (arith, nat_tests, load_test (is_load p) (nat_lt p.p_memsz p.p_filesz) is tests.1.0);
       in_addresses = grind (arith, nat_tests, load_test (is_load p) (nat_lt (2 ^ 32) (p.p_vaddr + p.p_memsz)) is tests.1.1.0);
-      small = grind (arith, nat_tests, load_test (is_load p) (nat_lt (2 ^ 24) so_far) is tests.1.1.1.0);
+      small = few_from large so_far (load_test (is_load p) (nat_lt (most_segment_bytes large) so_far) is tests.1.1.1.0);
       in_file = in_file_from len p is tests.1.1.1.1.0;
     }
 
-pub loadable_at : (bytes : List ℕ) (i : ℕ) → first_fault (table_checks bytes) ≡ None → i < (file_header bytes).e_phnum
+pub loadable_at : (large : Bool) (bytes : List ℕ) (i : ℕ) → first_fault (table_checks large bytes) ≡ None → i < (file_header bytes).e_phnum
     → is_load (program_header_at bytes i) ≡ true
     → IsLoadable (length bytes) (filesz_of (i + 1) (program_headers bytes)) (program_header_at bytes i)
 unfolding table_checks entry_checks
-loadable_at bytes i none h is =
-    IsLoadable-from_none (length bytes) (filesz_of (i + 1) (program_headers bytes)) (program_header_at bytes i)
-    (none_at (entry_checks bytes) (file_header bytes).e_phnum i h none) is
+loadable_at large bytes i none h is =
+    IsLoadable-from_none large (length bytes) (filesz_of (i + 1) (program_headers bytes)) (program_header_at bytes i)
+    (none_at (entry_checks large bytes) (file_header bytes).e_phnum i h none) is
 
 -- the segments of a table with no fault have few bytes
-filesz_small_step : (b : Bool) (bytes : List ℕ) (i : ℕ) → first_fault (table_checks bytes) ≡ None → i < (file_header bytes).e_phnum
-    → is_load (program_header_at bytes i) ≡ b → filesz_of i (program_headers bytes) ≤ 2 ^ 24
-    → filesz_of (i + 1) (program_headers bytes) ≤ 2 ^ 24
-filesz_small_step true bytes i none h is before = (loadable_at bytes i none h is).small
-filesz_small_step false bytes i none h is before =
+filesz_small_step : (large b : Bool) (bytes : List ℕ) (i : ℕ) → first_fault (table_checks large bytes) ≡ None → i < (file_header bytes).e_phnum
+    → is_load (program_header_at bytes i) ≡ b → filesz_of i (program_headers bytes) ≤ 2 ^ 28
+    → filesz_of (i + 1) (program_headers bytes) ≤ 2 ^ 28
+filesz_small_step large true bytes i none h is before = (loadable_at large bytes i none h is).small
+filesz_small_step large false bytes i none h is before =
     let more : filesz_of (i + 1) (program_headers bytes) ≡ filesz_of i (program_headers bytes) + 0 =
     filesz_of_more bytes i h ∙ ap (λ b. filesz_of i (program_headers bytes) + cond b (program_header_at bytes i).p_filesz 0) is in
     omega arith
 
-pub filesz_small : (bytes : List ℕ) (n : ℕ) → first_fault (table_checks bytes) ≡ None → n ≤ (file_header bytes).e_phnum
-    → filesz_of n (program_headers bytes) ≤ 2 ^ 24
-filesz_small bytes zero none h = omega arith
-filesz_small bytes (suc n) none h =
+pub filesz_small : (large : Bool) (bytes : List ℕ) (n : ℕ) → first_fault (table_checks large bytes) ≡ None → n ≤ (file_header bytes).e_phnum
+    → filesz_of n (program_headers bytes) ≤ 2 ^ 28
+filesz_small large bytes zero none h = omega arith
+filesz_small large bytes (suc n) none h =
     let len : suc n ≡ n + 1 = omega arith in
-    rw len (filesz_small_step (is_load (program_header_at bytes n)) bytes n none (omega arith) refl
-    (filesz_small bytes n none (omega arith)))
+    rw len (filesz_small_step large (is_load (program_header_at bytes n)) bytes n none (omega arith) refl
+    (filesz_small large bytes n none (omega arith)))
 
 -- ---- a step over the table: `p` is entry i, and `so_far` is what the headers up to and with it load
 
@@ -158,24 +162,24 @@ filesz_step bytes i before so_far p h is was now =
     ap (λ (q : ProgramHeader). cond (is_load q) q.p_filesz 0) is in
     omega arith
 
-pub fault_of_entry : (bytes : List ℕ) (i len so_far : ℕ) (p : ProgramHeader) (o : Option ElfError) → p ≡ program_header_at bytes i
-    → len ≡ length bytes → so_far ≡ filesz_of (i + 1) (program_headers bytes) → o ≡ first_fault (program_header_checks len so_far p)
-    → first_fault (entry_checks bytes i) ≡ o
+pub fault_of_entry : (large : Bool) (bytes : List ℕ) (i len so_far : ℕ) (p : ProgramHeader) (o : Option ElfError) → p ≡ program_header_at bytes i
+    → len ≡ length bytes → so_far ≡ filesz_of (i + 1) (program_headers bytes) → o ≡ first_fault (program_header_checks large len so_far p)
+    → first_fault (entry_checks large bytes i) ≡ o
 unfolding entry_checks
-fault_of_entry bytes i len so_far p o is size total found =
+fault_of_entry large bytes i len so_far p o is size total found =
     sym (found
-    ∙ ap (λ n. first_fault (program_header_checks n so_far p)) size
-    ∙ ap (λ n. first_fault (program_header_checks (length bytes) n p)) total
-    ∙ ap (λ (q : ProgramHeader). first_fault (program_header_checks (length bytes) (filesz_of (i + 1) (program_headers bytes)) q)) is)
+    ∙ ap (λ n. first_fault (program_header_checks large n so_far p)) size
+    ∙ ap (λ n. first_fault (program_header_checks large (length bytes) n p)) total
+    ∙ ap (λ (q : ProgramHeader). first_fault (program_header_checks large (length bytes) (filesz_of (i + 1) (program_headers bytes)) q)) is)
 
 -- the fault of entry i, where none before it has one, is the table's
-pub fault_of_table : (bytes : List ℕ) (i : ℕ) (e : ElfError) → i < (file_header bytes).e_phnum
-    → first_fault (flat_map (entry_checks bytes) (range_with_len 0 i)) ≡ None → first_fault (entry_checks bytes i) ≡ Some e
-    → Some e ≡ first_fault (table_checks bytes)
+pub fault_of_table : (large : Bool) (bytes : List ℕ) (i : ℕ) (e : ElfError) → i < (file_header bytes).e_phnum
+    → first_fault (flat_map (entry_checks large bytes) (range_with_len 0 i)) ≡ None → first_fault (entry_checks large bytes i) ≡ Some e
+    → Some e ≡ first_fault (table_checks large bytes)
 unfolding table_checks
-fault_of_table bytes i e h before here = sym (fault_at (entry_checks bytes) (file_header bytes).e_phnum i e h before here)
+fault_of_table large bytes i e h before here = sym (fault_at (entry_checks large bytes) (file_header bytes).e_phnum i e h before here)
 
-pub none_of_table : (bytes : List ℕ) (n : ℕ) → n ≡ (file_header bytes).e_phnum
-    → first_fault (flat_map (entry_checks bytes) (range_with_len 0 n)) ≡ None → None ≡ first_fault (table_checks bytes)
+pub none_of_table : (large : Bool) (bytes : List ℕ) (n : ℕ) → n ≡ (file_header bytes).e_phnum
+    → first_fault (flat_map (entry_checks large bytes) (range_with_len 0 n)) ≡ None → None ≡ first_fault (table_checks large bytes)
 unfolding table_checks
-none_of_table bytes n all none = sym none ∙ ap (λ k. first_fault (flat_map (entry_checks bytes) (range_with_len 0 k))) all
+none_of_table large bytes n all none = sym none ∙ ap (λ k. first_fault (flat_map (entry_checks large bytes) (range_with_len 0 k))) all

@@ -49,16 +49,20 @@ unfoldable pub file_header_checks : List ℕ → List Check
 file_header_checks bytes =
     start_checks bytes ++ (identity_checks (file_header bytes) ++ layout_checks (length bytes) (file_header bytes))
 
+-- own limit: the bytes of all segments of an image, for a large machine and for any other
+abbrev pub most_segment_bytes : Bool → ℕ
+most_segment_bytes large = if large then 2 ^ 28 else 2 ^ 24
+
 -- the checks of a program header in a file of `len` bytes, `so_far` being the sum of p_filesz over the PT_LOAD headers up
 -- to and with this one: nothing is left to a dynamic linker; a segment has no more bytes in the file than in memory, ends
--- within the addresses of 32 bits, is within 2 ^ 24 bytes with those before it (own limit), and has its bytes in the file.
+-- within the addresses of 32 bits, is within a number of bytes with those before it (own limit), and has its bytes in the file.
 -- Where it has none, it may name any place. A header of another type is skipped (own rule; to the ABI all types are optional)
-abbrev pub program_header_checks : ℕ → ℕ → ProgramHeader → List Check
-program_header_checks len so_far p =
+abbrev pub program_header_checks : Bool → ℕ → ℕ → ProgramHeader → List Check
+program_header_checks large len so_far p =
     (p.p_type == pt_dynamic || p.p_type == pt_interp, Dynamic)
     ∷ (is_load p && nat_lt p.p_memsz p.p_filesz, BadSegment)
     ∷ (is_load p && nat_lt (2 ^ 32) (p.p_vaddr + p.p_memsz), BadSegment)
-    ∷ (is_load p && nat_lt (2 ^ 24) so_far, BadSegment)
+    ∷ (is_load p && nat_lt (most_segment_bytes large) so_far, BadSegment)
     ∷ (is_load p && nat_lt 0 p.p_filesz && nat_lt len (p.p_offset + p.p_filesz), Truncated)
     ∷ []
 
@@ -67,21 +71,21 @@ abbrev pub filesz_of : ℕ → List ProgramHeader → ℕ
 filesz_of n headers = sum_by (λ (p : ProgramHeader). p.p_filesz) (filter is_load (take n headers))
 
 -- the checks of entry i of the table
-unfoldable pub entry_checks : List ℕ → ℕ → List Check
-entry_checks bytes i =
-    program_header_checks (length bytes) (filesz_of (i + 1) (program_headers bytes)) (program_header_at bytes i)
+unfoldable pub entry_checks : Bool → List ℕ → ℕ → List Check
+entry_checks large bytes i =
+    program_header_checks large (length bytes) (filesz_of (i + 1) (program_headers bytes)) (program_header_at bytes i)
 
 -- the checks of the whole table
-unfoldable pub table_checks : List ℕ → List Check
-table_checks bytes = flat_map (entry_checks bytes) (range_with_len 0 (file_header bytes).e_phnum)
+unfoldable pub table_checks : Bool → List ℕ → List Check
+table_checks large bytes = flat_map (entry_checks large bytes) (range_with_len 0 (file_header bytes).e_phnum)
 
 -- all checks of a file
-unfoldable pub file_checks : List ℕ → List Check
-file_checks bytes = file_header_checks bytes ++ table_checks bytes
+unfoldable pub file_checks : Bool → List ℕ → List Check
+file_checks large bytes = file_header_checks bytes ++ table_checks large bytes
 
 -- what a file is refused for, if it is
-abbrev pub file_fault : List ℕ → Option ElfError
-file_fault bytes = first_fault (file_checks bytes)
+abbrev pub file_fault : Bool → List ℕ → Option ElfError
+file_fault large bytes = first_fault (file_checks large bytes)
 
 -- what an error is called in a line to the user
 abbrev pub name_of : ElfError → List ℕ

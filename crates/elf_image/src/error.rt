@@ -23,7 +23,7 @@ pub enum ElfError {
     /// It asks for a dynamic linker or an interpreter.
     Dynamic,
     /// A segment has more bytes than its size or ends past the addresses of 32 bits, or the segments have more than 2^24
-    /// bytes.
+    /// bytes, or 2^28 for a large machine.
     BadSegment,
     /// A request for memory was refused.
     NoMemory,

@@ -5,7 +5,7 @@ ghost use Rattle.std.specs.Result.{result_err};
 ghost use Rattle.node_memory.specs.Bytes.{bytes_at};
 ghost use Rattle.elf_image.specs.Headers.{file_header, program_header_at};
 ghost use Rattle.elf_image.specs.Faults.{first_fault, identity_checks, layout_checks, file_header_checks, program_header_checks};
-ghost use Rattle.elf_image.specs.Faults.{table_checks};
+ghost use Rattle.elf_image.specs.Faults.{most_segment_bytes, table_checks};
 
 use crate::error::ElfError;
 use crate::headers::{
@@ -17,8 +17,10 @@ use std::marker::Model;
 /// How many addresses of 32 bits there are.
 const ADDRESSES: u64 = 1 << 32;
 
-/// The most bytes that the segments of an image have in all (own limit).
+/// The most bytes that the segments of an image have in all, and those of an image for a large machine (own limits).
 const MOST_BYTES: u64 = 1 << 24;
+
+const LARGE_BYTES: u64 = 1 << 28;
 
 /// The bytes of a file whose file header has no fault, so that its table of program headers lies in it.
 #[derive(Drop)]
@@ -72,15 +74,15 @@ impl<'a> ElfFile<'a> {
     }
 
     /// Looks for the first fault of the program headers.
-    pub(crate) fn check_table(&self) -> Result<(), ElfError>
-        ensures { result_err result ≡ first_fault (table_checks self.now) }
+    pub(crate) fn check_table(&self, large: bool) -> Result<(), ElfError>
+        ensures { result_err result ≡ first_fault (table_checks large self.now) }
     {
         let phnum = self.header().e_phnum();
         let mut so_far = 0u64;
         for i in 0..phnum {
             let header = self.program_header(i);
             so_far += u64::from(header.loaded_filesz());
-            check_program_header(self.bytes.len(), so_far, &header)?;
+            check_program_header(large, self.bytes.len(), so_far, &header)?;
         }
         Ok(())
     }
@@ -140,8 +142,13 @@ fn check_layout(len: usize, header: &FileHeader) -> Result<(), ElfError>
 
 /// Looks for the first fault of a program header in a file of `len` bytes, where the segments up to and with this one have
 /// `so_far` bytes.
-fn check_program_header(len: usize, so_far: u64, header: &ProgramHeader) -> Result<(), ElfError>
-    ensures { result_err result ≡ first_fault (program_header_checks len so_far header.now) }
+fn check_program_header(
+    large: bool,
+    len: usize,
+    so_far: u64,
+    header: &ProgramHeader,
+) -> Result<(), ElfError>
+    ensures { result_err result ≡ first_fault (program_header_checks large len so_far header.now) }
 {
     if header.p_type() == PT_DYNAMIC || header.p_type() == PT_INTERP {
         return Err(ElfError::Dynamic);
@@ -152,7 +159,7 @@ fn check_program_header(len: usize, so_far: u64, header: &ProgramHeader) -> Resu
     let filesz = header.p_filesz();
     if filesz > header.p_memsz()
         || u64::from(header.p_vaddr()) + u64::from(header.p_memsz()) > ADDRESSES
-        || so_far > MOST_BYTES
+        || so_far > most_segment_bytes(large)
     {
         return Err(ElfError::BadSegment);
     }
@@ -160,4 +167,11 @@ fn check_program_header(len: usize, so_far: u64, header: &ProgramHeader) -> Resu
         return Err(ElfError::Truncated);
     }
     Ok(())
+}
+
+/// The most bytes that the segments of an image have in all.
+fn most_segment_bytes(large: bool) -> u64
+    ensures { result ≡ most_segment_bytes large }
+{
+    if large { LARGE_BYTES } else { MOST_BYTES }
 }

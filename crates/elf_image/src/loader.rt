@@ -1,6 +1,6 @@
 //! Images out of files.
 
-ghost use Rattle.std.specs.Prelude.{◌≡◌, ◌≢◌, ◌+◌, ◌<◌, ◌≤◌, ◌^◌, ◌↔◌, length, Some, None, IfOk, IfErr, OnOk, IsErrOf};
+ghost use Rattle.std.specs.Prelude.{Bool, ◌≡◌, ◌≢◌, ◌+◌, ◌<◌, ◌≤◌, ◌^◌, ◌↔◌, length, Some, None, IfOk, IfErr, OnOk, IsErrOf};
 ghost use Rattle.elf_image.specs.declared.error.ElfError.{ElfError as ElfErrorValue};
 ghost use Rattle.elf_image.specs.Presents.{segment_of as segment_value, Presents, raw_image as raw_value};
 ghost use Rattle.elf_image.specs.Faults.{first_fault, table_checks, file_fault};
@@ -13,32 +13,32 @@ use node_memory::{Image, Segment};
 use std::alloc::{AllocError, Allocator};
 
 /// The image that an ELF file presents: an executable for RISC-V of 32 bits, of which nothing is left to a dynamic linker
-/// (System V ABI, chapters 4 and 5). The file has at most 32 MiB.
+/// (System V ABI, chapters 4 and 5). The file has at most 256 MiB. An image for a large machine may have more bytes.
 ///
 /// Sections, symbols and headers of other types are skipped. Nothing is copied before the file is known to have no fault.
 ///
 /// # Errors
 ///
 /// The file's first fault. [`ElfError::NoMemory`] comes only of a file that has none.
-pub fn load<A: Allocator + Copy>(alloc: A, bytes: &[u8]) -> Result<Image<A>, ElfError>
-    requires { length bytes.now ≤ 2 ^ 25 }
+pub fn load<A: Allocator + Copy>(alloc: A, bytes: &[u8], large: bool) -> Result<Image<A>, ElfError>
+    requires { length bytes.now ≤ 2 ^ 28 }
     ensures ok { IfOk result (λ image. Presents bytes.now image) }
-    ensures faultless { OnOk result (file_fault bytes.now ≡ None) }
-    ensures err { IfErr result (λ e. e ≢ ElfError.NoMemory → file_fault bytes.now ≡ Some e) }
+    ensures faultless { OnOk result (file_fault large bytes.now ≡ None) }
+    ensures err { IfErr result (λ e. e ≢ ElfError.NoMemory → file_fault large bytes.now ≡ Some e) }
 
     // A file's fault is answered whatever memory there is, and want of memory only of a file that has none.
-    ensures fault { (e : ElfErrorValue) → (file_fault bytes.now ≡ Some e)
+    ensures fault { (e : ElfErrorValue) → (file_fault large bytes.now ≡ Some e)
         ↔ (IsErrOf result e × (e ≢ ElfError.NoMemory)) }
 {
     let file = ElfFile::parse(bytes)?;
-    file.check_table()?;
+    file.check_table(large)?;
     let image = image_of(alloc, &file)?;
     Ok(image)
 }
 
-/// The image of a raw file, of at most 16 MiB: its bytes from address 0 on, where it starts. An empty file has no segment.
+/// The image of a raw file, of at most 256 MiB: its bytes from address 0 on, where it starts. An empty file has no segment.
 pub fn raw<A: Allocator + Copy>(alloc: A, bytes: &[u8]) -> Result<Image<A>, AllocError>
-    requires { length bytes.now ≤ 2 ^ 24 }
+    requires { length bytes.now ≤ 2 ^ 28 }
     ensures { IfOk result (λ image. image ≡ raw_value bytes.now) }
 {
     let mut segments = Vec::new(alloc);
@@ -58,7 +58,7 @@ pub fn raw<A: Allocator + Copy>(alloc: A, bytes: &[u8]) -> Result<Image<A>, Allo
 
 /// The image of a file with no fault.
 fn image_of<A: Allocator + Copy>(alloc: A, file: &ElfFile) -> Result<Image<A>, AllocError>
-    requires { first_fault (table_checks file.now) ≡ None }
+    requires { (large : Bool) × (first_fault (table_checks large file.now) ≡ None) }
     ensures { IfOk result (λ image. Presents file.now image) }
 {
     let header = file.header();

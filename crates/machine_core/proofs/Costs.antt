@@ -12,6 +12,7 @@ use Rattle.machine_core.specs.Machine.{MachineState}
 use Rattle.machine_core.specs.Sound.{IsNodeOf, IsSoundMachine}
 use Rattle.machine_core.specs.Turn.{makes_exchange, work, no_traffic, cost_row}
 use Rattle.machine_core.proofs.Sound.{length-nodes}
+use Rattle.machine_core.proofs.Starts.{few_in_range}
 
 -- the ticks that nodes made are some of those that they may make
 ticks-all : (limit : ℕ) (nodes : List NodeState) (started : List ℕ) → All (λ n. n.ticks ≤ limit) nodes
@@ -34,9 +35,9 @@ module _ (m : MachineState) (sound : IsSoundMachine m) where
       (ticks-all m.settings.limit m.nodes m.started each))
 
   few-nodes : length m.nodes ≤ max_nodes
-  few-nodes = omega (arith, sound.settings.few, length-nodes m sound)
+  few-nodes = omega (arith, few_in_range m.settings sound.settings, length-nodes m sound)
 
-  moved : (h_of m.nodes ≤ h_all_of m.nodes) × (h_all_of m.nodes ≤ 2 ^ 34) × (messages_of m.nodes ≤ 2 ^ 26)
+  moved : (h_of m.nodes ≤ h_all_of m.nodes) × (h_all_of m.nodes ≤ 2 ^ 46) × (messages_of m.nodes ≤ 2 ^ 40)
   moved =
       traffic_bounded m.nodes few-nodes
       (All-weaker (IsNodeOf m.settings) (λ (n : NodeState). IsHart n.hart) (λ n of. of.sound.hart) m.nodes sound.nodes)

@@ -14,7 +14,6 @@ use Rattle.bsp_slots.specs.Registrations.{Registrations, IsSound, next_list, sha
 use Rattle.bsp_slots.proofs.Shapes.{length-registrations_after}
 use Rattle.bsp_requests.specs.Message.{Message, IsShort}
 use Rattle.bsp_requests.specs.Request.{Asked, asks_put, asks_get, asks_send, size_of}
-use Rattle.bsp_requests.specs.Requests.{max_bytes, max_requests}
 use Rattle.node_core.specs.declared.state.State.TheVariants.{Running, Synced}
 use Rattle.node_core.specs.Communication.{Communication, IsCommunication}
 use Rattle.node_core.specs.Hart.{max_nodes}
@@ -27,6 +26,7 @@ use Rattle.bsp_exchange.specs.Faults.{disagreeing, have_same_shape, exchange_fau
 use Rattle.bsp_exchange.specs.Issued.{Issued, issued, issued_as, issued_by}
 use Rattle.bsp_exchange.specs.Landings.{Landing, landed_byte, landings_at, memory_after}
 use Rattle.bsp_exchange.specs.Queues.{message_to, queue_after}
+use Rattle.bsp_exchange.proofs.Limits.{bytes_at_most, requests_at_most}
 use Rattle.machine_core.proofs.Options.{option_or_none, option_map_none, find_none}
 
 pub length-memory_after : (all : List Landing) (memory : List ℕ) → length (memory_after all memory) ≡ length memory
@@ -49,7 +49,7 @@ IsSound-turned r sound = record {
 
 -- a request within the limits of a superstep is one itself
 abbrev IsModest : Issued → Type 0
-IsModest i = size_of i.request ≤ max_bytes
+IsModest i = size_of i.request ≤ 2 ^ 30
 
 length-issued_by : (n : NodeState) → length (issued_by n) ≡ length n.hart.communication.requests.requests
 length-issued_by n =
@@ -64,21 +64,21 @@ IsModest-by n sound =
     let within' : k < length requests = omega arith in
     let here = get_or-enumerate_from 0 requests k d within' in
     let one = get_or-le-sum_by size_of requests k d.1 within' in
-    rw here (omega (arith, one, sound.hart.communication.requests.bytes)))
+    rw here (omega (arith, one, bytes_at_most n.hart.communication.requests sound.hart.communication.requests)))
 
 issued-all : (nodes : List NodeState) → All IsSoundNode nodes
-    → (length (issued nodes) ≤ length nodes * max_requests) × All IsModest (issued nodes)
+    → (length (issued nodes) ≤ length nodes * 2 ^ 24) × All IsModest (issued nodes)
 issued-all [] sound = (omega arith, All-nil IsModest)
 issued-all (n ∷ rest) sound =
     let here = All-head IsSoundNode n rest sound in
     let there = issued-all rest (All-tail IsSoundNode n rest sound) in
-    let few = here.hart.communication.requests.requests in
+    let few = requests_at_most n.hart.communication.requests here.hart.communication.requests in
     let long = length-append (issued_by n) (issued rest) in
     let own = length-issued_by n in
     (rw (long, own) (omega (arith, few, there.0)), All-append IsModest (issued_by n) (issued rest) (IsModest-by n here) there.1)
 
 -- each request gives one message or none
-IsShort-message : (rank sender : ℕ) (q : Asked) → size_of q ≤ max_bytes → IfSome (message_to rank sender q) IsShort
+IsShort-message : (rank sender : ℕ) (q : Asked) → size_of q ≤ 2 ^ 30 → IfSome (message_to rank sender q) IsShort
 IsShort-message rank sender (asks_put p) modest = tt
 IsShort-message rank sender (asks_get g) modest = tt
 IsShort-message rank sender (asks_send m) modest = by (m.target == rank)
@@ -113,7 +113,7 @@ IsNode-exchanged all n sound waits =
     }
 
 IsCommunication-exchanged : (queue : List Message) (nprocs size : ℕ) (c : Communication) → IsCommunication nprocs size c
-    → length queue < 2 ^ 32 → All IsShort queue → IsCommunication nprocs size (next_communication queue c)
+    → length queue < 2 ^ 41 → All IsShort queue → IsCommunication nprocs size (next_communication queue c)
 IsCommunication-exchanged queue nprocs size c sound few short = record {
   registrations = IsSound-turned c.registrations sound.registrations;
   areas = sound.next_areas;

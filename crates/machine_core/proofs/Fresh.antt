@@ -15,6 +15,7 @@ use Rattle.machine_core.specs.declared.settings.Settings.{Settings}
 use Rattle.machine_core.specs.Clock.{HasClock}
 use Rattle.machine_core.specs.Machine.{fresh, node_at_start}
 use Rattle.machine_core.specs.Sound.{AreInRange, IsNodeOf, IsUnderWay, IsSoundMachine}
+use Rattle.machine_core.proofs.Starts.{few_in_range}
 
 has_unit : (float : Bool) → is_some (if float then Some unit_at_start else None) ≡ float
 has_unit true = refl
@@ -35,11 +36,11 @@ module _ (image : Image) (s : Settings) where
     };
     hart = record {
       ranked = within;
-      few = range.few;
+      few = few_in_range s range;
       thirty_two = refl;
       x0 = refl;
       memory = rw (length-image_bytes image s.memory) range.memory;
-      communication = IsCommunication-none _ _;
+      communication = IsCommunication-none _ _ s.large;
     };
   }
 
@@ -69,6 +70,7 @@ module _ (image : Image) (s : Settings) where
           memory = length-image_bytes image s.memory;
           limit = refl;
           unit = has_unit s.float;
+          limits = (refl, refl);
           sound = IsSoundNode-start (get_or (range_with_len 0 s.nodes) k d) range (omega arith);
         });
     ticks = IsUnderWay-start 0 s.nodes;

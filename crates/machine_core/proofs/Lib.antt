@@ -17,6 +17,7 @@ pub mod Resume
 pub mod Rows
 pub mod Runs
 pub mod Sound
+pub mod Standard
 pub mod Starts
 pub mod States
 pub mod Steps

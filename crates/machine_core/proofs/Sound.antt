@@ -34,6 +34,7 @@ use Rattle.machine_core.proofs.Exchanged.{IsSoundNode-exchanged, areas-exchanged
 use Rattle.machine_core.proofs.Options.{cond_none, option_or_none, option_map_none}
 use Rattle.machine_core.proofs.Phases.{All-phases, AllZip-phases, map-phases, some_runs-phases, some_runs-at}
 use Rattle.machine_core.proofs.Rows.{map-stepped, All-stepped, AllZip-stepped}
+use Rattle.machine_core.proofs.Starts.{few_in_range}
 use Rattle.machine_core.proofs.Steps.{after-nil, after-cons, event-enabled, event-disabled}
 
 -- a state in which a node neither runs, nor was stopped, nor ended
@@ -98,6 +99,7 @@ IsNodeOf-local_step s input n of = record {
   memory = (IsLater-local_step input n).memory_size ∙ of.memory;
   limit = (IsLater-local_step input n).limit ∙ of.limit;
   unit = (IsLater-local_step input n).unit ∙ of.unit;
+  limits = (IsLater-local_step input n).limits s.large of.limits;
   sound = IsSoundNode-local_step input n of.sound;
 }
 
@@ -194,7 +196,7 @@ module _ (m : MachineState) where
 
   IsSoundMachine-exchanged : IsSoundMachine m → is_some m.outcome ≡ false → CanExchange m.nodes → IsSoundMachine (decided None (recorded m))
   IsSoundMachine-exchanged sound open_yet can =
-      let few = sound.settings.few in
+      let few = few_in_range m.settings sound.settings in
       let long = length-nodes sound in
       let each : All IsSoundNode m.nodes = All-weaker (IsNodeOf m.settings) IsSoundNode (λ n of. of.sound) m.nodes sound.nodes in
       let closed = closed_by m.settings.clock (recorded m).ledger in
@@ -203,6 +205,7 @@ module _ (m : MachineState) where
         memory = length-memory_after (landings_at m.nodes (get_or m.nodes k d).hart.rank) (get_or m.nodes k d).hart.memory ∙ of.memory;
         limit = of.limit;
         unit = of.unit;
+        limits = of.limits;
         sound = IsSoundNode-exchanged m.nodes (omega arith) each (get_or m.nodes k d) of.sound (can.waiting k d within);
       }) in
       let areas = areas-exchanged m.nodes can.fault each sound.areas in

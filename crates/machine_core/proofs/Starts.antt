@@ -1,6 +1,9 @@
 -- Settings without a fault, and the nodes that they ask for.
 use Rattle.std.proofs.Common.{◌≡◌, ℕ, ◌+◌, ◌<◌, ◌≤◌, false, List, [], ◌∷◌, ◌++◌, length, map, replicate, get_or, None, refl, sym, ap, ap₂}
-use Rattle.std.proofs.Common.{◌∙◌, arith}
+use Rattle.std.proofs.Common.{◌∙◌, arith, ◌^◌, Bool, true, nat_le, Option, Some}
+use Rattle.std.specs.Prelude.{◌&&◌, if◌then◌else◌, IsTrue}
+use Rattle.std.proofs.lemmas.Bool.Decides.{nat_tests}
+use Rattle.node_memory.specs.Bytes.{is_memory_size}
 use Rattle.std.specs.List.{range_with_len}
 use Rattle.std.proofs.lemmas.List.{length-map, map-append}
 use Rattle.std.proofs.lemmas.List.FromFn.{length-map-range_with_len, get_or-map-range_with_len, map-range_with_len_more}
@@ -10,25 +13,58 @@ use Rattle.node_core.specs.Hart.{max_nodes}
 use Rattle.node_core.specs.Node.{NodeState, PreparedNode}
 use Rattle.bsp_exchange.specs.Exchange.{states}
 use Rattle.cost_ledger.specs.declared.CostRow.{CostRow}
+use Rattle.machine_core.specs.declared.error.MachineError.TheVariants.{BadNodes, BadMemory, BadLimit}
 use Rattle.machine_core.specs.declared.settings.Settings.{Settings}
-use Rattle.machine_core.specs.Machine.{MachineState, fresh, node_at_start, settings_fault, machine_fault, start_nodes}
+use Rattle.machine_core.specs.Machine.{MachineState, fresh, node_at_start, most_memory, most_nodes, settings_fault, machine_fault, start_nodes}
 use Rattle.machine_core.specs.Sound.{AreInRange}
 use Rattle.machine_core.proofs.States.{state_at_place}
 
-pub settings_fault-nodes : (s : Settings) → settings_fault s ≡ None → 1 ≤ s.nodes
-settings_fault-nodes s good = grind arith
+-- what the tests say of the settings that pass them
+first_passed : {E : Type 0} (b : Bool) (e : E) (rest : Option E) → (if b then rest else Some e) ≡ None → (b ≡ true) × (rest ≡ None)
+first_passed true e rest none = (refl, none)
+first_passed false e rest none = absurd cc
 
-settings_fault-few : (s : Settings) → settings_fault s ≡ None → s.nodes ≤ max_nodes
-settings_fault-few s good = grind arith
+all_passed : (s : Settings) → settings_fault s ≡ None
+    → ((nat_le 1 s.nodes && nat_le s.nodes (most_nodes s.large)) ≡ true)
+    × ((is_memory_size s.memory && nat_le s.memory (most_memory s.large)) ≡ true) × ((nat_le 1 s.limit && nat_le s.limit (2 ^ 40)) ≡ true)
+all_passed s good =
+    let nodes = first_passed (nat_le 1 s.nodes && nat_le s.nodes (most_nodes s.large)) BadNodes _ good in
+    let memory = first_passed (is_memory_size s.memory && nat_le s.memory (most_memory s.large)) BadMemory _ nodes.1 in
+    let limit = first_passed (nat_le 1 s.limit && nat_le s.limit (2 ^ 40)) BadLimit _ memory.1 in
+    (nodes.0, memory.0, limit.0)
+
+both_true : (a b : Bool) → (a && b) ≡ true → (a ≡ true) × (b ≡ true)
+both_true true b is = (refl, is)
+both_true false b is = absurd cc
+
+at_most : (a b : ℕ) → nat_le a b ≡ true → a ≤ b
+at_most a b is = grind (arith, nat_tests)
+
+pub settings_fault-nodes : (s : Settings) → settings_fault s ≡ None → 1 ≤ s.nodes
+settings_fault-nodes s good =
+    at_most 1 s.nodes (both_true (nat_le 1 s.nodes) (nat_le s.nodes (most_nodes s.large)) (all_passed s good).0).0
+
+most_nodes-at_most : (large : Bool) → most_nodes large ≤ max_nodes
+most_nodes-at_most true = omega arith
+most_nodes-at_most false = omega arith
+
+-- a machine of any kind has at most as many nodes as the largest
+pub few_in_range : (s : Settings) → AreInRange s → s.nodes ≤ max_nodes
+few_in_range s range = omega (arith, range.few, most_nodes-at_most s.large)
 
 pub AreInRange-from : (s : Settings) → settings_fault s ≡ None → AreInRange s
-AreInRange-from s good = record {
-  some = omega (arith, settings_fault-nodes s good);
-  few = settings_fault-few s good;
-  memory = grind arith;
-  ticks = grind arith;
-  limit = grind arith;
-}
+AreInRange-from s good =
+    let nodes = both_true (nat_le 1 s.nodes) (nat_le s.nodes (most_nodes s.large)) (all_passed s good).0 in
+    let memory = both_true (is_memory_size s.memory) (nat_le s.memory (most_memory s.large)) (all_passed s good).1 in
+    let limit = both_true (nat_le 1 s.limit) (nat_le s.limit (2 ^ 40)) (all_passed s good).2 in
+    record {
+      some = at_most 1 s.nodes nodes.0;
+      few = at_most s.nodes (most_nodes s.large) nodes.1;
+      memory = memory.0;
+      small = at_most s.memory (most_memory s.large) memory.1;
+      ticks = at_most 1 s.limit limit.0;
+      limit = at_most s.limit (2 ^ 40) limit.1;
+    }
 
 -- the nodes of the first ranks
 abbrev pub AreFirst : Image → Settings → List PreparedNode → ℕ → Type 0

@@ -1,11 +1,10 @@
 -- A machine of several nodes with one input (BSPlib, Hill and others 1998: one program on all processes. That the start of the image
 -- is the start of all of them is an own rule, and so is the input).
-use Rattle.std.specs.Prelude.{ℕ, ◌^◌, ◌&&◌, nat_le, List, [], map, replicate, Option, Some, None, if◌then◌else◌}
+use Rattle.std.specs.Prelude.{ℕ, ◌^◌, Bool, ◌&&◌, nat_le, List, [], map, replicate, Option, Some, None, if◌then◌else◌}
 use Rattle.std.specs.List.{range_with_len}
 use Rattle.std.specs.Option.{option_or}
 use Rattle.node_memory.specs.Bytes.{is_memory_size}
 use Rattle.node_memory.specs.Image.{Image, is_segment_outside}
-use Rattle.node_core.specs.Hart.{max_nodes}
 use Rattle.node_core.specs.Node.{NodeState, start_node, with_clock, with_unit}
 use Rattle.cost_ledger.specs.declared.CostRow.{CostRow}
 use Rattle.machine_core.specs.declared.error.MachineError.{MachineError}
@@ -31,10 +30,11 @@ pub record MachineState : Type 0 where
   -- how it ended, if it has
   pub outcome : Option Outcome
 
--- the node of a rank at its start, with the image in its memory, a unit of floating point where the settings ask for one, and a clock where
--- there are prices for it
+-- the node of a rank at its start, with the image in its memory, the limits of a large machine and a unit of floating point where the
+-- settings ask for them, and a clock where there are prices for it
 abbrev pub node_at_start : Image → Settings → ℕ → NodeState
-node_at_start image s rank = with_clock (closed_by s.clock []) (with_unit s.float (start_node image rank s.nodes s.memory s.limit))
+node_at_start image s rank =
+    with_clock (closed_by s.clock []) (with_unit s.float (start_node image rank s.nodes s.memory s.limit s.large))
 
 abbrev pub start_nodes : Image → Settings → List NodeState
 start_nodes image s = map (node_at_start image s) (range_with_len 0 s.nodes)
@@ -52,11 +52,18 @@ fresh image input settings = record {
   outcome = None;
 }
 
+-- own limits: how many nodes a machine may have, and how many bytes of memory each of them, in a large machine and in any other
+abbrev pub most_nodes : Bool → ℕ
+most_nodes large = if large then 65536 else 1024
+
+abbrev pub most_memory : Bool → ℕ
+most_memory large = if large then 2 ^ 31 else 2 ^ 24
+
 -- the first setting that is out of its range (own limits)
 abbrev pub settings_fault : Settings → Option MachineError
 settings_fault s =
-    if nat_le 1 s.nodes && nat_le s.nodes max_nodes then
-    (if is_memory_size s.memory then
+    if nat_le 1 s.nodes && nat_le s.nodes (most_nodes s.large) then
+    (if is_memory_size s.memory && nat_le s.memory (most_memory s.large) then
     (if nat_le 1 s.limit && nat_le s.limit (2 ^ 40) then None else Some BadLimit)
     else Some BadMemory)
     else Some BadNodes

@@ -3,27 +3,29 @@ use Rattle.std.specs.Prelude.{◌≡◌, ℕ, ◌+◌, ◌^◌, ◌<◌, ◌≤�
 use Rattle.std.specs.List.{range_with_len, AllZip}
 use Rattle.node_memory.specs.Bytes.{is_memory_size}
 use Rattle.node_core.specs.declared.state.State.TheVariants.{Synced}
-use Rattle.node_core.specs.Hart.{max_nodes}
+use Rattle.node_core.specs.Communication.{HasLimits}
 use Rattle.node_core.specs.Node.{NodeState, IsSoundNode}
 use Rattle.machine_core.specs.declared.settings.Settings.{Settings}
 use Rattle.machine_core.specs.Clock.{HasClock}
-use Rattle.machine_core.specs.Machine.{MachineState}
+use Rattle.machine_core.specs.Machine.{MachineState, most_nodes, most_memory}
 use Rattle.machine_core.specs.Events.{some_runs}
 
 -- settings of a machine that can be made (own limits)
 pub record AreInRange (s : Settings) : Type 0 where
   pub some : 0 < s.nodes
-  pub few : s.nodes ≤ max_nodes
+  pub few : s.nodes ≤ most_nodes s.large
   pub memory : IsTrue (is_memory_size s.memory)
+  pub small : s.memory ≤ most_memory s.large
   pub ticks : 0 < s.limit
   pub limit : s.limit ≤ 2 ^ 40
 
--- a sound node with the machine's number of nodes, size of memory and limit, and with a unit of floating point where the machine has them
+-- a sound node with the machine's number of nodes, size of memory and limits, and with a unit of floating point where the machine has them
 pub record IsNodeOf (s : Settings) (n : NodeState) : Type 0 where
   pub nodes : n.hart.nprocs ≡ s.nodes
   pub memory : length n.hart.memory ≡ s.memory
   pub limit : n.limit ≡ s.limit
   pub unit : is_some n.hart.unit ≡ s.float
+  pub limits : HasLimits s.large n.hart.communication
   pub sound : IsSoundNode n
 
 -- a node whose ticks were `started` when the superstep began, after so many exchanges: each cost it a tick, and to wait for the

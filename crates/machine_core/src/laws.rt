@@ -1,16 +1,19 @@
 //! Laws of the definitions, each the contract of a function that does nothing.
 
-ghost use Rattle.std.specs.Prelude.{◌≡◌, ◌≢◌, ℕ, ◌+◌, ◌*◌, ◌≤◌, false, List, length, slice_get, count_by, option_map, Option, None, IsSome};
+ghost use Rattle.std.specs.Prelude.{◌≡◌, ◌≢◌, ℕ, ◌+◌, ◌*◌, ◌%◌, ◌^◌, ◌≤◌, ◌==◌, ◌&&◌, nat_le, false, if◌then◌else◌, All, List, length, slice_get};
+ghost use Rattle.std.specs.Prelude.{count_by, option_map, Option, None, Some, IsSome};
 ghost use Rattle.std.specs.List.{AllZip};
 ghost use Rattle.node_memory.specs.Image.{Image};
+ghost use Rattle.node_core.specs.Communication.{HasLimits};
 ghost use Rattle.node_core.specs.Node.{NodeState, local_steps};
 ghost use Rattle.bsp_exchange.specs.Exchange.{AreAtSync};
 ghost use Rattle.cost_ledger.specs.declared.LedgerText.TheVariants.{V1, V2};
 ghost use Rattle.cost_ledger.specs.CostRow.{AreAtMostV1, IsBounded, total_in};
+ghost use Rattle.machine_core.specs.declared.error.MachineError.TheVariants.{BadNodes, BadMemory, BadLimit};
 ghost use Rattle.machine_core.specs.declared.event.Event.{Event};
 ghost use Rattle.machine_core.specs.declared.settings.Settings.{Settings};
 ghost use Rattle.machine_core.specs.Clock.{HasClock};
-ghost use Rattle.machine_core.specs.Machine.{MachineState, fresh};
+ghost use Rattle.machine_core.specs.Machine.{MachineState, fresh, node_at_start, settings_fault};
 ghost use Rattle.machine_core.specs.Turn.{was_stopped, has_ended, lowest, cost_row, turned, with_phases, superstep, end_of};
 ghost use Rattle.machine_core.specs.Events.{event, after, some_runs, is_step_of, HaveStepped, MakeNoTurn, IsOnward};
 ghost use Rattle.machine_core.specs.Walk.{walked, IsOnPhase};
@@ -127,6 +130,28 @@ pub fn no_total_is_above_the_first_version()
     ensures total { (image : Image) (input : List ℕ) (settings : Settings) (events : List Event) (g l : ℕ)
         → total_in V2 g l (after (fresh image input settings) events).ledger
         ≤ total_in V1 g l (after (fresh image input settings) events).ledger }
+{}
+
+/// A machine that is not large has 1,024 nodes at most, each with at most 2^24 bytes of memory, and its settings have the fault that they
+/// had before there were large machines. Each of its nodes has at its start the limits of a superstep that are not those of a large one;
+/// a sound machine keeps them.
+pub fn a_machine_is_not_large_unless_it_is_asked_for()
+    ensures fault { (s : Settings) → s.large ≡ false → settings_fault s
+        ≡ (if nat_le 1 s.nodes && nat_le s.nodes 1024 then
+        (if nat_le 4096 s.memory && nat_le s.memory (2 ^ 24) && s.memory % 4096 == 0 then
+        (if nat_le 1 s.limit && nat_le s.limit (2 ^ 40) then None else Some BadLimit)
+        else Some BadMemory)
+        else Some BadNodes) }
+    ensures start { (image : Image) (s : Settings) (rank : ℕ) → s.large ≡ false
+        → HasLimits false (node_at_start image s rank).hart.communication }
+    ensures kept { (m : MachineState) → IsSoundMachine m → m.settings.large ≡ false
+        → All (λ n. HasLimits false n.hart.communication) m.nodes }
+{}
+
+/// What a turn of a machine that is not large adds to the ledger keeps to the bounds of before there were large ones.
+pub fn a_turn_that_is_not_large_costs_less()
+    ensures { (m : MachineState) → IsSoundMachine m → m.settings.large ≡ false
+        → ((cost_row m).h_all ≤ 2 ^ 34) × ((cost_row m).messages ≤ 2 ^ 26) }
 {}
 
 /// Nodes none of which runs, was stopped or ended are at sync, so that the exchange can be asked for: they stand at the places of

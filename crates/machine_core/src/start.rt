@@ -59,6 +59,7 @@ fn first_node<A: Allocator + Copy>(
         settings.nodes,
         settings.memory,
         settings.limit,
+        settings.large,
     );
     match made {
         Ok(mut node) => {

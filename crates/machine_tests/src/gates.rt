@@ -21,6 +21,7 @@ const SETTINGS: Settings = Settings {
     limit: 10,
     clock: None,
     float: false,
+    large: false,
 };
 
 // How many nodes leave, and by how many workers, each with how long slices.

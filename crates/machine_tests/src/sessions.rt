@@ -408,56 +408,56 @@ static ROWS: [Row; 10] = [
     Row {
         name: "list_session",
         kind: Lists,
-        format: Format::Elf,
+        format: Format::Elf { large: false },
         requests: 15,
     },
     Row {
         name: "session",
         kind: Runs,
-        format: Format::Elf,
-        requests: 97,
+        format: Format::Elf { large: false },
+        requests: 98,
     },
     Row {
         name: "live_session",
         kind: Tells,
-        format: Format::Elf,
-        requests: 97,
+        format: Format::Elf { large: false },
+        requests: 98,
     },
     Row {
         name: "profile_session",
         kind: Profiles,
-        format: Format::Raw,
-        requests: 124,
+        format: Format::Raw { large: false },
+        requests: 125,
     },
     Row {
         name: "counts_session",
         kind: Counts,
-        format: Format::Raw,
-        requests: 105,
+        format: Format::Raw { large: false },
+        requests: 106,
     },
     Row {
         name: "contested_session",
         kind: Contests,
-        format: Format::Raw,
-        requests: 119,
+        format: Format::Raw { large: false },
+        requests: 120,
     },
     Row {
         name: "debug_session",
         kind: Debugs,
-        format: Format::Raw,
-        requests: 148,
+        format: Format::Raw { large: false },
+        requests: 149,
     },
     Row {
         name: "debug_dialogue",
         kind: Talks,
-        format: Format::Raw,
-        requests: 183,
+        format: Format::Raw { large: false },
+        requests: 184,
     },
     Row {
         name: "debug_framed",
         kind: Frames,
-        format: Format::Raw,
-        requests: 260,
+        format: Format::Raw { large: false },
+        requests: 261,
     },
 ];
 
@@ -465,8 +465,8 @@ static ROWS: [Row; 10] = [
 fn program_in(format: Format, file: &[u8]) -> &[u8] {
     match format {
         Format::Asm { .. } => TEXT.as_bytes(),
-        Format::Elf => file,
-        Format::Raw => file.get(84..).unwrap_or(b""),
+        Format::Elf { .. } => file,
+        Format::Raw { .. } => file.get(84..).unwrap_or(b""),
     }
 }
 

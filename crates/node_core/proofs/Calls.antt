@@ -112,7 +112,7 @@ module _ (h : Hart) where
   Keeps-qsize : (input : List ℕ) → Keeps h (call_effect Qsize input h).hart
   Keeps-qsize input = Keeps-checked h (checks Qsize input h) (qsize_effect h) (λ pass.
       Keeps-advanced h _ (Keeps-memory h _
-      (length-stored_twice (a0 h) (a1 h) (to_le_bytes w32 (length h.communication.queue))
+      (length-stored_twice (a0 h) (a1 h) (to_le_bytes w32 (min (length h.communication.queue) (2 ^ 32 - 1)))
       (to_le_bytes w32 (min (payload_bytes h.communication.queue) (2 ^ 32 - 1))) pass.0 pass.1.0)))
 
   Keeps-get_tag : (first : Option Message) → Keeps h (checked (get_tag_checks first h) h (get_tag_effect first h)).hart

@@ -1,5 +1,5 @@
 -- What each kind of call keeps true of what a node communicates.
-use Rattle.std.proofs.Common.{◌≡◌, ℕ, suc, ◌<◌, ◌≤◌, false, List, [], ◌∷◌, ◌++◌, length, take, drop, Some, arith}
+use Rattle.std.proofs.Common.{◌≡◌, ℕ, suc, ◌<◌, ◌≤◌, Bool, false, List, [], ◌∷◌, ◌++◌, length, take, drop, Some, arith}
 use Rattle.std.specs.Prelude.{All, remove}
 use Rattle.std.proofs.lemmas.Bool.Decides.{nat_tests}
 use Rattle.std.proofs.lemmas.Grind.{common_steps}
@@ -34,8 +34,8 @@ module _ (nprocs size : ℕ) (c : Communication) (sound : IsCommunication nprocs
   pub IsCommunication-pushed : (area : Area) → is_full c.registrations ≡ false → LiesIn size area
       → IsCommunication nprocs size (record c { registrations = pushed c.registrations area })
   IsCommunication-pushed area room lies =
-      let fits : length (next_list c.registrations) < max_entries = grind (arith, nat_tests) in
-      let few : push_count c.registrations < max_pushes = grind (arith, nat_tests) in
+      let fits : length (next_list c.registrations) < max_entries c.registrations.large = grind (arith, nat_tests) in
+      let few : push_count c.registrations < max_pushes c.registrations.large = grind (arith, nat_tests) in
       record {
         registrations = IsSound-pushed c.registrations area sound.registrations fits few;
         areas = sound.areas;
@@ -121,8 +121,8 @@ module _ (nprocs size : ℕ) (c : Communication) (sound : IsCommunication nprocs
     next_tag_size = fits;
   }
 
-pub IsCommunication-none : (nprocs size : ℕ) → IsCommunication nprocs size no_communication
-IsCommunication-none nprocs size = record {
+pub IsCommunication-none : (nprocs size : ℕ) (large : Bool) → IsCommunication nprocs size (no_communication large)
+IsCommunication-none nprocs size large = record {
   registrations = record { in_effect_fits = omega arith; next_fits = omega arith; pushes_fit = omega arith; names_removals = tt };
   areas = All-nil (LiesIn size);
   next_areas = All-nil (LiesIn size);

@@ -9,7 +9,7 @@ use Rattle.bsp_slots.specs.Area.{last_position}
 use Rattle.bsp_slots.specs.Registrations.{PreparedRegistrations, next_list, is_full, pushed, popped}
 use Rattle.bsp_requests.specs.Request.{Asked, size_of}
 use Rattle.bsp_requests.specs.Requests.{with_request, with_output, are_too_many, is_full_for}
-use Rattle.node_core.specs.Communication.{Communication, IsCommunication, LiesIn, IsWellAddressed, max_tag_size}
+use Rattle.node_core.specs.Communication.{Communication, IsCommunication, LiesIn, IsWellAddressed, HasLimits, max_tag_size}
 use Rattle.float_unit.specs.State.{FloatState}
 use Rattle.node_core.specs.Hart.{Hart, IsHart, room_after, with_reg, unit_becomes, with_memory, with_registrations, with_requests}
 use Rattle.node_core.specs.Node.{Extends}
@@ -26,13 +26,14 @@ pub Extends-then : {X : Type 0} (xs ys zs : List X) → Extends xs ys → Extend
 Extends-then xs ys zs first second =
     (first.0 ++ second.0, second.1 ∙ ap (λ list. list ++ second.0) first.1 ∙ append_assoc xs first.0 second.0)
 
--- no call changes the areas in effect and the size of tags, and pushes, pops, requests and output are added at the end
+-- no call changes the areas in effect, the size of tags and the limits, and pushes, pops, requests and output are added at the end
 pub record KeepsCommunication (old new : Communication) : Type 0 where
   pub in_effect : new.registrations.in_effect ≡ old.registrations.in_effect
   pub tag_size : new.tag_size ≡ old.tag_size
   pub changes : Extends old.registrations.changes new.registrations.changes
   pub requests : Extends old.requests.requests new.requests.requests
   pub output : Extends old.requests.output new.requests.output
+  pub limits : (large : Bool) → HasLimits large old → HasLimits large new
 
 pub KeepsCommunication-same : (c : Communication) → KeepsCommunication c c
 KeepsCommunication-same c =
@@ -42,6 +43,7 @@ KeepsCommunication-same c =
       changes = Extends-same c.registrations.changes;
       requests = Extends-same c.requests.requests;
       output = Extends-same c.requests.output;
+      limits = λ large has. has;
     }
 
 pub KeepsCommunication-then : (a b c : Communication) → KeepsCommunication a b → KeepsCommunication b c → KeepsCommunication a c
@@ -51,6 +53,7 @@ KeepsCommunication-then a b c first second = record {
   changes = Extends-then a.registrations.changes b.registrations.changes c.registrations.changes first.changes second.changes;
   requests = Extends-then a.requests.requests b.requests.requests c.requests.requests first.requests second.requests;
   output = Extends-then a.requests.output b.requests.output c.requests.output first.output second.output;
+  limits = λ large has. second.limits large (first.limits large has);
 }
 
 -- no instruction changes these, or only adds to them; and a sound hart stays sound
@@ -175,6 +178,7 @@ module _ (h : Hart) where
         changes = Extends-one_more h.communication.registrations.changes _;
         requests = Extends-same h.communication.requests.requests;
         output = Extends-same h.communication.requests.output;
+        limits = λ large has. has;
       }) (λ sound. IsCommunication-pushed h.nprocs (length h.memory) h.communication sound area room lies)
 
   pub Keeps-popped : (addr slot : ℕ) → last_position (next_list h.communication.registrations) addr ≡ Some slot
@@ -187,6 +191,7 @@ module _ (h : Hart) where
         changes = Extends-one_more h.communication.registrations.changes _;
         requests = Extends-same h.communication.requests.requests;
         output = Extends-same h.communication.requests.output;
+        limits = λ large has. has;
       }) (λ sound. IsCommunication-popped h.nprocs (length h.memory) h.communication sound addr slot found)
 
   pub Keeps-requested : (request : Asked) (n : ℕ) → size_of request ≡ n → is_full_for h.communication.requests n ≡ false
@@ -200,6 +205,7 @@ module _ (h : Hart) where
         changes = Extends-same h.communication.registrations.changes;
         requests = Extends-one_more h.communication.requests.requests (request ∷ []);
         output = Extends-same h.communication.requests.output;
+        limits = λ large has. has;
       }) (λ sound. IsCommunication-requested h.nprocs (length h.memory) h.communication sound request n counts room met)
 
   pub Keeps-written : (bytes : List ℕ) (n : ℕ) → length bytes ≡ n → are_too_many h.communication.requests n ≡ false
@@ -212,6 +218,7 @@ module _ (h : Hart) where
         changes = Extends-same h.communication.registrations.changes;
         requests = Extends-same h.communication.requests.requests;
         output = Extends-one_more h.communication.requests.output bytes;
+        limits = λ large has. has;
       }) (λ sound. IsCommunication-written h.nprocs (length h.memory) h.communication sound bytes n len room)
 
   pub Keeps-taken : Keeps h (record h { communication = record h.communication { queue = drop 1 h.communication.queue } })
@@ -223,6 +230,7 @@ module _ (h : Hart) where
         changes = Extends-same h.communication.registrations.changes;
         requests = Extends-same h.communication.requests.requests;
         output = Extends-same h.communication.requests.output;
+        limits = λ large has. has;
       }) (λ sound. IsCommunication-taken h.nprocs (length h.memory) h.communication sound)
 
   pub Keeps-sized : (size : ℕ) → size ≤ max_tag_size
@@ -235,6 +243,7 @@ module _ (h : Hart) where
         changes = Extends-same h.communication.registrations.changes;
         requests = Extends-same h.communication.requests.requests;
         output = Extends-same h.communication.requests.output;
+        limits = λ large has. has;
       }) (λ sound. IsCommunication-sized h.nprocs (length h.memory) h.communication sound size fits)
 
 -- what holds of the value in a `Some`, with that value

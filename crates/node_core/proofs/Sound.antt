@@ -63,6 +63,7 @@ IsLater-from s t keeps limit clock ticks = record {
   changes = keeps.communication.changes;
   requests = keeps.communication.requests;
   output = keeps.communication.output;
+  limits = keeps.communication.limits;
   unit = keeps.unit;
   ticks = ticks;
 }
@@ -85,6 +86,7 @@ IsLater-then a b c first second = record {
   output =
       Extends-then a.hart.communication.requests.output b.hart.communication.requests.output c.hart.communication.requests.output
       first.output second.output;
+  limits = λ large has. second.limits large (first.limits large has);
   unit = second.unit ∙ first.unit;
   ticks = omega (arith, first.ticks, second.ticks);
 }

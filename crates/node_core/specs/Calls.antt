@@ -192,11 +192,11 @@ set_tagsize_effect h = goes_on (advanced (record h {
   communication = record h.communication { next_tag_size = word_at h.memory (a0 h) };
 }))
 
--- the number of messages in the queue, and then, over it, the sum of their payloads' lengths, or 2 ^ 32 - 1 where it is
+-- the number of messages in the queue, and then, over it, the sum of their payloads' lengths; 2 ^ 32 - 1 for each of them that is
 -- greater (own rule)
 abbrev pub qsize_effect : Hart → After
 qsize_effect h =
-    let packets = with_word h.memory (a0 h) (length h.communication.queue) in
+    let packets = with_word h.memory (a0 h) (min (length h.communication.queue) (2 ^ 32 - 1)) in
     goes_on (advanced (with_memory (with_word packets (a1 h) (min (payload_bytes h.communication.queue) (2 ^ 32 - 1))) h))
 
 -- the length of the first message's payload, and then, over it, its tag; all ones where the queue is empty

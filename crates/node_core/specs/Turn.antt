@@ -19,7 +19,7 @@ landed addr bytes s = record s { hart = with_memory (with_bytes s.hart.memory ad
 abbrev pub next_communication : List Message → Communication → Communication
 next_communication queue c = record {
   registrations = turned c.registrations;
-  requests = no_requests;
+  requests = no_requests c.requests.large;
   queue = queue;
   tag_size = c.next_tag_size;
   next_tag_size = c.next_tag_size;

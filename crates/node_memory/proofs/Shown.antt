@@ -26,7 +26,7 @@ pub size-shown : {X : Type 0} {f : X → List ℕ} {g : X → Bool} {xs : List X
     → length xs * 4096 ≡ length m.bytes
 size-shown {X} {f} {g} {xs} {m} h = sym (length-flat f xs h.whole) ∙ ap length h.bytes
 
-pub most-shown : {X : Type 0} {f : X → List ℕ} {g : X → Bool} {xs : List X} {m : PagedMemory} → Shows f g xs m → length m.bytes ≤ 2 ^ 24
+pub most-shown : {X : Type 0} {f : X → List ℕ} {g : X → Bool} {xs : List X} {m : PagedMemory} → Shows f g xs m → length m.bytes ≤ 2 ^ 31
 most-shown {X} {f} {g} {xs} {m} h =
     let size = size-shown h in
     let sized = h.sized in

@@ -89,11 +89,11 @@ below_end addr len page past = omega arith
 pub cleared_none : (m : List ℕ) (addr n : ℕ) → n ≡ 0 → addr ≤ length m → m ≡ with_bytes m addr (replicate n 0)
 cleared_none m addr n none within = cleared_already m addr n (omega arith) (λ k from to. absurd (omega arith))
 
--- the pages of a range, of which none begins past 2 ^ 24
-pub end_page-fits : (end size : ℕ) → end ≤ size → size ≤ 2 ^ 24 → Fits w64 ((end - 1) / 4096 + 1)
+-- the pages of a range, of which none begins past 2 ^ 31
+pub end_page-fits : (end size : ℕ) → end ≤ size → size ≤ 2 ^ 31 → Fits w64 ((end - 1) / 4096 + 1)
 end_page-fits end size within most = omega arith
 
-pub page_start-fits : (end size page : ℕ) → page < (end - 1) / 4096 + 1 → end ≤ size → size ≤ 2 ^ 24 → Fits w64 (page * 4096)
+pub page_start-fits : (end size page : ℕ) → page < (end - 1) / 4096 + 1 → end ≤ size → size ≤ 2 ^ 31 → Fits w64 (page * 4096)
 page_start-fits end size page before within most = omega arith
 
 -- the part of a range that lies in a page

@@ -4,9 +4,9 @@ use Rattle.std.specs.Prelude.{ℕ, ◌+◌, ◌*◌, ◌%◌, ◌^◌, ◌==◌,
 use Rattle.std.specs.List.{slice_range, replace_range}
 use Rattle.std.specs.Int.{w16, w32, from_le_bytes}
 
--- own rule: 4,096 to 2 ^ 24 bytes, in whole pages of 4,096
+-- own rule: 4,096 to 2 ^ 31 bytes, in whole pages of 4,096
 abbrev pub is_memory_size : ℕ → Bool
-is_memory_size n = nat_le 4096 n && nat_le n (2 ^ 24) && n % 4096 == 0
+is_memory_size n = nat_le 4096 n && nat_le n (2 ^ 31) && n % 4096 == 0
 
 -- own rule: a range of `len` bytes from `addr` on lies in a memory of `size` bytes; an empty one may begin at its end
 abbrev pub fits : ℕ → ℕ → ℕ → Bool

@@ -23,10 +23,10 @@ pub record Image : Type 0 where
   pub entry : ℕ
   pub segments : List Segment
 
--- at most 65,534 segments, and 2 ^ 24 bytes in all of them (own limits)
+-- at most 65,534 segments, and 2 ^ 28 bytes in all of them (own limits)
 pub record IsWithinLimits (i : Image) : Type 0 where
   pub few : length i.segments ≤ 65534
-  pub small : sum_by (λ (s : Segment). length s.bytes) i.segments ≤ 2 ^ 24
+  pub small : sum_by (λ (s : Segment). length s.bytes) i.segments ≤ 2 ^ 28
 
 abbrev pub covers : ℕ → Segment → Bool
 covers addr s = nat_le s.addr addr && nat_lt addr (s.addr + s.size)

@@ -18,7 +18,7 @@ use std::marker::Model;
 /// Why no memory was made, in the order in which the causes are tried.
 #[derive(Clone, Copy, Debug, PartialEq, Eq)]
 pub enum MemoryError {
-    /// The size is not 4,096 to 2^24 bytes in whole pages of 4,096.
+    /// The size is not 4,096 to 2^31 bytes in whole pages of 4,096.
     BadSize,
     /// A segment of some size ends past the memory.
     SegmentOutside,
@@ -76,16 +76,16 @@ impl From<AllocError> for ReadError {
 }
 
 /// The most bytes that a memory has.
-const LARGEST: u32 = 0x100_0000;
+const LARGEST: u32 = 0x8000_0000;
 
-/// Whether a memory may have `size` bytes: 4,096 to 2^24, in whole pages of 4,096 (own rule).
+/// Whether a memory may have `size` bytes: 4,096 to 2^31, in whole pages of 4,096 (own rule).
 pub fn is_memory_size(size: u32) -> bool
     ensures { result ≡ is_memory_size size }
 {
     PAGE as u32 <= size && size <= LARGEST && size % PAGE as u32 == 0
 }
 
-/// The memory of a node: 4,096 to 2^24 bytes, in whole pages of 4,096, each private or shared with other memories.
+/// The memory of a node: 4,096 to 2^31 bytes, in whole pages of 4,096, each private or shared with other memories.
 ///
 /// Numbers stand in it with their least significant byte first, at any address (RISC-V Unprivileged ISA 20191213,
 /// section 2.6 "Load and Store Instructions").
@@ -114,7 +114,7 @@ impl<A: Allocator> Memory<A> {
         ensures value { result ≡ length self.now.bytes }
         ensures valid { IsTrue (is_memory_size result) }
         ensures least { 4096 ≤ result }
-        ensures most { result ≤ 2 ^ 24 }
+        ensures most { result ≤ 2 ^ 31 }
     {
         (self.pages.len() * PAGE) as u32
     }
@@ -165,10 +165,10 @@ impl<A: Allocator> Memory<A> {
         &self.pages[addr / PAGE].bytes()[offset..offset + len]
     }
 
-    /// Does nothing at run time. A proof learns from it that a memory has at most 2^24 bytes, and a flag for each page of them.
+    /// Does nothing at run time. A proof learns from it that a memory has at most 2^31 bytes, and a flag for each page of them.
     #[inline(always)]
     fn recall_size(&self)
-        ensures most { length self.now.bytes ≤ 2 ^ 24 }
+        ensures most { length self.now.bytes ≤ 2 ^ 31 }
         ensures pages { length self.now.private * 4096 ≡ length self.now.bytes }
     {
         // The use of a field brings the invariant into the proof.

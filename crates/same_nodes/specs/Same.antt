@@ -59,6 +59,7 @@ pub record HartsLookAlike (one other : Hart) : Type 0 where
 pub record CommunicationLooksAlike (one other : Hart) : Type 0 where
   pub in_effect : one.communication.registrations.in_effect ≡ other.communication.registrations.in_effect
   pub shape : HasSameShape one.communication.registrations other.communication.registrations
+  pub large : one.communication.registrations.large ≡ other.communication.registrations.large
   pub requests : one.communication.requests ≡ other.communication.requests
   pub queue : one.communication.queue ≡ other.communication.queue
   pub tag_size : one.communication.tag_size ≡ other.communication.tag_size

@@ -124,6 +124,7 @@ fn have_same_communication<A: Allocator + Copy>(node: &Node<A>, other: &Node<A>)
         && node.next_tag_size() == other.next_tag_size()
         && have_same_areas(node.slots(), other.slots())
         && node.slots().same_shape(other.slots())
+        && node.slots().is_large() == other.slots().is_large()
         && have_same_requests(node.requests(), other.requests())
         && have_same_messages(node.inbox(), other.inbox())
 }
@@ -147,7 +148,7 @@ fn have_same_areas<A: Allocator + Copy>(slots: &Slots<A>, others: &Slots<A>) -> 
 fn have_same_requests<A: Allocator>(requests: &Requests<A>, others: &Requests<A>) -> bool
     ensures { IsTrue result → requests.now ≡ others.now }
 {
-    if requests.len() != others.len() {
+    if requests.len() != others.len() || requests.is_large() != others.is_large() {
         return false;
     }
     for place in 0..requests.len() {

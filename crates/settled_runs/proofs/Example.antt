@@ -63,6 +63,7 @@ is_node_of rank byte ranked = record {
   memory = memory_size;
   limit = refl;
   unit = refl;
+  limits = (refl, refl);
   sound = record { node = is_node rank byte; hart = is_hart rank byte ranked };
 }
 
@@ -71,7 +72,7 @@ HasOneArea n = length n.hart.communication.registrations.in_effect ≡ 1
 
 pub is_sound : IsSoundMachine two_puts
 is_sound = record {
-  settings = record { some = omega arith; few = omega arith; memory = refl; ticks = omega arith; limit = omega arith };
+  settings = record { some = omega arith; few = omega arith; memory = refl; small = omega arith; ticks = omega arith; limit = omega arith };
   ranks = refl;
   nodes =
       All-cons (IsNodeOf two_puts.settings) (waiting 0 4) (waiting 1 9 ∷ []) (is_node_of 0 4 (omega arith))

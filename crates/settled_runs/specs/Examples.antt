@@ -21,9 +21,9 @@ put_of byte = asks_put (put byte)
 
 -- a node that has the area in effect, and has put this byte there
 abbrev pub has_put : ℕ → Communication
-has_put byte = record no_communication {
-  registrations = record { in_effect = area ∷ []; changes = [] };
-  requests = record { requests = put_of byte ∷ []; output = [] };
+has_put byte = record (no_communication false) {
+  registrations = record { in_effect = area ∷ []; changes = []; large = false };
+  requests = record { requests = put_of byte ∷ []; output = []; large = false };
 }
 
 unfoldable pub empty_memory : List ℕ
@@ -51,7 +51,7 @@ waiting rank byte = record {
 -- rank 0 has put a 4, and rank 1 a 9
 abbrev pub two_puts : MachineState
 two_puts = record {
-  settings = record { nodes = 2; memory = 4096; limit = 8; clock = None; float = false };
+  settings = record { nodes = 2; memory = 4096; limit = 8; clock = None; float = false; large = false };
   input = [];
   nodes = waiting 0 4 ∷ waiting 1 9 ∷ [];
   started = 1 ∷ 1 ∷ [];

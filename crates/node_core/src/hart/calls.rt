@@ -9,7 +9,6 @@ ghost use Rattle.node_memory.specs.Pages.{KeepsPrivate};
 use super::Hart;
 use crate::call::{CLOCK, Call};
 use crate::state::{Fault, State};
-use bsp_requests::MAX_BYTES;
 use node_memory::WriteError;
 use std::alloc::{AllocError, Allocator};
 
@@ -151,7 +150,7 @@ impl<A: Allocator + Copy> Hart<A> {
         if !self.memory.plain().fits(addr, len) {
             return Ok(State::Faulted(Fault::RangeOutside));
         }
-        if u64::from(len) > MAX_BYTES - self.communication.requests.bytes() {
+        if self.communication.requests.are_too_many(u64::from(len)) {
             return Ok(State::Faulted(Fault::TooMuch));
         }
         let Ok(bytes) = self.memory.plain().read_range(addr, len) else {

@@ -61,7 +61,7 @@ impl<A: Allocator + Copy> Hart<A> {
         ensures refuses { OnErr result (MayRefuseCall Call.Qsize [] self.old.hart) }
     {
         let (packets_addr, bytes_addr) = (self.reg(A0), self.reg(A1));
-        let packets = self.communication.inbox.count() as u32;
+        let packets = (self.communication.inbox.count() as u64).min(u64::from(u32::MAX)) as u32;
         let bytes = self.communication.inbox.bytes().min(u64::from(u32::MAX)) as u32;
         let stored = write_word_and_bytes(
             &mut self.memory,

@@ -1,5 +1,6 @@
 -- Two nodes with equally many requests, the same at each place, and the same output ask the same of the exchange.
-use Rattle.std.proofs.Common.{◌≡◌, ◌∙◌, sym, arith}
+use Rattle.std.proofs.Common.{◌≡◌, ◌∙◌, sym, arith, rules}
+use Rattle.std.proofs.lemmas.Bool.Decides.{nat_tests}
 use Rattle.same_nodes.proofs.Lists.{same-lists, same-numbers}
 use Rattle.same_nodes.proofs.Records.{same-requests}
 use Rattle.same_nodes.proofs.have_same_requests.Goals as goal
@@ -12,4 +13,5 @@ returns g c = λ holds.
     (λ k below. c.loop-place.invariant k (omega (arith, below, c.len-place-end.ensures.len, c.loop-place-test.false))) in
     let output : c.args.requests.now.output ≡ c.args.others.now.output =
     sym c.output.ensures ∙ same-numbers c.output.result.now c.output-2.result.now c.eq.result c.eq.ensures holds ∙ c.output-2.ensures in
-    same-requests c.args.requests.now c.args.others.now requests output
+    let large : c.args.requests.now.large ≡ c.args.others.now.large = search (rules, nat_tests) in
+    same-requests c.args.requests.now c.args.others.now requests output large

@@ -60,8 +60,8 @@ add_requests-requires-clause-room g c =
     let fit = taken_fit ps i c.requires.row (omega (arith, c.loop-node-test.true)) c.loop-node.invariant.sound in
     let short : length (take i ps) ≡ i = length-take-le i ps (omega (arith, c.loop-node-test.true)) in
     let same : length ns ≡ length (take i ps) = length-map (take i ps) (λ (q : PreparedNode). q.node) in
-    All-same (IsWithin (2 ^ 35)) c.loop-node.loads (with_transfers c.args.loads.now (transfers ns)) c.loop-node.invariant.added
-    (within_at_most (2 ^ 35) (length ns * 2 ^ 25) (with_transfers c.args.loads.now (transfers ns)) (omega (arith, fit, short, same))
+    All-same (IsWithin (2 ^ 47)) c.loop-node.loads (with_transfers c.args.loads.now (transfers ns)) c.loop-node.invariant.added
+    (within_at_most (2 ^ 47) (length ns * 2 ^ 31) (with_transfers c.args.loads.now (transfers ns)) (omega (arith, fit, short, same))
     (loads_limited c.args.loads.now ns c.requires.empty harts))
 
 pub returns-clause-loads : goal.returns-clause-loads

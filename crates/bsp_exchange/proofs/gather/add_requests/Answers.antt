@@ -10,6 +10,7 @@ use Rattle.bsp_exchange.specs.Loads.{with_transfer, with_transfers, transfers_of
 use Rattle.bsp_exchange.specs.Traffic.{transfer}
 use Rattle.bsp_exchange.proofs.Finds.{asked_all, asked_here, issued_from, keeps_here, no_request_left}
 use Rattle.bsp_exchange.proofs.Gathered.{gathered_here, gathered_all, target_there}
+use Rattle.bsp_exchange.proofs.Limits.{bytes_at_most, requests_at_most}
 use Rattle.bsp_exchange.proofs.Loads.{next_transfer, size_within, room_left}
 use Rattle.bsp_exchange.proofs.gather.add_requests.Goals as goal
 
@@ -57,7 +58,7 @@ add_request-requires-clause-limit g c =
     asked_here n.hart.communication.requests.requests c.as_slice-request-items.result.now i c.request-item.result lent
     c.loop-request-test.true c.request-item.is in
     size_within n.hart.communication.requests.requests i (asked c.request-item.result) (2 ^ 32) is
-    (omega (arith, c.requests.ensures.sound.communication.requests.bytes))
+    (omega (arith, bytes_at_most n.hart.communication.requests c.requests.ensures.sound.communication.requests))
 
 pub add_request-requires-clause-room : goal.add_request-requires-clause-room
 add_request-requires-clause-room g c =
@@ -65,9 +66,10 @@ add_request-requires-clause-room g c =
     let n = c.args.node.now.node in
     let rs = n.hart.communication.requests.requests in
     let limits = c.requests.ensures.sound.communication.requests in
-    All-same (IsWithin (2 ^ 36)) c.loop-request.loads (with_transfers c.args.loads.now (transfers_of n.hart.rank (take i rs)))
+    All-same (IsWithin (2 ^ 48)) c.loop-request.loads (with_transfers c.args.loads.now (transfers_of n.hart.rank (take i rs)))
     c.loop-request.invariant.added
-    (room_left c.args.loads.now n.hart.rank rs i (2 ^ 35) (2 ^ 36) c.requires.room (omega (arith, limits.bytes, limits.requests)))
+    (room_left c.args.loads.now n.hart.rank rs i (2 ^ 47) (2 ^ 48) c.requires.room
+    (omega (arith, bytes_at_most n.hart.communication.requests limits, requests_at_most n.hart.communication.requests limits)))
 
 pub returns-clause-loads : goal.returns-clause-loads
 returns-clause-loads g c =

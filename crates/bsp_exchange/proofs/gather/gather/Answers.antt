@@ -55,7 +55,7 @@ add_all_requests-requires-clause-empty g c =
 pub greatest-traffic-requires : goal.greatest-traffic-requires
 greatest-traffic-requires g c =
     let written = c.deref.ensures.value ∙ with_items_is c.in_ok-loads.loads c.add_all_requests.new.loads (omega arith) in
-    All-same (IsWithin (2 ^ 35)) c.deref.result.now c.add_all_requests.new.loads written c.in_ok-add_all_requests.ensures.bounded
+    All-same (IsWithin (2 ^ 47)) c.deref.result.now c.add_all_requests.new.loads written c.in_ok-add_all_requests.ensures.bounded
 
 pub returns-clause-traffic : goal.returns-clause-traffic
 returns-clause-traffic g c =

@@ -3,6 +3,7 @@ use Rattle.std.proofs.Common.{◌≡◌, ◌≤◌, ◌^◌, length, sym, ap, �
 use Rattle.std.specs.Prelude.{option_map}
 use Rattle.bsp_requests.specs.Request.{asked}
 use Rattle.bsp_exchange.proofs.Finds.{past_end}
+use Rattle.bsp_exchange.proofs.Limits.{bytes_at_most, requests_at_most}
 use Rattle.bsp_exchange.proofs.Loads.{size_within}
 use Rattle.bsp_profile.specs.Tally.{added}
 use Rattle.bsp_profile.proofs.Added.{next_added, taken_added-le}
@@ -12,16 +13,16 @@ use Rattle.bsp_profile.proofs.tally.add_requests.Goals as goal
 pub add_request-requires-clause-limit : goal.add_request-requires-clause-limit
 add_request-requires-clause-limit g c =
     let found = sym c.at.ensures ∙ ap (option_map asked) (ap option_copied c.in-Some.is) in
-    size_within c.args.requests.now.requests c.loop-issue.issue (asked c.in-Some.request.now) (2 ^ 24) found
-    (omega (arith, c.requires.limits.bytes))
+    size_within c.args.requests.now.requests c.loop-issue.issue (asked c.in-Some.request.now) (2 ^ 30) found
+    (bytes_at_most c.args.requests.now c.requires.limits)
 
 pub add_request-requires-clause-room : goal.add_request-requires-clause-room
 add_request-requires-clause-room g c = λ k within.
     let rs = c.args.requests.now.requests in
     let long : length c.loop-issue.cells ≡ length c.args.cells.now = c.loop-issue.auto.cells in
     let before = c.loop-issue.invariant k (omega (arith, long)) in
-    let more = taken_added-le c.args.count k c.args.caller c.loop-issue.issue rs (omega (arith, c.requires.limits.bytes))
-    (omega (arith, c.requires.limits.requests)) in
+    let more = taken_added-le c.args.count k c.args.caller c.loop-issue.issue rs
+    (bytes_at_most c.args.requests.now c.requires.limits) (requests_at_most c.args.requests.now c.requires.limits) in
     omega (arith, before, more, c.requires.room k (omega (arith, long)))
 
 pub loop-issue-preserved : goal.loop-issue-preserved

@@ -33,5 +33,5 @@ returns-in_err-input-clause-err g c =
     (stream g.R.Read.remaining c.args.input.now c.read_at_most-2.new.from) _
     (record {
       settings = sym c.in_ok-check_job.ensures;
-      ended = inr (c.in_ok-file.file.items, search rules, c.in_err-input.ensures.err);
+      ended = inr (c.in_ok-file.file.items, search rules, rw c.most_input.ensures at c.in_err-input.ensures.err);
     }))

@@ -13,7 +13,7 @@ segment_of-requires-clause-holds_bytes g c =
     let below : c.loop-i.i < (file_header c.args.file.now).e_phnum = subst (λ n. c.loop-i.i < n) phnum c.loop-i-test.true in
     let entry = c.program_header-header.ensures in
     let load : is_load (program_header_at c.args.file.now c.loop-i.i) ≡ true = rw (← entry, ← c.is_load.ensures) c.if-is_load.true in
-    rw entry (loadable_at c.args.file.now c.loop-i.i c.requires below load).holds_bytes
+    rw entry (loadable_at c.requires.0 c.args.file.now c.loop-i.i c.requires.1 below load).holds_bytes
 
 pub segment_of-requires-clause-in_addresses : goal.segment_of-requires-clause-in_addresses
 segment_of-requires-clause-in_addresses g c =
@@ -22,7 +22,7 @@ segment_of-requires-clause-in_addresses g c =
     let below : c.loop-i.i < (file_header c.args.file.now).e_phnum = subst (λ n. c.loop-i.i < n) phnum c.loop-i-test.true in
     let entry = c.program_header-header.ensures in
     let load : is_load (program_header_at c.args.file.now c.loop-i.i) ≡ true = rw (← entry, ← c.is_load.ensures) c.if-is_load.true in
-    rw entry (loadable_at c.args.file.now c.loop-i.i c.requires below load).in_addresses
+    rw entry (loadable_at c.requires.0 c.args.file.now c.loop-i.i c.requires.1 below load).in_addresses
 
 pub segment_of-requires-clause-in_file : goal.segment_of-requires-clause-in_file
 segment_of-requires-clause-in_file g c =
@@ -31,7 +31,7 @@ segment_of-requires-clause-in_file g c =
     let below : c.loop-i.i < (file_header c.args.file.now).e_phnum = subst (λ n. c.loop-i.i < n) phnum c.loop-i-test.true in
     let entry = c.program_header-header.ensures in
     let load : is_load (program_header_at c.args.file.now c.loop-i.i) ≡ true = rw (← entry, ← c.is_load.ensures) c.if-is_load.true in
-    rw entry (loadable_at c.args.file.now c.loop-i.i c.requires below load).in_file
+    rw entry (loadable_at c.requires.0 c.args.file.now c.loop-i.i c.requires.1 below load).in_file
 
 pub loop-i-preserved : goal.loop-i-preserved
 loop-i-preserved g c =
@@ -55,7 +55,7 @@ invariant_of-result g c =
     let few = (HasTable-from_none c.args.file.now c.header-header.ensures.valid).few in
     let all = end_of_table _ _ _ c.loop-i-test.false c.loop-i.auto.i-end phnum in
     let most = c.e_phnum-phnum.type_inv in
-    within_limits c.args.file.now c.e_entry.result c.loop-i.i c.from_vec.result _ c.requires all
+    within_limits c.requires.0 c.args.file.now c.e_entry.result c.loop-i.i c.from_vec.result _ c.requires.1 all
     (omega (arith, few, most)) c.loop-i.invariant c.from_vec.ensures
 
 pub returns : goal.returns

@@ -3,13 +3,18 @@ use Rattle.std.proofs.Common.{inl, inr, refl, ap, ap₂, ◌∙◌}
 use Rattle.node_core.specs.Node.{PreparedNode, with_clock, with_unit}
 use Rattle.node_memory.specs.declared.memory.MemoryError.TheVariants as memory_error
 use Rattle.machine_core.proofs.Refusals.{err_at, made-sized, fits-made, fits-no_memory, outside-ok, outside-no_memory}
-use Rattle.machine_core.proofs.Starts.{AreInRange-from, settings_fault-nodes}
+use Rattle.machine_core.proofs.Starts.{AreInRange-from, few_in_range, settings_fault-nodes}
 use Rattle.machine_core.proofs.start.first_node.Goals as goal
 
 pub new-made-requires : goal.new-made-requires
 new-made-requires g c =
     let range = AreInRange-from c.args.settings.now c.requires in
-    record { ranked = settings_fault-nodes c.args.settings.now c.requires; few = range.few; some = range.ticks; limited = range.limit }
+    record {
+      ranked = settings_fault-nodes c.args.settings.now c.requires;
+      few = few_in_range c.args.settings.now range;
+      some = range.ticks;
+      limited = range.limit;
+    }
 
 pub unreachable-requires : goal.unreachable-requires
 unreachable-requires g c =

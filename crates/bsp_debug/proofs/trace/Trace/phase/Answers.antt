@@ -11,6 +11,7 @@ use Rattle.machine_core.specs.Sound.{IsSoundMachine}
 use Rattle.machine_core.proofs.Phased.{IsPhasing-start, IsPhasing-more, IsPhasing-done}
 use Rattle.machine_core.proofs.Runs.{after-often}
 use Rattle.machine_core.proofs.Sound.{length-nodes}
+use Rattle.machine_core.proofs.Starts.{few_in_range}
 use Rattle.machine_core.proofs.Steps.{after-nil}
 use Rattle.bsp_debug.specs.Debugger.{steps_at}
 use Rattle.bsp_debug.specs.Made.{events_of}
@@ -66,7 +67,8 @@ overflow_add-moved g c =
     let sound = subst IsSoundMachine c.machine.ensures.value c.settings-settings.ensures.sound in
     let same : c.settings-settings.result ≡ c.args.self.now.machine.settings =
     c.settings-settings.ensures.value ∙ ap (λ (m : MachineState). m.settings) c.machine.ensures.value in
-    let nodes : c.settings-settings.result.nodes ≤ max_nodes = rw (ap (λ (s : Settings). s.nodes) same) sound.settings.few in
+    let nodes : c.settings-settings.result.nodes ≤ max_nodes =
+    rw (ap (λ (s : Settings). s.nodes) same) (few_in_range _ sound.settings) in
     let limit : c.settings-settings.result.limit ≤ 2 ^ 40 = rw (ap (λ (s : Settings). s.limit) same) sound.settings.limit in
     let more = c.in_ok-moved.ensures.few in
     omega (arith, so_far.few, nodes, limit, more, c.loop-rank-test.true)

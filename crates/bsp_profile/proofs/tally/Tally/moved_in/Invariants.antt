@@ -10,5 +10,5 @@ invariant-loop-from g l =
     let cells = l.self.cells.items in
     record {
       sum : l.all ≡ sum_by (λ from. slice_index cells (place l.self.count (from + 1) l.rank)) (others l.from l.rank);
-      bounded : l.all ≤ l.from * 2 ^ 35;
+      bounded : l.all ≤ l.from * 2 ^ 47;
     }

@@ -10,5 +10,5 @@ invariant-loop-to g l =
     let cells = l.self.cells.items in
     record {
       sum : l.all ≡ sum_by (λ to. slice_index cells (place l.self.count (l.rank + 1) to)) (others l.to l.rank);
-      bounded : l.all ≤ l.to * 2 ^ 35;
+      bounded : l.all ≤ l.to * 2 ^ 47;
     }

@@ -5,3 +5,4 @@ use Rattle.bsp_requests.proofs.inbox.Inbox.of.Goals as goal
 pub invariant_of-result : goal.invariant_of-result
 invariant_of-result g c =
     is_counted _ _ _ _ c.from_vec.ensures.items c.as_slice.ensures.value c.payload_bytes-bytes.ensures c.requires.few c.requires.short
+    c.requires.light

@@ -43,8 +43,8 @@ invariant_of-result g c =
     whole asked _ _ _ c.loop-request.request-index c.loop-request.invariant c.loop-request-test.false
     c.as_slice-request-items.ensures.value in
     let output : c.in_ok-from_slice.field-0.items ≡ c.self.inside.output.items = c.in_ok-from_slice.ensures.items ∙ c.deref.ensures.value in
-    subst (λ rs. IsCounted (record { requests = rs; output = c.in_ok-from_slice.field-0.items }) c.self.inside.bytes) (sym requests)
-    (subst (λ o. IsCounted (record { requests = map asked c.self.inside.requests.items; output = o }) c.self.inside.bytes)
+    subst (λ rs. IsCounted (record { requests = rs; output = c.in_ok-from_slice.field-0.items; large = c.self.inside.large }) c.self.inside.bytes) (sym requests)
+    (subst (λ o. IsCounted (record { requests = map asked c.self.inside.requests.items; output = o; large = c.self.inside.large }) c.self.inside.bytes)
     (sym output) c.self.invariant)
 
 pub returns : goal.returns
@@ -53,6 +53,6 @@ returns g c =
     whole asked _ _ _ c.loop-request.request-index c.loop-request.invariant c.loop-request-test.false
     c.as_slice-request-items.ensures.value in
     let output : c.in_ok-from_slice.field-0.items ≡ c.self.inside.output.items = c.in_ok-from_slice.ensures.items ∙ c.deref.ensures.value in
-    ap (λ rs. record { requests = rs; output = c.in_ok-from_slice.field-0.items }) requests
-    ∙ ap (λ o. record { requests = map asked c.self.inside.requests.items; output = o }) output
+    ap (λ rs. record { requests = rs; output = c.in_ok-from_slice.field-0.items; large = c.self.inside.large }) requests
+    ∙ ap (λ o. record { requests = map asked c.self.inside.requests.items; output = o; large = c.self.inside.large }) output
     ∙ c.self.view_is

@@ -17,8 +17,8 @@ returns-in_err-check_program_header c =
     filesz_step bytes c.loop-i.i _ _ c.program_header-header.result below c.program_header-header.ensures c.loop-i.invariant.total
     (ap (λ n. c.loop-i.so_far + n) (c.from-so_far.ensures ∙ c.loaded_filesz.ensures)) in
     rw (p.1, p.2)
-    (fault_of_table bytes c.loop-i.i _ below c.loop-i.invariant.none
-    (fault_of_entry bytes c.loop-i.i _ _ _ _ c.program_header-header.ensures
+    (fault_of_table c.args.large bytes c.loop-i.i _ below c.loop-i.invariant.none
+    (fault_of_entry c.args.large bytes c.loop-i.i _ _ _ _ c.program_header-header.ensures
     (ap length c.self.view_is) total c.in_err-check_program_header.ensures))
 
 pub loop-i-preserved : goal.loop-i-preserved
@@ -32,8 +32,8 @@ loop-i-preserved c =
     record {
       total = total;
       bound = omega arith;
-      none = none_more (entry_checks bytes) c.loop-i.i c.loop-i.invariant.none
-          (fault_of_entry bytes c.loop-i.i _ _ _ _ c.program_header-header.ensures
+      none = none_more (entry_checks c.args.large bytes) c.loop-i.i c.loop-i.invariant.none
+          (fault_of_entry c.args.large bytes c.loop-i.i _ _ _ _ c.program_header-header.ensures
           (ap length c.self.view_is) total c.in_ok-check_program_header.ensures);
     }
 
@@ -41,4 +41,4 @@ pub returns : goal.returns
 returns c =
     let bytes = c.args.self.now in
     let phnum = phnum-is bytes c.header.result c.e_phnum-phnum.result c.header.ensures.value c.e_phnum-phnum.ensures in
-    none_of_table bytes c.loop-i.i (omega arith) c.loop-i.invariant.none
+    none_of_table c.args.large bytes c.loop-i.i (omega arith) c.loop-i.invariant.none

@@ -9,5 +9,5 @@ abbrev pub invariant-loop-i : goal.invariant-loop-i
 invariant-loop-i l = record {
   total : l.so_far ≡ filesz_of l.i (program_headers l.self);
   bound : l.so_far ≤ l.i * 2 ^ 32;
-  none : first_fault (flat_map (entry_checks l.self) (range_with_len 0 l.i)) ≡ None;
+  none : first_fault (flat_map (entry_checks l.large l.self) (range_with_len 0 l.i)) ≡ None;
 }

@@ -13,7 +13,7 @@ from .refusals import Refused, printable
 
 # Of a range of numbers.
 MOST_LISTED = 10_000
-UNITS = {"K": 1 << 10, "M": 1 << 20}
+UNITS = {"K": 1 << 10, "M": 1 << 20, "G": 1 << 30}
 # Options for the compiler, with what each says of a C program.
 COMPILED = {
     "-D": "define a macro",
@@ -127,7 +127,9 @@ class Parser(argparse.ArgumentParser):
         self.add_number("--limit", what="the limit of instructions", least=1, most=limits.MOST_TICKS, default=limits.MOST_TICKS,
             metavar="COUNT", help="instructions of a node, at most; 2^40 by default")  # fmt: skip
         self.add_number("--memory", what="the memory of a node in bytes", least=limits.PAGE, most=limits.MOST_MEMORY, unit=limits.PAGE,
-            default=limits.MEMORY, metavar="BYTES", help="of a node, 16M by default")  # fmt: skip
+            default=limits.MEMORY, metavar="BYTES", help="of a node, 16M by default; above that nodes are large, as with --large")  # fmt: skip
+        self.add_argument(limits.OPTION, action="store_true", help="higher limits: 65536 nodes, 2G of memory, 16777216 requests in a superstep;"
+            " a run that needs them for its nodes, memory or input has them anyway")  # fmt: skip
         self.add_number("--stack", what="the room of the stack in bytes", least=limits.LEAST_STACK, most=limits.MOST_STACK,
             metavar="BYTES", help="of a .c program, 1M by default")  # fmt: skip
         self.add_argument("--float", action="store_true", help="nodes have units of floating point, as they have anyway for what says that it"
@@ -154,7 +156,7 @@ def named(text: str) -> str:
 def number(what: str, least: int, most: int, unit: int = 1, is_size: bool = False) -> Callable[[str], int]:
     """A reader of whole numbers of this range, multiples of a unit, which says the range where it refuses. A size may end with K or M."""
     kind = "a whole number" if unit == 1 else f"a multiple of {unit}"
-    also = ", as 64K or 1M too" if is_size else ""
+    also = "" if not is_size else ", as 64K, 1M or 1G too" if most >= UNITS["G"] else ", as 64K or 1M too"
 
     def read(text: str) -> int:
         times = UNITS.get(text[-1:].upper(), 1) if is_size else 1

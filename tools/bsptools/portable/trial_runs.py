@@ -10,10 +10,10 @@ from collections.abc import Callable, Iterator
 from dataclasses import dataclass, field
 from typing import NamedTuple
 
-from .. import emulator
+from .. import emulator, limits
 from ..framed.replays import Replays, bytes_of
 from ..framed.session import Node, Session
-from ..limits import MOST_MEMORY, MOST_POINTS, MOST_TICKS
+from ..limits import MOST_POINTS, MOST_TICKS
 from ..outputs import output_records, report
 from ..outputs.output_demux import OUTPUT, Marks
 from ..outputs.written_files import Files
@@ -102,7 +102,8 @@ class Trials:
     def __init__(self, subject: Subject, content: bytes, code: Code, ticks: int) -> None:
         self.subject, self.content, self.code, self.ticks = subject, content, code, ticks
         # The program has as much memory behind its variables as it has as it is, but where a node has not so much.
-        self.memory = min(subject.options.memory + max(code.need - subject.code.need, 0), MOST_MEMORY - ROOM)
+        self.most_memory = limits.of(subject.options.large).memory
+        self.memory = min(subject.options.memory + max(code.need - subject.code.need, 0), self.most_memory - ROOM)
         self.room = ROOM if code.need <= self.memory else 0
         self.run = functools.lru_cache(maxsize=None)(self._run)
 
@@ -121,7 +122,7 @@ class Trials:
         image = self.subject.folder / "chosen.elf"
         image.write_bytes(image_with(self.content, choices._replace(memory=self.memory if self.room else 0)))
         settings = [str(image), *self.subject.settings[1:]]
-        settings[settings.index("--memory") + 1] = str(min(self.subject.options.memory + self.room, MOST_MEMORY))
+        settings[settings.index("--memory") + 1] = str(min(self.subject.options.memory + self.room, self.most_memory))
         settings[settings.index("--limit") + 1] = str(self.limit)
         return settings
 

@@ -10,7 +10,7 @@ import sys
 from collections.abc import Callable
 from typing import TYPE_CHECKING, NamedTuple
 
-from .. import emulator
+from .. import emulator, limits
 from ..files import content_of, is_here, is_text
 from ..limits import MOST_INPUT, MOST_PROGRAM, NODES
 from ..options import Parser
@@ -84,6 +84,9 @@ class Job(NamedTuple):
             (folder / "input").write_bytes(given or b"")
         if "--input" not in self.settings:
             self.settings.extend(["--input", str(folder / "input")])
+        if limits.are_passed(0, 0, len(given or b"")) and not self.options.large:
+            self.options.large = True
+            self.settings.append(limits.OPTION)
 
     def give_nodes(self, count: int) -> None:
         """Has this job run on so many nodes."""
@@ -127,6 +130,7 @@ def prepared(
     else:
         code = read_elf(content)
     code.is_float |= options.float
+    memory_need.fit(code, options)
     memory_need.expect_room(code, options)
     given = given_input(options, content, tool)
     is_typed, bare = options.input is None and bool(given), given
@@ -146,6 +150,9 @@ def prepared(
     settings += ["--limit", str(options.limit), "--clock", "--g", str(options.g), "--l", str(options.l)]
     if code.is_float:
         settings.append("--float")
+    options.large |= limits.are_passed(options.nodes, options.memory, len(given or b""))
+    if options.large:
+        settings.append(limits.OPTION)
     if given is not None:
         with about(folder / "input"):
             (folder / "input").write_bytes(given)
@@ -207,7 +214,7 @@ def words_of(job: Job, parser: Parser) -> list[str]:
         words += [name, str(value)] if value != parser.get_default(name.strip("-")) else []
     words += [it for name in [*options.file, *options.found] for it in ("--file", name)]
     words += [it for name in options.files for it in ("--files", name)]
-    words += [*(["--float"] if options.float else []), *looks(options), *(options.compiled or [])]
+    words += [*([limits.OPTION] if options.large else []), *(["--float"] if options.float else []), *looks(options), *(options.compiled or [])]
     return [*words, options.program, *options.sources[1:], *options.args]
 
 

@@ -81,7 +81,7 @@ class Parser(argparse.ArgumentParser):
         """Says what is wrong, and how a file is given whose name was taken for options."""
         names = [it for it in self._words if it.startswith("-") and os.path.isfile(it)]
         lines = [f"{it} is a file here, and begins as options do: give it as ./{it}" for it in names[:1]]
-        raise Refused(f"{message}; {self.prog} --help tells the options", *lines)
+        raise Refused(f"{message}; {self.prog} --help lists the options", *lines)
 
     def own(self, words: list[str], rest: list[str]) -> list[str]:
         """What looks like options of this parser in the rest of a command line, which is another's. One that stands in front of that too is

@@ -26,7 +26,7 @@ USUAL = Limits(nodes=1024, memory=1 << 24, given=1 << 24, program=1 << 25, reque
 LARGE = Limits(nodes=65_536, memory=1 << 31, given=1 << 30, program=1 << 28, requests=1 << 24, superstep=1 << 30, areas=65_536)
 OPTION = "--large"
 
-# What the tools accept: they give --large to the emulator if a run needs it.
+# What the tools accept: they give --large to the emulator if the nodes or the memory of a run need it.
 NODES, MOST_NODES = 1, LARGE.nodes
 # Of a node, in bytes. The emulator gives a node 2^20 by default. The tools give it all that a usual machine can have: programs are written
 # for more, and memory that is not used costs the host nothing.
@@ -39,8 +39,8 @@ WORKERS, MOST_WORKERS = 1, 64
 G, L, MOST_PRICE = 1, 0, (1 << 64) - 1
 # Instructions a second, by which a program's clock counts seconds.
 RATE, MOST_RATE = 1e9, 1e18
-# Bytes of an input, with what stands in front of it; of a program, and of a text of assembly.
-MOST_INPUT, MOST_PROGRAM, MOST_TEXT = LARGE.given, LARGE.program, 1 << 22
+# Bytes of an input, with what stands in front of it; of a program, and of a text of assembly. Only who asks for --large has larger ones.
+MOST_INPUT, MOST_PROGRAM, MOST_TEXT = USUAL.given, USUAL.program, 1 << 22
 # The room of the stack of a program in C, in bytes: what bspcc gives it with --small, as the tools do where there is less memory, and
 # what it has else.
 LEAST_STACK, MOST_STACK = 16, 1 << 24
@@ -62,6 +62,6 @@ def of(is_large: bool) -> Limits:
     return LARGE if is_large else USUAL
 
 
-def are_passed(nodes: int, memory: int, given: int = 0) -> bool:
-    """Whether a run with so many nodes, bytes of memory and of input needs a large machine."""
-    return nodes > USUAL.nodes or memory > USUAL.memory or given > USUAL.given
+def are_passed(nodes: int, memory: int) -> bool:
+    """Whether a run with so many nodes and bytes of memory needs a large machine."""
+    return nodes > USUAL.nodes or memory > USUAL.memory

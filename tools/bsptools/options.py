@@ -129,7 +129,7 @@ class Parser(argparse.ArgumentParser):
         self.add_number("--memory", what="the memory of a node in bytes", least=limits.PAGE, most=limits.MOST_MEMORY, unit=limits.PAGE,
             default=limits.MEMORY, metavar="BYTES", help="memory of each node; default 16M. More makes the machine large, as --large does")  # fmt: skip
         self.add_argument(limits.OPTION, action="store_true", help="raise the limits: 65536 nodes, 2G of memory a node, 16777216 requests a superstep."
-            " Automatic if the nodes, the memory or the input need it")  # fmt: skip
+            " Automatic if the nodes or the memory need it")  # fmt: skip
         self.add_number("--stack", what="the room of the stack in bytes", least=limits.LEAST_STACK, most=limits.MOST_STACK,
             metavar="BYTES", help="stack of a .c program; default 1M")  # fmt: skip
         self.add_argument("--float", action="store_true", help="give nodes floating-point units. Automatic for programs of bspcc, and for"

@@ -54,8 +54,9 @@ def emulator() -> str:
 
 
 def proved_program() -> str:
-    """The program itself that runs are made with."""
-    return str(pathlib.Path(shutil.which(named()) or "").resolve()) if named() else which()
+    """The program itself that runs are made with. ./bspemu is a script, which says what it starts."""
+    path = os.path.realpath(shutil.which(named()) or "") if named() else ""
+    return path if path and path != os.path.realpath(REPO / "bspemu") else which()
 
 
 @functools.lru_cache(maxsize=None)

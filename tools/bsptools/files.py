@@ -29,7 +29,16 @@ def _bytes_of(file: IO[bytes], path: str | os.PathLike[str], most: int) -> bytes
 
 def own_content(path: str | os.PathLike[str], most: int) -> bytes:
     """The same of a file in a folder of this user's own, which the tools have put there. A link is not followed, and no pipe is waited for."""
-    with about(path), os.fdopen(os.open(path, os.O_RDONLY | os.O_NOFOLLOW | os.O_NONBLOCK), "rb") as file:
+    return _ordinary(path, most, os.O_NOFOLLOW)
+
+
+def named_content(path: str | os.PathLike[str], most: int) -> bytes:
+    """The same of a file that another file names, and no person. A pipe or a device is refused: it may have no end."""
+    return _ordinary(path, most)
+
+
+def _ordinary(path: str | os.PathLike[str], most: int, flags: int = 0) -> bytes:
+    with about(path), os.fdopen(os.open(path, os.O_RDONLY | os.O_NONBLOCK | flags), "rb") as file:
         if not stat.S_ISREG(os.fstat(file.fileno()).st_mode):
             raise Refused(f"{os.fspath(path)} is no ordinary file")
         return _bytes_of(file, path, most)

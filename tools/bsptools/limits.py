@@ -39,8 +39,9 @@ WORKERS, MOST_WORKERS = 1, 64
 G, L, MOST_PRICE = 1, 0, (1 << 64) - 1
 # Instructions a second, by which a program's clock counts seconds.
 RATE, MOST_RATE = 1e9, 1e18
-# Bytes of an input, with what stands in front of it; of a program, and of a text of assembly. Only who asks for --large has larger ones.
-MOST_INPUT, MOST_PROGRAM, MOST_TEXT = USUAL.given, USUAL.program, 1 << 22
+# Bytes of an input, with what stands in front of it; of a program, and of a text of assembly. Only who asks for --large has larger ones. And
+# of a source in C that is looked at.
+MOST_INPUT, MOST_PROGRAM, MOST_TEXT, MOST_SOURCE = USUAL.given, USUAL.program, 1 << 22, 1 << 24
 # The room of the stack of a program in C, in bytes: what bspcc gives it with --small, as the tools do where there is less memory, and
 # what it has else.
 LEAST_STACK, MOST_STACK = 16, 1 << 24

@@ -47,7 +47,8 @@ def own_key() -> Key:
     folder = own_folders.state("bspemu")
     if folder:
         path = os.path.join(folder, "key")
-        with contextlib.suppress(OSError):
+        # The disk may be full.
+        with contextlib.suppress(OSError, Refused):
             secret = _key_in(path)
             if not secret:
                 _make_key(path)

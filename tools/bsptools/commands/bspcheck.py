@@ -5,7 +5,7 @@ from __future__ import annotations
 import argparse
 import re
 
-from .. import children, files
+from .. import children, files, start, streams
 from ..marking import mark_table, sheet_reader, wanted_file
 from ..marking.marks import UNJUDGED, WRONG, Marks
 from ..marking.sheet import sources
@@ -53,7 +53,13 @@ def main(words: list[str]) -> int:
         return checked(parser().parse_args(words))
     except Refused as refused:
         tell(refused.args, "" if PLACE.match(str(refused.args[0])) else "bspcheck: ")
-        return NOT_MARKED
+    except BrokenPipeError:
+        raise
+    except (OSError, MemoryError) as error:
+        # As where the marks cannot be written: the status of a wrong hand-in would be taken for one.
+        tell([f"bspcheck: {start.wanting(error)}"])
+        streams.drop_output()
+    return NOT_MARKED
 
 
 def checked(options: argparse.Namespace) -> int:

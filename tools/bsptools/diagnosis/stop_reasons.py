@@ -3,20 +3,20 @@
 from __future__ import annotations
 
 import contextlib
-import itertools
 import re
 
 from .. import limits
+from ..files import named_content
 from ..framed.backtrace import frames, place, short, users_frames, written
 from ..framed.environment_calls import CHANGES, FUNCTIONS, GETS, NAMES, POP, PUSH, PUTS, REQUESTS, SEND, TAGSIZE, WRITE
 from ..framed.environment_calls import Call, Tracer, spelled
 from ..framed.replays import Replays, bytes_of
 from ..framed.session import Node, Session, floats_of, node_of, signed
-from ..limits import MOST_STACK, MOST_TAG, MOST_TICKS
+from ..limits import MOST_SOURCE, MOST_STACK, MOST_TAG, MOST_TICKS
 from ..outputs.report import Report
 from ..program.code import ECALL, Code, float_name, source_lines
 from ..program.memory_need import size_text
-from ..refusals import counted, numbered
+from ..refusals import Refused, counted, numbered
 
 # Of a run of more instructions, what was registered before its last superstep is looked for where likely mistakes are.
 MOST_TRACED = 100_000_000
@@ -394,9 +394,8 @@ class Why:
 def source_text(line: str) -> str:
     """The text of a line of a source; nothing where that is not here."""
     path, _, number = line.rpartition(":")
-    with contextlib.suppress(OSError, ValueError):
-        with open(path, encoding="utf-8", errors="replace") as source:
-            return next(itertools.islice(source, int(number) - 1, None), "")
+    with contextlib.suppress(Refused, ValueError, IndexError):
+        return named_content(path, MOST_SOURCE).decode(errors="replace").splitlines()[int(number) - 1]
     return ""
 
 

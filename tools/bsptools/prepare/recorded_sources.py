@@ -14,7 +14,11 @@ import shlex
 from typing import NamedTuple
 
 from .. import emulator
+from ..files import named_content
+from ..limits import MOST_SOURCE
 from ..program import elf
+from ..refusals import Refused
+from .compilation import SOURCES
 
 # The section, and what begins each text in it: the `record_program` of bspcc has the form.
 SECTION, SOURCE, LINKED = ".bspcc.sources", "bspcc source", "bspcc "
@@ -25,6 +29,8 @@ TAKEN = re.compile(
     r"|-f(?:no-)?(?:(?:un)?signed-char|(?:un)?signed-bitfields|short-enums|common|permissive|builtin(?:-\w+)?|wrapv|rtti|exceptions|openmp)"
 )
 VALUED = {"-D", "-U", "-I", "-L", "-l", "-include", "-imacros", "-isystem", "-iquote", "-idirafter", "--stack"}
+# A source may include a device without an end: so many kilobytes of address space are more than a compiler takes for a program.
+BOUND = '[ "$(ulimit -v)" != unlimited ] || ulimit -v 4194304; '
 
 
 class Unit(NamedTuple):
@@ -61,10 +67,13 @@ def sources_of(units: list[Unit]) -> list[Unit]:
 def misfit(units: list[Unit]) -> str:
     """Why a program cannot be built again of its sources; nothing where it may."""
     for it in sources_of(units):
+        # GCC takes what has another name for something else than a source.
+        if not it.path.endswith(SOURCES):
+            return f"{it.path} has no name of a source"
         try:
-            content = pathlib.Path(it.path).read_bytes()
-        except OSError as error:
-            return f"{it.path}: {error.strerror}"
+            content = named_content(it.path, MOST_SOURCE)
+        except Refused as refused:
+            return str(refused)
         if hashlib.sha256(content).hexdigest() != it.digest:
             return f"{it.path} has changed since then"
     return ""
@@ -76,15 +85,22 @@ def taken(unit: Unit) -> list[str]:
     words = iter(unit.words)
     for word in words:
         if word in VALUED:
-            found += [word, next(words, "")]
+            value = next(words, "")
+            found += [word, value] if is_plain(value) else []
         elif TAKEN.fullmatch(word) or (is_linked(word) and os.path.isfile(os.path.join(unit.folder, word))):
             found.append(word)
     return found
 
 
+def is_plain(word: str) -> bool:
+    """Whether a word is a value or a file wherever it stands. bspcc takes some options away, so that what is behind one of them would be an
+    option again; and GCC reads options from the file that a word with @ in front names."""
+    return word[:1] not in ("", "-", "@")
+
+
 def is_linked(word: str) -> bool:
     """Whether a word is an archive or an object."""
-    return not word.startswith("-") and word.endswith((".a", ".o"))
+    return is_plain(word) and word.endswith((".a", ".o"))
 
 
 def command(units: list[Unit], image: pathlib.Path, *more: str) -> list[str]:
@@ -94,12 +110,12 @@ def command(units: list[Unit], image: pathlib.Path, *more: str) -> list[str]:
     if all((it.folder, it.words) == (sources[0].folder, sources[0].words) for it in sources) and linked.folder == sources[0].folder:
         # As one command does it, for which bspcc has another library than for objects, which may be of C++.
         paths = [os.path.abspath(it.path) for it in sources]
-        return ["sh", "-c", at(linked.folder, [bspcc, *more, *compiling(sources[0]), *paths, *taken(linked), "-o", str(image), "-lm"])]
+        return ["sh", "-c", BOUND + at(linked.folder, [bspcc, *more, *compiling(sources[0]), *paths, *taken(linked), "-o", str(image), "-lm"])]
     objects, lines = [f"{image}.{number}.o" for number in range(len(sources))], []
     for it, target in zip(sources, objects):
         lines.append(at(it.folder, [bspcc, *more, *compiling(it), "-c", "-o", target, os.path.abspath(it.path)]))
     lines.append(at(linked.folder, [bspcc, *more, *objects, *taken(linked), "-o", str(image), "-lm"]))
-    return ["sh", "-c", " && ".join(lines)]
+    return ["sh", "-c", BOUND + " && ".join(lines)]
 
 
 def compiling(unit: Unit) -> list[str]:

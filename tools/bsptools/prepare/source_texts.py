@@ -4,9 +4,12 @@ from __future__ import annotations
 
 import contextlib
 import os
-import pathlib
 import re
 from collections.abc import Iterator
+
+from ..files import named_content
+from ..limits import MOST_SOURCE
+from ..refusals import Refused
 
 INCLUDED = r'(?m)^[ \t]*#[ \t]*include[ \t]*["<]([^">\n]+)[">]'
 MOST_SOURCES = 1000
@@ -18,8 +21,8 @@ def texts(sources: list[str], folders: list[str]) -> Iterator[str]:
     seen = set(left)
     while left and len(seen) < MOST_SOURCES:
         path = left.pop()
-        with contextlib.suppress(OSError):
-            text = pathlib.Path(path).read_text(encoding="utf-8", errors="replace")
+        with contextlib.suppress(Refused):
+            text = named_content(path, MOST_SOURCE).decode(errors="replace")
             yield text
             places = (os.path.dirname(path), *folders)
             named = [os.path.abspath(os.path.join(it, name)) for name in re.findall(INCLUDED, text) for it in places]

@@ -8,6 +8,8 @@ from ..refusals import Refused
 
 # The first line, with the version of the form.
 FIRST = "bspprobe 1"
+# What a run says of itself in front of its times.
+GIVEN = ("p", "word", "most")
 # What a probe that measures most prints, in bytes: 65,536 times of some 30 bytes in each of 1,000 rounds would be more, and nobody waits for it.
 MOST_PRINTED = 1 << 28
 
@@ -47,13 +49,15 @@ def _one(lines: list[str]) -> Samples:
     for line in lines:
         words = line.split()
         if words[:1] == ["end"]:
+            if len(given) < len(GIVEN):
+                raise Unread("numbers are missing")
             return _whole(found._replace(p=given["p"], word=given["word"]), given["most"])
         if words[:1] == ["rate"]:
             found.rates.append(_positive(words[1]))
             found.times.append([])
         elif words[:1] == ["time"] and found.times and int(words[1]) == len(found.times[-1]):
             found.times[-1].append(_positive(words[2]))
-        elif len(words) == 2 and words[0] in ("p", "word", "most"):
+        elif len(words) == 2 and words[0] in GIVEN:
             given[words[0]] = int(words[1])
         else:
             raise Unread(f"{line[:80]!r} is no line that is expected there")

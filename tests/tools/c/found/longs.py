@@ -102,6 +102,8 @@ READS = BEGIN + """int main(void)
 # An option of a compiler that does nothing, and one as long that runs what somebody else has written.
 PLUGIN = "-fplugin=/tmp/absent.so"
 PLAIN = "plain".ljust(len(PLUGIN) - len("-D"), "_")
+# The name of a folder, and an option as long that bspcc takes away; a word by which GCC reads options from a file.
+TAKEN_AWAY, ASKS = ("absent_", "--small"), "@more.o"
 # Texts in which a `long` is named, but none is there.
 NAMED = BEGIN + """/* as long as a long is one */
 int main(void)
@@ -232,10 +234,32 @@ class Longs:
         (self.folder / "evil.elf").write_bytes(content.replace(f"-D{PLAIN}".encode(), PLUGIN.encode()))
         done = self.run("evil.elf")
         self.tally.expect("an option of others", PLUGIN.encode() not in content and told in done.stderr, done)
+        self.of_others(told)
         self.build("-o", "checked.elf", "--check", "-Ideep", "main.c", "work.c")
         done = self.run("checked.elf")
         self.tally.expect("an executable that looks by itself", done.returncode == 2 and ADVICE not in done.stderr, done)
         self.unknown()
+
+    def of_others(self, told: str) -> None:
+        """No record of an executable has GCC take its programs from a folder that it names: not by an option that stands where bspcc has taken
+        one away, nor by a file with options; and no pipe is waited for."""
+        evil = f"-B{self.folder}/evil/"
+        self.write("evil/cc1", f"#!/bin/sh\ntouch {self.folder}/ran\nexit 1\n")
+        (self.folder / "evil/cc1").chmod(0o755)
+        for name in (ASKS, ASKS[1:]):
+            self.write(name, evil)
+        self.build("-o", "base.elf", "-Ideep", "-I", TAKEN_AWAY[0], "-I", "x" * len(evil), f"-D{'y' * (len(ASKS) - 2)}", "main.c", "work.c")
+        content = (self.folder / "base.elf").read_bytes()
+        behind = content.replace(*map(str.encode, TAKEN_AWAY)).replace(b"x" * len(evil), evil.encode())
+        beside = content.replace(f"-D{'y' * (len(ASKS) - 2)}".encode(), ASKS.encode())
+        for what, image in {"behind an option that is taken away": behind, "in a file": beside}.items():
+            (self.folder / "evil.elf").write_bytes(image)
+            done = self.run("evil.elf")
+            self.tally.expect(f"an option of others, {what}", image != content and not (self.folder / "ran").exists() and told in done.stderr, done)
+        os.mkfifo(self.folder / "pipe.c")
+        (self.folder / "evil.elf").write_bytes(content.replace(b"main.c\0", b"pipe.c\0"))
+        done = self.run("evil.elf")
+        self.tally.expect("a pipe for a source", done.returncode == 0 and "/pipe.c is no ordinary file): build it again\n" in done.stderr, done)
 
     def unknown(self) -> None:
         """What cannot be looked at has a line that says why, but for a program that has no names either."""

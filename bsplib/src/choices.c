@@ -135,9 +135,9 @@ static __attribute__((noinline)) void fill_stack(size_t most)
 __attribute__((noreturn)) void __wrap_bsp_start(void)
 {
     room.start = room.end = (char *)(size_t)bsp_memory_size;
-    if (bsp_choices.memory != 0 && bsp_choices.memory < (unsigned)bsp_memory_size) {
+    if (bsp_choices.memory != 0 && bsp_choices.memory < bsp_memory_size) {
         room.start = (char *)(size_t)bsp_choices.memory;
-        bsp_memory_size = (int)bsp_choices.memory;
+        bsp_memory_size = bsp_choices.memory;
     }
     room.low = room.start;
     room.high = room.end;

@@ -149,7 +149,7 @@ extern volatile struct bsp_settings bsp_settings;
 enum { BSP_RECORDS = 1, BSP_WRITES_FILES = 2, BSP_LOOKS = 4, BSP_FILLED = 8 };
 
 /* The bytes of the memory. */
-extern int bsp_memory_size;
+extern unsigned bsp_memory_size;
 
 /* Where the program is: before bsp_begin, between it and bsp_end, or after that. */
 extern enum bsp_part { BSP_BEFORE, BSP_WITHIN, BSP_AFTER } bsp_part;

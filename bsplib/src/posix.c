@@ -72,7 +72,7 @@ WEAK long sysconf(int name)
     case _SC_PAGESIZE:
         return PAGE;
     case _SC_PHYS_PAGES:
-        return bsp_memory_size / PAGE;
+        return (long)(bsp_memory_size / PAGE);
     case _SC_CLK_TCK:
         return TICKS;
     case _SC_NPROCESSORS_CONF:

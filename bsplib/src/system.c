@@ -1,7 +1,7 @@
 /* Start, end, memory and the standard streams of a node: what lies under a C library, and picolibc leaves to a system. */
 #include "machine.h"
 
-int bsp_memory_size __attribute__((section(".data"))) = 0; /* set before anything else runs */
+unsigned bsp_memory_size __attribute__((section(".data"))) = 0; /* set before anything else runs */
 enum bsp_part bsp_part = BSP_BEFORE;
 int bsp_superstep = 0;
 void (*bsp_look_further)(void) = NULL, (*bsp_flush_files)(void) = NULL;
@@ -130,7 +130,7 @@ void *sbrk(ptrdiff_t change)
 {
     static char *heap_end = __heap_start;
     char *old = heap_end;
-    ptrdiff_t most = bsp_memory_size - (long)heap_end;
+    ptrdiff_t most = (ptrdiff_t)(bsp_memory_size - (unsigned)heap_end);
     ptrdiff_t least = __heap_start - heap_end;
     if (change > most || change < least)
         return (void *)-1;

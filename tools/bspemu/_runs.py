@@ -39,7 +39,7 @@ def run(
     program : path
         A C program, an ELF file, an assembly text or a raw image, as `bsprun` takes them.
     nodes : int
-        The number of nodes, 1 to 1024.
+        The number of nodes, 1 to 65,536. More than 1,024 make a large machine, as `bsprun --large` does.
     defines : mapping, optional
         Compile-time constants of a C program: ``{"N": 64}``.
     args : sequence

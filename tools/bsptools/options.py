@@ -13,17 +13,17 @@ from .refusals import Refused, printable
 
 # Of a range of numbers.
 MOST_LISTED = 10_000
-UNITS = {"K": 1 << 10, "M": 1 << 20}
+UNITS = {"K": 1 << 10, "M": 1 << 20, "G": 1 << 30}
 # Options for the compiler, with what each says of a C program.
 COMPILED = {
     "-D": "define a macro",
-    "-I": "look for headers there too",
-    "-O": "optimize so far",
-    "-l": "link with this library, as -lm",
-    "-W": "warn of this, as -Wall",
-    "-f": "compile so, as -fopenmp",
-    "-m": "compile for this, as -march=rv32imc",
-    "-std": "take this standard, as -std=c99",
+    "-I": "add a folder for headers",
+    "-O": "optimization level",
+    "-l": "link with a library, as -lm",
+    "-W": "turn on a warning, as -Wall",
+    "-f": "compiler option, as -fopenmp",
+    "-m": "target option, as -march=rv32imc",
+    "-std": "language standard, as -std=c99",
 }
 # Those of one word, which others begin as: -pedantic begins as -p, which is a number of nodes.
 WHOLE_WORDS = ("-g", "-g3", "-ggdb", "-w", "-pedantic", "-pedantic-errors", "-pthread")
@@ -58,7 +58,7 @@ class Parser(argparse.ArgumentParser):
     def __init__(self, name: str, **given: Any) -> None:
         super().__init__(prog=name, allow_abbrev=False, **given)
         self._words: list[str] = []
-        self.add_argument("--version", action=Version, nargs=0, help="versions, the commit if it is known, and what was proved")
+        self.add_argument("--version", action=Version, nargs=0, help="print the versions, the commit if it is known, and what was proved")
 
     def add_argument(self, *names: Any, **given: Any) -> argparse.Action:
         """Adds an option. No value of one that names files is empty: the folder that a tool is started in would stand for it."""
@@ -81,7 +81,7 @@ class Parser(argparse.ArgumentParser):
         """Says what is wrong, and how a file is given whose name was taken for options."""
         names = [it for it in self._words if it.startswith("-") and os.path.isfile(it)]
         lines = [f"{it} is a file here, and begins as options do: give it as ./{it}" for it in names[:1]]
-        raise Refused(f"{message}; {self.prog} --help tells the options", *lines)
+        raise Refused(f"{message}; {self.prog} --help lists the options", *lines)
 
     def own(self, words: list[str], rest: list[str]) -> list[str]:
         """What looks like options of this parser in the rest of a command line, which is another's. One that stands in front of that too is
@@ -105,43 +105,44 @@ class Parser(argparse.ArgumentParser):
         """A program and its nodes, input, files and arguments, as each tool has them that makes one run."""
         add = self.add_argument
         add("-n", "--nodes", type=P, default=os.environ.get("BSP_PROCS") or limits.NODES, metavar="P",
-            help="nodes; by default as many as BSP_PROCS says in the environment, or 1")  # fmt: skip
-        add("-np", "-npes", "-p", dest="nodes", type=P, default=argparse.SUPPRESS, metavar="P", help="as -n")
-        add("--input", metavar="FILE", help="the program's input")
-        add("--file", metavar="FILE", action="append", default=[], help="a file that fopen can read; any number of them")
-        add("--files", metavar="DIR", action="append", default=[], help="all files of a folder, as --file gives one")
-        add("--argv0", metavar="TEXT", help="argv[0] of main, by default PROGRAM as it is given")
-        add("--strict", action="store_true", help="report what looks like a mistake: for a .c program GCC's warnings, --check, -Og -g; and"
-            " --warn for bsprun")  # fmt: skip
-        add("--check", action="store_true", help="a .c program's whole numbers, indices, pointers and shifts are looked at as it runs")
+            help="number of nodes; default: BSP_PROCS in the environment, or 1")  # fmt: skip
+        add("-np", "-npes", "-p", dest="nodes", type=P, default=argparse.SUPPRESS, metavar="P", help="same as -n")
+        add("--input", metavar="FILE", help="file that the program reads as its input")
+        add("--file", metavar="FILE", action="append", default=[], help="file that the program can open with fopen; can be repeated")
+        add("--files", metavar="DIR", action="append", default=[], help="give the program all files of this folder, as --file does; can be repeated")
+        add("--argv0", metavar="TEXT", help="argv[0] of main; default: PROGRAM as you typed it")
+        add("--strict", action="store_true", help="report everything that looks like a mistake: GCC's warnings, --check and -Og -g"
+            " for a .c program; bsprun also turns on --warn")  # fmt: skip
+        add("--check", action="store_true", help="check integer overflow, indices, pointers and shifts of a .c program as it runs")
         for option, what in COMPILED.items():
             add(option, dest="compiled", action=Compiled, metavar="WORD", help=what)
-        add(*WHOLE_WORDS, dest="compiled", action=Compiled, nargs=0, help="given to the compiler too")
-        add("--format", choices=KINDS, help="what PROGRAM is, where its bytes and its name do not tell")
+        add(*WHOLE_WORDS, dest="compiled", action=Compiled, nargs=0, help="passed to the compiler")
+        add("--format", choices=KINDS, help="what PROGRAM is, if neither its content nor its name shows it")
         self.set_defaults(bspemu=None, found=[], is_here=False)
-        add("program", metavar="PROGRAM", help="what is run")
-        add("args", metavar="ARGS", nargs=argparse.REMAINDER, help="the arguments of main").required = False
+        add("program", metavar="PROGRAM", help="the program to run")
+        add("args", metavar="ARGS", nargs=argparse.REMAINDER, help="arguments of main").required = False
 
     def add_machine(self) -> None:
         """The settings of nodes that all runs have."""
         self.add_number("--limit", what="the limit of instructions", least=1, most=limits.MOST_TICKS, default=limits.MOST_TICKS,
-            metavar="COUNT", help="instructions of a node, at most; 2^40 by default")  # fmt: skip
+            metavar="COUNT", help="most instructions that a node may execute; default 2^40")  # fmt: skip
         self.add_number("--memory", what="the memory of a node in bytes", least=limits.PAGE, most=limits.MOST_MEMORY, unit=limits.PAGE,
-            default=limits.MEMORY, metavar="BYTES", help="of a node, 16M by default")  # fmt: skip
+            default=limits.MEMORY, metavar="BYTES", help="memory of each node; default 16M. More makes the machine large, as --large does")  # fmt: skip
+        self.add_argument(limits.OPTION, action="store_true", help="raise the limits: 65536 nodes, 2G of memory a node, 16777216 requests a superstep."
+            " Automatic if the nodes or the memory need it")  # fmt: skip
         self.add_number("--stack", what="the room of the stack in bytes", least=limits.LEAST_STACK, most=limits.MOST_STACK,
-            metavar="BYTES", help="of a .c program, 1M by default")  # fmt: skip
-        self.add_argument("--float", action="store_true", help="nodes have units of floating point, as they have anyway for what says that it"
-            " wants them: a program of bspcc, or a text with such statements")  # fmt: skip
+            metavar="BYTES", help="stack of a .c program; default 1M")  # fmt: skip
+        self.add_argument("--float", action="store_true", help="give nodes floating-point units. Automatic for programs of bspcc, and for"
+            " assembly with floating-point instructions")  # fmt: skip
 
     def add_prices(self, g: Callable[[str], object] | None = None, l: Callable[[str], object] | None = None) -> None:
         """g and l, where each is one number: a whole one, or what these readers take."""
-        self.add_argument("--g", type=g or G, default=limits.G, metavar="TICKS", help="the price of a byte of h, 1 by default")
-        self.add_argument("--l", type=l or L, default=limits.L, metavar="TICKS", help="the price of a superstep's end, 0 by default")
+        self.add_argument("--g", type=g or G, default=limits.G, metavar="TICKS", help="price of a byte of h; default 1")
+        self.add_argument("--l", type=l or L, default=limits.L, metavar="TICKS", help="price of the end of a superstep; default 0")
 
     def add_rate(self) -> None:
         """How many instructions a program's second has."""
-        self.add_argument("--rate", type=rate, default=limits.RATE, metavar="COUNT", help="instructions a second, by which bsp_time counts, 1e9 by"
-            " default")  # fmt: skip
+        self.add_argument("--rate", type=rate, default=limits.RATE, metavar="COUNT", help="instructions a second, for bsp_time; default 1e9")
 
 
 def named(text: str) -> str:
@@ -154,7 +155,7 @@ def named(text: str) -> str:
 def number(what: str, least: int, most: int, unit: int = 1, is_size: bool = False) -> Callable[[str], int]:
     """A reader of whole numbers of this range, multiples of a unit, which says the range where it refuses. A size may end with K or M."""
     kind = "a whole number" if unit == 1 else f"a multiple of {unit}"
-    also = ", as 64K or 1M too" if is_size else ""
+    also = "" if not is_size else ", as 64K, 1M or 1G too" if most >= UNITS["G"] else ", as 64K or 1M too"
 
     def read(text: str) -> int:
         times = UNITS.get(text[-1:].upper(), 1) if is_size else 1

@@ -1,8 +1,8 @@
   $ bsprun --rate 0 examples/ranks.elf
-  bsprun: argument --rate: '0': the rate is a number of instructions a second from 1 to 1e18, as 1e9; bsprun --help tells the options (stderr)
+  bsprun: argument --rate: '0': the rate is a number of instructions a second from 1 to 1e18, as 1e9; bsprun --help lists the options (stderr)
   [1]
   $ bsprun --rate fast examples/ranks.elf
-  bsprun: argument --rate: 'fast': the rate is a number of instructions a second from 1 to 1e18, as 1e9; bsprun --help tells the options (stderr)
+  bsprun: argument --rate: 'fast': the rate is a number of instructions a second from 1 to 1e18, as 1e9; bsprun --help lists the options (stderr)
   [1]
   $ bsprun --machine cm-5 examples/ranks.elf
   bsprun: 'cm-5' is no machine that is known: t3e-2, * has them (stderr) (glob)

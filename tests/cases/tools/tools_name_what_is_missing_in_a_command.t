@@ -1,8 +1,8 @@
   $ bsprun
-  bsprun: the following arguments are required: PROGRAM; bsprun --help tells the options (stderr)
+  bsprun: the following arguments are required: PROGRAM; bsprun --help lists the options (stderr)
   [1]
   $ bspgdb
-  bspgdb: the following arguments are required: PROGRAM; bspgdb --help tells the options (stderr)
+  bspgdb: the following arguments are required: PROGRAM; bspgdb --help lists the options (stderr)
   [1]
   $ bspcc -o
   bspcc: -o wants the name of a file (stderr)

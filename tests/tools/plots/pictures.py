@@ -76,9 +76,29 @@ def all_drawn(check: Check, kinds: List[str], source: pathlib.Path, *words: str)
 
 def parts(make: Parts) -> List[Part]:
     """A part for each profile, and what else there is to pictures."""
-    others = [same_bytes, refusals, forms, sweeps, choices, names, many, readings, scales, printing]
+    others = [same_bytes, refusals, forms, sweeps, choices, names, many, readings, scales, printing, bands]
     more = [make.part("counted", counted, tools=COMPILER)]
     return [*more, *(make.part(it.__name__, it) for it in others), *(make.part(f"pictures of {name}", of_profile, name) for name in RUNS)]
+
+
+def bands(check: Check) -> None:
+    """Ranks share bands and rows if there are many: least, mean and most work of a band, and the bytes of a group of ranks."""
+    nodes, work = 2048, [100 + rank % 32 for rank in range(2048)]
+    lines = ["superstep,rank,to,ticks,sent,received,kept,messages,requests,state"]
+    lines += [f"0,{rank},,{work[rank]},{8 * (rank < 8)},{64 * (rank == 9)},0,0,{int(rank < 8)},synced" for rank in range(nodes)]
+    lines += [f"0,{rank},9,,8,,,,," for rank in range(8)]
+    lines += [f"1,{rank},,{rank},0,0,0,0,0,ended" for rank in range(nodes)]
+    source = check.folder / "many.csv"
+    source.write_text("".join(f"{it}\n" for it in lines))
+    timeline_of, matrix_of = all_drawn(check, ["timeline", "matrix"], source, *WORDS)
+    said_of = [f"superstep 0, ranks {first} to {first + 31}: work 100 to 131, 115.5 on average" for first in range(0, nodes, 32)]
+    found = [it.text for it in timeline_of.named("band-0-").values()]
+    check.expect("bands of ranks", sorted(set(found)) == sorted(said_of), sorted(set(found))[:3])
+    named = sorted(it.text for begin in ("sent-", "received-") for it in matrix_of.named(begin).values())
+    wanted = ["rank 0 sent 8 bytes to others", "rank 9 received 64 bytes from others"]
+    check.expect("the greatest sums of groups of ranks", named == wanted, named[:3])
+    sizes = {kind: (check.folder / f"{kind}.svg").stat().st_size for kind in ("timeline", "matrix")}
+    check.expect("a picture of many ranks is below 1 MB", all(it < 1_000_000 for it in sizes.values()), sizes)
 
 
 def of_profile(check: Check, name: str) -> None:

@@ -517,7 +517,7 @@ def links(check: Check) -> None:
 def refusals(check: Check) -> None:
     """One line says what is wrong."""
     tried = {
-        ("--nodes", "0", PROGRAMS[0]): "bspsweep: argument -n/--nodes: '0': the number of nodes is a whole number from 1 to 1024",
+        ("--nodes", "0", PROGRAMS[0]): "bspsweep: argument -n/--nodes: '0': the number of nodes is a whole number from 1 to 65536",
         ("--nodes", "4:x", PROGRAMS[0]): "bspsweep: argument -n/--nodes: 'x'",
         ("--prices", "4", PROGRAMS[0]): "bspsweep: argument --prices: '4': give prices as G:L",
         ("--define", "N", PROGRAMS[0]): "bspsweep: argument --define: 'N': give a constant as",

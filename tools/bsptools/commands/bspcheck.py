@@ -27,23 +27,23 @@ def parser() -> Parser:
     found = Parser(
         "bspcheck",
         usage="bspcheck [options] SHEET.toml FILE..",
-        description="Marks programs in C by a sheet: whether they compile, are right on all numbers of nodes and inputs, cost no more than is"
-        " allowed, and what is wrong first, in words. Of one FILE all is told; of several a row each.",
+        description="Marks C programs by a sheet: whether they compile, give the right output for every number of nodes and every input, and"
+        " stay within the allowed costs. It explains the first mistake in words. One FILE gets a full account, several get a row each.",
     )
     add = found.add_argument
-    add("-o", "--output", metavar="FILE", help="the marks as CSV")
-    add("--html", metavar="FILE", help="the marks as a page in one file, which shows of each fault what came and what was wanted")
-    add("--junit", metavar="FILE", help="the marks as JUnit XML, which GitHub Classroom, GitLab and Moodle's VPL read")
-    add("--freeze", metavar="FILE", help="write what the solution prints and costs, for those who do not have it: the sheet's `wanted`")
-    add("--costs", action="store_true", help="show what the solution costs in each run, and what the bounds come to there")
-    found.add_number("--seed", what="a seed", least=0, most=MOST_SEED, metavar="SEED", help="another seed for the inputs of the sheet")
+    add("-o", "--output", metavar="FILE", help="write the marks as CSV")
+    add("--html", metavar="FILE", help="write the marks as one HTML page, which shows the expected and the actual output for each mistake")
+    add("--junit", metavar="FILE", help="write the marks as JUnit XML, for GitHub Classroom, GitLab and Moodle's VPL")
+    add("--freeze", metavar="FILE", help="write what the solution prints and costs to FILE, the sheet's `wanted`, so that students need no solution")
+    add("--costs", action="store_true", help="print the costs of the solution in each run, and the bounds there")
+    found.add_number("--seed", what="a seed", least=0, most=MOST_SEED, metavar="SEED", help="another seed for the sheet's inputs")
     found.add_number("--jobs", what="the number of hand-ins at a time", least=1, most=MOST_JOBS, default=0, metavar="COUNT",
-        help="hand-ins at a time, as many as there are processors by default")  # fmt: skip
-    add("--folder", default=".bspcheck", metavar="FOLDER", help="where results are kept, .bspcheck by default")
-    add("--anew", action="store_true", help="try again what was tried before")
-    add("--trusted", action="store_true", help="mark hand-ins that you trust, where the kernel cannot bound what they read")
-    add("sheet", metavar="SHEET.toml", help="what is asked for")
-    add("files", metavar="FILE", nargs="*", help="the hand-ins, a .c file each")
+        help="hand-ins marked at a time; default: the number of processors")  # fmt: skip
+    add("--folder", default=".bspcheck", metavar="FOLDER", help="where results are kept; default .bspcheck")
+    add("--anew", action="store_true", help="mark again, even if a result is kept")
+    add("--trusted", action="store_true", help="mark hand-ins even if the kernel cannot restrict what they read; only for those you trust")
+    add("sheet", metavar="SHEET.toml", help="the sheet")
+    add("files", metavar="FILE", nargs="*", help="hand-ins, one .c file each")
     return found
 
 

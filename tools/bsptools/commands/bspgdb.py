@@ -40,25 +40,24 @@ def arguments(words: Sequence[str]) -> argparse.Namespace:
     parser = Parser(
         "bspgdb",
         usage="bspgdb [-n P] [options] PROGRAM [ARGS..] [-- OPTIONS OF GDB]",
-        description="Debugs a BSP program on P nodes with gdb-multiarch, rank R being thread R + 1. PROGRAM is what bsprun takes: an ELF"
-        " file that was compiled with -g, or a C program (.c), which is compiled first. docs/manual/gdb.md says what there is.",
+        description="Debugs a BSP program on P nodes with gdb-multiarch. Rank R is thread R + 1. PROGRAM is an ELF file that was compiled"
+        " with -g, or a C program (.c), which is compiled first. docs/manual/gdb.md is its manual.",
     )
     parser.add_program()
     parser.add_machine()
     parser.add_prices()
     parser.add_rate()
-    parser.add_argument("--machine", action=Take, metavar="NAME", help="nodes, prices and rate of a machine of the literature, as bsprun has it")
-    parser.add_argument("--server", action="store_true", help="no gdb is started: one session is served on a Unix socket, which none but"
-        " this user can reach; a line says where")  # fmt: skip
-    parser.add_number("--tcp", what="a port", least=0, most=65535, metavar="PORT", help="as --server, but on this port of 127.0.0.1, which"
-        " every user of this host can reach; 0 is any that is free")  # fmt: skip
-    parser.add_argument("--stdio", action="store_true", help="as --server, but on standard input and output, for gdb's"
+    parser.add_argument("--machine", action=Take, metavar="NAME", help="nodes, prices and rate of a machine from the literature, as in bsprun")
+    parser.add_argument("--server", action="store_true", help="start no gdb: serve one session on a Unix socket that only you can reach, and"
+        " print its path")  # fmt: skip
+    parser.add_number("--tcp", what="a port", least=0, most=65535, metavar="PORT", help="like --server, but on this port of 127.0.0.1, which"
+        " every user of this host can reach; 0 takes any free port")  # fmt: skip
+    parser.add_argument("--stdio", action="store_true", help="like --server, but on standard input and output, for gdb's"
         " `target remote | bspgdb --stdio ..`")  # fmt: skip
-    parser.add_argument("--dialogue", "--lines", action="store_true", help="no gdb: the debugger's own lines, with a prompt, history, and names"
-        " for addresses; help there tells them. --lines is its older name")  # fmt: skip
-    parser.add_argument("--order", metavar="CHOICES", help="debug the run of a library that chooses otherwise, as bsprun --portable says behind"
-        " again")  # fmt: skip
-    parser.add_argument("--bspemu", metavar="PATH", help="the emulator, if it is another than bspemu beside this")
+    parser.add_argument("--dialogue", "--lines", action="store_true", help="use the debugger's own commands instead of gdb, with a prompt, history, and"
+        " names for addresses; type help there. --lines is the old name of this option")  # fmt: skip
+    parser.add_argument("--order", metavar="CHOICES", help="debug the run that a finding of bsprun --portable names after `again`")
+    parser.add_argument("--bspemu", metavar="PATH", help="use this emulator instead of the bspemu next to this tool")
     asked = parser.parse_args(words[:end])
     asked.check = asked.check or asked.strict
     asked.gdb_options = list(words[end + 1 :])

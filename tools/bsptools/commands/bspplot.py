@@ -82,30 +82,31 @@ def arguments(words: list[str]) -> argparse.Namespace:
     """What the command line asks for."""
     parser = Parser(
         "bspplot",
-        description="Draws what a run did and what it cost. SOURCE is a profile (`run --profile`), a report (`run --report`, or the CSV"
-        " or JSON of `bsprun --report`), the costs of lines (`bsprun --lines-as json=FILE`), or the table of `bspsweep`. The name of a picture's FILE ends with .svg, .png or .pdf.",
+        description="Draws what a run did and what it cost. SOURCE is a profile (`run --profile`), a report (`run --report`, or CSV or JSON from"
+        " `bsprun --report`), the costs of lines (`bsprun --lines-as json=FILE`), or a table of `bspsweep`. The name of a picture ends in .svg,"
+        " .png or .pdf.",
     )
     add = parser.add_argument
-    add("--timeline", type=target, metavar="FILE", help="of a profile: each rank's work and waiting, the exchange, and l")
-    add("--matrix", type=target, metavar="FILE", help="of a profile: the bytes from rank to rank")
-    add("--costs", type=target, metavar="FILE", help="of a profile or a report: each superstep's cost, split into w, g*h and l")
-    add("--sweep", type=target, metavar="FILE", help="of a table: total, speedup and efficiency over the nodes")
-    add("--compare", type=target, metavar="FILE", help="of a table: the totals alone, and where one program begins to cost less")
-    add("--lines", type=target, metavar="FILE", help="of the costs of lines: the dearest of them")
-    add("--source", dest="page", metavar="FILE", help="of the costs of lines: a page in one file with the source, and beside each line"
-        " what it costs, on which ranks and in which supersteps")  # fmt: skip
-    add("--html", metavar="FILE", help="a page in one file, with the pictures that SOURCE has, its table and its settings")
+    add("--timeline", type=target, metavar="FILE", help="from a profile: work and waiting of each rank, the exchange, and l")
+    add("--matrix", type=target, metavar="FILE", help="from a profile: the bytes from rank to rank")
+    add("--costs", type=target, metavar="FILE", help="from a profile or a report: the cost of each superstep, split into w, g*h and l")
+    add("--sweep", type=target, metavar="FILE", help="from a table: total, speedup and efficiency over the nodes")
+    add("--compare", type=target, metavar="FILE", help="from a table: totals only, and where one program starts to cost less than another")
+    add("--lines", type=target, metavar="FILE", help="from the costs of lines: the most expensive lines")
+    add("--source", dest="page", metavar="FILE", help="from the costs of lines: an HTML page with the source, and beside each line"
+        " its cost by rank and superstep")  # fmt: skip
+    add("--html", metavar="FILE", help="an HTML page with the pictures, the table and the settings of SOURCE")
     parser.add_prices(prices.G, prices.L)
-    add("--apart", choices=["printing"], help="leave the work of output functions out of the costs of supersteps, where SOURCE says what that is:"
-        " the profile of `bsprun --summary --profile`, and the costs of lines")  # fmt: skip
-    add("--rate", type=rate, metavar="COUNT", help="with --compare: instructions a second, by which the totals are seconds too")
+    add("--apart", choices=["printing"], help="leave the work of output functions out of the costs. SOURCE has to know it: a profile of"
+        " `bsprun --summary --profile`, or the costs of lines")  # fmt: skip
+    add("--rate", type=rate, metavar="COUNT", help="with --compare: instructions a second, to show the totals in seconds too")
     add("--h", type=reading, default=Reading.OTHERS, metavar="all|others", help="whether h counts what a"
-        " rank moves to itself, as the report of `--ledger 1` does (all), or not (others, the default)")  # fmt: skip
-    add("--supersteps", type=span, default=(0, None), metavar="A:B", help="these supersteps alone; one as A, all from A on as A:")
-    add("--title", type=heading, default="", metavar="TEXT", help="stands above each picture and the page")
-    add("--setting", type=lambda text: pair(heading(text), "a setting as NAME=VALUE"), action="append", default=[], metavar="NAME=VALUE", help="stands at the top of the page; any number")
+        " rank moves to itself (all, as a report of `--ledger 1` does) or not (others, the default)")  # fmt: skip
+    add("--supersteps", type=span, default=(0, None), metavar="A:B", help="only supersteps A to B; A is one superstep, A: is A and all after it")
+    add("--title", type=heading, default="", metavar="TEXT", help="title of each picture and of the page")
+    add("--setting", type=lambda text: pair(heading(text), "a setting as NAME=VALUE"), action="append", default=[], metavar="NAME=VALUE", help="a setting to show at the top of the page; can be repeated")
     add_papers(parser)
-    add("source", metavar="SOURCE", help="what is drawn")
+    add("source", metavar="SOURCE", help="the file to draw")
     asked = parser.parse_args(words)
     asked.words = words
     return asked
@@ -114,21 +115,21 @@ def arguments(words: list[str]) -> argparse.Namespace:
 def add_papers(parser: Parser) -> None:
     """The options of pictures and tables for papers, of the table of bspsweep."""
     add = parser.add_argument
-    add("--curves", type=paper, metavar="FILE", help="of a table: lines over any of its columns; FILE may end with .pgf or .tex too (pgfplots)")
-    add("--map", type=paper, metavar="FILE", help="of a table: which program costs least over g and l, and where two cost the same")
-    add("--table", type=tex, metavar="FILE.tex", help="of a table: what --curves draws, as a tabular of LaTeX with the rules of booktabs")
-    add("--x", default="nodes", metavar="COLUMN", help="with --curves and --table: what is along the axis, as nodes (the default), g, l or a constant")
-    add("--y", default="total", choices=MEASURES, help="and what is at its side; total by default")
-    add("--by", type=names, metavar="COLUMN,..", help="which columns part lines, or the programs of a map; all that differ by default")
-    add("--panels", type=names, metavar="COLUMN,..", help="which columns part small pictures side by side")
-    add("--only", type=chosen, action="append", default=[], metavar="COLUMN=VALUE,..", help="these values of a column alone; any number of them")
-    add("--log", choices=LOGS, help="which axes are logarithmic; by default those along which values differ much")
-    add("--size", type=size, metavar="WIDTH[xHEIGHT]", help="with --curves and --map: the size, as 3.3in or 84mmx60mm")
-    add("--font", metavar="NAME", help="and the font: serif, sans-serif, monospace, or one that is installed")
-    parser.add_number("--decimals", what="the number of decimals", least=0, most=9, metavar="COUNT", help="with --table: so many decimals of what is no whole number; without it"
-        " totals are exact, as 1/3")  # fmt: skip
-    add("--g-range", type=price_range(prices.G), metavar="LOW:HIGH", help="the g of a map, 0.1:100 by default")
-    add("--l-range", type=price_range(prices.L), metavar="LOW:HIGH", help="the l of a map, 10:100000 by default")
+    add("--curves", type=paper, metavar="FILE", help="from a table: lines over any of its columns; FILE can also end in .pgf or .tex (pgfplots)")
+    add("--map", type=paper, metavar="FILE", help="from a table: which program costs least for each g and l, and where two cost the same")
+    add("--table", type=tex, metavar="FILE.tex", help="from a table: what --curves draws, as a LaTeX tabular with booktabs rules")
+    add("--x", default="nodes", metavar="COLUMN", help="with --curves and --table: the x axis: nodes (the default), g, l or a constant")
+    add("--y", default="total", choices=MEASURES, help="with --curves and --table: the y axis; default total")
+    add("--by", type=names, metavar="COLUMN,..", help="columns that tell lines, or the programs of a map, apart; default: all that differ")
+    add("--panels", type=names, metavar="COLUMN,..", help="columns that get a small picture for each value, side by side")
+    add("--only", type=chosen, action="append", default=[], metavar="COLUMN=VALUE,..", help="only rows with these values of a column; can be repeated")
+    add("--log", choices=LOGS, help="logarithmic axes; default: those with a wide range of values")
+    add("--size", type=size, metavar="WIDTH[xHEIGHT]", help="with --curves and --map: size of the picture, as 3.3in or 84mmx60mm")
+    add("--font", metavar="NAME", help="with --curves and --map: serif, sans-serif, monospace, or any installed font")
+    parser.add_number("--decimals", what="the number of decimals", least=0, most=9, metavar="COUNT", help="with --table: round fractions to so"
+        " many decimals; default: exact, as 1/3")  # fmt: skip
+    add("--g-range", type=price_range(prices.G), metavar="LOW:HIGH", help="range of g in a map; default 0.1:100")
+    add("--l-range", type=price_range(prices.L), metavar="LOW:HIGH", help="range of l in a map; default 10:100000")
 
 
 @contextlib.contextmanager

@@ -26,28 +26,27 @@ def parser() -> Parser:
     found = Parser(
         "bspprobe",
         usage="bspprobe [options]",
-        description="Measures this host as bspbench does: r, its operations in a second; g, what a word of an h-relation costs; and l, what a superstep"
-        " costs. It fits a line to the times of h-relations for each number of processes, and writes lines for the file of machines, which"
-        " bsprun --machine takes.",
+        description="Measures this host as bspbench does: r, its operations per second; g, the cost of a word in an h-relation; and l, the cost"
+        " of a superstep. For each number of processes it fits a line to the times of h-relations. It writes lines for the machines' file, which"
+        " bsprun --machine reads.",
     )
     add = found.add_argument
-    add("-n", "--nodes", type=listed(P), metavar="LIST", help="numbers of processes, as 1,2,4 or 1:4; by default 1, 2, 4 and so on, up to the processors")
-    add("--mpi", action="store_true", help="by MPI, on what mpirun is given, and not by processes of this host")
-    add("--mpirun", default="mpirun -n {p}", metavar="COMMAND", help="how MPI starts a program, 'mpirun -n {p}' by default; {p} is the number of processes")
-    add("--program", metavar="COMMAND", help="run this, which was made of bsplib/native/probe.c with any BSPlib; {p} is the number of processes, which"
-        " BSP_PROCS has too")  # fmt: skip
-    add("--samples", action="append", default=[], metavar="FILE", help="measure nothing, and take what such a program has printed; any number of them")
-    found.add_number("--word", what="the bytes of a word", least=1, most=MOST_WORD, default=8, metavar="COUNT", help="bytes of a word, 8 by default")
-    found.add_number("--most", what="the greatest h", least=4, most=MOST_H, default=256, metavar="H", help="the greatest h, in words, 256 by default")
+    add("-n", "--nodes", type=listed(P), metavar="LIST", help="numbers of processes, as 1,2,4 or 1:4; default: 1, 2, 4 and so on up to the processors")
+    add("--mpi", action="store_true", help="use MPI, with the hosts that mpirun has, instead of processes of this host")
+    add("--mpirun", default="mpirun -n {p}", metavar="COMMAND", help="how to start a program with MPI; default 'mpirun -n {p}', where {p} is the number of processes")
+    add("--program", metavar="COMMAND", help="run this program, which you built from bsplib/native/probe.c with any BSPlib; {p} is the number of processes,"
+        " as in BSP_PROCS")  # fmt: skip
+    add("--samples", action="append", default=[], metavar="FILE", help="measure nothing, and use what such a program has printed; can be repeated")
+    found.add_number("--word", what="the bytes of a word", least=1, most=MOST_WORD, default=8, metavar="COUNT", help="bytes of a word; default 8")
+    found.add_number("--most", what="the greatest h", least=4, most=MOST_H, default=256, metavar="H", help="largest h, in words; default 256")
     found.add_number("--rounds", what="the number of rounds", least=2, most=MOST_ROUNDS, default=20, metavar="COUNT", help="how often each time is"
-        " measured, 20 by default")  # fmt: skip
+        " measured; default 20")  # fmt: skip
     found.add_number("--milliseconds", what="the time of a measurement", least=1, most=MOST_MILLISECONDS, default=1, metavar="MS", help="how long"
-        " the longest one takes, 1 by default")  # fmt: skip
-    add("--lowest", action="store_true", help="take the lowest of all rounds in the place of their median: what a busy host comes to where it is let"
-        " alone")  # fmt: skip
-    add("--instructions", action="store_true", help="count in instructions of the emulator's nodes in the place of operations, as bsprun does")
-    add("--name", type=name, metavar="NAME", help="what the machine is called, before -P; by default as this host is")
-    add("-o", "--output", metavar="FILE", help="add the lines to this file of machines, which BSP_MACHINES names; they are printed without it")
+        " the longest measurement takes; default 1")  # fmt: skip
+    add("--lowest", action="store_true", help="use the lowest of all rounds instead of their median, for a busy host")
+    add("--instructions", action="store_true", help="count instructions of the emulator's nodes instead of operations, as bsprun does")
+    add("--name", type=name, metavar="NAME", help="name of the machine, before -P; default: the host's name")
+    add("-o", "--output", metavar="FILE", help="add the lines to this machines' file (see BSP_MACHINES) instead of printing them")
     return found
 
 

@@ -37,40 +37,40 @@ def parser() -> Parser:
     found = Parser(
         "bsprun",
         usage="bsprun [-n P] [options] PROGRAM [ARGS..]",
-        description="Runs a BSP program on P nodes. PROGRAM is an ELF file, a text of assembly (.s), a raw image (.raw), or a"
-        " C program (.c), which is compiled first. Standard output has the program's output alone, superstep by superstep, and standard"
-        " error what it writes there. Standard input is the program's, where it reads it.",
+        description="Runs a BSP program on P nodes. PROGRAM is an ELF file, an assembly text (.s), a raw image (.raw), or a C program"
+        " (.c), which is compiled first. Standard output gets the program's output, superstep by superstep. Standard error gets what the"
+        " program writes there. If the program reads standard input, it reads yours.",
     )
     add = found.add_argument
     found.add_program()
     found.add_machine()
     found.add_prices()
     found.add_rate()
-    add("--machine", action=Take, metavar="NAME", help="nodes, prices and rate of a machine of the literature, as t3e-8; options behind it count")
-    add("--out", metavar="DIR", help="write the program's files below DIR; by default below the current folder")
-    add("--no-files", action="store_true", help="the program writes no files, and reads only those that it is given")
-    add("--report", metavar="FILE", help="the costs, into FILE: as CSV or JSON where its name says so; - is standard error")
-    add("--profile", metavar="FILE", help="what each rank did in each superstep, into FILE as CSV: bspplot draws it")
-    add("--summary", action="store_true", help="the totals and the dearest lines of supersteps, on standard error")
-    add("--apart", choices=["printing"], help="leave the work of output functions out of --summary and --profile; --report has it")
-    add("--lines", action="store_true", help="where w and h come from, by line and by function, on standard error")
-    add("--fold", action="store_true", help="as --lines, with the work of library functions at the lines that called them")
-    add("--lines-as", type=form, action="append", default=[], metavar="KIND=FILE", help="that as a file of this kind: callgrind,"
-        " folded (stacks for a flame graph), trace (for Perfetto) or json (for bspplot --source); any number of them")  # fmt: skip
-    add("--no-check", action="store_true", help="leave out the look at what does not fit into a long, which goes beside the run")
+    add("--machine", action=Take, metavar="NAME", help="nodes, prices and rate of a machine from the literature, as t3e-8; options after it override it")
+    add("--out", metavar="DIR", help="write the program's files below DIR; default: the current folder")
+    add("--no-files", action="store_true", help="let the program write no files, and read only those that you give it")
+    add("--report", metavar="FILE", help="write the costs to FILE, as CSV or JSON if its name ends so; - is standard error")
+    add("--profile", metavar="FILE", help="write what each rank did in each superstep to FILE, as CSV for bspplot")
+    add("--summary", action="store_true", help="print the totals and the most expensive supersteps on standard error")
+    add("--apart", choices=["printing"], help="leave the work of output functions out of --summary and --profile; --report keeps it")
+    add("--lines", action="store_true", help="print which source lines and functions cause w and h, on standard error")
+    add("--fold", action="store_true", help="like --lines, but count the work of library functions at the lines that call them")
+    add("--lines-as", type=form, action="append", default=[], metavar="KIND=FILE", help="write that to a file: callgrind, folded (for"
+        " flame graphs), trace (for Perfetto) or json (for bspplot --source); can be repeated")  # fmt: skip
+    add("--no-check", action="store_true", help="skip the search for numbers that do not fit into a long, which runs beside the program")
     found.add_number("--fill", what="the byte of fresh memory", least=0, most=255, metavar="BYTE",
-        help="the byte that stack and malloc have at first, for a program that reads what it did not write; 0 by default")  # fmt: skip
-    add("--warn", action="store_true", help="look for what is likely a mistake, also in a run that ends well; takes long")
-    add("--portable", action="store_true", help="then run a .c program again under each choice that BSPlib leaves to a library")
+        help="initial value of stack and malloc memory, for a program that reads what it did not write; default 0")  # fmt: skip
+    add("--warn", action="store_true", help="look for likely mistakes even in a run that ends well; slow")
+    add("--portable", action="store_true", help="run a .c program again under each choice that BSPlib leaves to an implementation")
     found.add_number("--tries", what="the number of orders", least=1, most=10_000, default=8, metavar="N",
-        help="in how many orders --portable has messages come, 8 by default; all where a rank has 4 at most")  # fmt: skip
-    add("--accept", metavar="FILE", help="pairs of lines that --portable finds and is to count alone: FILE:LINE FILE:LINE reason")
-    add("--accept-all", metavar="FILE", help="write what --portable finds as such a file")
-    add("--order", metavar="CHOICES", help="make the run as a library may that chooses otherwise, as --portable says behind again")
+        help="orders of messages that --portable tries; default 8, or all if no rank gets more than 4")  # fmt: skip
+    add("--accept", metavar="FILE", help="pairs of lines that --portable may find, which you accept: FILE:LINE FILE:LINE reason")
+    add("--accept-all", metavar="FILE", help="write all pairs that --portable finds as such a file")
+    add("--order", metavar="CHOICES", help="make the run that a finding of --portable names after `again`")
     found.add_number("--wall", what="the time of a run in seconds", least=1, most=MOST_SECONDS, metavar="SECONDS",
-        help="end the run after so long, with a line that says where the ranks were")  # fmt: skip
+        help="stop the run after this many seconds, and print where each rank was")  # fmt: skip
     found.add_number("--workers", what="the number of threads", least=1, most=MOST_WORKERS, default=WORKERS, metavar="COUNT",
-        help="threads of the host, 1 by default")  # fmt: skip
+        help="threads of the host; default 1")  # fmt: skip
     return found
 
 

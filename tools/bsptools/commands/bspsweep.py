@@ -66,36 +66,36 @@ def arguments(words: list[str]) -> argparse.Namespace:
     """What the command line asks for."""
     parser = Parser(
         "bspsweep",
-        description="Runs programs over lists of settings, each with each, and writes one table as CSV. A PROGRAM is anything that bsprun"
-        " takes. What was run before is not run again.",
+        description="Runs programs over lists of settings, in all combinations, and writes one CSV table. A PROGRAM is anything that bsprun"
+        " runs. Results are kept, so nothing is run twice.",
     )
     add = parser.add_argument
-    add("-n", "--nodes", type=listed(P), metavar="LIST", help="as 1,2,4,8 or 1:8; by default those of --machine, or 1")
-    add("--g", type=prices_listed(G), metavar="LIST", help="prices of a byte of h, as 4, 3.875 or 31/8; 1 by default")
-    add("--l", type=prices_listed(L), metavar="LIST", help="prices of a superstep's end, 0 by default")
-    add("--prices", type=pairs, metavar="G:L,..", help="prices that belong together, beside each g with each l")
-    add("--machine", type=families, default=[], metavar="LIST", help="prices of machines of the literature beside those: t3e has its own on"
-        " each number of nodes, and t3e-8 has those on 8")  # fmt: skip
-    add("--interpolate", choices=["linear"], help="take prices of --machine between the numbers of nodes that it was measured on; the column"
-        " of the machine says so")  # fmt: skip
-    add("--input", action="append", metavar="FILE", help="an input; any number of them")
-    add("--args", type=parted, action="append", metavar="TEXT", help="arguments of main, as the shell parts them; any number of them")
-    add("--define", type=constant, action="append", default=[], metavar="N=100,1000", help="a compile-time constant of a .c program")
-    add("--file", action="append", default=[], metavar="FILE", help="a file that fopen can read, in all runs")
+    add("-n", "--nodes", type=listed(P), metavar="LIST", help="numbers of nodes, as 1,2,4,8 or 1:8; default: those of --machine, or 1")
+    add("--g", type=prices_listed(G), metavar="LIST", help="prices of a byte of h, as 4, 3.875 or 31/8; default 1")
+    add("--l", type=prices_listed(L), metavar="LIST", help="prices of the end of a superstep; default 0")
+    add("--prices", type=pairs, metavar="G:L,..", help="pairs of prices, in addition to all combinations of --g and --l")
+    add("--machine", type=families, default=[], metavar="LIST", help="prices of machines from the literature, in addition: t3e has its own for"
+        " each number of nodes, and t3e-8 those for 8")  # fmt: skip
+    add("--interpolate", choices=["linear"], help="interpolate prices of --machine between the numbers of nodes that were measured; the table"
+        " says so")  # fmt: skip
+    add("--input", action="append", metavar="FILE", help="an input; can be repeated")
+    add("--args", type=parted, action="append", metavar="TEXT", help="arguments of main, split as the shell does; can be repeated")
+    add("--define", type=constant, action="append", default=[], metavar="N=100,1000", help="values of a compile-time constant of a .c program")
+    add("--file", action="append", default=[], metavar="FILE", help="file that the program can open with fopen, in all runs")
     parser.add_machine()
-    add("-o", "--output", metavar="FILE", help="the table; standard output by default. FILE.json has the record of it: the command, versions, and"
-        " digests of all that it rests on")  # fmt: skip
-    add("--again", metavar="FILE.json", type=named, help="make the table of a record again, with -o or to standard output, and say what is not as it was")
-    add("--folder", default=".bspsweep", metavar="FOLDER", help="where the results of runs are kept, .bspsweep by default")
-    add("--engine", choices=engines.NAMES, default=engines.AUTO, help="who makes the runs; by default GNU parallel where it is there, and"
-        " else one after another")  # fmt: skip
+    add("-o", "--output", metavar="FILE", help="write the table to FILE; default: standard output. FILE.json gets a record of the command, versions,"
+        " and digests of everything the table depends on")  # fmt: skip
+    add("--again", metavar="FILE.json", type=named, help="make the table of a record again, with -o or to standard output, and report what has changed")
+    add("--folder", default=".bspsweep", metavar="FOLDER", help="where results are kept; default .bspsweep")
+    add("--engine", choices=engines.NAMES, default=engines.AUTO, help="what makes the runs; default: GNU parallel if it is installed,"
+        " otherwise one run after another")  # fmt: skip
     parser.add_number("--jobs", what="the number of runs at a time", least=1, most=100_000, default=0, metavar="COUNT", help="runs at a"
-        " time, as many as there are processors by default")  # fmt: skip
-    add("--hosts", type=hosts, default=(), metavar="H1,H2", help="hosts for GNU parallel, by ssh; they see this folder and the program under the same paths")
-    add("--sbatch", type=parted, default="", metavar="OPTIONS", help="further options of sbatch, as '--partition=short --time=10'")
-    add("--script", action="store_true", help="write the script for sbatch, say how to start it, and run nothing")
-    add("--check", action="store_true", help="make each run once more, with --hosts on each of them, and compare what comes of it")
-    add("program", metavar="PROGRAM", nargs="*", help="what is run")
+        " time; default: the number of processors")  # fmt: skip
+    add("--hosts", type=hosts, default=(), metavar="H1,H2", help="hosts for GNU parallel, by ssh; they need this folder and the program at the same paths")
+    add("--sbatch", type=parted, default="", metavar="OPTIONS", help="more options of sbatch, as '--partition=short --time=10'")
+    add("--script", action="store_true", help="write the script for sbatch, print how to start it, and run nothing")
+    add("--check", action="store_true", help="make each run again, on each of --hosts if given, and compare the results")
+    add("program", metavar="PROGRAM", nargs="*", help="a program to run")
     options = parser.parse_args(words)
     if options.again is not None and table_record.without_aside(words):
         parser.error(f"--again takes the sweep from {options.again}, without {shlex.join(table_record.without_aside(words))}")

@@ -5,13 +5,14 @@ from __future__ import annotations
 import contextlib
 import re
 
+from .. import limits
 from ..files import named_content
 from ..framed.backtrace import frames, place, short, users_frames, written
 from ..framed.environment_calls import CHANGES, FUNCTIONS, GETS, NAMES, POP, PUSH, PUTS, REQUESTS, SEND, TAGSIZE, WRITE
 from ..framed.environment_calls import Call, Tracer, spelled
 from ..framed.replays import Replays, bytes_of
 from ..framed.session import Node, Session, floats_of, node_of, signed
-from ..limits import MOST_AREAS, MOST_BYTES, MOST_REQUESTS, MOST_SOURCE, MOST_STACK, MOST_TAG, MOST_TICKS
+from ..limits import MOST_SOURCE, MOST_STACK, MOST_TAG, MOST_TICKS
 from ..outputs.report import Report
 from ..program.code import ECALL, Code, float_name, source_lines
 from ..program.memory_need import size_text
@@ -334,20 +335,23 @@ class Why:
 
     def too_much(self, node: Node, superstep: int) -> list[str]:
         """Which limit of a superstep was met."""
+        is_large = limits.OPTION in self.replays.words
+        most = limits.of(is_large)
+        otherwise = "" if is_large else f"; a machine with {limits.OPTION} has higher limits"
         if node.x[17] == PUSH:
-            return [f"{MOST_AREAS} areas are registered, and {MOST_REQUESTS} pushes in a superstep are the most"]
+            return [f"{most.areas} areas are registered, and {most.requests} pushes in a superstep are the most{otherwise}"]
         if node.x[17] not in REQUESTS:
-            return [f"{MOST_BYTES} bytes in a superstep are the most, over puts, gets, messages and output"]
+            return [f"{most.superstep} bytes in a superstep are the most, over puts, gets, messages and output{otherwise}"]
         made = self.trace.calls_in(node.rank, (*REQUESTS, WRITE), superstep)
         asked = [it for it in made if it.number in REQUESTS]
-        if len(asked) > MOST_REQUESTS:
-            return [f"{MOST_REQUESTS} puts, gets and messages in a superstep are the most"]
+        if len(asked) > most.requests:
+            return [f"{most.requests} puts, gets and messages in a superstep are the most{otherwise}"]
         names = {SEND: "payload_nbytes", WRITE: "count"}
         # Without their tags.
         size = sum(it.operand(names.get(it.number, "nbytes")) for it in made)
         return [
-            f"{MOST_BYTES} bytes in a superstep are the most, over puts, gets, messages and output, and this makes"
-            f" {size}: part them by a bsp_sync"
+            f"{most.superstep} bytes in a superstep are the most, over puts, gets, messages and output, and this makes"
+            f" {size}: part them by a bsp_sync{otherwise}"
         ]
 
     def desync(self, ended: int, synced: int, superstep: int) -> list[str]:

@@ -16,6 +16,8 @@ from .profile import Reading, Superstep
 
 # Up to so many ranks each cell is a mark by itself; above, all of them are one image.
 MOST_MARKED = 64
+# Above this many ranks, neighbours share a row and a column, so that there are no more of these.
+MOST_ROWS = 256
 MOST_NAMED = 16
 # The shares of a picture's width that the matrix has, and the margin beside it.
 BODY, SIDE = 0.68, 0.16
@@ -63,19 +65,32 @@ def sums(supersteps: list[Superstep], reading: Reading) -> Sums:
     return Sums(sent, received, sum(it.h(reading) for it in supersteps))
 
 
+def in_groups(found: dict[tuple[int, int], int], size: int, reading: Reading) -> dict[tuple[int, int], int]:
+    """The bytes between groups of so many ranks. What a rank moved to itself has no part in them if it does not count in h."""
+    grouped: dict[tuple[int, int], int] = {}
+    for (rank, to), count in found.items():
+        if rank != to or reading is Reading.ALL:
+            pair = (rank // size, to // size)
+            grouped[pair] = grouped.get(pair, 0) + count
+    return grouped
+
+
 def draw(supersteps: list[Superstep], reading: Reading, title: str) -> Picture:
     """The matrix of these supersteps, taken together: a row for each rank that sent, a column for each that received."""
     nodes = len(supersteps[0].shares)
     found, margins = summed(supersteps), sums(supersteps, reading)
+    size = -(-nodes // MOST_ROWS)
+    if size > 1:
+        found = in_groups(found, size, reading)
     made = picture(min(2.15 + 0.34 * nodes, 7.55), title)
     parts = made.body.subgridspec(2, 2, width_ratios=[5, 1.3], height_ratios=[min(0.34 * nodes, 5.4), 1], wspace=0.02, hspace=0.02)
     axes = made.figure.add_subplot(parts[0, 0])
-    counted = [count for (rank, to), count in found.items() if rank != to or reading is Reading.ALL]
+    counted = [count for (rank, to), count in found.items() if rank != to or size > 1 or reading is Reading.ALL]
     shade = Normalize(0, float(max(counted, default=1)))
     if nodes <= MOST_MARKED:
         cells(made, axes, found, shade, reading, nodes)
     else:
-        image(axes, found, shade, reading, nodes)
+        image(axes, found, shade, reading, nodes, size)
     frame(axes, nodes)
     if not found:
         axes.text(nodes / 2 - 0.5, nodes / 2 - 0.5, "no bytes went from rank to rank", ha="center", va="center")
@@ -84,9 +99,10 @@ def draw(supersteps: list[Superstep], reading: Reading, title: str) -> Picture:
     margin(made, right, Kind.SENT, margins, reading)
     margin(made, below, Kind.RECEIVED, margins, reading)
     if counted:
-        bar = made.figure.colorbar(ScalarMappable(shade, SHADES), ax=[axes, right], label="bytes", pad=0.01, aspect=30)
+        label = "bytes" if size == 1 else f"bytes from {size} ranks to {size} ranks"
+        bar = made.figure.colorbar(ScalarMappable(shade, SHADES), ax=[axes, right], label=label, pad=0.01, aspect=30)
         whole_numbers(bar.ax, "y")
-    explain(made, margins, len(supersteps), reading, any(rank == to for rank, to in found))
+    explain(made, margins, len(supersteps), reading, size == 1 and any(rank == to for rank, to in found))
     return made
 
 
@@ -95,7 +111,8 @@ def frame(axes: Axes, nodes: int) -> None:
     axes.set_xlim(-0.5, nodes - 0.5)
     axes.set_ylim(nodes - 0.5, -0.5)
     step = 1 if nodes <= 32 else nodes // 16
-    axes.set_xticks(range(0, nodes, step))
+    # Numbers of five digits have no room for one another below them.
+    axes.set_xticks(range(0, nodes, 2 * step if nodes > 10_000 else step))
     axes.set_yticks(range(0, nodes, step))
     axes.tick_params(top=True, labeltop=True, bottom=False, labelbottom=False)
     axes.spines[:].set_visible(True)
@@ -119,26 +136,32 @@ def cells(made: Picture, axes: Axes, found: dict[tuple[int, int], int], shade: N
             axes.text(to, rank, thousands(count), fontsize=size, color=color, ha="center", va="center", bbox=box)
 
 
-def image(axes: Axes, found: dict[tuple[int, int], int], shade: Normalize, reading: Reading, nodes: int) -> None:
-    """All cells as one image, in which nothing stands where nothing went. Those that do not count in h are grey."""
-    apart = {(rank, to) for rank, to in found if rank == to and reading is Reading.OTHERS}
-    nothing = float("nan")
-    values = [[nothing if (rank, to) in apart else float(found.get((rank, to), nothing)) for to in range(nodes)] for rank in range(nodes)]
-    axes.imshow(values, cmap=SHADES, norm=shade, interpolation="none", aspect="auto")
+def image(axes: Axes, found: dict[tuple[int, int], int], shade: Normalize, reading: Reading, nodes: int, size: int) -> None:
+    """All cells as one image, with a row and a column for so many ranks. A cell is empty if no bytes went. Those that do not count in h are
+    grey."""
+    apart = {(rank, to) for rank, to in found if rank == to and size == 1 and reading is Reading.OTHERS}
+    nothing, rows = float("nan"), -(-nodes // size)
+    values = [[nothing if (rank, to) in apart else float(found.get((rank, to), nothing)) for to in range(rows)] for rank in range(rows)]
+    end = rows * size - 0.5
+    axes.imshow(values, cmap=SHADES, norm=shade, interpolation="none", aspect="auto", extent=(-0.5, end, end, -0.5))
     if apart:
         values = [[1.0 if (rank, to) in apart else nothing for to in range(nodes)] for rank in range(nodes)]
         axes.imshow(values, cmap=ListedColormap([APART]), interpolation="none", aspect="auto")
 
 
 def margin(made: Picture, axes: Axes, kind: Kind, margins: Sums, reading: Reading) -> None:
-    """A bar for each rank's sum, beside its row or below its column; the greatest of both margins are marked."""
+    """A bar for each rank's sum, beside its row or below its column; the greatest of both margins are marked. Ranks that share a row have a
+    bar for the greatest of their sums."""
     is_right, counts = kind is Kind.SENT, margins.sent if kind is Kind.SENT else margins.received
-    for rank, count in enumerate(counts):
-        size = float(count)
-        place = (0, rank - 0.4, size, 0.8) if is_right else (rank - 0.4, 0, 0.8, size)
+    group = -(-len(counts) // MOST_ROWS)
+    for first in range(0, len(counts), group):
+        count, rank = max((it, -rank) for rank, it in enumerate(counts[first : first + group], first))
+        size, wide = float(count), group if group > 1 else 0.8
+        side = first - wide / 2 if group == 1 else first - 0.5
+        place = (0, side, size, wide) if is_right else (side, 0, wide, size)
         if count:
             bar = axes.add_patch(Rectangle(place[:2], *place[2:], facecolor=EXCHANGE if count == margins.most else SUMS, linewidth=0))
-            made.mark(bar, f"{kind.value}-{rank}", f"rank {rank} {kind.value} {count} bytes{whom(kind, reading)}")
+            made.mark(bar, f"{kind.value}-{-rank}", f"rank {-rank} {kind.value} {count} bytes{whom(kind, reading)}")
     most, texts = float(max(margins.most, 1)), [thousands(it) if it else "" for it in counts]
     # The numbers stand behind the ends of the bars, in a part of the margin that is kept for them.
     room = max(map(width, texts)) / SIDE if is_right else 0.3

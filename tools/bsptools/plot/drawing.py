@@ -71,7 +71,7 @@ class Plan:
     def timeline(self) -> Picture:
         """The timeline."""
         profile = self.source.profile
-        most = min(MOST_SUPERSTEPS, max(MOST_BARS // (2 * profile.nodes), 1)) if profile else 1
+        most = min(MOST_SUPERSTEPS, max(MOST_BARS // timeline.bars(profile.nodes), 1)) if profile else 1
         return timeline.draw(self.supersteps(most), self.prices, self.options.h, self.title, self.source.is_apart)
 
     def matrix(self) -> Picture:

@@ -9,10 +9,10 @@ from collections.abc import Callable, Iterator, Sequence
 from dataclasses import dataclass, field
 from typing import NamedTuple
 
-from .. import emulator
+from .. import emulator, limits
 from ..framed.replays import Replays, bytes_of
 from ..framed.session import Node, Session
-from ..limits import MOST_MEMORY, MOST_POINTS, MOST_TICKS
+from ..limits import MOST_POINTS, MOST_TICKS
 from ..outputs import contested_bytes, output_records, report
 from ..outputs.output_demux import OUTPUT, Marks
 from ..outputs.written_files import Files
@@ -114,7 +114,8 @@ class Trials:
     def __init__(self, subject: Subject, content: bytes, code: Code, ticks: int) -> None:
         self.subject, self.content, self.code, self.ticks = subject, content, code, ticks
         # The program has as much memory behind its variables as it has as it is, but where a node has not so much.
-        self.memory = min(subject.options.memory + max(code.need - subject.code.need, 0), MOST_MEMORY - ROOM)
+        self.most_memory = limits.of(subject.options.large).memory
+        self.memory = min(subject.options.memory + max(code.need - subject.code.need, 0), self.most_memory - ROOM)
         self.room = ROOM if code.need <= self.memory else 0
         self.known: dict[Choices, Ending] = {}
         self.contested: dict[Choices, contested_bytes.Found] = {}
@@ -137,7 +138,7 @@ class Trials:
         content = image_with(self.content, self.with_memory(choices))
         image.write_bytes(with_log(content, self.subject.log_mark, bool(self.subject.mark)) if choices.is_logged else content)
         settings = [str(image), *self.subject.settings[1:]]
-        settings[settings.index("--memory") + 1] = str(min(self.subject.options.memory + self.room, MOST_MEMORY))
+        settings[settings.index("--memory") + 1] = str(min(self.subject.options.memory + self.room, self.most_memory))
         settings[settings.index("--limit") + 1] = str(self.limit)
         return settings
 

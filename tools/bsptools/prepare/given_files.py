@@ -5,31 +5,37 @@ from __future__ import annotations
 import argparse
 import os
 
+from .. import limits
 from ..files import content_of
-from ..limits import MOST_INPUT
 from ..refusals import Refused, about
 
-TOO_LONG = f"input, arguments and files have more than {MOST_INPUT} bytes"
 # Of a folder that is given.
 MOST_FILES = 1000
 
 
 def given_files(options: argparse.Namespace) -> list[tuple[bytes, bytes]]:
     """Files, each with its name. Those behind what fills an input are not read. Words of ARGS that are files are given as they stand."""
+    most = limits.of(options.large).given
     names = list(dict.fromkeys([*options.file, *(it for folder in options.files for it in files_of(folder)), *options.found]))
     found, size = [], 0
     for name in names:
-        content = content_of(name, MOST_INPUT)
+        content = content_of(name, most)
         size += len(content)
-        if size > MOST_INPUT:
-            raise Refused(TOO_LONG)
+        expect_fits(size, most)
         found.append((os.fsencode(name), content))
     for word in dict.fromkeys(options.args):
-        if word not in names and os.path.isfile(word) and size + os.path.getsize(word) <= MOST_INPUT:
-            content = content_of(word, MOST_INPUT)
+        if word not in names and os.path.isfile(word) and size + os.path.getsize(word) <= most:
+            content = content_of(word, most)
             size += len(content)
             found.append((os.fsencode(word), content))
     return found
+
+
+def expect_fits(size: int, most: int) -> None:
+    """Refuses an input that is too long, with what stands in front of it."""
+    if size > most:
+        more = f"; with {limits.OPTION} they may have {limits.LARGE.given}" if most < limits.LARGE.given else ""
+        raise Refused(f"input, arguments and files have more than {most} bytes{more}")
 
 
 def given_names(options: argparse.Namespace) -> list[str]:

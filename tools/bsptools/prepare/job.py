@@ -10,9 +10,9 @@ import sys
 from collections.abc import Callable
 from typing import TYPE_CHECKING, NamedTuple
 
-from .. import emulator
+from .. import emulator, limits
 from ..files import content_of, is_here, is_text
-from ..limits import MOST_INPUT, MOST_PROGRAM, NODES
+from ..limits import NODES
 from ..options import Parser
 from ..outputs import output_records
 from ..outputs.output_demux import marked
@@ -22,7 +22,7 @@ from ..refusals import Refused, about, tell
 from .argument_block import MAGIC, block
 from .clock_rate import with_clock_rate
 from .compilation import compiled, looks, manner, take_sources
-from .given_files import TOO_LONG, given_files
+from .given_files import expect_fits, given_files
 
 if TYPE_CHECKING:
     from ..framed.replays import Replays
@@ -96,7 +96,7 @@ def prepared(
 ) -> Job:
     """Finds out for a tool what the program is, and makes all files that its run wants. A job that is marked writes standard error apart.
     What goes beside the compiler begins as the sources of a program in C are known."""
-    content = content_of(options.program, MOST_PROGRAM)
+    content = content_of(options.program, limits.of(options.large).program)
     kind = options.format or kind_of(pathlib.Path(options.program), content)
     emulate = [options.bspemu or emulator.emulator()]
     image = pathlib.Path(os.path.abspath(options.program))
@@ -113,7 +113,7 @@ def prepared(
         said = compiled(options, image, *manner(options, tool))
         options.is_warned = bool(said)
         tell(said)
-        content, kind = content_of(image, MOST_PROGRAM), "elf"
+        content, kind = content_of(image, limits.of(options.large).program), "elf"
     elif kind == "elf" and elf.misfit(content):
         raise Refused(f"{options.program} {elf.misfit(content)}")
     elif getattr(options, "portable", False) or getattr(options, "order", None) is not None:
@@ -127,6 +127,7 @@ def prepared(
     else:
         code = read_elf(content)
     code.is_float |= options.float
+    memory_need.fit(code, options)
     memory_need.expect_room(code, options)
     given = given_input(options, content, tool)
     is_typed, bare = options.input is None and bool(given), given
@@ -146,6 +147,9 @@ def prepared(
     settings += ["--limit", str(options.limit), "--clock", "--g", str(options.g), "--l", str(options.l)]
     if code.is_float:
         settings.append("--float")
+    options.large |= limits.are_passed(options.nodes, options.memory)
+    if options.large:
+        settings.append(limits.OPTION)
     if given is not None:
         with about(folder / "input"):
             (folder / "input").write_bytes(given)
@@ -167,8 +171,8 @@ def expect_choices(name: str, content: bytes) -> None:
 def given_input(options: argparse.Namespace, content: bytes, tool: str) -> bytes | None:
     """The input, where there is any. What is typed to bspgdb is for gdb."""
     if options.input is not None:
-        return content_of(options.input, MOST_INPUT)
-    return standard_input(options.program, content) if tool == "bsprun" else None
+        return content_of(options.input, limits.of(options.large).given)
+    return standard_input(options.program, content, limits.of(options.large).given) if tool == "bsprun" else None
 
 
 def with_block(options: argparse.Namespace, content: bytes, given: bytes | None) -> bytes | None:
@@ -178,12 +182,11 @@ def with_block(options: argparse.Namespace, content: bytes, given: bytes | None)
             raise Refused(f"{options.program} takes neither arguments nor files: it was not built by this bspcc")
         words = [os.fsencode(word) for word in [options.argv0 or options.program, *options.args]]
         given = block(words, given_files(options)) + (given or b"")
-    if given is not None and len(given) > MOST_INPUT:
-        raise Refused(TOO_LONG)
+    expect_fits(len(given or b""), limits.of(options.large).given)
     return given
 
 
-def standard_input(name: str, content: bytes) -> bytes | None:
+def standard_input(name: str, content: bytes, most: int) -> bytes | None:
     """What standard input has for a program, which is left alone where the program links no function that reads. At a terminal it is typed;
     what may be another's than a program of bspcc gets nothing there."""
     names = elf.names(content) if MAGIC in content else set()
@@ -193,7 +196,7 @@ def standard_input(name: str, content: bytes) -> bytes | None:
         return None
     if is_typed:
         tell([f"bsprun: {name} reads its input: type it, and then Ctrl-D at the beginning of a line"])
-    return sys.stdin.buffer.read(MOST_INPUT + 1)
+    return sys.stdin.buffer.read(most + 1)
 
 
 def words_of(job: Job, parser: Parser) -> list[str]:
@@ -207,7 +210,7 @@ def words_of(job: Job, parser: Parser) -> list[str]:
         words += [name, str(value)] if value != parser.get_default(name.strip("-")) else []
     words += [it for name in [*options.file, *options.found] for it in ("--file", name)]
     words += [it for name in options.files for it in ("--files", name)]
-    words += [*(["--float"] if options.float else []), *looks(options), *(options.compiled or [])]
+    words += [*([limits.OPTION] if options.large else []), *(["--float"] if options.float else []), *looks(options), *(options.compiled or [])]
     return [*words, options.program, *options.sources[1:], *options.args]
 
 

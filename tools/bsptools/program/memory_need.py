@@ -4,14 +4,14 @@ from __future__ import annotations
 
 import argparse
 
-from ..limits import MOST_MEMORY, PAGE
+from ..limits import MEMORY, MOST_MEMORY, PAGE
 from ..refusals import Refused
 from .code import Code
 
 MOST_NAMED = 5
 # Smaller variables are not what a program is too large for.
 LEAST_NAMED = 1 << 12
-SUFFIXES = ((1 << 20, "M"), (1 << 10, "K"))
+SUFFIXES = ((1 << 30, "G"), (1 << 20, "M"), (1 << 10, "K"))
 
 
 def size_text(size: int) -> str:
@@ -24,6 +24,12 @@ def largest(code: Code) -> str:
     sizes = sorted(((size, name) for _, size, name in code.know_names().variables if size >= LEAST_NAMED), reverse=True)
     more = ", .." if len(sizes) > MOST_NAMED else ""
     return ", ".join(f"{name} of {size} bytes" for size, name in sizes[:MOST_NAMED]) + more
+
+
+def fit(code: Code, options: argparse.Namespace) -> None:
+    """Gives nodes more memory than by default if a program's variables need it: a power of two, of which a fifth is left for its heap."""
+    if MEMORY == options.memory < code.need:
+        options.memory = min(1 << (code.need * 5 // 4 - 1).bit_length(), MOST_MEMORY)
 
 
 def expect_room(code: Code, options: argparse.Namespace) -> None:

@@ -4,11 +4,13 @@ from __future__ import annotations
 
 from typing import NamedTuple
 
+from .. import limits
 from ..counts.printing import Printing
 from ..diagnosis.superstep_ends import ends
 from ..limits import RATE
 from ..outputs import report
 from ..prepare.job import Job
+from ..program.memory_need import size_text
 from ..refusals import counted
 
 DEAREST = 5
@@ -52,7 +54,8 @@ def lines(job: Job, found: report.Report, printed: Printing | None = None) -> li
     texts["w"] = work_text(sum(it.w for it in made), made, is_apart)
     costs = ", ".join(f"{name} {text}" for name, text in texts.items())
     begin = f"bsprun: {counted(len(found.supersteps), 'superstep')}, {costs} in all"
-    told = [f"{begin}, total {total if is_apart else found.total}; {found.outcome}"]
+    large = f", on a large machine ({limits.OPTION}) with {size_text(job.options.memory)} a node" if job.options.large else ""
+    told = [f"{begin}, total {total if is_apart else found.total}; {found.outcome}{large}"]
     if job.options.rate != RATE:
         told.append(f"  {found.total / job.options.rate:.6g} s, at {job.options.rate:,.10g} instructions a second")
     for it in made[:DEAREST]:

@@ -9,7 +9,7 @@ import pathlib
 import shlex
 from typing import Any, Dict, NamedTuple
 
-from .. import sealed_results
+from .. import limits, sealed_results
 from ..emulator import proved_program
 from ..files import content_of, own_content, put
 from ..limits import MOST_INPUT, MOST_PROGRAM
@@ -86,7 +86,8 @@ class Store:
         """
         options, image = self.options, str(run.program.image)
         words = ["--nodes", str(run.nodes), "--memory", str(options.memory), "--limit", str(options.limit)]
-        words += ["--format", run.program.kind, *(["--float"] if options.float else [])]
+        is_large = options.large or limits.are_passed(run.nodes, options.memory)
+        words += ["--format", run.program.kind, *(["--float"] if options.float else []), *([limits.OPTION] if is_large else [])]
         programs, given = [self.emulator, image], [*filter(None, [run.given]), *options.file]
         rests = [*programs, *given]
         digests = [self.digest_of(it, MOST_PROGRAM) for it in programs] + [self.digest_of(it, MOST_INPUT) for it in given]

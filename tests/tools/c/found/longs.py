@@ -250,7 +250,8 @@ class Longs:
             self.write(name, evil)
         self.build("-o", "base.elf", "-Ideep", "-I", TAKEN_AWAY[0], "-I", "x" * len(evil), f"-D{'y' * (len(ASKS) - 2)}", "main.c", "work.c")
         content = (self.folder / "base.elf").read_bytes()
-        behind = content.replace(*map(str.encode, TAKEN_AWAY)).replace(b"x" * len(evil), evil.encode())
+        away, instead = TAKEN_AWAY
+        behind = content.replace(away.encode(), instead.encode()).replace(b"x" * len(evil), evil.encode())
         beside = content.replace(f"-D{'y' * (len(ASKS) - 2)}".encode(), ASKS.encode())
         for what, image in {"behind an option that is taken away": behind, "in a file": beside}.items():
             (self.folder / "evil.elf").write_bytes(image)

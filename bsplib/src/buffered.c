@@ -1,4 +1,4 @@
-/* Streams over files, in the place of picolibc's. There an error of a stream is not told, and a byte above 127 is one; the place after
+/* Streams over files, instead of picolibc's. There an error of a stream is not told, and a byte above 127 is one; the place after
    ungetc and after a seek in a file that is added to is a wrong one. */
 #include <errno.h>
 #include <fcntl.h>

@@ -1,4 +1,4 @@
-/* Streams over memory of the program, in the place of picolibc's. There a stream that is added to begins anew, and what does not fit is no
+/* Streams over memory of the program, instead of picolibc's. There a stream that is added to begins anew, and what does not fit is no
    error. */
 #include <errno.h>
 #include <stdio.h>

@@ -1,4 +1,4 @@
-/* getopt and getopt_long, in the place of picolibc's. There optopt is what was answered, a word of a dash alone is an option, and optind
+/* getopt and getopt_long, instead of picolibc's. There optopt is what was answered, a word of a dash alone is an option, and optind
    passes words that are no options. Words are put behind options as glibc does it. All of it is weak, since a program may have functions of
    these names. */
 #include <getopt.h>

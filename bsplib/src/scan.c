@@ -1,4 +1,4 @@
-/* vfscanf, below scanf and all that are like it, and strtod, in the place of picolibc's. A number with a point is the nearest one to all
+/* vfscanf, below scanf and all that are like it, and strtod, instead of picolibc's. A number with a point is the nearest one to all
    of its digits. */
 #include <errno.h>
 #include <stdarg.h>

@@ -12,3 +12,8 @@ A word at the end of 2^31 bytes is stored and read, and none past it.
   >     lw    t1, 4(t0)         # past the memory
   > END
   $ bspemu run program.s --format asm --memory 2147483648 --report --ledger 1 --large
+  ok
+  superstep 0: w 11 h 0 last
+  total 11
+  rank 0 stopped: fault LoadOutside
+  [2]

@@ -22,3 +22,8 @@ The gets of a node of a large machine have at most 2^30 bytes in a superstep.
   >     ecall                   # get(0, 0, 0, 0, 1)
   > END
   $ bspemu run program.s --format asm --memory 2147483648 --report --ledger 1 --large
+  superstep 0: w 7 h 0 turned
+  superstep 1: w 13 h 0 last
+  total 20
+  rank 0 stopped: fault TooMuch
+  [2]

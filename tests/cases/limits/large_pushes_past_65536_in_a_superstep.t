@@ -16,3 +16,6 @@ A node of a large machine may make more than 65,536 pushes in a superstep.
   >     ecall
   > END
   $ bspemu run program.s --format asm --report --ledger 1 --large
+  superstep 0: w 393228 h 0 last
+  total 393228
+  ended

@@ -25,3 +25,8 @@ A node of a large machine may make more than 65,536 puts in a superstep.
   >     ecall
   > END
   $ bspemu run program.s --format asm --report --ledger 1 --large
+  superstep 0: w 6 h 0 turned
+  superstep 1: w 196621 h 65537 turned
+  superstep 2: w 2 h 0 last
+  total 262166
+  ended

@@ -16,3 +16,8 @@ A node of a large machine has at most 65,536 areas.
   >     ecall
   > END
   $ bspemu run program.s --format asm --report --ledger 1 --large
+  superstep 0: w 196615 h 0 turned
+  superstep 1: w 2 h 0 last
+  total 196617
+  rank 0 stopped: fault TooMuch
+  [2]

@@ -18,3 +18,6 @@ A large machine may have 65,536 nodes, the last of which is rank 65,535.
   > END
   $ bspemu run program.s --format asm --nodes 65536 --memory 4096 --large --report
   last
+  superstep 0: w 12 h 0 m 0 last
+  total 12
+  ended

@@ -10,7 +10,7 @@ import pathlib
 import re
 from collections.abc import Sequence
 
-from ..limits import MOST_MEMORY, WORKERS
+from ..limits import WORKERS
 from ..prepare.job import Job
 from ..prepare.library_choices import EARLY, EVERYWHERE, LATE, MOST_CUTS, NUMBERED, REVERSED, SHUFFLED, WORD, Choices, Cut, Point, image_with
 from ..program.code import read_elf
@@ -78,7 +78,7 @@ def with_order(job: Job, folder: pathlib.Path) -> Job:
     if turned:
         choices = choices._replace(cuts=tuple(cuts_of(trials, choices, turned)[:MOST_CUTS]))
     whole = job._replace(content=image_with(job.content, trials.with_memory(choices)))
-    memory = min(job.options.memory + trials.room, MOST_MEMORY)
+    memory = min(job.options.memory + trials.room, trials.most_memory)
     job.settings[job.settings.index("--memory") + 1] = str(memory)
     if job.mark:
         whole.set(0, getattr(job.options, "fill", None))

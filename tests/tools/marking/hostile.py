@@ -37,6 +37,9 @@ int main(void)
 INCBIN = '__asm__(".section .rodata\\n.global stolen\\nstolen: .incbin \\"%s\\"\\n.byte 0\\n.text");\nextern const char stolen[];'
 SECTION = '__attribute__((section(".note\\n.incbin \\"%s\\"\\n#"))) int stolen;'
 MACRO = '__asm__(".macro take how\\n.\\\\how\\\\()bin \\"%s\\"\\n.endm\\ntake inc");'
+# A mark of the library, as it stands in front of standard error and of records, with a number behind it that leads back to it.
+MARKED = "extern struct { char front[16], mark[16]; } bsp_settings;"
+BACK = "int back = -20; fwrite(bsp_settings.mark, 1, 16, stdout); fwrite(&back, sizeof back, 1, stdout);"
 # What is printed in each form of the marks, where it would be more than a text.
 WILD = "<script>document.title='taken'</script>&amp;\\\"'=1+1\\x1b[31m\\x01]]>"
 
@@ -66,6 +69,7 @@ def programs(secret: str, sheet: str) -> Dict[str, Tuple[str, str, str]]:
         "syncs.c": (PROGRAM % ("", "for (;;) bsp_sync();"), "endless", "is it an endless loop?"),
         "sends.c": (PROGRAM % ("static char x[1 << 16];", "for (;;) bsp_send(0, NULL, x, sizeof x);"), "stopped", "bytes in a superstep"),
         "=1+1.c": (PROGRAM % ("", 'puts("=1+1");'), "wrong output", "line 1 of the output is `=1+1`"),
+        "marks.c": (PROGRAM % (MARKED, BACK), "wrong output", "line 1 of the output is"),
         "report.c": (PROGRAM % ("", 'puts("superstep 0: w 1 h 0 m 0 last\\ntotal 1\\nended");'), "wrong output", "line 1 of the output is"),
     }
 

@@ -18,6 +18,8 @@ MARK_BYTES = 16
 OUTPUT, ERROR = 0, ord("e")
 FRONT = struct.Struct(f"<i{MARK_BYTES}s")
 COUNT = struct.Struct("<i")
+# Of what stands behind a mark, in bytes: more than the library writes there. A program can print its mark with any number behind it.
+MOST_MARKED = 1 << 16
 BEGIN = b"superstep 0: w "
 
 
@@ -69,8 +71,14 @@ class Marks:
         rest, start = self.rest + content, 0
         while (at := rest.find(self.mark, start)) >= 0:
             begin = at + MARK_BYTES + COUNT.size
-            end = begin + COUNT.unpack_from(rest, begin - COUNT.size)[0] if begin <= len(rest) else begin
-            if end > len(rest) or begin > len(rest):
+            if begin > len(rest):
+                break
+            end = begin + COUNT.unpack_from(rest, begin - COUNT.size)[0]
+            if not begin <= end <= begin + MOST_MARKED:
+                yield OUTPUT, rest[start:begin]
+                start = begin
+                continue
+            if end > len(rest):
                 break
             yield OUTPUT, rest[start:at]
             yield rest[at + MARK_BYTES - 1], rest[begin:end]

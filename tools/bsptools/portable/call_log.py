@@ -27,6 +27,8 @@ KINDS = {
 }  # fmt: skip
 _CALL = struct.Struct("<IIiIIiiI")
 _WORDS, _PID = _CALL.size // 4, 2
+# What stands in front of the calls of a record.
+SUPERSTEP_BYTES = 4
 
 
 class Logged(NamedTuple):
@@ -129,15 +131,18 @@ class Superstep:
                         yield Transfer(it.rank, number, KINDS[it.number], read, self.written(it)), it
 
 
-def supersteps(content: bytes, mark: bytes) -> List[Superstep]:
-    """The supersteps of a run up to the last that has a call, by what the run wrote."""
+def supersteps(content: bytes, mark: bytes, last: int) -> List[Superstep]:
+    """The supersteps of a run up to the last that has a call, by what the run wrote, and by the number of its last one. A program can print
+    what looks like a record: one that has no whole calls, or that is of a later superstep, is left out."""
     found: List[Superstep] = []
     for kind, piece in Marks(mark).take(content):
         record = record_of(kind, piece) if kind == CALLS else None
-        if record is not None:
-            superstep = int.from_bytes(record.content[:4], "little")
+        if record is None or len(record.content) % _CALL.size != SUPERSTEP_BYTES:
+            continue
+        superstep = int.from_bytes(record.content[:SUPERSTEP_BYTES], "little")
+        if superstep <= last:
             found += [Superstep() for _ in range(len(found), superstep + 1)]
-            found[superstep].records.setdefault(record.rank, bytearray()).extend(record.content[4:])
+            found[superstep].records.setdefault(record.rank, bytearray()).extend(record.content[SUPERSTEP_BYTES:])
     _register(found)
     return found
 

@@ -49,24 +49,29 @@ def choices_of(text: str) -> tuple[Choices, list[int]]:
     for part in body.split("+"):
         what, _, how = part.partition(":")
         name, _, number = how.partition(":")
-        if what == "messages" and name in ORDERS and (not number if name == "reversed" else number.isdecimal()):
+        if what == "messages" and name in ORDERS and (not number if name == "reversed" else is_number(number)):
             choices = choices._replace(order=ORDERS[name], seed=int(number or 0) & WORD)
         elif part in ("unbuffered:early", "unbuffered:late"):
             choices = choices._replace(unbuffered=EARLY if how == "early" else LATE)
-        elif what in ("malloc", "memory", "queue") and re.fullmatch(r"0x[0-9a-fA-F]{1,2}|\d{1,3}", how) and 1 <= int(how, 0) <= 255:
+        elif what in ("malloc", "memory", "queue") and re.fullmatch("0x[0-9a-fA-F]{1,2}|[1-9][0-9]{0,2}", how) and 1 <= int(how, 0) <= 255:
             byte = int(how, 0)
             heap, stack = (byte if what != "queue" else choices.heap), (byte if what == "memory" else choices.stack)
             choices = choices._replace(heap=heap, stack=stack, queue=byte if what == "queue" else choices.queue)
-        elif what == "puts" and (how == "reversed" or (how.isdecimal() and int(how) > 0)):
+        elif what == "puts" and (how == "reversed" or (is_number(how) and int(how) > 0)):
             turned.append(ALL if how == "reversed" else int(how))
         else:
             raise Refused(f"--order takes {FORMS}; {part!r} is none of these")
     if at:
         numbers = point.split("/")
-        if len(numbers) != 3 or not all(it.isdecimal() for it in numbers):
+        if len(numbers) != 3 or not all(map(is_number, numbers)):
             raise Refused(f"--order has behind @ a superstep, a rank and a number, as @1/0/2, and not {point!r}")
         choices = choices._replace(until=Point(*(int(it) & WORD for it in numbers)))
     return choices, turned
+
+
+def is_number(text: str) -> bool:
+    """Whether a text has the digits of a number, and not too many."""
+    return re.fullmatch("[0-9]{1,19}", text) is not None
 
 
 def with_order(job: Job, folder: pathlib.Path) -> Job:

@@ -179,7 +179,8 @@ class Trials:
     def log(self, choices: Choices) -> list[Superstep]:
         """The calls of a run."""
         done = emulator.run(self._command(choices._replace(is_logged=True), None))
-        return supersteps(done.stdout, self.subject.log_mark)
+        found = report.brief(done.stdout)
+        return supersteps(done.stdout, self.subject.log_mark, found.last if found is not None else -1)
 
     def replays(self, choices: Choices) -> Replays:
         """The same run in the debugger, up to the next one that is asked for."""

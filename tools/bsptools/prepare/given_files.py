@@ -44,8 +44,8 @@ def given_names(options: argparse.Namespace) -> list[str]:
 
 
 def files_read(options: argparse.Namespace) -> list[str]:
-    """All files that a run reads: the program, with more sources of it, its input, and what it is given."""
-    names = [options.program, *filter(None, [options.input]), *options.file, *filter(os.path.isfile, options.args)]
+    """All files that a run reads: the program, with more sources of it, its input, accepted pairs of lines, and what it is given."""
+    names = [options.program, *filter(None, [options.input, options.accept]), *options.file, *filter(os.path.isfile, options.args)]
     return [*names, *(it for folder in options.files for it in files_of(folder))]
 
 
@@ -60,5 +60,5 @@ def files_of(folder: str) -> list[str]:
 
 def outputs_of(options: argparse.Namespace) -> list[str]:
     """The files that bsprun itself writes by these options. A program is not to forge them."""
-    found = [options.report, options.profile, *(path for _, path in options.lines_as)]
+    found = [options.report, options.profile, options.accept_all, *(path for _, path in options.lines_as)]
     return [it for it in found if it is not None and it != "-"]

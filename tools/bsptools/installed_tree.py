@@ -62,9 +62,24 @@ class Tree:
             if not is_below:
                 raise Refused(f"{self.root / self.record} names {name}, which is not below {self.root}: take that line out of it")
             if folder not in known:
+                self._expect_own(folder)
                 known[folder] = os.path.commonpath([top, os.path.realpath(self.root / folder)]) == top
             if not known[folder]:
                 raise Refused(f"{self.root / folder} leads out of {self.root} by a link: put a folder there, or name another prefix")
+
+    def _expect_own(self, folder: str) -> None:
+        """Refuses a folder of another user or where all may write, from the prefix on: after a look at it, a link could take its place."""
+        for it in (folder, *map(str, pathlib.PurePath(folder).parents)):
+            path = os.path.normpath(self.root / it)
+            try:
+                found = os.stat(path)
+            except (FileNotFoundError, NotADirectoryError):
+                continue
+            # Root may write anywhere. A group that may write into a prefix, as Debian's staff, is trusted.
+            if found.st_uid not in (0, os.geteuid()):
+                raise Refused(f"{path} belongs to another user: do this as its owner, or name a folder of yours by --prefix")
+            if found.st_mode & stat.S_IWOTH:
+                raise Refused(f"{path} is a folder where all users may write: take that right away, or name a folder of yours by --prefix")
 
     def expect_room(self, names: Iterable[str]) -> None:
         """Refuses to write over a file that is there and is not recorded, and over a folder."""

@@ -1,5 +1,5 @@
-/* Functions that print a text, which are given NULL where a program takes a text for granted: of bspcc --check, where the linker puts each
-   of these in the place of the function whose name it has behind __wrap_. Without it there is no test, and what stands at address 0 is
+/* Functions that print a text, which are given NULL where a program takes a text for granted: of bspcc --check, where the linker takes each
+   of these instead of the function whose name it has after __wrap_. Without it there is no test, and what stands at address 0 is
    printed. */
 #include <stdio.h>
 

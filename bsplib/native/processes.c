@@ -26,11 +26,16 @@
 /* Each box has its room from the beginning; of this, the host takes the memory that was written. */
 #define MOST_MAPPED ((size_t)1 << 42)
 enum { MOST_RANKS = 256, LEAST_BOX = 1 << 16, SPINS = 1500, LINE = 64 };
+/* For how many milliseconds rank 0 may go on to write output that nobody takes, once another rank was stopped. */
+enum { MOST_WAITS = 2000 };
+/* Who writes the output of all ranks. */
+enum { NOBODY, RANK_0, FIRST_PROCESS };
 
 struct meeting_place {
     _Alignas(LINE) atomic_uint arrived;
     _Alignas(LINE) atomic_uint turn;
     atomic_uint sleepers;
+    atomic_int writer;
     _Alignas(LINE) int ranks;
     _Alignas(LINE) struct notice notices[2][MOST_RANKS];
     size_t used[2][MOST_RANKS][MOST_RANKS];
@@ -100,8 +105,12 @@ void *transport_append(int to, size_t size)
     return append(&box[to], box_at(parity, transport_rank, to), size);
 }
 
+/* Rank 0 writes nothing more once the first process has begun to: that ends it then. */
 static void show_output(void)
 {
+    int nobody = NOBODY;
+    if (!atomic_compare_exchange_strong(&place->writer, &nobody, RANK_0))
+        return;
     for (int rank = 0; rank < transport_ranks; rank++) {
         int64_t end = place->notices[parity][rank].output;
         if (end <= place->shown[rank])
@@ -111,6 +120,7 @@ static void show_output(void)
         fallocate(files[rank], FALLOC_FL_PUNCH_HOLE | FALLOC_FL_KEEP_SIZE, 0, end);
         place->shown[rank] = end;
     }
+    atomic_store(&place->writer, NOBODY);
 }
 
 /* After it the notices and boxes of the others are those of `parity`, and this rank fills those of the other one from the next call of
@@ -240,8 +250,20 @@ static void begin_rank(int rank, pid_t parent)
 
 /* The first process, once the ranks are there. */
 
+/* Rank 0 is not ended in the middle of writing, since nobody would know how much of it was written. */
+static void become_writer(void)
+{
+    for (int waits = 0; waits < MOST_WAITS && processes[0] > 0; waits++) {
+        int writer = NOBODY;
+        if (atomic_compare_exchange_strong(&place->writer, &writer, FIRST_PROCESS) || writer == FIRST_PROCESS)
+            return;
+        usleep(1000);
+    }
+}
+
 static void end_others(void)
 {
+    become_writer();
     for (int rank = 0; rank < started; rank++)
         if (processes[rank] > 0)
             kill(processes[rank], SIGKILL);

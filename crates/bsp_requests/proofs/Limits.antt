@@ -1,5 +1,5 @@
 -- The limits of a superstep are at most those of a large machine.
-use Rattle.std.proofs.Common.{ℕ, ◌≤◌, ◌^◌, Bool, true, false, arith}
+use Rattle.std.proofs.Common.{◌≤◌, ◌^◌, Bool, true, false, arith}
 use Rattle.bsp_requests.specs.Requests.{max_requests, max_bytes}
 
 pub most_requests : (large : Bool) → max_requests large ≤ 2 ^ 24

@@ -1,6 +1,6 @@
 //! The requests and the output of one node in one superstep, and their limits.
 
-ghost use Rattle.std.specs.Prelude.{◌≡◌, ◌^◌, ◌≤◌, ◌↔◌, length, map, IsTrue, IsErrOf, IfOk, OnOk, OnErr, option_map, option_copied, slice_get};
+ghost use Rattle.std.specs.Prelude.{◌≡◌, ◌≤◌, ◌↔◌, length, map, IsTrue, IsErrOf, IfOk, OnOk, OnErr, option_map, option_copied, slice_get};
 ghost use Rattle.bsp_requests.specs.Request.{asked, asks_put, asks_get, asks_send};
 ghost use Rattle.bsp_requests.specs.Requests.{IsIssued, no_requests, with_output, total_bytes, max_requests, max_bytes, are_too_many};
 ghost use Rattle.bsp_requests.specs.Requests.{is_full_for};

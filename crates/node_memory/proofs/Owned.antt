@@ -1,6 +1,6 @@
 -- Which pages are private, as a list of flags.
 use Rattle.std.proofs.Common.{◌≡◌, ℕ, ◌+◌, ◌-◌, ◌*◌, ◌/◌, ◌%◌, ◌<◌, ◌≤◌, ◌⊎◌, ◌≢◌, ⊎_elim, inl, inr, Bool, true, false, List, [], ◌∷◌}
-use Rattle.std.proofs.Common.{length, set, refl, sym, ◌∙◌, arith, zero, suc, Some, Ok, Err}
+use Rattle.std.proofs.Common.{length, replicate, set, refl, sym, ap, ◌∙◌, arith, zero, suc, Some, Ok, Err}
 use Rattle.std.specs.Prelude.{slice_get, OnErr}
 use Rattle.std.specs.Result.{IsErrAnd}
 use Rattle.std.specs.declared.result.Result.{Result}
@@ -138,6 +138,37 @@ Owns-one_page private addr len within is =
 
 pub OwnsMore-same : (addr len : ℕ) (old new : List Bool) → new ≡ old → OwnsMore addr len old new
 OwnsMore-same addr len old new e = rw e (record { keeps = record { pages = refl; kept = λ k h. h }; others = λ k n. refl })
+
+-- the first pages are shared, and there are as many as before
+pub record SharedUpTo (old new : List Bool) (page : ℕ) : Type 0 where
+  pub pages : length new ≡ length old
+  pub now_shared : (k : ℕ) → k < page → slice_get new k ≡ Some false
+
+pub SharedUpTo-none : (private : List Bool) → SharedUpTo private private 0
+SharedUpTo-none private = record { pages = refl; now_shared = λ k b. absurd (omega arith) }
+
+pub SharedUpTo-more : (old before after : List Bool) (page : ℕ) → SharedUpTo old before page → page < length before
+    → after ≡ set before page false → SharedUpTo old after (page + 1)
+SharedUpTo-more old before after page h in' is =
+    record {
+      pages = rw is (length-set before page false ∙ h.pages);
+      now_shared = λ k b. rw is (⊎_elim
+          (λ (e : k ≡ page). rw e (slice_get-set_same before page false in'))
+          (λ (n : k ≢ page). slice_get-set_other before page k false n ∙ h.now_shared k (omega arith))
+          (cases_eq k page));
+    }
+
+none_of_all : (flags : List Bool) → ((k : ℕ) → k < length flags → slice_get flags k ≡ Some false) → flags ≡ replicate (length flags) false
+none_of_all [] h = refl
+none_of_all (x ∷ xs) h =
+    let e = h 0 (omega arith) in
+    let rest : xs ≡ replicate (length xs) false = none_of_all xs (λ k b. h (suc k) (omega arith)) in
+    cc
+
+-- where these are all pages, none is private
+pub SharedUpTo-all : (old new : List Bool) (page : ℕ) → SharedUpTo old new page → length old ≤ page → new ≡ replicate (length old) false
+SharedUpTo-all old new page h all =
+    none_of_all new (λ k b. let n = h.pages in h.now_shared k (omega arith)) ∙ ap (λ n. replicate n false) h.pages
 
 -- an empty range
 pub Owns-empty : (private : List Bool) (addr len : ℕ) → len ≡ 0 → addr + len ≤ length private * 4096 → Owns private addr len

@@ -65,6 +65,14 @@ pub paged-shown : {X : Type 0} {f : X → List ℕ} {g : X → Bool} {xs : List 
     → length m.private * 4096 ≡ length m.bytes
 paged-shown {X} {f} {g} {xs} {m} h = ap (λ k. k * 4096) (pages-shown h) ∙ size-shown h
 
+-- no flag of a memory is set
+pub none_private-paged : (m : PagedMemory) (bytes : List ℕ) (n : ℕ) → m.bytes ≡ bytes → m.private ≡ replicate n false
+    → n * 4096 ≡ length bytes → m ≡ record { bytes = bytes; private = none_private (length bytes) }
+none_private-paged m bytes n is flags size =
+    let count : length bytes / 4096 ≡ n = omega arith in
+    let all : m.private ≡ none_private (length bytes) = flags ∙ ap (λ k. replicate k false) (sym count) in
+    ap (λ bs. record { bytes = bs; private = m.private }) is ∙ ap (λ fs. record { bytes = bytes; private = fs }) all
+
 -- a range within a page that is private lies in the memory
 pub private_range-within : {X : Type 0} {f : X → List ℕ} {g : X → Bool} {xs : List X} {m : PagedMemory} → Shows f g xs m → (addr len : ℕ)
     → slice_get m.private (addr / 4096) ≡ Some true → addr % 4096 + len ≤ 4096 → addr + len ≤ length m.bytes

@@ -31,7 +31,8 @@ impl<A: Allocator + Copy> Memory<A> {
         for segment in image.segments.as_slice() {
             laid.lay(segment, &zeros)?;
         }
-        Ok(laid.share(alloc)?)
+        laid.share_pages()?;
+        Ok(laid)
     }
 
     /// A memory of the same bytes, of which no page is private: the private pages are copied, and the others shared. So it
@@ -44,6 +45,28 @@ impl<A: Allocator + Copy> Memory<A> {
             pages.push(page.share(alloc)?)?;
         }
         Ok(Memory { alloc, pages })
+    }
+
+    /// Makes each page one that others may share: a copy takes the place of a private one. No byte changes.
+    fn share_pages(&mut self) -> Result<(), AllocError>
+        ensures { OnOk result (self.new ≡ record { bytes = self.old.bytes; private = none_private (length self.old.bytes) }) }
+    {
+        for page in 0..self.pages.len() {
+            self.share_page(page)?;
+        }
+        Ok(())
+    }
+
+    /// Makes a page one that others may share.
+    fn share_page(&mut self, page: usize) -> Result<(), AllocError>
+        requires { page < length self.old.private }
+        ensures bytes { OnOk result (self.new.bytes ≡ self.old.bytes) }
+        ensures private { OnOk result (self.new.private ≡ slice_set self.old.private page false) }
+    {
+        if self.pages[page].is_private() {
+            self.pages[page] = self.pages[page].share(self.alloc)?;
+        }
+        Ok(())
     }
 
     /// A memory of so many pages, all of them the one page of zeros.

@@ -39,10 +39,10 @@ returns g c = record {
       let laid : c.loop-segment.laid.bytes ≡ image_bytes c.args.image.now c.args.size =
       all_laid _ _ _ _ _ _ segments c.loop-segment-test.false c.loop-segment.invariant.0 in
       let size : length c.loop-segment.laid.bytes ≡ c.args.size = ap length laid ∙ length-image_bytes c.args.image.now c.args.size in
-      c.in_ok-share.ensures
+      c.in_ok-share_pages.ensures
       ∙ ap (λ (bs : List ℕ). record { bytes = bs; private = none_private (length c.loop-segment.laid.bytes) }) laid
       ∙ ap (λ (n : ℕ). record { bytes = image_bytes c.args.image.now c.args.size; private = none_private n }) size;
   len =
       let laid = ap length c.loop-segment.invariant.0 ∙ length-image_bytes _ _ in
-      ap (λ (m : PagedMemory). length m.bytes) c.in_ok-share.ensures ∙ laid;
+      ap (λ (m : PagedMemory). length m.bytes) c.in_ok-share_pages.ensures ∙ laid;
 }

@@ -92,7 +92,8 @@ debug_app formats =
 -- `list IMAGE` with its options
 abbrev pub list_app : NameList → App
 list_app formats =
-    with_rule (with_rule (with_rule (new_app (codes "list")) (file_rule (codes "image"))) (format_rule formats)) (flag_rule (codes "float"))
+    with_rule (with_rule (with_rule (with_rule (new_app (codes "list")) (file_rule (codes "image"))) (format_rule formats))
+    (flag_rule (codes "float"))) (flag_rule (codes "large"))
 
 -- `asm TEXT IMAGE` with its option
 abbrev pub asm_app : App

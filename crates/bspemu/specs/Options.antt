@@ -147,7 +147,8 @@ pub record GivesListOptions (rows : List Row) (o : ListOptions) : Type 0 where
   pub image : first_of (codes "image") rows ≡ Some o.image.now
   pub format : first_of (codes "format") rows ≡ Some (name_of_format o.format)
   pub float : GivesFlag (one_of (codes "float") rows) o.float
-  pub language : IsFormatFor o.float false o.format
+  pub large : GivesFlag (one_of (codes "large") rows) o.large
+  pub language : IsFormatFor o.float o.large o.format
 
 -- the matches of `asm` give these options
 pub record GivesAsmOptions (rows : List Row) (o : AsmOptions) : Type 0 where

@@ -83,6 +83,8 @@ pub struct ListOptions<'a> {
     pub format: Format,
     /// Whether instructions of floating point have their names.
     pub float: bool,
+    /// Whether the file may be as long as one for a large machine.
+    pub large: bool,
 }
 
 /// What `bspemu asm` was asked to do.
@@ -307,10 +309,12 @@ fn options_of_list<'a>(list: &ArgMatches<'a>) -> Option<ListOptions<'a>>
     ensures none { IfNone result (IsNeverMet (GivesListOptions (rows_of (found_of list.now)))) }
 {
     let float = list.get_one("float")?;
+    let large = list.get_one("large")?;
     Some(ListOptions {
         image: list.get_str("image")?,
-        format: format_named(list.get_str("format")?, float, false)?,
+        format: format_named(list.get_str("format")?, float, large)?,
         float,
+        large,
     })
 }
 

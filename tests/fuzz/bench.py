@@ -151,9 +151,9 @@ class Trial:
         """True once in so many times."""
         return self.random.randrange(count) == 0
 
-    def one_apart_in(self, count: int) -> bool:
-        """True once in so many times, by a choice of its own: what else is chosen does not depend on it."""
-        return random.Random(f"{self.name} apart").randrange(count) == 0
+    def one_apart_in(self, count: int, name: str = "apart") -> bool:
+        """True once in so many times, by a choice of its own name: what else is chosen does not depend on it."""
+        return random.Random(f"{self.name} {name}").randrange(count) == 0
 
     def chosen(self, *choices: Tuple[int, Choice]) -> Choice:
         """One of some choices, each with its weight."""

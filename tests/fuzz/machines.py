@@ -8,7 +8,7 @@ from typing import Callable, Dict, List, Optional, Tuple
 from fuzz.contested import Landing
 from fuzz.harts import WORD, Hart
 from fuzz.images import Segment
-from fuzz.reports import BYTES, REQUESTS, Machine
+from fuzz.reports import Machine
 
 Area = Tuple[int, int]
 # The most steps of all nodes that the model makes; of a longer run it says nothing.
@@ -35,6 +35,7 @@ class Node(Hart):
     def __init__(self, entry: int, memory: bytearray, rank: int, machine: Machine, text: bytes) -> None:
         super().__init__(entry, memory, machine.floats)
         self.rank, self.nodes, self.limit, self.text = rank, machine.nodes, machine.limit, text
+        self.machine = machine
         self.state, self.ticks, self.cursor = "running", 0, 0
         self.areas: List[Area] = []
         self.coming: List[Area] = []
@@ -100,7 +101,7 @@ class Node(Hart):
         """push_reg(addr, size)"""
         if not self.fits(address, size):
             return "RangeOutside"
-        if len(self.coming) == 1024 or self.sequence.count(-1) == 65_536:
+        if len(self.coming) == self.machine.most_areas or self.sequence.count(-1) == self.machine.most_requests:
             return "TooMuch"
         self.coming.append((address, size))
         self.sequence.append(-1)
@@ -117,7 +118,7 @@ class Node(Hart):
 
     def ask(self, request: Request, size: int) -> str:
         """Adds a request of so many bytes."""
-        if len(self.requests) == REQUESTS or self.bytes + size > BYTES:
+        if len(self.requests) == self.machine.most_requests or self.bytes + size > self.machine.most_bytes:
             return "TooMuch"
         self.requests.append(request)
         self.bytes += size
@@ -194,7 +195,7 @@ class Node(Hart):
         """write(addr, n)"""
         if not self.fits(address, length):
             return "RangeOutside"
-        if self.bytes + length > BYTES:
+        if self.bytes + length > self.machine.most_bytes:
             return "TooMuch"
         self.bytes += length
         self.output += self.memory[address:address + length]

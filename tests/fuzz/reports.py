@@ -24,8 +24,6 @@ PATTERNS = [(re.compile(pattern.encode()), status) for pattern, status in OUTCOM
 HEAD = b"superstep,rank,to,ticks,sent,received,kept,messages,requests,state"
 COUNT = re.compile(f"{NUMBER},{NUMBER},([0-9a-f]{{8}}),([1-9][0-9]*)".encode())
 STATES = ("synced", "ended", "aborted", "exhausted", "faulted")
-REQUESTS = 65_536
-BYTES = 1 << 24
 # Work, h-relation, messages, and whether the exchange was made.
 Row = Tuple[int, int, int, bool]
 
@@ -43,12 +41,28 @@ class Machine:
     input: str = ""
     clock: bool = False
     floats: bool = False
+    large: bool = False
+
+    @property
+    def most_requests(self) -> int:
+        """Puts, gets and messages of a node in a superstep; and its pushes."""
+        return 1 << 24 if self.large else 65_536
+
+    @property
+    def most_bytes(self) -> int:
+        """Bytes of a node in a superstep."""
+        return 1 << 30 if self.large else 1 << 24
+
+    @property
+    def most_areas(self) -> int:
+        """Areas in the next list of a node."""
+        return 65_536 if self.large else 1024
 
     def words(self) -> List[str]:
         """The words of these options."""
         words = ["--nodes", self.nodes, "--memory", self.memory, "--limit", self.limit, "--g", self.g, "--l", self.l]
         words += ["--format", self.format] + (["--input", self.input] if self.input else []) + ["--clock"] * self.clock
-        words += ["--float"] * self.floats
+        words += ["--float"] * self.floats + ["--large"] * self.large
         return [str(word) for word in words]
 
 
@@ -101,9 +115,9 @@ def fault_of_costs(rows: List[Row], total: int, machine: Machine) -> str:
         return "a superstep before the last made no exchange"
     if any(not 1 <= work <= machine.limit for work, _, _, turned in rows if turned):
         return "a superstep that turned has work of no tick, or past the limit"
-    if any(moved > 2 * machine.nodes * BYTES for _, moved, _, _ in rows):
+    if any(moved > 2 * machine.nodes * machine.most_bytes for _, moved, _, _ in rows):
         return "more bytes were moved than nodes can ask for"
-    if any(messages > (machine.nodes - 1) * REQUESTS for _, _, messages, _ in rows):
+    if any(messages > (machine.nodes - 1) * machine.most_requests for _, _, messages, _ in rows):
         return "more messages were sent than nodes can send to another"
     if any(moved + messages and not turned for _, moved, messages, turned in rows):
         return "the last superstep has an h-relation, or messages"
@@ -122,7 +136,7 @@ def fault_of_report(report: Report, machine: Machine, status: int) -> str:
     ranks = found[1][:1] if report.outcome.startswith(b"refused: O") else found[1]
     if any(rank >= machine.nodes for rank in ranks) or len(set(ranks)) < len(ranks):
         return f"the outcome {report.outcome!r} names a rank that cannot be"
-    if len(found[1]) > len(ranks) and found[1][1] >= REQUESTS:
+    if len(found[1]) > len(ranks) and found[1][1] >= machine.most_requests:
         return f"the outcome {report.outcome!r} names a request that cannot be"
     if report.outcome.startswith(b"refused: ") and b"Mismatch rank 0" in report.outcome:
         return "rank 0 differs from itself"

@@ -15,6 +15,9 @@ GOOD = {"nodes": ["1", "2", "3", "007", "1024"], "memory": ["4096", "8192", "104
         "l": ["0", "2", "4294967295"], "slice": ["1", "65536", "1048576"]}
 REFUSED = {"nodes": ["0", "1025", "4294967295"], "memory": ["0", "4095", "4097", "16781312", "4294967295"],
            "limit": ["0", "1099511627777", "18446744073709551615"], "workers": ["0", "65", "4294967295"], "slice": ["0", "1048577"]}
+# Of a large machine, what stands in the place of these.
+GOOD_LARGE = {"nodes": ["1", "2", "007", "1025"], "memory": ["4096", "8192", "1048576", "16781312"]}
+REFUSED_LARGE = {"nodes": ["0", "65537", "4294967295"], "memory": ["0", "4095", "4097", "2147487744", "4294967295"]}
 # What no parser takes for a number of these options' types.
 NO_NUMBERS: List[Word] = ["", "x", "1.5", "0x1", "1e3", " 1", "1 ", "-1", "18446744073709551616", "9" * 60, "--", "\u0661", b"\xff\xfe"]
 ORDER = ("nodes", "memory", "limit", "workers", "slice")
@@ -36,9 +39,11 @@ class Line:
     words: List[Word] = dataclasses.field(default_factory=list)
     values: Dict[str, str] = dataclasses.field(default_factory=dict)
     is_refused: bool = False
+    is_large: bool = False
     image: str = "image"
     input: Optional[str] = None
     beside: Optional[str] = None  # the file of a profile, of counts or of what is contested
+    tells: str = ""  # which of these
 
 
 def option(chance: random.Random, name: str, given: Word) -> List[Word]:
@@ -48,16 +53,18 @@ def option(chance: random.Random, name: str, given: Word) -> List[Word]:
     return [f"--{name}={given}"] if chance.randrange(3) == 0 else [f"--{name}", given]
 
 
-def line(chance: random.Random, has_slice: bool) -> Line:
+def line(chance: random.Random, has_slice: bool, is_large: bool) -> Line:
     """A command line that is right but for some values."""
     made = Line(chance.choice(["run", "run", "run", "debug", "debug", "list"]))
-    parts: List[List[Word]] = []
+    made.is_large = is_large and made.subcommand != "list"
+    parts: List[List[Word]] = [["--large"]] * made.is_large
+    good, refused = (dict(GOOD, **GOOD_LARGE), refused_by(True)) if made.is_large else (GOOD, REFUSED)
     rate = chance.choice([0, 3, 3, 12])
     for name in OPTIONS[made.subcommand] + (["slice"] if has_slice and made.subcommand == "run" else []):
         if chance.randrange(2):
             continue
         kind = chance.choice(["refused", "none"]) if rate and chance.randrange(rate) == 0 else "good"
-        values: Dict[str, Sequence[Word]] = {"good": GOOD[name], "refused": REFUSED.get(name, GOOD[name]), "none": NO_NUMBERS}
+        values: Dict[str, Sequence[Word]] = {"good": good[name], "refused": refused.get(name, good[name]), "none": NO_NUMBERS}
         given = chance.choice(values[kind])
         made.is_refused |= kind == "none"
         made.values[name] = given if isinstance(given, str) else ""
@@ -73,6 +80,11 @@ def line(chance: random.Random, has_slice: bool) -> Line:
     return made
 
 
+def refused_by(is_large: bool) -> Dict[str, List[str]]:
+    """The values of options that a machine is refused for."""
+    return dict(REFUSED, **REFUSED_LARGE) if is_large else REFUSED
+
+
 def files(chance: random.Random, made: Line, parts: List[List[Word]]) -> None:
     """Gives a command line the names of files beside that of the image."""
     if made.subcommand == "list":
@@ -82,7 +94,8 @@ def files(chance: random.Random, made: Line, parts: List[List[Word]]) -> None:
         parts.append(option(chance, "input", made.input))
     if made.subcommand == "run" and chance.randrange(4) == 0:
         made.beside = chance.choice(["profile", "profile", "image", "./image", "folder", "folder/profile", "absent/profile"])
-        parts.append(option(chance, chance.choice(["profile", "counts", "contested"]), made.beside))
+        made.tells = chance.choice(["profile", "counts", "contested"])
+        parts.append(option(chance, made.tells, made.beside))
     if made.subcommand == "run" and chance.randrange(6) == 0:
         parts.append(["--live"])
         made.is_refused |= made.beside is not None
@@ -96,10 +109,12 @@ def refusal_of(made: Line) -> str:
         return IMAGES[made.image]
     if made.input in ("absent", "-"):
         return f"cannot open {made.input}"
+    if made.is_large and made.tells == "profile" and int(made.values.get("nodes", "1")) > 1024:
+        return "a profile is of at most 1024 nodes"
     if made.beside in ("folder", "absent/profile") or is_read(made):
         return f"cannot open {made.beside}"
     for name in ORDER:
-        if made.values.get(name) in REFUSED[name]:
+        if made.values.get(name) in refused_by(made.is_large)[name]:
             return f"settings refused: {NAMES[name]}"
     if IMAGES[made.image] == "read failed" or made.input == "folder":
         return "read failed"
@@ -130,7 +145,7 @@ def command_line(trial: Trial) -> None:
     if trial.one_in(3):
         disorder(trial)
         return
-    made = line(trial.random, trial.bench.has_slice)
+    made = line(trial.random, trial.bench.has_slice, trial.one_apart_in(3, "large"))
     answer = trial.run(*made.words)
     if made.is_refused:
         trial.expect_that(answer.status == 1 and answer.stderr.startswith(b"error: "), "the words are not refused")

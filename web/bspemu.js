@@ -8,11 +8,11 @@
 // a debugger have a worker of their own, which can be ended at any time.
 
 const VERSIONS =
-  "The emulator needs WebAssembly with 64-bit memory, which this host does not have. " +
-  "Chrome, Edge and Chromium have it from version 133 on, Firefox from 134 on, and node from 24 on.";
+  "The emulator needs WebAssembly with 64-bit memory, which is missing here. " +
+  "Chrome, Edge and Chromium have it since version 133, Firefox since 134, and node since 24.";
 const SUSPENDING =
-  "The debugger needs WebAssembly calls that can be suspended, which this host does not have. " +
-  "Chrome, Edge and Chromium have them from version 137 on. Firefox ESR 153 has them too, and node from 25 on.";
+  "The debugger needs WebAssembly calls that can be suspended, which are missing here. " +
+  "Chrome, Edge and Chromium have them since version 137. Firefox ESR 153 has them too.";
 
 const MEBIBYTE = 1 << 20;
 const PAGE = 1 << 16;

@@ -8,8 +8,9 @@
 //!
 //! - [`run`] leaves the machine as [`worker_pool::run_sparing`] does, and the profile has the lines of the supersteps that were made, and
 //!   no others, whatever the number of workers.
-//! - At every answer of `run` the lines that the profile got and those of the supersteps that are left are those of the whole run. So
+//! - At every answer of either the lines that the profile got and those of the supersteps that are left are those of the whole run. So
 //!   one that was refused memory or a thread is taken up again by the same call.
+//! - [`run_plain`] does the same in one thread, and starts no other.
 //! - [`Profile::turn`] changes neither machine nor profile where memory is refused.
 //! - A profile takes memory for its text, superstep by superstep, and beside it for the lines of one superstep and a table of the
 //!   bytes between its ranks.
@@ -24,4 +25,4 @@ mod tally;
 
 pub use profile::Profile;
 pub use row::{Flow, Row};
-pub use runs::run;
+pub use runs::{run, run_plain};

@@ -1,7 +1,7 @@
 -- The errors of a session that writes while the run goes on, by the stage that ended it.
 use Rattle.std.proofs.Common.{◌≡◌, ◌⊎◌, ℕ, inl, inr, ◌+◌, ◌<◌, ◌≤◌, List, [], ◌++◌, length, take, Option, Some, None, Result, Ok, Err, refl}
-use Rattle.std.proofs.Common.{sym, ap, ◌∙◌, arith, true, append_assoc, append-nil, length-append}
-use Rattle.std.specs.Prelude.{IfErr, IsErrOf, ◌↔◌}
+use Rattle.std.proofs.Common.{sym, subst, ap, ◌∙◌, arith, true, append_assoc, append-nil, length-append}
+use Rattle.std.specs.Prelude.{IfErr, IsErrOf, ◌≢◌, ◌↔◌}
 use Rattle.std.specs.Fn.{iterate}
 use Rattle.std.specs.Io.KnownBytes.{Appends}
 use Rattle.std.proofs.KnownBytes.{Appends-nil, Appends-trans}
@@ -18,6 +18,7 @@ use Rattle.bsp_session.specs.declared.errors.SessionError.TheVariants.{BadSettin
 use Rattle.bsp_session.specs.declared.errors.SessionError.TheVariants.{WriteFault, NoWorker, NoMemory}
 use Rattle.bsp_session.specs.declared.job.Job.{Job}
 use Rattle.bsp_session.specs.Live.{AppendsSome, FailsAt, IsErrorOfLive, IsErrorOfLiveRun, IsErrorOfSuperstep, MayComeLate, WantsThreads}
+use Rattle.bsp_session.specs.Live.{IsErrorOfPlainRun, IsErrorOfPlainSuperstep}
 use Rattle.bsp_session.specs.Outcome.{error_of_pool}
 use Rattle.bsp_session.specs.Report.{report_lines, report_of}
 use Rattle.bsp_session.specs.Session.{IsErrorOf, Session, StartsAt, job_fault}
@@ -42,14 +43,14 @@ AppendsSome-behind done next rest whole a b c is before p =
 pub AppendsSome-more : (bytes rest : List ℕ) (a b : Option (List ℕ)) → AppendsSome a b bytes → AppendsSome a b (bytes ++ rest)
 AppendsSome-more bytes rest a b p = AppendsSome-behind [] bytes rest (bytes ++ rest) a a b refl (Appends-nil a) p
 
--- an error of a superstep, after the supersteps before it
-pub IsErrorOfLiveRun-at : (job : Job) (start m : MachineState) (k : ℕ) (out next : Stream) (e : SessionError)
+-- an error of a superstep in one thread, after the supersteps before it
+pub IsErrorOfPlainRun-at : (start m : MachineState) (k : ℕ) (out next : Stream) (e : SessionError)
     → m ≡ iterate superstep k start
-    → end_of (superstep m) ≡ end_of start → m.settings ≡ start.settings → m.outcome ≡ None → out.after ≡ next.after
+    → end_of (superstep m) ≡ end_of start → m.outcome ≡ None → out.after ≡ next.after
     → out.failures_after ≡ next.failures_after
-    → out.failures_before ≤ next.failures_before → Appends out.before next.before m.output → IsErrorOfSuperstep job m next e
-    → IsErrorOfLiveRun job start out e
-IsErrorOfLiveRun-at job start m k out next WriteFault is ends settings none same count rises before (some, failed) =
+    → out.failures_before ≤ next.failures_before → Appends out.before next.before m.output → IsErrorOfPlainSuperstep m next e
+    → IsErrorOfPlainRun start out e
+IsErrorOfPlainRun-at start m k out next WriteFault is ends none same count rises before (some, failed) =
     let rest = extends-end (superstep m) in
     let whole : (end_of start).output ≡ m.output ++ (written (with_phases m).nodes ++ rest.0) =
     ap (λ (x : MachineState). x.output) (sym ends) ∙ rest.1 ∙ ap (λ bs. bs ++ rest.0) (output-open m (rw none refl))
@@ -58,12 +59,31 @@ IsErrorOfLiveRun-at job start m k out next WriteFault is ends settings none same
           whole before some),
       rw count (HasRisen-above _ _ _ rises failed),
     )
+IsErrorOfPlainRun-at start m k out next NoMemory is ends none same count rises before untouched =
+    (m, record { count = k; is = is; written = rw (same, untouched.bytes) before }, none)
+IsErrorOfPlainRun-at start m k out next NoWorker is ends none same count rises before p = absurd p
+IsErrorOfPlainRun-at start m k out next (BadSettings cause) is ends none same count rises before p = absurd p
+IsErrorOfPlainRun-at start m k out next TooLong is ends none same count rises before p = absurd p
+IsErrorOfPlainRun-at start m k out next (Text cause) is ends none same count rises before p = absurd p
+IsErrorOfPlainRun-at start m k out next (BadImage cause) is ends none same count rises before p = absurd p
+IsErrorOfPlainRun-at start m k out next SegmentOutside is ends none same count rises before p = absurd p
+IsErrorOfPlainRun-at start m k out next ReadFault is ends none same count rises before p = absurd p
+
+-- and in any number of threads
+pub IsErrorOfLiveRun-at : (job : Job) (start m : MachineState) (k : ℕ) (out next : Stream) (e : SessionError)
+    → m ≡ iterate superstep k start
+    → end_of (superstep m) ≡ end_of start → m.settings ≡ start.settings → m.outcome ≡ None → out.after ≡ next.after
+    → out.failures_after ≡ next.failures_after
+    → out.failures_before ≤ next.failures_before → Appends out.before next.before m.output → IsErrorOfSuperstep job m next e
+    → IsErrorOfLiveRun job start out e
+IsErrorOfLiveRun-at job start m k out next WriteFault is ends settings none same count rises before p =
+    IsErrorOfPlainRun-at start m k out next WriteFault is ends none same count rises before p
 IsErrorOfLiveRun-at job start m k out next NoWorker is ends settings none same count rises before (untouched, wanted) = (
   (m, record { count = k; is = is; written = rw (same, untouched.bytes) before }, none),
   (wanted.0, rw (← settings) wanted.1),
 )
 IsErrorOfLiveRun-at job start m k out next NoMemory is ends settings none same count rises before untouched =
-    (m, record { count = k; is = is; written = rw (same, untouched.bytes) before }, none)
+    IsErrorOfPlainRun-at start m k out next NoMemory is ends none same count rises before untouched
 IsErrorOfLiveRun-at job start m k out next (BadSettings cause) is ends settings none same count rises before p = absurd p
 IsErrorOfLiveRun-at job start m k out next TooLong is ends settings none same count rises before p = absurd p
 IsErrorOfLiveRun-at job start m k out next (Text cause) is ends settings none same count rises before p = absurd p
@@ -173,3 +193,27 @@ settings_late job (Err (Text fault)) none late cause = absurd late
 settings_late job (Err (BadImage fault)) none late cause = absurd late
 settings_late job (Err SegmentOutside) none late cause = absurd late
 settings_late job (Err ReadFault) none late cause = absurd late
+
+-- ---- in one thread
+
+-- a run in one thread ends as one with any number of workers may
+pub IsErrorOfLiveRun-plain : (job : Job) (start : MachineState) (out : Stream) (e : SessionError) → IsErrorOfPlainRun start out e
+    → IsErrorOfLiveRun job start out e
+IsErrorOfLiveRun-plain job start out WriteFault p = p
+IsErrorOfLiveRun-plain job start out NoMemory p = p
+IsErrorOfLiveRun-plain job start out NoWorker p = absurd p
+IsErrorOfLiveRun-plain job start out (BadSettings cause) p = absurd p
+IsErrorOfLiveRun-plain job start out TooLong p = absurd p
+IsErrorOfLiveRun-plain job start out (Text cause) p = absurd p
+IsErrorOfLiveRun-plain job start out (BadImage cause) p = absurd p
+IsErrorOfLiveRun-plain job start out SegmentOutside p = absurd p
+IsErrorOfLiveRun-plain job start out ReadFault p = absurd p
+
+-- no thread has a part in it
+pub IsErrorOfPlainRun-worker : (start : MachineState) (out : Stream) (e : SessionError) → IsErrorOfPlainRun start out e → e ≢ NoWorker
+IsErrorOfPlainRun-worker start out e why = λ is. subst (IsErrorOfPlainRun start out) is why
+
+pub lines-worker : (job : Job) (end : MachineState) (here : Stream) (e : SessionError)
+    → ((e ≡ NoMemory) × (job.report ≡ true) × IsUntouched here) ⊎ ((e ≡ WriteFault) × FailsAt here (report_lines job end)) → e ≢ NoWorker
+lines-worker job end here e (inl why) = rw why.0 (λ is. cc)
+lines-worker job end here e (inr why) = rw why.0 (λ is. cc)

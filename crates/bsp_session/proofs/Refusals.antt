@@ -69,6 +69,18 @@ pub IsErrorOfRun-of_image : (job : Job) (file : List ℕ) (e : SessionError) →
     → IsErrorOfRun job file e
 IsErrorOfRun-of_image job file e made = of_image job.format file (IsErrorOfRun job file) tt (λ cause is. is) (λ cause is. is) e made
 
+-- no thread has a part in it
+pub image_of-worker : (format : Format) (file : List ℕ) (e : SessionError) → (e ≢ NoMemory → image_fault format file ≡ Some e) → e ≢ NoWorker
+image_of-worker format file e made =
+    of_image format file (λ e. e ≢ NoWorker) (λ is. cc) (λ cause of_text is. cc) (λ cause of_file is. cc) e made
+
+pub error_of_machine-worker : (cause : MachineError) → error_of_machine cause ≢ NoWorker
+error_of_machine-worker machine.BadNodes = λ is. cc
+error_of_machine-worker machine.BadMemory = λ is. cc
+error_of_machine-worker machine.BadLimit = λ is. cc
+error_of_machine-worker machine.SegmentOutside = λ is. cc
+error_of_machine-worker machine.NoMemory = λ is. cc
+
 -- where the settings are good, a machine is refused for a part past the memory alone
 only_outside : (fault : Option MachineError) (outside : Bool) (cause : MachineError) → fault ≡ None
     → option_or fault (if outside then Some machine.SegmentOutside else None) ≡ Some cause

@@ -1,6 +1,6 @@
 -- The errors of a session, by the stage that ended it.
 use Rattle.std.proofs.Common.{◌≡◌, ◌∙◌, ℕ, ap, inl, inr, length, List, Option, Some, None, Result, Ok, Err, IfOk, IfErr, arith, subst}
-use Rattle.std.specs.Prelude.{IsErrOf, ◌↔◌}
+use Rattle.std.specs.Prelude.{IsErrOf, ◌≢◌, ◌↔◌}
 use Rattle.std.specs.Io.KnownBytes.{Appends}
 use Rattle.counted_io.specs.declared.ReadError.{ReadError}
 use Rattle.counted_io.specs.declared.ReadError.TheVariants as read
@@ -111,6 +111,11 @@ IsErrorOf-report s start end (Text cause) starts is why = absurd why
 IsErrorOf-report s start end (BadImage cause) starts is why = absurd why
 IsErrorOf-report s start end SegmentOutside starts is why = absurd why
 IsErrorOf-report s start end ReadFault starts is why = absurd why
+
+-- in which no thread has a part
+pub IsErrorOfReport-worker : (job : Job) (end : MachineState) (out : Stream) (e : SessionError) → IsErrorOfReport job end out e
+    → e ≢ NoWorker
+IsErrorOfReport-worker job end out e why = λ is. subst (IsErrorOfReport job end out) is why
 
 -- the report of the machine at the end of a run is the run's
 pub ReportsFrom-end : (s : Session) (start end : MachineState) → StartsAt s start → end ≡ end_of start

@@ -1,5 +1,5 @@
 -- What a session that also writes a text on its run comes to, by the stage that ended it.
-use Rattle.std.proofs.Common.{◌≡◌, ℕ, List, inl, inr, subst, Some}
+use Rattle.std.proofs.Common.{◌≡◌, ◌≢◌, ℕ, List, inl, inr, subst, Some}
 use Rattle.machine_core.specs.declared.outcome.Outcome.{Outcome}
 use Rattle.machine_core.specs.Machine.{MachineState}
 use Rattle.machine_core.specs.Turn.{end_of}
@@ -38,6 +38,11 @@ unbegun job end text out told (Text cause) why untouched = absurd why
 unbegun job end text out told (BadImage cause) why untouched = absurd why
 unbegun job end text out told SegmentOutside why untouched = absurd why
 unbegun job end text out told ReadFault why untouched = absurd why
+
+-- in which no thread has a part
+pub IsErrorOfBoth-worker : (job : Job) (end : MachineState) (text : List ℕ) (out told : Stream) (e : SessionError)
+    → IsErrorOfBoth job end text out told e → e ≢ NoWorker
+IsErrorOfBoth-worker job end text out told e why = λ is. subst (IsErrorOfBoth job end text out told) is why
 
 module _ (Tells : MachineState → List ℕ → Type 0) (s : Session) (told : Stream) (start end : MachineState) (text : List ℕ)
     (starts : StartsAt s start) (is : end ≡ end_of start) (tells : Tells start text) where

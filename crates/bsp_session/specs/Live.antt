@@ -48,6 +48,12 @@ IsErrorOfLiveRun job start out NoWorker = StopsShort start out × WantsThreads j
 IsErrorOfLiveRun job start out NoMemory = StopsShort start out
 IsErrorOfLiveRun job start out _ = ⊥
 
+-- the same of a run in one thread
+abbrev pub IsErrorOfPlainRun : MachineState → Stream → SessionError → Type 0
+IsErrorOfPlainRun start out WriteFault = FailsAt out (end_of start).output
+IsErrorOfPlainRun start out NoMemory = StopsShort start out
+IsErrorOfPlainRun start out _ = ⊥
+
 -- the whole of its output was written, and memory was refused for the lines that a job asks for
 abbrev pub LacksLines : Job → MachineState → Stream → Type 0
 LacksLines job start out = (job.report ≡ true) × Appends out.before out.after (end_of start).output
@@ -60,6 +66,12 @@ IsErrorOfSuperstep job m out WriteFault = FailsAt out (written (with_phases m).n
 IsErrorOfSuperstep job m out NoWorker = IsUntouched out × WantsThreads job m
 IsErrorOfSuperstep job m out NoMemory = IsUntouched out
 IsErrorOfSuperstep job m out _ = ⊥
+
+-- the same in one thread
+abbrev pub IsErrorOfPlainSuperstep : MachineState → Stream → SessionError → Type 0
+IsErrorOfPlainSuperstep m out WriteFault = FailsAt out (written (with_phases m).nodes)
+IsErrorOfPlainSuperstep m out NoMemory = IsUntouched out
+IsErrorOfPlainSuperstep m out _ = ⊥
 
 -- ---- the whole session
 

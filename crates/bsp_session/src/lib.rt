@@ -30,6 +30,8 @@
 //!   nodes wrote in it. Errors that come before its run leave the writer as it was. Where the run is refused memory or a thread, what
 //!   stands written is the output of the supersteps that were over, whole; [`laws`] tie it to the output at the end. After a fault of the
 //!   writer some first bytes of the report are written, and perhaps all of them.
+//! - [`plain_session`], [`plain_live_session`] and [`plain_profile_session`] make the same runs in one thread and start no other. They
+//!   have the same clauses, and never answer [`SessionError::NoWorker`].
 //! - Workers have no part in what is written: the report is that of the definitions, which know none.
 //!
 //! A session waits for its own threads alone. It ends if these and the calls of its readers and its writer do: a node makes at
@@ -48,6 +50,8 @@ mod job;
 pub mod laws;
 mod listing;
 mod live;
+mod plain;
+mod plain_live;
 mod profiles;
 mod report;
 mod sessions;
@@ -61,5 +65,7 @@ pub use job::{Format, Job};
 pub use listing::{asm_session, list_session};
 pub use live::live_session;
 pub use machine_core::{Outcome, Prices, Settings};
+pub use plain::{plain_profile_session, plain_session};
+pub use plain_live::plain_live_session;
 pub use profiles::profile_session;
 pub use sessions::{most_input, session};

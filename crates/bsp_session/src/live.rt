@@ -117,7 +117,7 @@ fn make_superstep<T: Threads + Wait + Sync, A: Allocator + Copy + Send + Sync, W
 }
 
 /// Writes the lines that follow the output of a machine in its report.
-fn write_lines<A: Allocator + Copy, W: Write>(
+pub(crate) fn write_lines<A: Allocator + Copy, W: Write>(
     alloc: A,
     machine: &Machine<A>,
     job: &Job,
@@ -137,7 +137,7 @@ fn write_lines<A: Allocator + Copy, W: Write>(
 }
 
 /// Writes bytes, and sees to it that they arrive. Nothing is called where there are none.
-fn write_at_once<W: Write>(bytes: &[u8], out: &mut Counted<W>) -> Result<(), WriteFault>
+pub(crate) fn write_at_once<W: Write>(bytes: &[u8], out: &mut Counted<W>) -> Result<(), WriteFault>
     ensures ok { OnOk result
         (Appends (W.contents out.old.inner) (W.contents out.new.inner) bytes.now) }
     ensures none { length bytes.now ≡ 0 → (result ≡ Ok tt) × (out.new ≡ out.old) }

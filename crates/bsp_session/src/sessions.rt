@@ -98,6 +98,7 @@ pub(crate) fn start<A: Allocator + Copy, I: Read, R: Read>(
         (stream I.remaining image.old image.new) (stream R.remaining input.old input.new) out job.now) machine) }
     ensures err { IfErr result (λ e. (out : Stream) → IsUntouched out → IsErrorOf (session_of
         (stream I.remaining image.old image.new) (stream R.remaining input.old input.new) out job.now) e) }
+    ensures no_worker { IfErr result (λ e. e ≢ SessionError.NoWorker) }
     ensures settings_first { job_fault job.now ≢ None
         → (image.new ≡ image.old) × (input.new ≡ input.old) }
 {

@@ -1,0 +1,125 @@
+// Makes the same calls as the program was started for, in node or in a browser, and tells what is answered otherwise.
+
+const decoded = (text) => Uint8Array.from(atob(text), (it) => it.charCodeAt(0));
+const same = (a, b) => a.length === b.length && a.every((it, k) => it === b[k]);
+const shown = (bytes) => JSON.stringify(new TextDecoder().decode(bytes.subarray(0, 300)));
+
+function joined(pieces) {
+  const all = new Uint8Array(pieces.reduce((sum, it) => sum + it.length, 0));
+  let at = 0;
+  for (const piece of pieces) {
+    all.set(piece, at);
+    at += piece.length;
+  }
+  return all;
+}
+
+// What a record asks for, as the interface wants it.
+function settingsOf(record) {
+  const settings = { ...record.settings, image: decoded(record.image), input: decoded(record.input) };
+  return { hostMemory: 2048, ...settings };
+}
+
+// What a call answers: all that it wrote, what it wrote beside that, the text of a refusal, and the status.
+async function answerOf(bspemu, record, failRequest = 0) {
+  const settings = { ...settingsOf(record), failRequest };
+  const written = [];
+  const onWrite = (stream, bytes) => stream === 1 && written.push(bytes);
+  try {
+    if (record.call === "assemble") {
+      return { out: bspemu.assemble(settings.image, settings), beside: "", text: "", status: 0 };
+    }
+    if (record.call === "list") {
+      return { out: new TextEncoder().encode(bspemu.list(settings.image, settings)), beside: "", text: "", status: 0 };
+    }
+    const answer = bspemu.runHere({ ...settings, onWrite });
+    return { out: joined(written), beside: answer.profile ?? answer.counts ?? "", text: "", status: answer.status };
+  } catch (error) {
+    if (error.name !== "Refused") {
+      throw error;
+    }
+    return { out: joined(written), beside: "", text: error.message, status: error.status };
+  }
+}
+
+// What is wrong with an answer, or nothing.
+function faultOf(record, answer) {
+  if (answer.status !== record.status || answer.text !== record.text) {
+    return `status ${answer.status} ${answer.text}, and not ${record.status} ${record.text}`;
+  }
+  if (!same(answer.out, decoded(record.out))) {
+    return `${shown(answer.out)}, and not ${shown(decoded(record.out))}`;
+  }
+  return answer.beside === record.beside ? "" : "another profile, or other counts";
+}
+
+/** The calls that run something, list or assemble. */
+export async function replay(bspemu, records) {
+  const faults = [];
+  for (const record of records) {
+    const fault = faultOf(record, await answerOf(bspemu, record));
+    if (fault !== "") {
+      faults.push(`${record.line}: ${fault}`);
+    }
+  }
+  return faults;
+}
+
+// The replies of a framed session, one for each line that has one.
+function repliesOf(bytes) {
+  const replies = [];
+  for (let at = 0; at < bytes.length; ) {
+    let end = bytes.indexOf(10, at);
+    const lines = Number(new TextDecoder().decode(bytes.subarray(at, end)).split(" ")[1]);
+    for (let k = 0; k < lines; k++) {
+      end = bytes.indexOf(10, end + 1);
+    }
+    replies.push(bytes.subarray(at, end + 1));
+    at = end + 1;
+  }
+  return replies;
+}
+
+/** Sessions of the debugger, reply by reply. */
+export async function talk(bspemu, records) {
+  const faults = [];
+  let count = 0;
+  for (const record of records) {
+    let session;
+    try {
+      session = await bspemu.debug(settingsOf(record));
+      for (const [k, reply] of repliesOf(decoded(record.out)).entries()) {
+        const answer = await session.ask(record.lines[k]);
+        const text = joined([new TextEncoder().encode(`${answer.header}\n`), answer.bytes]);
+        count += 1;
+        if (!same(text, reply)) {
+          faults.push(`${record.line}: ${record.lines[k]}: ${shown(text)}, and not ${shown(reply)}`);
+          break;
+        }
+      }
+    } catch (error) {
+      if (error.name !== "Refused" || error.message !== record.text || error.status !== record.status) {
+        faults.push(`${record.line}: ${error}, and not ${record.status} ${record.text}`);
+      }
+    }
+    session?.end();
+  }
+  return { faults, count };
+}
+
+/** Each request for memory of a run is refused in turn: the refusal is said, or the answer is the whole one. */
+export async function starve(bspemu, record, most) {
+  const faults = [];
+  let refused = 0;
+  for (let request = 1; request <= most; request++) {
+    const answer = await answerOf(bspemu, record, request);
+    if (answer.text === "no memory" && answer.status === 5) {
+      refused += 1;
+    } else if (faultOf(record, answer) !== "") {
+      faults.push(`request ${request}: ${faultOf(record, answer)}`);
+    } else {
+      break;
+    }
+  }
+  return { faults, refused };
+}

@@ -5,6 +5,7 @@ from __future__ import annotations
 import contextlib
 import ctypes
 import fcntl
+import functools
 import os
 import pathlib
 import re
@@ -19,7 +20,9 @@ import time
 from collections.abc import Callable, Iterator, Sequence
 from typing import Any, NoReturn
 
+from . import own_folders
 from .files import is_text
+from .refusals import tell
 
 PR_SET_PDEATHSIG = 1
 # Of a signal that no process has sent.
@@ -30,6 +33,8 @@ PATIENCE, POLL = 1, 0.1
 SIGNALS = (signal.SIGTERM, signal.SIGHUP, signal.SIGQUIT)
 # How the names of folders end that are there for a while, and all such names; and for how many seconds one that is hidden is new.
 ENDING, LEFT, HIDDEN_SECONDS = ".tmp", re.compile(r"\.?bsp[a-z]+-[a-z0-9_]{8}\.tmp"), 60
+# Where folders for a while go, unless the environment names another place.
+PLACES = ("/tmp", "/var/tmp")
 # How many times as long something may take where the host is busy.
 MOST_BUSY = 4.0
 _LIBC = ctypes.CDLL(None, use_errno=True)
@@ -287,9 +292,22 @@ def _end_stopped(child: subprocess.Popen[bytes]) -> None:
 
 
 def place() -> str:
-    """Where folders for a while are made. The emulator takes no name that is no text."""
+    """Where folders for a while are made. The emulator takes no name that is no text. In a folder where others may rename what is there, they
+    could put a folder of theirs in its place, with commands in it."""
     found = tempfile.gettempdir()
-    return found if is_text(found) else "/tmp"
+    chosen = found if is_text(found) else PLACES[0]
+    if own_folders.is_held(chosen):
+        return chosen
+    held = next(filter(own_folders.is_held, PLACES), chosen)
+    if held != chosen:
+        _tell_of_place(chosen, held)
+    return held
+
+
+@functools.lru_cache(maxsize=None)
+def _tell_of_place(chosen: str, held: str) -> None:
+    """Says once that the folder for such things that the environment names is not taken."""
+    tell([f"temporary files are in {held}: in {chosen}, as the environment has it, others may rename them"])
 
 
 @contextlib.contextmanager

@@ -124,6 +124,16 @@ def write(path: str | os.PathLike[str], content: str | bytes) -> None:
         file.write(content.encode(errors="surrogateescape") if isinstance(content, str) else content)
 
 
+@contextlib.contextmanager
+def opened_folder(folder: str | os.PathLike[str], above: int | None = None) -> Iterator[int]:
+    """The number of an open folder. From one that is open already no link leads to it."""
+    number = os.open(folder, os.O_PATH | os.O_DIRECTORY | (0 if above is None else os.O_NOFOLLOW), dir_fd=above)
+    try:
+        yield number
+    finally:
+        os.close(number)
+
+
 def is_here() -> bool:
     """Whether the folder is there that this was started in."""
     try:
@@ -156,6 +166,13 @@ def expect_writable(outputs: Iterable[str | None]) -> None:
             raise Refused(f"{output}: {os.strerror(errno.EISDIR)}")
         with replaced(output):
             pass
+
+
+def expect_ordinary(paths: Iterable[str], named_by: str) -> None:
+    """Refuses files that another file names, and no person, if one is a pipe or a device: it may have no end."""
+    for path in paths:
+        if os.path.exists(path) and not os.path.isfile(path):
+            raise Refused(f"{path}, which {named_by} names, is no ordinary file")
 
 
 def is_same(one: str, other: str) -> bool:

@@ -31,6 +31,26 @@ def fault(path: str | os.PathLike[str]) -> str:
     return OTHERS_MAY_WRITE if found.st_mode & OTHERS_WRITE else ""
 
 
+def is_users(path: str | os.PathLike[str]) -> bool:
+    """Whether a folder in which a person keeps programs, or one that a link leads to, belongs to this user, and not all may write there. A
+    group may: many systems have one for each user, and its members write what this user does."""
+    try:
+        found = os.stat(path)
+    except OSError:
+        return False
+    return stat.S_ISDIR(found.st_mode) and found.st_uid == os.geteuid() and not found.st_mode & stat.S_IWOTH
+
+
+def is_held(path: str | os.PathLike[str]) -> bool:
+    """Whether what this user makes in a folder keeps its place there: none but this user and root may rename it, and put something else in
+    its place. The owner of a folder may, and so may all who write into one without the sticky bit."""
+    try:
+        found = os.stat(path)
+    except OSError:
+        return False
+    return found.st_uid in (0, os.geteuid()) and not (found.st_mode & stat.S_IWOTH and not found.st_mode & stat.S_ISVTX)
+
+
 def make(path: str | os.PathLike[str]) -> str:
     """Makes a folder below one that is this user's own, if it is not there. A link in its place is replaced, and never followed. Answers why
     it is not this user's own."""

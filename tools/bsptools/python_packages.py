@@ -9,7 +9,7 @@ import shutil
 import subprocess
 import sys
 
-from . import toolchain
+from . import own_folders, toolchain
 from .refusals import Refused
 
 SYSTEM = "/usr/bin/python3"
@@ -51,11 +51,13 @@ def others() -> list[str]:
 
 
 def look_at_home(module: str) -> None:
-    """Has a module found that the person has in a folder of their own."""
+    """Has a module found that the person has in a folder of their own. With sudo HOME may be that of another user, whose code would run."""
     if missing(module) and sys.flags.isolated:
         import site
 
-        site.addsitedir(site.getusersitepackages())
+        folder = site.getusersitepackages()
+        if own_folders.is_users(folder):
+            site.addsitedir(folder)
 
 
 def borrow(module: str) -> str:

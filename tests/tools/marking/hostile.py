@@ -4,6 +4,8 @@ from __future__ import annotations
 
 import os
 import pathlib
+import shlex
+import subprocess
 import sys
 import time
 import xml.dom.minidom
@@ -11,10 +13,10 @@ from typing import Dict, List, Tuple
 
 sys.path.insert(0, str(pathlib.Path(__file__).resolve().parents[1]))
 
-from checks import COMPILER, PYELFTOOLS, Part, Tally, Tool  # noqa: E402
-from marked import Bench  # noqa: E402
+from checks import COMPILER, PYELFTOOLS, REPO, SECONDS, Part, Tally, Tool  # noqa: E402
+from marked import ALL_RIGHT, NOT_ALL_RIGHT, NOT_MARKED, Bench  # noqa: E402
 
-from bsptools.marking import confinement  # noqa: E402
+from bsptools.marking import bounded_run, confinement, sheet_marking  # noqa: E402
 
 LANDLOCK = Tool("Landlock", "linux-image-amd64", lambda _: confinement.version() > 0)
 SECRET = "kept from hand-ins"
@@ -99,6 +101,74 @@ def tried(tally: Tally, folder: pathlib.Path) -> None:
 ELSEWHERE = "#!/bin/sh\nexec /usr/bin/riscv64-unknown-elf-gcc \"$@\"\n"
 
 
+# Marks on a host whose disk is full at first, or which kills each run.
+SHORT = """
+import sys
+sys.path.insert(0, sys.argv[1])
+from bsptools import start
+from bsptools.marking import bounded_run, trial_pool
+kind, run, each, tries = sys.argv[2], bounded_run.run, trial_pool.each, []
+FULL = b"cc1: fatal error: error writing to /tmp/cc.s: No space left on device"
+def count(*given):
+    tries.append(given)
+    each(*given)
+def short(words, *rest, **given):
+    if kind == "kills" and words[1] == "run":
+        return bounded_run.Ran(bounded_run.ENDED, -9, b"", b"")
+    if kind == "full" and len(tries) == 1 and "-o" in words:
+        return bounded_run.Ran(bounded_run.ENDED, 1, b"", FULL)
+    return run(words, *rest, **given)
+bounded_run.run, trial_pool.each = short, count
+sys.exit(start.process("bspcheck", sys.argv[3:]))
+"""
+# Ends soon, but is stopped for a while; and does not end.
+STOPPED, LOOPS = ["sh", "-c", "(sleep 3; kill -CONT $$) & kill -STOP $$; echo over"], ["sh", "-c", "while :; do :; done"]
+
+
+def short(tally: Tally, folder: pathlib.Path) -> None:
+    """What the host does not give is no fault of a hand-in: it is tried again by itself, and else is not judged, and nothing of it is kept."""
+    bench = Bench(folder / "short")
+    bench.write("sheet.toml", SHEET)
+    bench.write("secret.txt", "it\n")
+    bench.write("right.c", PROGRAM % ("", 'if (bsp_pid() == 0) puts("it");'))
+    bench.write("says.c", "#error No space left on device\n")
+    for kind, name, status, wanted in (
+        ("full", "says.c", NOT_ALL_RIGHT, ("does not compile", "says.c, line 1: #error No space left on device")),
+        ("kills", "right.c", NOT_MARKED, ("not judged", "it could not be tried: the run was killed, as where memory ran out")),
+        ("full", "right.c", ALL_RIGHT, ("right", "")),
+    ):
+        words = [sys.executable, "-I", "-B", "-c", SHORT, str(REPO / "tools"), kind, "--jobs", "1", "-o", "m.csv", "sheet.toml", name]
+        done = subprocess.run(words, cwd=bench.folder, stdin=subprocess.DEVNULL, capture_output=True, text=True, timeout=SECONDS, check=False)
+        row = bench.rows("m.csv")[0] if (bench.folder / "m.csv").exists() else {"verdict": done.stderr, "fault": ""}
+        tally.expect(f"{name} where the host {kind}", (done.returncode, row["verdict"], row["fault"]) == (status, *wanted), (row, done.stderr))
+    for words, how, is_busy in ((STOPPED, bounded_run.ENDED, True), (LOOPS, bounded_run.LATE, True), (["sleep", "9"], bounded_run.LATE, False)):
+        found = bounded_run.run(words, 1, 99, is_busy=is_busy).how
+        tally.expect(f"{shlex.join(words)} in a second", found == how, found)
+
+
+def links(tally: Tally, folder: pathlib.Path) -> None:
+    """A folder that came with a hand-in may be a link to another one: it is not followed. The folder that all share may be one."""
+    bench = Bench(folder / "links")
+    for name in ("theirs", "mine"):
+        (bench.folder / name).mkdir()
+    bench.write("theirs/sum.c", "int x;\n")
+    (bench.folder / "mine/lab").symlink_to("../theirs")
+    (bench.folder / "all").symlink_to(".")
+    stolen, whole = str(bench.folder / "mine/lab/sum.c"), str(bench.folder / "theirs/sum.c")
+    there, before = str(bench.folder / "all"), os.getcwd()
+    cases: List[Tuple[List[str], List[int]]] = [
+        ([stolen, whole], [0]), ([whole, stolen], [1]), ([f"{there}/mine/lab/sum.c", f"{there}/theirs/sum.c"], [0]), ([whole], []),
+        (["mine/lab/sum.c"], [0]), (["all/theirs/sum.c"], []), (["./all/mine/lab/sum.c"], [0]),
+    ]  # fmt: skip
+    os.chdir(bench.folder)
+    try:
+        for names, wanted in cases:
+            found = [at for at, it in enumerate(sheet_marking.hand_ins(names)) if "is a link, and not looked into" in it.why]
+            tally.expect(f"links on the way to {' '.join(names)}", found == wanted, found)
+    finally:
+        os.chdir(before)
+
+
 def compilers(tally: Tally, folder: pathlib.Path) -> None:
     """A compiler in a folder of a home, or of what scripts/toolchain has brought, marks as the system's does, and hand-ins read nothing that
     is beside it."""
@@ -150,4 +220,9 @@ def texts(tally: Tally, bench: Bench, shown: str) -> None:
 def parts(tally: Tally, folder: pathlib.Path) -> List[Part]:
     """The parts of this file."""
     wanted = (*COMPILER, PYELFTOOLS, LANDLOCK)
-    return [Part("hostile", lambda: tried(tally, folder), wanted), Part("compilers", lambda: compilers(tally, folder), wanted)]
+    return [
+        Part("hostile", lambda: tried(tally, folder), wanted),
+        Part("compilers", lambda: compilers(tally, folder), wanted),
+        Part("a host that is short of all", lambda: short(tally, folder), wanted),
+        Part("links of hand-ins", lambda: links(tally, folder)),
+    ]

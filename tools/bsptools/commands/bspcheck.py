@@ -8,8 +8,8 @@ import re
 from .. import children, files, start, streams
 from ..marking import mark_table, sheet_reader, wanted_file
 from ..marking.marks import UNJUDGED, WRONG, Marks
-from ..marking.sheet import sources
-from ..marking.sheet_marking import Marking, hand_in, tell_known
+from ..marking.sheet import Sheet, sources
+from ..marking.sheet_marking import Marking, hand_ins, tell_known
 from ..options import Parser
 from ..refusals import Refused, printable, put, tell
 
@@ -70,8 +70,7 @@ def checked(options: argparse.Namespace) -> int:
     outputs = [options.output, options.html, options.junit, options.freeze]
     files.expect_apart(outputs, [options.sheet, *options.files, *(it for it in sources(sheet) if it != sheet.file(sheet.wanted or "."))])
     files.expect_writable(outputs)
-    for it in options.files:
-        hand_in(it)
+    hand_ins(options.files)
     with children.folder("bspcheck") as folder:
         marking = Marking(sheet, folder, options.folder, options.jobs, options.seed, options.trusted, options.anew)
         found = marking.marks(options.files)
@@ -84,11 +83,23 @@ def checked(options: argparse.Namespace) -> int:
         tell_known(marking, len(found))
         write(options, marking, found)
         put("".join(f"{it}\n" for it in [*mark_table.lines(sheet, found), *advice(marking, found)]))
-    unjudged = [it.name for it in found if any(check.verdict == UNJUDGED for check in it.checks)]
-    if unjudged:
-        first = f"{sheet.checker} did not judge {unjudged[0]}" + (f" and {len(unjudged) - 1} more" if unjudged[1:] else "")
-        raise Refused(f"{first}: mend the checker, which has to judge any output, and mark again")
+    expect_judged(sheet, found)
     return 0 if all(it.first is None for it in found) else NOT_ALL_RIGHT
+
+
+def expect_judged(sheet: Sheet, found: list[Marks]) -> None:
+    """Refuses to say that all is done where a hand-in was not judged, and says what to do."""
+    untried = [it for it in found if it.evidence.untried]
+    if untried:
+        raise Refused(f"{named_first(untried)} could not be tried, and was not judged: {untried[0].evidence.untried}", "mark again when that is mended")
+    unjudged = [it for it in found if any(check.verdict == UNJUDGED for check in it.checks)]
+    if unjudged:
+        raise Refused(f"{sheet.checker} did not judge {named_first(unjudged)}: mend the checker, which has to judge any output, and mark again")
+
+
+def named_first(found: list[Marks]) -> str:
+    """The first of these by its name, with how many more there are."""
+    return found[0].name + (f" and {len(found) - 1} more" if found[1:] else "")
 
 
 def advice(marking: Marking, found: list[Marks]) -> list[str]:

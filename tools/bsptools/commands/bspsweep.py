@@ -268,11 +268,13 @@ def tell_again(before: table_record.Record, now: table_record.Record) -> bool:
 def again(asked: argparse.Namespace) -> int:
     """Makes the table of a record once more, as the command line asks for it now."""
     before = table_record.read(asked.again)
+    files.expect_ordinary(table_record.own_machines(before), asked.again)
     table_record.take_machines(before)
     words = before[table_record.COMMAND]
     options = arguments(words)
     if options.again is not None:
         raise Refused(f"{asked.again} is the record of no sweep")
+    files.expect_ordinary([*options.program, *(options.input or []), *options.file], asked.again)
     for name in ("output", "folder", "engine", "jobs", "hosts", "sbatch", "check", "script"):
         setattr(options, name, getattr(asked, name))
     expect_outputs(options, [asked.again])

@@ -14,6 +14,9 @@ from .. import children
 
 CHUNK, MOST_SAID = 1 << 16, 1 << 18
 ENDED, LATE, LONG = "ended", "late", "long"
+# The part of its time that a busy program has a processor at least, how many times its time it may take without that, and for how many seconds
+# more it is waited for at least.
+LEAST_SHARE, MOST_WAITS, PAUSE = 0.5, 10, 0.1
 
 
 class Ran(NamedTuple):
@@ -26,10 +29,12 @@ class Ran(NamedTuple):
     said: bytes
 
 
-def run(words: Sequence[str], seconds: float, most: int, environment: Optional[Mapping[str, str]] = None) -> Ran:
-    """Runs a program with nothing to read."""
+def run(words: Sequence[str], seconds: float, most: int, environment: Optional[Mapping[str, str]] = None, is_busy: bool = False) -> Ran:
+    """Runs a program with nothing to read. One that is busy all the time, as a run of the emulator, has more time if the host gave it less of
+    a processor, or stopped it."""
     given = {"stdin": subprocess.DEVNULL, "stdout": subprocess.PIPE, "stderr": subprocess.PIPE, "env": environment}
     until = time.monotonic() + seconds
+    last = until + (MOST_WAITS - 1) * seconds if is_busy else until
     parts = {1: bytearray(), 2: bytearray()}
     how = ENDED
     with children.running(words, signal.SIGKILL, **given) as child:
@@ -47,7 +52,10 @@ def run(words: Sequence[str], seconds: float, most: int, environment: Optional[M
             if len(parts[1]) > most:
                 how = LONG
             elif time.monotonic() >= until:
-                how = LATE
+                rest = seconds * LEAST_SHARE - children.processor_seconds(child)
+                if rest <= 0 or time.monotonic() >= last:
+                    how = LATE
+                until = min(time.monotonic() + max(rest, PAUSE), last)
         if how == ENDED:
             try:
                 child.wait(max(until - time.monotonic(), 1))

@@ -40,9 +40,15 @@ class Ended:
 @dataclass
 class Evidence:
     """All of a hand-in: why it is no program at all, or what the compiler said and whether it made one; which calls it names, of those that a
-    sheet speaks of; its runs, in the order of the sheet; and the verdict of --portable, where the sheet asks for that."""
+    sheet speaks of; its runs, in the order of the sheet; and the verdict of --portable, where the sheet asks for that.
+
+    `lack` says what the host may not have given, as room on a disk that others have filled: then it is tried again by itself. `untried` says
+    why it cannot be judged, as where that did not help.
+    """
 
     refused: str = ""
+    lack: str = ""
+    untried: str = ""
     is_built: bool = False
     said: List[str] = field(default_factory=list)
     calls: Dict[str, int] = field(default_factory=dict)

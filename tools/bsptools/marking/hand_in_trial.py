@@ -4,6 +4,7 @@ from __future__ import annotations
 
 import argparse
 import contextlib
+import errno
 import os
 import pathlib
 import re
@@ -44,6 +45,12 @@ PATIENCE = 20
 # What is likely a mistake by the text alone. `bspcc --strict` also takes -Og and tests as the program runs, with which w would be another.
 STRICT = ("-Wall", "-Wextra", "-Wno-unused-parameter", "-Wno-sign-compare")
 ERRORS = re.compile(r"\b(?:fatal )?[eE]rror: |undefined reference")
+# What the compiler says where the host has given it too little: the disk is full, a process of it was killed, or none could be started. A
+# hand-in that has GCC say so itself is tried once more, and no more. The errors that tell the same; and that it was too slow.
+FULL = "No space left on device"
+LACK = re.compile(rf"{FULL}|Disk quota exceeded|^\S+: fatal error: Killed signal terminated program|[cC]annot fork|Too many open files")
+LACKS = (errno.ENOSPC, errno.EDQUOT, errno.ENOMEM, errno.EAGAIN, errno.EMFILE, errno.ENFILE)
+SLOW = "the compiler took too long"
 SAFE = re.compile(r"[A-Za-z_][\w.-]{0,80}\.(?:c|cc|cpp|cxx)", re.ASCII)
 COMMENTS = re.compile(r"//[^\n]*|/\*.*?\*/|\"(?:\\.|[^\"\\\n])*\"|'(?:\\.|[^'\\\n])*'", re.DOTALL)
 
@@ -96,6 +103,15 @@ class Trial:
         self.found = Evidence()
 
     def make(self) -> Evidence:
+        """Tries all of it, as far as the host lets it."""
+        try:
+            return self.tried()
+        except OSError as error:
+            if error.errno not in LACKS:
+                raise
+            return Evidence(lack=str(error.strerror))
+
+    def tried(self) -> Evidence:
         """Tries all of it."""
         self.found.refused = refusal(self.text)
         if self.found.refused:
@@ -131,6 +147,8 @@ class Trial:
         ran = bounded_run.run([*words, "-lm"], COMPILER_SECONDS, MOST_COMPILED, compiler_environment(self.folder))
         is_built = ran.how == bounded_run.ENDED and ran.status == 0 and target.is_file()
         said = [it for it in ran.said.decode(errors="replace").replace(f"{self.folder}/", "").splitlines() if it.strip()]
+        if not is_built:
+            self.found.lack = next((it for it in said if LACK.search(it)), SLOW if ran.how == bounded_run.LATE else "")
         if ran.how != bounded_run.ENDED:
             said.insert(0, f"the compiler was ended after {COMPILER_SECONDS} s")
         elif not is_built and not said:
@@ -188,9 +206,13 @@ class Trial:
         try:
             job = self.job(run, image, f"run{number}")
         except Refused as refused:
+            if isinstance(refused.__cause__, OSError) and refused.__cause__.errno in LACKS:
+                raise refused.__cause__
             return Ended(BROKEN, why=[str(it).replace(str(image), self.name) for it in refused.args])
         words = [*job.program, "run", *job.settings, "--workers", "1", "--report", "--live"]
-        ran = bounded_run.run(words, self.plan.seconds, run.output + MOST_REPORT)
+        ran = bounded_run.run(words, self.plan.seconds, run.output + MOST_REPORT, is_busy=True)
+        if ran.how == bounded_run.ENDED and ran.status == -signal.SIGKILL:
+            self.found.lack = "the run was killed, as where memory ran out"
         ended, report = self.ended(job, ran, run.output)
         if report is None:
             return ended

@@ -19,8 +19,10 @@ EXIT = re.compile(r", in (?:exit|_exit|_Exit)\b")
 RIGHT, EMPTY, NOT_COMPILED, NOT_ALLOWED = "right", "no program", "does not compile", "not allowed"
 WRONG, STOPPED, ENDLESS, FLOOD, RACE = "wrong output", "stopped", "endless", "too much output", "race"
 EXPENSIVE, IDLE, NOT_PORTABLE, WARNED = "too expensive", "does too little", "not portable", "warnings"
-# The sheet's checker broke off: that is no fault of the hand-in.
+# The sheet's checker broke off, or the host gave too little to try it: that is no fault of the hand-in.
 UNJUDGED = "not judged"
+# Why nothing is looked at after the first of these.
+LOST = {EMPTY: "there is no program", NOT_COMPILED: "it does not compile", UNJUDGED: "it could not be tried"}
 
 
 class Judgement(NamedTuple):
@@ -103,7 +105,7 @@ class Marker:
         """All that is looked at, the first faults first: what comes behind one that a hand-in cannot pass has no points."""
         first = self.compiled()
         if not first.is_kept:
-            return [first, *self.lost("it does not compile" if first.verdict == NOT_COMPILED else "there is no program")]
+            return [first, *self.lost(LOST[first.verdict])]
         rules = self.rules()
         if rules and not rules.is_kept:
             return [first, rules, *self.lost("a rule of the sheet is broken")]
@@ -114,6 +116,8 @@ class Marker:
     def compiled(self) -> Check:
         """Whether it is a program."""
         evidence, name = self.evidence, "compiles"
+        if evidence.untried:
+            return Check(name, verdict=UNJUDGED, fault=f"it could not be tried: {evidence.untried}")
         if evidence.refused:
             return Check(name, verdict=EMPTY, fault=evidence.refused)
         if not evidence.is_built:
@@ -351,6 +355,6 @@ def wanted_of(evidence: Evidence) -> List[Wanted]:
 
 def faults_of_solution(evidence: Evidence, sheet: Sheet) -> Dict[str, str]:
     """Why a solution is none."""
-    if evidence.refused or not evidence.is_built:
-        return {"": evidence.refused or compiler_fault(evidence.said)}
+    if evidence.untried or evidence.refused or not evidence.is_built:
+        return {"": evidence.untried or evidence.refused or compiler_fault(evidence.said)}
     return {str(run): stop_fault(it, it.errors.splitlines()) for run, it in zip(sheet.runs, evidence.runs) if not it.is_well}

@@ -7,7 +7,7 @@ import random
 import sys
 from typing import Dict, List, Optional, Tuple
 
-from ..files import content_of
+from ..files import named_content
 from ..limits import MOST_INPUT
 from ..refusals import Refused
 from . import bounded_run
@@ -50,7 +50,7 @@ class Inputs:
         """Reads or makes an input."""
         asked = case.input
         if isinstance(asked, str):
-            return content_of(self.sheet.file(asked), MOST_INPUT)
+            return named_content(self.sheet.file(asked), MOST_INPUT)
         if isinstance(asked, Numbers):
             return numbers(asked, asked.seed if self.seed is None else self.seed)
         return self.generated(asked, nodes) if isinstance(asked, Generator) else None

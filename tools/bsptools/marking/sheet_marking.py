@@ -2,6 +2,7 @@
 
 from __future__ import annotations
 
+import contextlib
 import os
 import pathlib
 import shlex
@@ -16,14 +17,14 @@ from dataclasses import replace
 from typing import Any, Dict, Iterator, List, NamedTuple, Optional, Sequence, Tuple
 
 from .. import children, emulator, own_folders, python_packages, sealed_results
-from ..files import content_of, put
+from ..files import named_content, opened_folder, put
 from ..limits import MEMORY, MOST_INPUT
 from ..refusals import Refused, about, counted, show, tell
 from ..sealed_results import digest
 from . import bounded_run, compiler_files, confinement, trial_pool, wanted_file
 from .evidence import Evidence, of_json
 from .evidence_store import Store, folder_at
-from .hand_in_trial import COMPILER_SECONDS, ERRORS, MOST_TEXT, Plan, RunPlan, Trial, compiler_environment
+from .hand_in_trial import COMPILER_SECONDS, ERRORS, FULL, MOST_TEXT, SLOW, Plan, RunPlan, Trial, compiler_environment
 from .marks import UNJUDGED, WRONG, Judgement, Marks, Wanted, faults_of_solution, marks, wanted_of
 from .sheet import ALONE, INSTRUCTIONS, TIMES, Run, Sheet, settings_of
 from .sheet_inputs import SECONDS, Inputs, words_of
@@ -38,6 +39,8 @@ SYSTEM = (
 TRACEBACK = "Traceback (most recent call last):"
 OF_SYSTEM = tuple(f"{it}/" for it in SYSTEM)
 MOST_FILE = 1 << 28
+# What is free on a disk that has room for all that the compiler writes of one hand-in.
+LEAST_ROOM = 4 * MOST_FILE
 # Of the solution.
 MOST_OUTPUT = 1 << 26
 NO_LANDLOCK = (
@@ -54,22 +57,44 @@ class HandIn(NamedTuple):
     why: str = ""
 
 
-def hand_in(path: str) -> HandIn:
-    """A hand-in of a file. What is no ordinary file is none: a link may lead to the solution."""
-    try:
-        found = os.lstat(path)
-    except OSError as error:
-        raise Refused(f"{path}: {error.strerror}") from error
+def hand_ins(paths: Sequence[str]) -> List[HandIn]:
+    """The hand-ins of files. A folder in which one lies may have come with it, as from an archive, and be a link to another hand-in, or to the
+    solution: links are followed up to the folder that all of them share, and below that none. Of a single one the first name counts as that."""
+    folders = [os.path.dirname(os.path.abspath(it)) for it in paths]
+    if len(paths) > 1:
+        top = os.path.commonpath(folders)
+        return [hand_in(it, len(pathlib.PurePath(os.path.relpath(folder, top)).parts)) for it, folder in zip(paths, folders)]
+    return [hand_in(it, 0 if os.path.isabs(it) else max(len(pathlib.PurePath(it).parts) - 2, 0)) for it in paths]
+
+
+def hand_in(path: str, below: int = 0) -> HandIn:
+    """A hand-in of a file. What is no ordinary file is none: a link may lead to the solution. So may the last of its folders, of which so many
+    are no links."""
+    *folders, name = pathlib.PurePath(path).parts
+    first = max(len(folders) - below, 0)
+    top = pathlib.PurePath(*folders[:first])
+    with about(path), contextlib.closing(contextlib.ExitStack()) as opened:
+        place = opened.enter_context(opened_folder(top))
+        for it in folders[first:]:
+            top = top / it
+            if stat.S_ISLNK(os.lstat(it, dir_fd=place).st_mode):
+                return HandIn(path, why=f"{top} is a link, and not looked into")
+            place = opened.enter_context(opened_folder(it, place))
+        return _hand_in(path, name, place)
+
+
+def _hand_in(path: str, name: str, place: int) -> HandIn:
+    """A hand-in of a file in an open folder."""
+    found = os.lstat(name, dir_fd=place)
     if stat.S_ISLNK(found.st_mode):
-        return HandIn(path, why=f"the file is a link, to {os.readlink(path)}, and not looked into")
+        return HandIn(path, why=f"the file is a link, to {os.readlink(name, dir_fd=place)}, and not looked into")
     if not stat.S_ISREG(found.st_mode):
         return HandIn(path, why="this is no ordinary file")
     if pathlib.PurePath(path).suffix not in SOURCES:
         return HandIn(path, why=f"a hand-in is a program in C or C++, whose name ends with {', '.join(SOURCES)}")
     if found.st_size > MOST_TEXT:
         return HandIn(path, why=f"the file has more than {MOST_TEXT} bytes, which no program of a sheet has")
-    with about(path):
-        number = os.open(path, os.O_RDONLY | os.O_NOFOLLOW)
+    number = os.open(name, os.O_RDONLY | os.O_NOFOLLOW | os.O_NONBLOCK, dir_fd=place)
     with os.fdopen(number, "rb") as file:
         return HandIn(path, file.read(MOST_TEXT + 1))
 
@@ -89,7 +114,7 @@ class Marking:
         if sheet.checker:
             self.expect_checker()
         self.inputs = Inputs(sheet, seed)
-        self.given = {name: content_of(sheet.file(name), MOST_INPUT) for case in sheet.cases for name in case.given}
+        self.given = {name: named_content(sheet.file(name), MOST_INPUT) for case in sheet.cases for name in case.given}
         # Kinds of programs that were compiled once here; the PATH by which the compiler is found, and what it reads beside the system's files.
         self.warmed: set[str] = set()
         brought = compiler_files.brought()
@@ -113,7 +138,7 @@ class Marking:
         """The plan of a trial: without bounds, and with much more room, where what is wanted is not known yet."""
         sheet = self.sheet
         runs = tuple(self.run_plan(run, wanted[number] if wanted else None) for number, run in enumerate(sheet.runs))
-        files = tuple((pathlib.PurePath(it).name, content_of(sheet.file(it), MOST_INPUT)) for it in sheet.files)
+        files = tuple((pathlib.PurePath(it).name, named_content(sheet.file(it), MOST_INPUT)) for it in sheet.files)
         return Plan(
             runs, files, (*sheet.forbid, *sheet.require), sheet.memory, sheet.seconds, sheet.strict, sheet.races, sheet.portable,
         )  # fmt: skip
@@ -155,13 +180,13 @@ class Marking:
         if not run.case.expected:
             return wanted._replace(output=None) if self.sheet.checker and not self.sheet.solution else wanted
         name = run.case.expected.replace("{p}", str(run.nodes))
-        return wanted._replace(output=content_of(self.sheet.file(name), MOST_OUTPUT))
+        return wanted._replace(output=named_content(self.sheet.file(name), MOST_OUTPUT))
 
     # Trials.
 
     def marks(self, names: Sequence[str]) -> List[Marks]:
         """The marks of files, in their order."""
-        found = [hand_in(it) for it in names]
+        found = hand_ins(names)
         self.find_wanted()
         evidence = self.evidence(found, self.plan)
         judged = self.judged(evidence)
@@ -182,23 +207,42 @@ class Marking:
         self.known = sum(key in made for key in keys)
         if tasks:
             self.warm(plan, [it.name for it in tasks.values()])
-            progress = Progress(len(tasks))
-
-            def take(task: Tuple[str, HandIn], answer: Any) -> None:
-                made[task[0]] = self.taken(task[0], answer)
-                progress.done += 1
-
-            trial_pool.each(list(tasks.items()), self.jobs, lambda task: self.tried(task[1], plan, task[0]), take, progress.show)
-            progress.end()
+            made.update(self.made(tasks, plan, self.jobs))
+            # Others may have filled the disk or the memory.
+            lacking = {key: it for key, it in tasks.items() if made[key].lack}
+            made.update({key: it for one in lacking.items() for key, it in self.made(dict([one]), plan, 1).items()})
+            for key in tasks:
+                self.settle(key, made[key])
         return [Evidence(refused=it.why) if it.why else made[key] for key, it in zip(keys, found)]
 
-    def taken(self, key: str, answer: Any) -> Evidence:
-        """What came of a trial. One that has broken off is none of what is kept."""
-        if isinstance(answer, str):
-            return Evidence(refused=f"bspcheck could not try it: {answer}")
-        evidence = of_json(answer)
-        self.store.keep(key, evidence)
-        return evidence
+    def made(self, tasks: Dict[str, HandIn], plan: Plan, jobs: int) -> Dict[str, Evidence]:
+        """Tries hand-ins, so many at a time."""
+        made: Dict[str, Evidence] = {}
+        progress = Progress(len(tasks))
+
+        def take(task: Tuple[str, HandIn], answer: Any) -> None:
+            # What was killed may have met a lack of memory.
+            lack, why = (answer, "") if answer == trial_pool.KILLED else ("", answer)
+            made[task[0]] = of_json(answer) if isinstance(answer, dict) else Evidence(lack=lack, untried=why)
+            # The process itself may be killed, and could not remove it.
+            shutil.rmtree(self.folder / task[0], ignore_errors=True)
+            progress.done += 1
+
+        trial_pool.each(list(tasks.items()), jobs, lambda task: self.tried(task[1], plan, task[0]), take, progress.show)
+        progress.end()
+        return made
+
+    def settle(self, key: str, evidence: Evidence) -> None:
+        """Keeps what came of a trial. One that has broken off is none of what is kept; and nothing is judged by what the host did not give."""
+        free = shutil.disk_usage(self.folder).free
+        is_full = FULL in evidence.lack
+        # What a hand-in by itself lacks that has all this room no host would give it.
+        is_its_own = not evidence.is_built and bool(evidence.said) and (evidence.lack == SLOW or is_full and free >= LEAST_ROOM)
+        if evidence.lack and not is_its_own:
+            room = f"; {self.folder.parent} has {free >> 20} MB of room, and TMPDIR names another place" if is_full else ""
+            evidence.untried = f"{evidence.lack}{room}"
+        if not evidence.untried:
+            self.store.keep(key, evidence)
 
     def tried(self, it: HandIn, plan: Plan, key: str) -> Dict[str, Any]:
         """Tries a hand-in, in this process, which is for it alone."""
@@ -259,7 +303,7 @@ class Marking:
         answers: List[Optional[List[Judgement]]] = [None] * len(found)
         if not self.sheet.checker:
             return answers
-        tasks = [at for at, it in enumerate(found) if it.runs]
+        tasks = [at for at, it in enumerate(found) if it.runs and not it.untried]
 
         def take(at: int, answer: Any) -> None:
             broken = [Judgement(UNJUDGED, str(answer))] * len(self.sheet.runs)

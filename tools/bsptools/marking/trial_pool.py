@@ -15,6 +15,8 @@ from .. import children
 
 Task = TypeVar("Task")
 CHUNK, PAUSE = 1 << 16, 0.2
+# What is told of a process that was killed, as by a kernel that is short of memory.
+KILLED = "the process that tried it was ended: Killed"
 
 
 def processors() -> int:

@@ -5,8 +5,8 @@ from __future__ import annotations
 import json
 from typing import Any, Dict, List, Sequence
 
-from ..files import content_of, write
-from ..refusals import Refused
+from ..files import named_content, whole, write
+from ..refusals import Refused, why_unfit
 from ..sealed_results import digest
 from .hand_in_trial import RunPlan
 from .marks import Wanted
@@ -30,17 +30,24 @@ def write_to(path: str, runs: Sequence[Run], plans: Sequence[RunPlan], wanted: S
     write(path, "{\n" + ",\n".join(dict.fromkeys(lines)) + "\n}\n")
 
 
+def wanted_of(entry: Dict[str, Any]) -> Wanted:
+    """What is wanted of a run, as the file has it. It may have come with a sheet of somebody else."""
+    costs = {name: whole(it) for name, it in entry["costs"].items()}
+    supersteps = [[whole(w), whole(h), whole(m)] for w, h, m in entry["supersteps"]]
+    return Wanted(entry["output"].encode("latin-1"), costs, supersteps)
+
+
 def read(sheet: Sheet, runs: Sequence[Run], plans: Sequence[RunPlan]) -> List[Wanted]:
     """What a file keeps of the runs of a sheet."""
     path = sheet.file(sheet.wanted)
     try:
-        known = json.loads(content_of(path, MOST_BYTES))
+        known = json.loads(named_content(path, MOST_BYTES))
         found = [known.get(name_of(it)) for it in plans]
         lacks = [run for run, it in zip(runs, found) if it is None]
         if not lacks:
-            return [Wanted(it["output"].encode("latin-1"), {k: int(v) for k, v in it["costs"].items()}, it["supersteps"]) for it in found]
+            return [wanted_of(it) for it in found]
     except (ValueError, TypeError, KeyError, AttributeError, RecursionError) as error:
-        raise Refused(f"{path} is not what bspcheck --freeze writes: {error}") from error
+        raise Refused(f"{path} is not what bspcheck --freeze writes: {why_unfit(error)}") from error
     raise Refused(
         f"{path} has nothing for {lacks[0]}: it was made for another sheet or seed; bspcheck --freeze writes it anew, with the solution"
     )

@@ -114,10 +114,15 @@ def machine_tables(options: argparse.Namespace) -> Iterator[tuple[str, str]]:
             yield own, own
 
 
+def own_machines(record: Record) -> list[str]:
+    """The tables with machines of one's own that a record names."""
+    named = record.get(MACHINES)
+    return [it for it in named if isinstance(it, str) and it != machines.TABLE.name] if isinstance(named, dict) else []
+
+
 def take_machines(record: Record) -> None:
     """Has machines looked for in the table that a record names, if the environment names none."""
-    named = record.get(MACHINES)
-    own = [it for it in named if isinstance(it, str) and it != machines.TABLE.name] if isinstance(named, dict) else []
+    own = own_machines(record)
     if own and not os.environ.get(machines.OWN):
         os.environ[machines.OWN] = own[0]
 

@@ -19,7 +19,7 @@ from ..prepare.job import Job
 from ..prepare.library_choices import EARLY, LATE, MOST_CUTS, NUMBERED, REVERSED, SHUFFLED, WATCHED, Choices, Point
 from ..program.code import read_elf
 from ..refusals import Refused, counted, show, tell
-from . import exposed_bytes, final_variables, unbuffered_races
+from . import exposed_accesses, exposed_bytes, final_variables, unbuffered_races
 from .accepted_places import Accepted
 from .call_log import INPUT, NO_MESSAGE, Logged, Superstep
 from .contested_pairs import Pair, pairs
@@ -41,6 +41,7 @@ OWN_STATUS = b": the program ended with status "
 TRIES, MOST_ORDERED = 8, 4
 # What puts and gets, also where it is not called in the run as it is.
 ASKING = ("__wrap_bsp_put", "__wrap_bsp_get", *CALLS)
+ACCESSES = "accesses of ranks to bytes of unbuffered calls"
 # How many pairs of places are told of each kind.
 MOST_PAIRS = 16
 NOT_LOOKED_FOR = (
@@ -326,6 +327,9 @@ class Portable:
         """bsp_hpput and bsp_hpget at other times."""
         if not self.has(*CALLS) or not any(it.has_unbuffered for it in self.log):
             return
+        watched, *_ = self.trials.run_all([Choices(unbuffered=WATCHED), *TIMES])
+        if self.accesses():
+            return
         touched = unbuffered_races.races(self.findings().trace, self.log)
         for race in touched[:MOST_PAIRS]:
             self.find(self.findings().touched(race))
@@ -333,7 +337,6 @@ class Portable:
             self.leave_out(f"not told: {counted(len(touched) - MOST_PAIRS, 'more unbuffered call')} whose bytes are written")
         if touched:
             return
-        watched, *_ = self.trials.run_all([Choices(unbuffered=WATCHED), *TIMES])
         if watched != self.ended and (rank := re.match(r"rank (\d+) stopped: aborted", watched.outcome)) is not None:
             said = re.search(rb"bsp: rank %b: %b(\d+)\n" % (rank[1].encode(), CHANGED.encode()), watched.output)
             if said is not None:
@@ -344,6 +347,39 @@ class Portable:
                 self.find(self.findings().call(other))
                 return
         self.verdict.tried.append("unbuffered calls early and late")
+
+    def looking_build(self) -> Trials | None:
+        """The program as it looks at its own accesses, if there is such a build."""
+        if "bsp_ranges" in self.code.names:
+            return self.trials
+        if not self.subject.options.sources:
+            self.leave_out(f"not tried: {ACCESSES}, which takes bspcc --portable=accesses")
+            return None
+        try:
+            trials, _ = built(self.subject, self.trials.ticks, "--portable=accesses", "-Og", is_told=False)
+        except Refused:
+            self.leave_out(f"not tried: {ACCESSES}, for which the program was not compiled")
+            return None
+        trials.room = trials.room and self.trials.room
+        return trials
+
+    def accesses(self) -> bool:
+        """What ranks read and write themselves where an unbuffered call has the same bytes. Answers whether that was found."""
+        show("bsprun: looking at accesses to bytes of unbuffered calls")
+        trials = self.looking_build()
+        if trials is None:
+            return False
+        ranges, left_out = exposed_accesses.ranges(self.log if trials is self.trials else trials.log(Choices()))
+        if left_out is not None:
+            self.leave_out(f"not tried: {ACCESSES} from superstep {left_out} on, since these have too many bytes apart")
+        found = exposed_accesses.accesses(trials.log(Choices(ranges=tuple(ranges)))) if ranges else []
+        others = [other for it in TIMES if (other := self.other(it, self.is_silent)) is not None] if found else []
+        findings = Findings(trials, Tracer(trials.code.know_names(), trials.replays(Choices())))
+        for it in found[:MOST_PAIRS]:
+            self.find(findings.accessed(it, others[0] if others else None))
+        if len(found) > MOST_PAIRS:
+            self.leave_out(f"not told: {counted(len(found) - MOST_PAIRS, 'more pair')} of lines, a call and an access to its bytes")
+        return bool(found)
 
     def fresh(self) -> None:
         """Fresh memory with other bytes."""
@@ -383,10 +419,10 @@ class Portable:
         self.verdict.notes += [f"for information: {', '.join(told)}"] if told else []
 
 
-def built(subject: Subject, ticks: int, *options: str) -> tuple[Trials, list[str]]:
+def built(subject: Subject, ticks: int, *options: str, is_told: bool = True) -> tuple[Trials, list[str]]:
     """A build of a program in C that takes choices, and what was said of it."""
     target = subject.folder / "portable.elf"
-    said = compiled(subject.options, target, "--portable", *options)
+    said = compiled(subject.options, target, "--portable", *options, is_told=is_told)
     content = with_records(content_of(target, MOST_PROGRAM), subject.mark)
     return Trials(subject, content, read_elf(content), ticks), said
 

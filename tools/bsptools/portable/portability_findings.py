@@ -9,7 +9,7 @@ from collections.abc import Callable
 from typing import NamedTuple
 
 from ..framed.backtrace import Frame, place
-from ..framed.environment_calls import HPGET, HPPUT, REQUESTS, SEND, Call, Tracer, spelled
+from ..framed.environment_calls import HPGET, HPPUT, NAMES, REQUESTS, SEND, Call, Tracer, spelled
 from ..framed.replays import Replays
 from ..framed.session import ALL, Node
 from ..outputs.contested_bytes import Contested
@@ -22,6 +22,7 @@ from . import final_variables, orders
 from .call_log import Logged
 from .contested_pairs import Pair
 from .divergence import first_divergence, shown
+from .exposed_accesses import Access
 from .exposed_bytes import DIRECT_GET, Bytes, Exposed
 from .trial_runs import Ending, Stop, Trials, least, looked, memory_of, stops
 from .unbuffered_races import Race
@@ -229,6 +230,19 @@ class Findings:
         writer, _ = self.changed_at(self.trace, it.script, owner, it.where.start, it.before)
         lines.append(f"and    rank {owner} at {writer}: {differing(it.before, it.after)}")
         return Finding([*lines, f"why    {WHY_UNBUFFERED}"], (line_in(where), line_in(writer)))
+
+    def accessed(self, it: Access, other: Other | None) -> Finding:
+        """An access of a rank to bytes of an unbuffered call, and what comes of another time of such calls."""
+        owner, rank = it.where.rank, it.call.rank
+        name, what = NAMES[it.call.number][0], "writes" if it.is_target else "reads"
+        deed = "writes" if it.is_write else "reads"
+        lines = [f"rank {owner} {deed} in a superstep what {name} of rank {rank} {what} at any time in it"]
+        where, call = self.call_at(it.superstep, it.call)
+        lines += [self.bytes_at(it.superstep, it.where), f"call   by rank {rank} at {where}: {call}"]
+        made = self.place_behind(it.made)
+        lines.append(f"{deed} by rank {owner} at {made}")
+        lines += [f"then   {other.difference}", again(other.choices)] if other is not None else []
+        return Finding([*lines, f"why    {WHY_UNBUFFERED}"], (line_in(where), line_in(made)))
 
     def call(self, other: Other) -> Finding:
         """An unbuffered call of which the time counts."""

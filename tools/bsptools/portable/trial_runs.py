@@ -178,9 +178,15 @@ class Trials:
 
     def log(self, choices: Choices) -> list[Superstep]:
         """The calls of a run."""
-        done = emulator.run(self._command(choices._replace(is_logged=True), None))
-        found = report.brief(done.stdout)
-        return supersteps(done.stdout, self.subject.log_mark, found.last if found is not None else -1)
+        return self.log_all([choices])[0]
+
+    def log_all(self, tried: Sequence[Choices]) -> list[list[Superstep]]:
+        """The calls of runs, which are made side by side."""
+        found = []
+        for done in emulator.run_all([self._command(it._replace(is_logged=True), None) for it in tried]):
+            said = report.brief(done.stdout)
+            found.append(supersteps(done.stdout, self.subject.log_mark, said.last if said is not None else -1))
+        return found
 
     def replays(self, choices: Choices) -> Replays:
         """The same run in the debugger, up to the next one that is asked for."""

@@ -16,16 +16,16 @@ from ..limits import MOST_NODES, MOST_PROGRAM
 from ..outputs import contested_bytes, output_records
 from ..prepare.compilation import compiled
 from ..prepare.job import Job
-from ..prepare.library_choices import EARLY, LATE, MOST_CUTS, NUMBERED, REVERSED, SHUFFLED, WATCHED, Choices, Point
+from ..prepare.library_choices import EARLY, LATE, MOST_CUTS, NUMBERED, REVERSED, SHUFFLED, WATCHED, Choices, Cut, Point
 from ..program.code import read_elf
 from ..refusals import Refused, counted, show, tell
-from . import exposed_accesses, exposed_bytes, final_variables, unbuffered_races
+from . import exposed_accesses, exposed_bytes, final_variables, orders, unbuffered_races
 from .accepted_places import Accepted
 from .call_log import INPUT, NO_MESSAGE, Logged, Superstep
 from .contested_pairs import Pair, pairs
 from .exposed_bytes import Exposed
 from .portability_findings import CALLS, QUEUE, Finding, Findings, Other, described, parted, told_contested, told_variable
-from .trial_runs import Ending, NoRoom, Subject, Trials
+from .trial_runs import Ending, NoRoom, Subject, Trials, least
 
 TIMES = (Choices(unbuffered=EARLY), Choices(unbuffered=LATE))
 PATTERNS = (0x40, 0xC1)
@@ -45,7 +45,7 @@ ACCESSES = "accesses of ranks to bytes of unbuffered calls"
 # How many pairs of places are told of each kind.
 MOST_PAIRS = 16
 NOT_LOOKED_FOR = (
-    "memory behind free", "what rank 0 sets before bsp_begin", "bsp_time", "the order of the ranks' output", "numbers of another size",
+    "memory behind free", "addresses of variables on other ranks", "what main's own variables have before bsp_begin", "bsp_time", "the order of the ranks' output", "numbers of another size",
 )  # fmt: skip
 
 
@@ -81,6 +81,7 @@ class Portable:
         self.code = trials.code.know_names()
         self.variables = final_variables.of_program(self.code)
         self.known: dict[Choices, list[bytes]] = {}
+        self.told_pairs: set[tuple[int, ...]] = set()
         self.verdict = Verdict()
 
     @functools.cached_property
@@ -190,7 +191,9 @@ class Portable:
         self.from_log()
         self.tried("messages in other orders", self.messages)
         self.tried("unbuffered calls at other times", self.unbuffered)
-        self.fresh()
+        if self.fresh():
+            self.addresses()
+            self.alone()
 
     def tried(self, what: str, look: Callable[[], None]) -> None:
         """Looks for something where there is room for what is kept."""
@@ -217,10 +220,13 @@ class Portable:
         found, findings = self.trials.contested[choices], self.findings(choices)
         if found.places > len(found.rows):
             self.leave_out(f"not tried: contested bytes behind the first {len(found.rows)} places")
-        made = pairs(found.rows, self.log if choices == Choices() else self.trials.log(choices))
-        landed = [choices._replace(cuts=tuple(it.cuts[:MOST_CUTS])) for it in made[:MOST_PAIRS]]
+        all_made = pairs(found.rows, self.log if choices == Choices() else self.trials.log(choices))
+        # Their numbers are those of all, as --order has them.
+        made = [(number, it) for number, it in enumerate(all_made, 1) if it.places not in self.told_pairs]
+        self.told_pairs |= {it.places for _, it in made}
+        landed = [choices._replace(cuts=tuple(it.cuts[:MOST_CUTS])) for _, it in made[:MOST_PAIRS]]
         self.trials.run_all(landed)
-        for number, (pair, cut) in enumerate(zip(made, landed), 1):
+        for (number, pair), cut in zip(made, landed):
             other = self.other(cut, self.is_silent)
             if len(pair.cuts) > MOST_CUTS and other is None:
                 self.leave_out(f"not tried: the other order of more than {MOST_CUTS} requests of a pair of lines")
@@ -308,10 +314,19 @@ class Portable:
         else:
             self.verdict.tried += [name] if tried else []
             self.note_variables(*tried[:3])
-            contested = [it for it in tried if asks and self.trials.contested[it].places]
-            if contested and not self.trials.contested.get(Choices()):
-                self.pairs(contested[0])
+        if asks:
+            self.contested_in(tried)
         self.queue()
+
+    def contested_in(self, tried: list[Choices]) -> None:
+        """Bytes that are contested where messages come in other orders alone."""
+        known = self.trials.contested.get(Choices())
+        seen = {it[:3] for it in known.rows} if known is not None else set()
+        for choices in tried:
+            more = {it[:3] for it in self.trials.contested[choices].rows} - seen
+            if more:
+                seen |= more
+                self.pairs(choices)
 
     def queue(self) -> None:
         """What bsp_hpmove gave out, behind the next bsp_sync."""
@@ -381,8 +396,38 @@ class Portable:
             self.leave_out(f"not told: {counted(len(found) - MOST_PAIRS, 'more pair')} of lines, a call and an access to its bytes")
         return bool(found)
 
-    def fresh(self) -> None:
-        """Fresh memory with other bytes."""
+    def addresses(self) -> None:
+        """Stack and heap elsewhere on each rank, so that an address of one is none of another."""
+        choices = Choices(is_moved=True)
+        if self.ends_otherwise(choices):
+            self.find(self.findings().addresses(choices, parted(self.ended, self.trials.run(choices))))
+        else:
+            self.verdict.tried.append("stack and heap elsewhere on each rank")
+
+    def alone(self) -> None:
+        """What rank 0 alone has done before bsp_begin. Where bsp_init is called, that is so in each run."""
+        cuts = orders.variables_of(self.code)
+        if self.has("bsp_init") or not cuts or not self.trials.room or self.trials.nodes == 1:
+            return
+        choices = Choices(is_alone=True, cuts=cuts)
+        try:
+            if not self.ends_otherwise(choices):
+                return
+            # Some of them change something, and the last of as few as do so.
+            count = least(0, len(self.variables), lambda it: self.ends_otherwise(self.alone_with(it)))
+        except NoRoom:
+            return
+        name = self.variables[count - 1].name
+        difference = parted(self.ended, self.trials.run(choices))
+        self.verdict.notes.append(f"for information: ranks above 0 use what {name} is given before bsp_begin, which BSPlib lets rank 0 alone do; "
+                                  f"otherwise {difference}: --order {orders.spelled(choices)}")  # fmt: skip
+
+    def alone_with(self, count: int) -> Choices:
+        """The same with so many of the variables."""
+        return Choices(is_alone=True, cuts=tuple(Cut(0, 0, 0, *it) for it in final_variables.ranges_of(self.variables[:count])[:MOST_CUTS]))
+
+    def fresh(self) -> bool:
+        """Fresh memory with other bytes. Answers whether nothing was found."""
         patterns = [Choices(heap=it, stack=it) for it in PATTERNS]
         self.trials.run_all(patterns)
         for choices in patterns:
@@ -393,7 +438,7 @@ class Portable:
             elif other is not None:
                 self.find(self.findings().stack(self.trials, choices, other.difference))
             if other is not None:
-                return
+                return False
         for value in VALUES if self.subject.options.sources else ():
             options = ["-Wuninitialized", "-Wmaybe-uninitialized", f"-ftrivial-auto-var-init={value}"]
             trials, said = built(self.subject, self.trials.ticks, *options)
@@ -401,9 +446,10 @@ class Portable:
             ending = trials.run(Choices())
             if ending != self.ended:
                 self.find(self.findings().stack(trials, Choices(), parted(self.ended, ending), said))
-                return
+                return False
         self.verdict.tried.append(f"fresh memory in {len(PATTERNS)} patterns")
         self.note_variables(*patterns)
+        return True
 
     def other_nodes(self) -> None:
         """The program on one node less and one more, for information."""

@@ -40,6 +40,7 @@ WHY_MESSAGES = "BSPlib leaves open in which order the messages of a superstep co
 WHY_UNBUFFERED = "BSPlib lets bsp_hpput and bsp_hpget read and write at any time from the call to the end of bsp_sync"
 WHY_EMPTY = "BSPlib leaves open what bsp_move does where no message is left"
 WHY_QUEUE = "BSPlib keeps what bsp_hpmove gives out up to the end of the superstep alone"
+WHY_ADDRESSES = "an address of one rank is none of another: other libraries have each rank's memory elsewhere"
 WHY_HEAP = "C leaves open which bytes malloc's memory has"
 WHY_STACK = "C leaves open what a variable of a function has before it is given a value"
 
@@ -277,6 +278,17 @@ class Findings:
         more = [again(choices)] if choices.stack else []
         return Finding([*lines, f"then   {difference}", *more, f"why    {WHY_STACK}"])
 
+    def addresses(self, choices: Choices, difference: str) -> Finding:
+        """An address of one rank that another one uses."""
+        lines = ["another output where stack and heap lie elsewhere on each rank"]
+        divergence = first_divergence((self.trials, Choices()), (self.trials, choices))
+        if divergence is not None:
+            lines.append(f"superstep {divergence.one.superstep}, rank {divergence.rank}: the first call that is another one")
+            lines.append(f"at     {divergence.where}: {divergence.one.told}")
+            lines.append(f"before {divergence.other.told if divergence.other else 'no call'}")
+        places = (line_in(divergence.where),) if divergence is not None else ()
+        return Finding([*lines, f"then   {difference}", again(choices), f"why    {WHY_ADDRESSES}"], places)
+
     def warned(self) -> list[str]:
         """What GCC says of variables that have no value."""
         if not self.trials.subject.options.sources:
@@ -334,6 +346,8 @@ def described(choices: Choices) -> str:
     if choices.unbuffered:
         when = "at the call" if choices.unbuffered == EARLY else "at bsp_sync"
         return f"bsp_hpput and bsp_hpget read and write {when}"
+    if choices.is_moved:
+        return "stack and heap lie elsewhere on each rank"
     if choices.queue:
         return f"messages of bsp_hpmove have bytes {choices.queue:#04x} once the next bsp_sync is over"
     return f"fresh memory{'' if choices.stack else ' of malloc'} has bytes {choices.heap:#04x}"

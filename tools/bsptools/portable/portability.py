@@ -19,7 +19,7 @@ from ..prepare.job import Job
 from ..prepare.library_choices import EARLY, LATE, MOST_CUTS, NUMBERED, REVERSED, SHUFFLED, WATCHED, Choices, Cut, Point
 from ..program.code import read_elf
 from ..refusals import Refused, counted, show, tell
-from . import exposed_accesses, exposed_bytes, final_variables, orders, unbuffered_races
+from . import exposed_accesses, exposed_bytes, final_variables, orders, sums_of_messages, unbuffered_races
 from .accepted_places import Accepted
 from .call_log import INPUT, NO_MESSAGE, Logged, Superstep
 from .contested_pairs import Pair, pairs
@@ -39,6 +39,8 @@ MORE_NODES = b"there are more nodes than the program takes in bsp_begin"
 OWN_STATUS = b": the program ended with status "
 # In how many orders messages come where --tries does not say it, and of how many messages all orders are tried.
 TRIES, MOST_ORDERED = 8, 4
+# In how many orders more, if sums of numbers with a point are others in them.
+MOST_SUMS = 2
 # What puts and gets, also where it is not called in the run as it is.
 ASKING = ("__wrap_bsp_put", "__wrap_bsp_get", *CALLS)
 ACCESSES = "accesses of ranks to bytes of unbuffered calls"
@@ -296,7 +298,9 @@ class Portable:
         seeds = range(1, max(tries, 1))
         shuffled = [Choices(order=SHUFFLED, seed=it) for it in seeds]
         name = f"messages in {counted(tries, 'order')} (reversed" + (f", shuffled with seeds 1 to {seeds[-1]})" if shuffled else ")")
-        return reversed_ones + shuffled, name
+        sums = sums_of_messages.orders_of_sums(self.log, MOST_SUMS) if tries > 1 else []
+        name += f" and {len(sums)} in which the sums of their numbers are others" if sums else ""
+        return reversed_ones + shuffled + sums, name
 
     def messages(self) -> None:
         """Messages in other orders."""
@@ -313,7 +317,7 @@ class Portable:
                 break
         else:
             self.verdict.tried += [name] if tried else []
-            self.note_variables(*tried[:3])
+            self.note_variables(*tried[:3], *(it for it in tried[3:] if it.order == NUMBERED))
         if asks:
             self.contested_in(tried)
         self.queue()

@@ -117,4 +117,4 @@ def access(superstep: int, step: Superstep, made: Logged) -> Access | None:
                 common = where.common(touched)
                 if common is not None and requests <= made.request and (kind == TARGETS or made.number == WRITTEN):
                     met.append(Access(superstep, made, it, common, kind == TARGETS))
-    return max(met, key=lambda it: it.is_target, default=None)
+    return max(met, key=lambda it: it.is_target) if met else None

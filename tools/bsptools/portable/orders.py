@@ -57,7 +57,7 @@ def choices_of(text: str) -> tuple[Choices, list[int]]:
         elif part in ("unbuffered:early", "unbuffered:late"):
             choices = choices._replace(unbuffered=EARLY if how == "early" else LATE)
         elif part in ("addresses:apart", "begin:alone"):
-            choices = choices._replace(**{"is_moved" if what == "addresses" else "is_alone": True})
+            choices = choices._replace(is_moved=choices.is_moved or what == "addresses", is_alone=choices.is_alone or what == "begin")
         elif what in ("malloc", "memory", "queue") and re.fullmatch("0x[0-9a-fA-F]{1,2}|[1-9][0-9]{0,2}", how) and 1 <= int(how, 0) <= 255:
             byte = int(how, 0)
             heap, stack = (byte if what != "queue" else choices.heap), (byte if what == "memory" else choices.stack)

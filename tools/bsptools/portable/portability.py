@@ -2,11 +2,12 @@
 
 from __future__ import annotations
 
+import contextlib
 import functools
 import math
 import pathlib
 import re
-from collections.abc import Callable
+from collections.abc import Callable, Iterator
 from dataclasses import dataclass, field
 
 from ..files import content_of
@@ -24,7 +25,7 @@ from .accepted_places import Accepted
 from .call_log import INPUT, NO_MESSAGE, Logged, Superstep
 from .contested_pairs import Pair, pairs
 from .exposed_bytes import Exposed
-from .portability_findings import CALLS, QUEUE, Finding, Findings, Other, described, parted, told_contested, told_variable
+from .portability_findings import CALLS, QUEUE, Finding, Findings, Other, again, described, parted, told_contested, told_variable
 from .trial_runs import Ending, NoRoom, Subject, Trials, least
 
 TIMES = (Choices(unbuffered=EARLY), Choices(unbuffered=LATE))
@@ -181,7 +182,8 @@ class Portable:
         base = self.base()
         if base != self.ended:
             difference = parted(self.ended, base)
-            self.verdict.found.append(Finding(["another output where code and variables lie elsewhere", f"then   {difference}"]))
+            lines = ["another output where code and variables lie elsewhere", f"then   {difference}"]
+            self.verdict.found.append(Finding([*lines, again(Choices(order=NUMBERED))]))
             if contested.first is not None:
                 self.verdict.found.append(Finding(told_contested(self.trace, contested.first, contested.places - 1)))
             self.ended = base
@@ -243,18 +245,24 @@ class Portable:
         seen: dict[frozenset[int], tuple[int, Exposed, Logged, Logged]] = {}
         for superstep, step in enumerate(self.log):
             if step.has_unbuffered:
-                calls = dict(step.transfers())
-                for it in exposed_bytes.exposed(list(calls), lambda it, calls=calls: calls[it].place):  # type: ignore[misc]
-                    reader, writer = calls[it.reader], calls[it.writer]
-                    seen.setdefault(frozenset((reader.place, writer.place)), (superstep, it, reader, writer))
+                for pair, it, reader, writer in exposed_in(step):
+                    seen.setdefault(pair, (superstep, it, reader, writer))
         findings = self.findings()
-        for found in list(seen.values())[:MOST_PAIRS]:
-            self.find(findings.exposed(*found))
+        other = self.at_other_times() if seen else None
+        for superstep, found, reader, writer in list(seen.values())[:MOST_PAIRS]:
+            self.find(findings.exposed(superstep, found, (reader, writer), other))
         if len(seen) > MOST_PAIRS:
             self.leave_out(f"not told: {counted(len(seen) - MOST_PAIRS, 'more pair')} of lines that expose bytes")
         if any(step.has_unbuffered for step in self.log) and not seen:
             supersteps = counted(self.ended.last + 1, "superstep")
             self.verdict.exact.append(f"unbuffered calls: nothing exposed to other calls in {supersteps} (exact)")
+
+    def at_other_times(self) -> Other | None:
+        """What comes of unbuffered calls early or late, if that is something else."""
+        with contextlib.suppress(NoRoom):
+            self.trials.run_all(TIMES)
+            return next((other for it in TIMES if (other := self.other(it, self.is_silent)) is not None), None)
+        return None
 
     def from_log(self) -> None:
         """What the calls of the run tell by themselves."""
@@ -313,7 +321,7 @@ class Portable:
         self.trials.run_all(tried, asks)
         for choices in tried:
             if (other := self.other(choices, self.is_silent)) is not None:
-                self.find(self.findings().messages(other))
+                self.find(self.findings().messages(other, self.tag_size))
                 break
         else:
             self.verdict.tried += [name] if tried else []
@@ -321,6 +329,10 @@ class Portable:
         if asks:
             self.contested_in(tried)
         self.queue()
+
+    def tag_size(self, superstep: int, rank: int) -> int:
+        """How many bytes the tags of a rank have in a superstep of the run as it is."""
+        return self.log[superstep].tag_sizes.get(rank, 0) if superstep < len(self.log) else 0
 
     def contested_in(self, tried: list[Choices]) -> None:
         """Bytes that are contested where messages come in other orders alone."""
@@ -350,8 +362,9 @@ class Portable:
         if self.accesses():
             return
         touched = unbuffered_races.races(self.findings().trace, self.log)
+        other = self.at_other_times() if touched else None
         for race in touched[:MOST_PAIRS]:
-            self.find(self.findings().touched(race))
+            self.find(self.findings().touched(race, other))
         if len(touched) > MOST_PAIRS:
             self.leave_out(f"not told: {counted(len(touched) - MOST_PAIRS, 'more unbuffered call')} whose bytes are written")
         if touched:
@@ -359,7 +372,7 @@ class Portable:
         if watched != self.ended and (rank := re.match(r"rank (\d+) stopped: aborted", watched.outcome)) is not None:
             said = re.search(rb"bsp: rank %b: %b(\d+)\n" % (rank[1].encode(), CHANGED.encode()), watched.output)
             if said is not None:
-                self.find(self.findings().source(Point(watched.last, int(rank[1]), int(said[1]))))
+                self.find(self.findings().source(Point(watched.last, int(rank[1]), int(said[1])), self.at_other_times()))
                 return
         for choices in TIMES:
             if (other := self.other(choices, True)) is not None:
@@ -392,10 +405,10 @@ class Portable:
         if left_out is not None:
             self.leave_out(f"not tried: {ACCESSES} from superstep {left_out} on, since these have too many bytes apart")
         found = exposed_accesses.accesses(trials.log(Choices(ranges=tuple(ranges)))) if ranges else []
-        others = [other for it in TIMES if (other := self.other(it, self.is_silent)) is not None] if found else []
+        other = self.at_other_times() if found else None
         findings = Findings(trials, Tracer(trials.code.know_names(), trials.replays(Choices())))
         for it in found[:MOST_PAIRS]:
-            self.find(findings.accessed(it, others[0] if others else None))
+            self.find(findings.accessed(it, other))
         if len(found) > MOST_PAIRS:
             self.leave_out(f"not told: {counted(len(found) - MOST_PAIRS, 'more pair')} of lines, a call and an access to its bytes")
         return bool(found)
@@ -449,7 +462,7 @@ class Portable:
             trials.room = self.trials.room
             ending = trials.run(Choices())
             if ending != self.ended:
-                self.find(self.findings().stack(trials, Choices(), parted(self.ended, ending), said))
+                self.find(self.findings().stack(trials, Choices(), parted(self.ended, ending), said, value))
                 return False
         self.verdict.tried.append(f"fresh memory in {len(PATTERNS)} patterns")
         self.note_variables(*patterns)
@@ -467,6 +480,18 @@ class Portable:
                 output = "the same output" if ending.output == self.ended.output else "another output"
                 told.append(f"on {counted(nodes, 'node')} {output if ending.outcome == 'ended' else ending.outcome}")
         self.verdict.notes += [f"for information: {', '.join(told)}"] if told else []
+
+
+def exposed_in(step: Superstep) -> Iterator[tuple[frozenset[int], Exposed, Logged, Logged]]:
+    """The bytes that each pair of places in the code exposes in a superstep, once, by the two calls that are nearest."""
+    calls = dict(step.transfers())
+    pairs_of: dict[frozenset[int], Exposed] = {}
+    for it in exposed_bytes.exposed(list(calls), lambda it: calls[it].place):
+        pairs_of.setdefault(frozenset((calls[it.reader].place, calls[it.writer].place)), it)
+    for pair, it in pairs_of.items():
+        readers, writers = ([one for one, call in calls.items() if call.place == calls[of].place] for of in (it.reader, it.writer))
+        it = exposed_bytes.nearest(it, readers, writers)
+        yield pair, it, calls[it.reader], calls[it.writer]
 
 
 def built(subject: Subject, ticks: int, *options: str, is_told: bool = True) -> tuple[Trials, list[str]]:

@@ -101,11 +101,13 @@ def with_log(content: bytes, mark: bytes, writes_files: bool) -> bytes:
 
 
 class Stop(NamedTuple):
-    """A rank at one of the addresses at which it was to stop: which of its stops it is, from 0 on, and bytes that the call names."""
+    """A rank at one of the addresses at which it was to stop: which of its stops it is, from 0 on, bytes that the call names, and the tag that
+    it names."""
 
     node: Node
     number: int
     content: bytes
+    tag: bytes = b""
 
 
 class Trials:
@@ -217,17 +219,23 @@ def least(low: int, high: int, holds: Callable[[int], bool]) -> int:
 
 
 def stops(
-    replays: Replays, code: Code, script: list[str], points: list[tuple[int, int]], named: Callable[[Node], tuple[int, int]]
+    replays: Replays,
+    code: Code,
+    script: list[str],
+    points: list[tuple[int, int]],
+    named: Callable[[Node], tuple[int, int]],
+    tagged: Callable[[Node], tuple[int, int]] | None = None,
 ) -> Iterator[Stop]:
     """The stops of a run at these points, each a rank and an address, from where a script comes to. `named` says which bytes of the memory
-    a call names, by address and number."""
+    a call names, by address and number, and `tagged` which tag."""
     counts: dict[int, int] = {}
     with replays.session() as session:
         session.ask_all([*script, *(f"break {rank} {address}" for rank, address in points[: MOST_POINTS - 24])])
         while (found := session.ask("go").accepted()[0].split())[:3] == ["stopped", "at", "rank"]:
             node = looked(session, code, int(found[3]))
             counts[node.rank] = counts.get(node.rank, -1) + 1
-            yield Stop(node, counts[node.rank], memory_of(session, node.rank, *named(node)))
+            tag = memory_of(session, node.rank, *tagged(node)) if tagged is not None else b""
+            yield Stop(node, counts[node.rank], memory_of(session, node.rank, *named(node)), tag)
 
 
 def looked(session: Session, code: Code, rank: int) -> Node:

@@ -33,6 +33,8 @@ struct bsp_choices {
     unsigned stack;      /* the same below the stack's top, at the start and at each bsp_sync */
     unsigned queue;      /* each byte of the messages that bsp_hpmove gave out, once the next bsp_sync is over, or 0 for what is there */
     unsigned is_logged;  /* whether the calls are told in records */
+    unsigned is_moved;   /* whether the stack and malloc's memory begin elsewhere on each rank */
+    unsigned is_alone;   /* whether ranks above 0 have at bsp_begin what their variables had at the start: those that `cut` has, by addresses */
     struct point until;
     unsigned cuts; /* how many there are, by their supersteps, ranks, requests and first bytes */
     struct cut cut[MOST_CUTS];
@@ -46,8 +48,9 @@ struct bsp_choices bsp_choices __attribute__((section(".data"))) = {.magic = "\0
 
 /* Where this rank is: its superstep, and in that its points of each kind. */
 static struct {
-    unsigned superstep, calls, pieces, requests;
+    unsigned superstep, calls, pieces;
 } here;
+unsigned bsp_requested = 0;
 
 /* The room above the program's memory: messages from below, calls from above. All of it is free again after bsp_sync. */
 static struct {
@@ -76,8 +79,8 @@ static int is_chosen(unsigned index)
 }
 
 /* Calls as tools/bsptools/portable/call_log.py reads them: the machine's number, or one of those below, and where the call goes back to. What
-   a call does not have is 0. */
-enum { LOG_DIRECT_GET = 110, LOG_NO_MESSAGE = 115, LOG_INPUT = 118, RECORD_CALLS = 'c', MOST_LOGGED = 32 };
+   a call does not have is 0. Of a message `dst` and `offset` are the last 8 bytes of its payload, which may be a number with a point. */
+enum { LOG_DIRECT_GET = 110, LOG_READ = 111, LOG_WRITTEN = 112, LOG_NO_MESSAGE = 115, LOG_INPUT = 118, RECORD_CALLS = 'c', MOST_LOGGED = 32 };
 struct logged {
     unsigned number, place;
     int pid;
@@ -111,6 +114,18 @@ static void log_call(struct logged call)
                                      nbytes, (unsigned)(tag)});                                                                      \
     } while (0)
 
+/* By how many bytes of this rank's stack and heap lie elsewhere: by others than those of the ranks beside it. */
+static size_t moved(void)
+{
+    return 16 * (1 + (size_t)bsp_pid() * 7 % 251);
+}
+
+void bsp_log_access(int is_write, const void *place, unsigned start, unsigned size)
+{
+    if (bsp_choices.is_logged && bsp_part == BSP_WITHIN)
+        log_call((struct logged){is_write ? LOG_WRITTEN : LOG_READ, (unsigned)place, 0, start, 0, 0, (int)size, 0});
+}
+
 __attribute__((noreturn)) extern void __real_bsp_start(void);
 
 /* Fills the stack from the frame of the caller on, downwards to the guard at address 0 or by so many bytes. It calls nothing, and what is
@@ -132,6 +147,14 @@ static __attribute__((noinline)) void fill_stack(size_t most)
     }
 }
 
+/* Goes on with the stack so many bytes lower. */
+__attribute__((noreturn)) static void go_lower(size_t size)
+{
+    volatile char *it = __builtin_alloca(size);
+    *it = 0;
+    __real_bsp_start();
+}
+
 __attribute__((noreturn)) void __wrap_bsp_start(void)
 {
     room.start = room.end = (char *)(size_t)bsp_memory_size;
@@ -142,7 +165,46 @@ __attribute__((noreturn)) void __wrap_bsp_start(void)
     room.low = room.start;
     room.high = room.end;
     fill_stack((size_t)-1);
+    if (bsp_choices.is_moved)
+        go_lower(moved());
     __real_bsp_start();
+}
+
+/* What is before bsp_begin. What is kept for that is no more wanted when the first message comes. */
+extern int __real_main(int argc, char **argv);
+extern void __real_bsp_begin(int maxprocs);
+
+static char *variables_at_start = NULL;
+
+static void copy_variables(int is_back)
+{
+    const struct cut *it, *end = bsp_choices.cut + bsp_choices.cuts;
+    char *kept = variables_at_start;
+    for (it = bsp_choices.cut; it < end; kept += it->to - it->from, it++) {
+        char *variable = (char *)(size_t)it->from;
+        memcpy(is_back ? variable : kept, is_back ? kept : variable, (size_t)(it->to - it->from));
+    }
+}
+
+int __wrap_main(int argc, char **argv)
+{
+    size_t size = 0;
+    unsigned i;
+    if (bsp_choices.is_alone && bsp_pid() > 0) {
+        for (i = 0; i < bsp_choices.cuts; i++)
+            size += (size_t)(bsp_choices.cut[i].to - bsp_choices.cut[i].from);
+        variables_at_start = take_room(size, 0);
+        copy_variables(0);
+    }
+    return __real_main(argc, argv);
+}
+
+void __wrap_bsp_begin(int maxprocs)
+{
+    __real_bsp_begin(maxprocs);
+    if (variables_at_start != NULL)
+        copy_variables(1);
+    room.low = room.start;
 }
 
 /* Fresh memory. */
@@ -150,7 +212,12 @@ extern void *__real_malloc(size_t size);
 
 void *__wrap_malloc(size_t size)
 {
-    void *place = __real_malloc(size);
+    static int has_begun = 0;
+    void *place;
+    if (bsp_choices.is_moved && !has_begun)
+        __real_malloc(moved());
+    has_begun = 1;
+    place = __real_malloc(size);
     if (place != NULL && bsp_choices.heap != 0 && is_chosen(here.pieces++))
         memset(place, (int)bsp_choices.heap, size);
     return place;
@@ -176,6 +243,8 @@ static const struct cut *cuts_from(unsigned request)
 {
     const struct cut *low = bsp_choices.cut, *high = low + bsp_choices.cuts;
     unsigned rank = (unsigned)bsp_pid();
+    if (bsp_choices.is_alone)
+        return high;
     while (low < high) {
         const struct cut *it = low + (high - low) / 2;
         int is_before = it->superstep != here.superstep ? it->superstep < here.superstep
@@ -223,7 +292,7 @@ static void get_parts(real_get *get, unsigned request, int pid, const void *src,
 /* The call that is made as it is comes last, so that GCC goes on there: then the library sees where the program has made it. */
 void __wrap_bsp_put(int pid, const void *src, void *dst, int offset, int nbytes)
 {
-    unsigned request = here.requests++;
+    unsigned request = bsp_requested++;
     LOG(CALL_PUT, pid, src, dst, offset, nbytes, 0);
     if (is_cut(cuts_from(request), request)) {
         put_parts(__real_bsp_put, request, pid, src, dst, offset, nbytes);
@@ -234,7 +303,7 @@ void __wrap_bsp_put(int pid, const void *src, void *dst, int offset, int nbytes)
 
 void __wrap_bsp_get(int pid, const void *src, int offset, void *dst, int nbytes)
 {
-    unsigned request = here.requests++;
+    unsigned request = bsp_requested++;
     LOG(CALL_GET, pid, src, dst, offset, nbytes, 0);
     if (is_cut(cuts_from(request), request)) {
         get_parts(__real_bsp_get, request, pid, src, offset, dst, nbytes);
@@ -243,17 +312,32 @@ void __wrap_bsp_get(int pid, const void *src, int offset, void *dst, int nbytes)
     __real_bsp_get(pid, src, offset, dst, nbytes);
 }
 
+/* The last 8 bytes of a message, or zeros. */
+struct last {
+    unsigned low;
+    int high;
+};
+static struct last last_of(const void *payload, int nbytes)
+{
+    struct last it = {0, 0};
+    if (bsp_choices.is_logged && nbytes >= (int)sizeof it)
+        memcpy(&it, (const char *)payload + nbytes - sizeof it, sizeof it);
+    return it;
+}
+
 void __wrap_bsp_send(int pid, const void *tag, const void *payload, int payload_nbytes)
 {
-    here.requests++;
-    LOG(CALL_SEND, pid, payload, 0, 0, payload_nbytes, tag);
+    struct last it = last_of(payload, payload_nbytes);
+    bsp_requested++;
+    LOG(CALL_SEND, pid, payload, it.low, it.high, payload_nbytes, tag);
     __real_bsp_send(pid, tag, payload, payload_nbytes);
 }
 
 void __wrap_bsp_hpsend(int pid, const void *tag, const void *payload, int payload_nbytes)
 {
-    here.requests++;
-    LOG(CALL_SEND, pid, payload, 0, 0, payload_nbytes, tag);
+    struct last it = last_of(payload, payload_nbytes);
+    bsp_requested++;
+    LOG(CALL_SEND, pid, payload, it.low, it.high, payload_nbytes, tag);
     __real_bsp_hpsend(pid, tag, payload, payload_nbytes);
 }
 
@@ -323,7 +407,7 @@ static int is_kept(int nbytes, unsigned kinds)
 
 void __wrap_bsp_hpput(int pid, const void *src, void *dst, int offset, int nbytes)
 {
-    unsigned index = here.calls++, request = here.requests++;
+    unsigned index = here.calls++, request = bsp_requested++;
     LOG(CALL_HPPUT, pid, src, dst, offset, nbytes, 0);
     if (is_cut(cuts_from(request), request)) {
         put_parts(__real_bsp_hpput, request, pid, src, dst, offset, nbytes);
@@ -341,7 +425,7 @@ void __wrap_bsp_hpput(int pid, const void *src, void *dst, int offset, int nbyte
 
 void __wrap_bsp_hpget(int pid, const void *src, int offset, void *dst, int nbytes)
 {
-    unsigned index = here.calls++, request = here.requests++;
+    unsigned index = here.calls++, request = bsp_requested++;
     LOG(CALL_HPGET, pid, src, dst, offset, nbytes, 0);
     if (is_cut(cuts_from(request), request)) {
         get_parts(__real_bsp_hpget, request, pid, src, offset, dst, nbytes);
@@ -387,6 +471,13 @@ static void keep_written(const struct call *it)
         if ((unsigned char)it->kept[i] != SPOILT)
             ((char *)it->dst)[i] = it->kept[i];
 }
+
+/* What the library writes for the program, in one of bspcc --portable=accesses. */
+#define WRITES(to, count)                                                                                                        \
+    do {                                                                                                                         \
+        if (bsp_access != NULL)                                                                                                  \
+            bsp_access(to, (size_t)(count), 1, __builtin_return_address(0));                                                     \
+    } while (0)
 
 /* Messages. They are taken out of the machine's queue where the program first looks at it. */
 struct message {
@@ -486,6 +577,7 @@ void __wrap_bsp_get_tag(int *status, void *tag)
         return;
     }
     *status = queue.all[queue.next].size;
+    WRITES(tag, queue.received_tag);
     memcpy(tag, queue.all[queue.next].tag, (size_t)queue.received_tag);
 }
 
@@ -497,7 +589,9 @@ void __wrap_bsp_move(void *payload, int reception_nbytes)
         LOG(LOG_NO_MESSAGE, 0, 0, 0, 0, 0, 0);
     } else {
         const struct message *it = &queue.all[queue.next++];
-        memcpy(payload, it->payload, (size_t)(it->size < reception_nbytes ? it->size : reception_nbytes));
+        int count = it->size < reception_nbytes ? it->size : reception_nbytes;
+        WRITES(payload, count);
+        memcpy(payload, it->payload, (size_t)count);
     }
 }
 
@@ -527,22 +621,27 @@ static void log_input(void)
     }
 }
 
+/* What is told of the superstep that ends. */
+static void end_log(void)
+{
+    if (bsp_part != BSP_WITHIN)
+        return;
+    if (bsp_end_accesses != NULL)
+        bsp_end_accesses();
+    log_input();
+    write_log();
+}
+
 int __wrap_bsp_end(void)
 {
-    if (bsp_part == BSP_WITHIN) {
-        log_input();
-        write_log();
-    }
+    end_log();
     return __real_bsp_end();
 }
 
 void __wrap_bsp_sync(void)
 {
     struct call *first = bsp_part == BSP_WITHIN ? first_call() : NULL, *it;
-    if (bsp_part == BSP_WITHIN) {
-        log_input();
-        write_log();
-    }
+    end_log();
     for (it = first; it != NULL; it = it->next)
         end_call(it);
     __real_bsp_sync();
@@ -553,7 +652,7 @@ void __wrap_bsp_sync(void)
     room.low = room.start;
     room.high = room.end;
     here.superstep++;
-    here.calls = here.pieces = here.requests = 0;
+    here.calls = here.pieces = bsp_requested = 0;
     queue.is_kept = 0;
     queue.received_tag = queue.tag;
     queue.tag = queue.next_tag;

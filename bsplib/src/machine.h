@@ -164,6 +164,14 @@ double bsp_tick(void);
 /* The superstep, from 0 on. */
 extern int bsp_superstep;
 
+/* In a program of bspcc --portable: how many puts, gets and messages this rank has made in the superstep, and what tells bsprun of an access
+   to bytes of an unbuffered call. In one of bspcc --portable=accesses also what looks at an access that the program is about to make, at a
+   place in its code, and at the last one of a superstep. */
+extern unsigned bsp_requested;
+void bsp_log_access(int is_write, const void *place, unsigned start, unsigned size);
+__attribute__((weak)) void bsp_access(const void *address, size_t size, int is_write, const void *place);
+__attribute__((weak)) void bsp_end_accesses(void);
+
 /* What goes to bsprun through the output: records, each behind a mark, its kind and how many bytes it has. Where bsprun does not ask for
    them, nobody would part them from the output, and none is written. tools/bsptools/outputs/output_records.py reads them. */
 enum {

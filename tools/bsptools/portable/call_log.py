@@ -20,7 +20,9 @@ from .exposed_bytes import Bytes, Transfer
 
 # The kind of the library's records of calls, and the numbers of what is no call of the machine.
 CALLS = ord("c")
-DIRECT_GET, NO_MESSAGE, INPUT = 110, 115, 118
+DIRECT_GET, READ, WRITTEN, NO_MESSAGE, INPUT = 110, 111, 112, 115, 118
+# Accesses of a rank to bytes of an unbuffered call.
+ACCESSES = (READ, WRITTEN)
 KINDS = {
     environment_calls.PUT: exposed_bytes.PUT, environment_calls.GET: exposed_bytes.GET, environment_calls.HPPUT: exposed_bytes.HPPUT,
     environment_calls.HPGET: exposed_bytes.HPGET, SEND: exposed_bytes.SEND, DIRECT_GET: exposed_bytes.DIRECT_GET,
@@ -34,7 +36,8 @@ SUPERSTEP_BYTES = 4
 class Logged(NamedTuple):
     """A call of a rank, as the program makes it: its number, the place behind it, and its operands, of which those that it does not have are
     0. `src` is also an area that is registered, and `dst` of a put is its area. `request` counts it among the puts, gets and messages of its
-    rank in the superstep, and is that of the next one where it is none."""
+    rank in the superstep, and is that of the next one where it is none. `dst` and `offset` of a message are the last 8 bytes of its
+    payload, where it has so many."""
 
     rank: int
     request: int

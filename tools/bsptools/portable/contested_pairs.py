@@ -39,12 +39,22 @@ class Pair:
     count: int = 0
     cuts: List[Cut] = field(default_factory=list)
 
+    @property
+    def places(self) -> Tuple[int, ...]:
+        """The two places."""
+        return pair_of(self.first)
+
+
+def pair_of(place: Place) -> Tuple[int, ...]:
+    """The two places in the code, in one order."""
+    return tuple(sorted((place.last.place, place.other.place)))
+
 
 def pairs(rows: Sequence[Contested], steps: Sequence[Superstep]) -> List[Pair]:
     """The pairs of places that contest bytes, in the order of the first of each."""
     found: Dict[Tuple[int, ...], Pair] = {}
     for place in places(rows, steps):
-        pair = found.setdefault(tuple(sorted((place.last.place, place.other.place))), Pair(place))
+        pair = found.setdefault(pair_of(place), Pair(place))
         pair.count += 1
         pair.cuts += place.cuts
         pair.first = place if pair.first.row is None and place.row is not None else pair.first

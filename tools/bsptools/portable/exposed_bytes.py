@@ -28,6 +28,8 @@ from collections.abc import Callable, Hashable, Iterator, Sequence
 from typing import Dict, List, NamedTuple, Set, Tuple
 
 PUT, GET, HPPUT, HPGET, SEND, DIRECT_GET = "bsp_put", "bsp_get", "bsp_hpput", "bsp_hpget", "bsp_send", "bsp_direct_get"
+# How many calls of a place are compared with how many of another one.
+MOST_COMPARED = 128
 UNBUFFERED, AT_CALL = (HPPUT, HPGET), (PUT, SEND, DIRECT_GET)
 
 
@@ -107,6 +109,23 @@ def exposed(transfers: Sequence[Transfer], label: Callable[[Transfer], Hashable]
                     yield Exposed(reader, writer, common)
                     break
         open_ones[reads].setdefault((it.kind, name), []).append(it)
+
+
+def nearest(found: Exposed, readers: Sequence[Transfer], writers: Sequence[Transfer]) -> Exposed:
+    """Of what some calls expose that of the two whose ranks and places among the calls are nearest; what was found, if that is no farther."""
+    best, least = found, distance(found.reader, found.writer)
+    for reader in readers[:MOST_COMPARED]:
+        for writer in writers[:MOST_COMPARED]:
+            here = distance(reader, writer)
+            common = exposed_by(reader, writer) if here < least and not is_in_place(writer) else None
+            if common is not None:
+                best, least = Exposed(reader, writer, common), here
+    return best
+
+
+def distance(one: Transfer, other: Transfer) -> Tuple[int, int]:
+    """How far two calls are from one another."""
+    return abs(one.rank - other.rank), abs(one.number - other.number)
 
 
 def is_still_open(other: Bytes | None, where: Bytes) -> bool:

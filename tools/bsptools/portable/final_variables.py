@@ -17,6 +17,8 @@ C_LIBRARY = {"errno", "environ", "stdin", "stdout", "stderr", "optarg", "optind"
 # Bytes of variables that are compared, over all ranks: those of the lower ranks where there are more.
 MOST_COMPARED = 1 << 24
 MOST_AT_ONCE = 1 << 16
+# How many bytes lie between two variables that lie side by side.
+MOST_BETWEEN = 16
 
 
 class Variable(NamedTuple):
@@ -49,6 +51,15 @@ def of_program(code: Code) -> list[Variable]:
             if is_own if binding == "STB_LOCAL" else not (it.name.startswith(OTHERS) or it.name in C_LIBRARY):
                 found.append(Variable(it["st_value"], it["st_size"], it.name.partition(".")[0]))
     return sorted(found)
+
+
+def ranges_of(variables: list[Variable]) -> list[tuple[int, int]]:
+    """From where to where variables lie, as those that lie side by side."""
+    found: list[tuple[int, int]] = []
+    for it in variables:
+        start, end = found.pop() if found and it.address - found[-1][1] < MOST_BETWEEN else (it.address, it.address)
+        found.append((start, max(end, it.address + it.size)))
+    return found
 
 
 def at_end(replays: Replays, nodes: int, variables: list[Variable]) -> list[bytes]:

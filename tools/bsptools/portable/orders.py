@@ -13,13 +13,14 @@ from collections.abc import Sequence
 from ..limits import WORKERS
 from ..prepare.job import Job
 from ..prepare.library_choices import EARLY, EVERYWHERE, LATE, MOST_CUTS, NUMBERED, REVERSED, SHUFFLED, WORD, Choices, Cut, Point, image_with
-from ..program.code import read_elf
+from ..program.code import Code, read_elf
 from ..refusals import Refused
+from . import final_variables
 from .contested_pairs import pairs
 from .trial_runs import Subject, Trials
 
 FORMS = "messages:reversed, messages:shuffle:SEED, messages:order:N, unbuffered:early, unbuffered:late, malloc:BYTE, memory:BYTE, queue:BYTE," \
-    " puts:reversed or puts:PAIR, with a + between those that go together"  # fmt: skip
+    " addresses:apart, begin:alone, puts:reversed or puts:PAIR, with a + between those that go together"  # fmt: skip
 ORDERS = {"reversed": REVERSED, "shuffle": SHUFFLED, "order": NUMBERED}
 # All pairs of lines that contest bytes.
 ALL = -1
@@ -37,6 +38,8 @@ def spelled(choices: Choices, pair: int | None = None) -> str:
         parts.append(f"{'memory' if choices.stack else 'malloc'}:{choices.heap:#04x}")
     if choices.queue:
         parts.append(f"queue:{choices.queue:#04x}")
+    parts += ["addresses:apart"] if choices.is_moved else []
+    parts += ["begin:alone"] if choices.is_alone else []
     parts += [f"puts:{pair}"] if pair is not None else []
     point = "" if choices.until == EVERYWHERE else f"@{'/'.join(map(str, choices.until))}"
     return "+".join(parts) + point
@@ -53,6 +56,8 @@ def choices_of(text: str) -> tuple[Choices, list[int]]:
             choices = choices._replace(order=ORDERS[name], seed=int(number or 0) & WORD)
         elif part in ("unbuffered:early", "unbuffered:late"):
             choices = choices._replace(unbuffered=EARLY if how == "early" else LATE)
+        elif part in ("addresses:apart", "begin:alone"):
+            choices = choices._replace(is_moved=choices.is_moved or what == "addresses", is_alone=choices.is_alone or what == "begin")
         elif what in ("malloc", "memory", "queue") and re.fullmatch("0x[0-9a-fA-F]{1,2}|[1-9][0-9]{0,2}", how) and 1 <= int(how, 0) <= 255:
             byte = int(how, 0)
             heap, stack = (byte if what != "queue" else choices.heap), (byte if what == "memory" else choices.stack)
@@ -80,8 +85,12 @@ def with_order(job: Job, folder: pathlib.Path) -> Job:
     job.options.workers = getattr(job.options, "workers", WORKERS)
     subject = Subject(job.options, job.program, job.code, job.settings, folder, b"")
     trials = Trials(subject, job.content, read_elf(job.content), job.options.limit)
+    if turned and choices.is_alone:
+        raise Refused("--order takes begin:alone or the order of puts, and not both")
     if turned:
         choices = choices._replace(cuts=tuple(cuts_of(trials, choices, turned)[:MOST_CUTS]))
+    if choices.is_alone:
+        choices = choices._replace(cuts=variables_of(trials.code))
     whole = job._replace(content=image_with(job.content, trials.with_memory(choices)))
     memory = min(job.options.memory + trials.room, trials.most_memory)
     job.settings[job.settings.index("--memory") + 1] = str(memory)
@@ -92,6 +101,11 @@ def with_order(job: Job, folder: pathlib.Path) -> Job:
     image.write_bytes(whole.content)
     whole.settings[0] = str(image)
     return whole._replace(image=image)
+
+
+def variables_of(code: Code) -> tuple[Cut, ...]:
+    """Where the variables of a program lie that ranks above 0 have at bsp_begin as at the start."""
+    return tuple(Cut(0, 0, 0, *it) for it in final_variables.ranges_of(final_variables.of_program(code.know_names()))[:MOST_CUTS])
 
 
 def cuts_of(trials: Trials, choices: Choices, turned: Sequence[int]) -> list[Cut]:

@@ -2,11 +2,12 @@
 
 from __future__ import annotations
 
+import contextlib
 import functools
 import math
 import pathlib
 import re
-from collections.abc import Callable
+from collections.abc import Callable, Iterator
 from dataclasses import dataclass, field
 
 from ..files import content_of
@@ -16,16 +17,16 @@ from ..limits import MOST_NODES, MOST_PROGRAM
 from ..outputs import contested_bytes, output_records
 from ..prepare.compilation import compiled
 from ..prepare.job import Job
-from ..prepare.library_choices import EARLY, LATE, MOST_CUTS, NUMBERED, REVERSED, SHUFFLED, WATCHED, Choices, Point
+from ..prepare.library_choices import EARLY, LATE, MOST_CUTS, NUMBERED, REVERSED, SHUFFLED, WATCHED, Choices, Cut, Point
 from ..program.code import read_elf
 from ..refusals import Refused, counted, show, tell
-from . import exposed_bytes, final_variables, unbuffered_races
+from . import exposed_accesses, exposed_bytes, final_variables, orders, sums_of_messages, unbuffered_races
 from .accepted_places import Accepted
 from .call_log import INPUT, NO_MESSAGE, Logged, Superstep
 from .contested_pairs import Pair, pairs
 from .exposed_bytes import Exposed
-from .portability_findings import CALLS, QUEUE, Finding, Findings, Other, described, parted, told_contested, told_variable
-from .trial_runs import Ending, NoRoom, Subject, Trials
+from .portability_findings import CALLS, QUEUE, Finding, Findings, Other, again, described, parted, told_contested, told_variable
+from .trial_runs import Ending, NoRoom, Subject, Trials, least
 
 TIMES = (Choices(unbuffered=EARLY), Choices(unbuffered=LATE))
 PATTERNS = (0x40, 0xC1)
@@ -39,12 +40,15 @@ MORE_NODES = b"there are more nodes than the program takes in bsp_begin"
 OWN_STATUS = b": the program ended with status "
 # In how many orders messages come where --tries does not say it, and of how many messages all orders are tried.
 TRIES, MOST_ORDERED = 8, 4
+# In how many orders more, if sums of numbers with a point are others in them.
+MOST_SUMS = 2
 # What puts and gets, also where it is not called in the run as it is.
 ASKING = ("__wrap_bsp_put", "__wrap_bsp_get", *CALLS)
+ACCESSES = "accesses of ranks to bytes of unbuffered calls"
 # How many pairs of places are told of each kind.
 MOST_PAIRS = 16
 NOT_LOOKED_FOR = (
-    "memory behind free", "what rank 0 sets before bsp_begin", "bsp_time", "the order of the ranks' output", "numbers of another size",
+    "memory behind free", "addresses of variables on other ranks", "what main's own variables have before bsp_begin", "bsp_time", "the order of the ranks' output", "numbers of another size",
 )  # fmt: skip
 
 
@@ -80,6 +84,7 @@ class Portable:
         self.code = trials.code.know_names()
         self.variables = final_variables.of_program(self.code)
         self.known: dict[Choices, list[bytes]] = {}
+        self.told_pairs: set[tuple[int, ...]] = set()
         self.verdict = Verdict()
 
     @functools.cached_property
@@ -177,7 +182,8 @@ class Portable:
         base = self.base()
         if base != self.ended:
             difference = parted(self.ended, base)
-            self.verdict.found.append(Finding(["another output where code and variables lie elsewhere", f"then   {difference}"]))
+            lines = ["another output where code and variables lie elsewhere", f"then   {difference}"]
+            self.verdict.found.append(Finding([*lines, again(Choices(order=NUMBERED))]))
             if contested.first is not None:
                 self.verdict.found.append(Finding(told_contested(self.trace, contested.first, contested.places - 1)))
             self.ended = base
@@ -189,7 +195,9 @@ class Portable:
         self.from_log()
         self.tried("messages in other orders", self.messages)
         self.tried("unbuffered calls at other times", self.unbuffered)
-        self.fresh()
+        if self.fresh():
+            self.addresses()
+            self.alone()
 
     def tried(self, what: str, look: Callable[[], None]) -> None:
         """Looks for something where there is room for what is kept."""
@@ -216,10 +224,13 @@ class Portable:
         found, findings = self.trials.contested[choices], self.findings(choices)
         if found.places > len(found.rows):
             self.leave_out(f"not tried: contested bytes behind the first {len(found.rows)} places")
-        made = pairs(found.rows, self.log if choices == Choices() else self.trials.log(choices))
-        landed = [choices._replace(cuts=tuple(it.cuts[:MOST_CUTS])) for it in made[:MOST_PAIRS]]
+        all_made = pairs(found.rows, self.log if choices == Choices() else self.trials.log(choices))
+        # Their numbers are those of all, as --order has them.
+        made = [(number, it) for number, it in enumerate(all_made, 1) if it.places not in self.told_pairs]
+        self.told_pairs |= {it.places for _, it in made}
+        landed = [choices._replace(cuts=tuple(it.cuts[:MOST_CUTS])) for _, it in made[:MOST_PAIRS]]
         self.trials.run_all(landed)
-        for number, (pair, cut) in enumerate(zip(made, landed), 1):
+        for (number, pair), cut in zip(made, landed):
             other = self.other(cut, self.is_silent)
             if len(pair.cuts) > MOST_CUTS and other is None:
                 self.leave_out(f"not tried: the other order of more than {MOST_CUTS} requests of a pair of lines")
@@ -234,18 +245,24 @@ class Portable:
         seen: dict[frozenset[int], tuple[int, Exposed, Logged, Logged]] = {}
         for superstep, step in enumerate(self.log):
             if step.has_unbuffered:
-                calls = dict(step.transfers())
-                for it in exposed_bytes.exposed(list(calls), lambda it, calls=calls: calls[it].place):  # type: ignore[misc]
-                    reader, writer = calls[it.reader], calls[it.writer]
-                    seen.setdefault(frozenset((reader.place, writer.place)), (superstep, it, reader, writer))
+                for pair, it, reader, writer in exposed_in(step):
+                    seen.setdefault(pair, (superstep, it, reader, writer))
         findings = self.findings()
-        for found in list(seen.values())[:MOST_PAIRS]:
-            self.find(findings.exposed(*found))
+        other = self.at_other_times() if seen else None
+        for superstep, found, reader, writer in list(seen.values())[:MOST_PAIRS]:
+            self.find(findings.exposed(superstep, found, (reader, writer), other))
         if len(seen) > MOST_PAIRS:
             self.leave_out(f"not told: {counted(len(seen) - MOST_PAIRS, 'more pair')} of lines that expose bytes")
         if any(step.has_unbuffered for step in self.log) and not seen:
             supersteps = counted(self.ended.last + 1, "superstep")
             self.verdict.exact.append(f"unbuffered calls: nothing exposed to other calls in {supersteps} (exact)")
+
+    def at_other_times(self) -> Other | None:
+        """What comes of unbuffered calls early or late, if that is something else."""
+        with contextlib.suppress(NoRoom):
+            self.trials.run_all(TIMES)
+            return next((other for it in TIMES if (other := self.other(it, self.is_silent)) is not None), None)
+        return None
 
     def from_log(self) -> None:
         """What the calls of the run tell by themselves."""
@@ -289,7 +306,9 @@ class Portable:
         seeds = range(1, max(tries, 1))
         shuffled = [Choices(order=SHUFFLED, seed=it) for it in seeds]
         name = f"messages in {counted(tries, 'order')} (reversed" + (f", shuffled with seeds 1 to {seeds[-1]})" if shuffled else ")")
-        return reversed_ones + shuffled, name
+        sums = sums_of_messages.orders_of_sums(self.log, MOST_SUMS) if tries > 1 else []
+        name += f" and {len(sums)} in which the sums of their numbers are others" if sums else ""
+        return reversed_ones + shuffled + sums, name
 
     def messages(self) -> None:
         """Messages in other orders."""
@@ -302,15 +321,28 @@ class Portable:
         self.trials.run_all(tried, asks)
         for choices in tried:
             if (other := self.other(choices, self.is_silent)) is not None:
-                self.find(self.findings().messages(other))
+                self.find(self.findings().messages(other, self.tag_size))
                 break
         else:
             self.verdict.tried += [name] if tried else []
-            self.note_variables(*tried[:3])
-            contested = [it for it in tried if asks and self.trials.contested[it].places]
-            if contested and not self.trials.contested.get(Choices()):
-                self.pairs(contested[0])
+            self.note_variables(*tried[:3], *(it for it in tried[3:] if it.order == NUMBERED))
+        if asks:
+            self.contested_in(tried)
         self.queue()
+
+    def tag_size(self, superstep: int, rank: int) -> int:
+        """How many bytes the tags of a rank have in a superstep of the run as it is."""
+        return self.log[superstep].tag_sizes.get(rank, 0) if superstep < len(self.log) else 0
+
+    def contested_in(self, tried: list[Choices]) -> None:
+        """Bytes that are contested where messages come in other orders alone."""
+        known = self.trials.contested.get(Choices())
+        seen = {it[:3] for it in known.rows} if known is not None else set()
+        for choices in tried:
+            more = {it[:3] for it in self.trials.contested[choices].rows} - seen
+            if more:
+                seen |= more
+                self.pairs(choices)
 
     def queue(self) -> None:
         """What bsp_hpmove gave out, behind the next bsp_sync."""
@@ -326,18 +358,21 @@ class Portable:
         """bsp_hpput and bsp_hpget at other times."""
         if not self.has(*CALLS) or not any(it.has_unbuffered for it in self.log):
             return
+        watched, *_ = self.trials.run_all([Choices(unbuffered=WATCHED), *TIMES])
+        if self.accesses():
+            return
         touched = unbuffered_races.races(self.findings().trace, self.log)
+        other = self.at_other_times() if touched else None
         for race in touched[:MOST_PAIRS]:
-            self.find(self.findings().touched(race))
+            self.find(self.findings().touched(race, other))
         if len(touched) > MOST_PAIRS:
             self.leave_out(f"not told: {counted(len(touched) - MOST_PAIRS, 'more unbuffered call')} whose bytes are written")
         if touched:
             return
-        watched, *_ = self.trials.run_all([Choices(unbuffered=WATCHED), *TIMES])
         if watched != self.ended and (rank := re.match(r"rank (\d+) stopped: aborted", watched.outcome)) is not None:
             said = re.search(rb"bsp: rank %b: %b(\d+)\n" % (rank[1].encode(), CHANGED.encode()), watched.output)
             if said is not None:
-                self.find(self.findings().source(Point(watched.last, int(rank[1]), int(said[1]))))
+                self.find(self.findings().source(Point(watched.last, int(rank[1]), int(said[1])), self.at_other_times()))
                 return
         for choices in TIMES:
             if (other := self.other(choices, True)) is not None:
@@ -345,8 +380,71 @@ class Portable:
                 return
         self.verdict.tried.append("unbuffered calls early and late")
 
-    def fresh(self) -> None:
-        """Fresh memory with other bytes."""
+    def looking_build(self) -> Trials | None:
+        """The program as it looks at its own accesses, if there is such a build."""
+        if "bsp_ranges" in self.code.names:
+            return self.trials
+        if not self.subject.options.sources:
+            self.leave_out(f"not tried: {ACCESSES}, which takes bspcc --portable=accesses")
+            return None
+        try:
+            trials, _ = built(self.subject, self.trials.ticks, "--portable=accesses", "-Og", is_told=False)
+        except Refused:
+            self.leave_out(f"not tried: {ACCESSES}, for which the program was not compiled")
+            return None
+        trials.room = trials.room and self.trials.room
+        return trials
+
+    def accesses(self) -> bool:
+        """What ranks read and write themselves where an unbuffered call has the same bytes. Answers whether that was found."""
+        show("bsprun: looking at accesses to bytes of unbuffered calls")
+        trials = self.looking_build()
+        if trials is None:
+            return False
+        ranges, left_out = exposed_accesses.ranges(self.log if trials is self.trials else trials.log(Choices()))
+        if left_out is not None:
+            self.leave_out(f"not tried: {ACCESSES} from superstep {left_out} on, since these have too many bytes apart")
+        found = exposed_accesses.accesses(trials.log(Choices(ranges=tuple(ranges)))) if ranges else []
+        other = self.at_other_times() if found else None
+        findings = Findings(trials, Tracer(trials.code.know_names(), trials.replays(Choices())))
+        for it in found[:MOST_PAIRS]:
+            self.find(findings.accessed(it, other))
+        if len(found) > MOST_PAIRS:
+            self.leave_out(f"not told: {counted(len(found) - MOST_PAIRS, 'more pair')} of lines, a call and an access to its bytes")
+        return bool(found)
+
+    def addresses(self) -> None:
+        """Stack and heap elsewhere on each rank, so that an address of one is none of another."""
+        choices = Choices(is_moved=True)
+        if self.ends_otherwise(choices):
+            self.find(self.findings().addresses(choices, parted(self.ended, self.trials.run(choices))))
+        else:
+            self.verdict.tried.append("stack and heap elsewhere on each rank")
+
+    def alone(self) -> None:
+        """What rank 0 alone has done before bsp_begin. Where bsp_init is called, that is so in each run."""
+        cuts = orders.variables_of(self.code)
+        if self.has("bsp_init") or not cuts or not self.trials.room or self.trials.nodes == 1:
+            return
+        choices = Choices(is_alone=True, cuts=cuts)
+        try:
+            if not self.ends_otherwise(choices):
+                return
+            # Some of them change something, and the last of as few as do so.
+            count = least(0, len(self.variables), lambda it: self.ends_otherwise(self.alone_with(it)))
+        except NoRoom:
+            return
+        name = self.variables[count - 1].name
+        difference = parted(self.ended, self.trials.run(choices))
+        self.verdict.notes.append(f"for information: ranks above 0 use what {name} is given before bsp_begin, which BSPlib lets rank 0 alone do; "
+                                  f"otherwise {difference}: --order {orders.spelled(choices)}")  # fmt: skip
+
+    def alone_with(self, count: int) -> Choices:
+        """The same with so many of the variables."""
+        return Choices(is_alone=True, cuts=tuple(Cut(0, 0, 0, *it) for it in final_variables.ranges_of(self.variables[:count])[:MOST_CUTS]))
+
+    def fresh(self) -> bool:
+        """Fresh memory with other bytes. Answers whether nothing was found."""
         patterns = [Choices(heap=it, stack=it) for it in PATTERNS]
         self.trials.run_all(patterns)
         for choices in patterns:
@@ -357,17 +455,18 @@ class Portable:
             elif other is not None:
                 self.find(self.findings().stack(self.trials, choices, other.difference))
             if other is not None:
-                return
+                return False
         for value in VALUES if self.subject.options.sources else ():
             options = ["-Wuninitialized", "-Wmaybe-uninitialized", f"-ftrivial-auto-var-init={value}"]
             trials, said = built(self.subject, self.trials.ticks, *options)
             trials.room = self.trials.room
             ending = trials.run(Choices())
             if ending != self.ended:
-                self.find(self.findings().stack(trials, Choices(), parted(self.ended, ending), said))
-                return
+                self.find(self.findings().stack(trials, Choices(), parted(self.ended, ending), said, value))
+                return False
         self.verdict.tried.append(f"fresh memory in {len(PATTERNS)} patterns")
         self.note_variables(*patterns)
+        return True
 
     def other_nodes(self) -> None:
         """The program on one node less and one more, for information."""
@@ -383,10 +482,22 @@ class Portable:
         self.verdict.notes += [f"for information: {', '.join(told)}"] if told else []
 
 
-def built(subject: Subject, ticks: int, *options: str) -> tuple[Trials, list[str]]:
+def exposed_in(step: Superstep) -> Iterator[tuple[frozenset[int], Exposed, Logged, Logged]]:
+    """The bytes that each pair of places in the code exposes in a superstep, once, by the two calls that are nearest."""
+    calls = dict(step.transfers())
+    pairs_of: dict[frozenset[int], Exposed] = {}
+    for it in exposed_bytes.exposed(list(calls), lambda it: calls[it].place):
+        pairs_of.setdefault(frozenset((calls[it.reader].place, calls[it.writer].place)), it)
+    for pair, it in pairs_of.items():
+        readers, writers = ([one for one, call in calls.items() if call.place == calls[of].place] for of in (it.reader, it.writer))
+        it = exposed_bytes.nearest(it, readers, writers)
+        yield pair, it, calls[it.reader], calls[it.writer]
+
+
+def built(subject: Subject, ticks: int, *options: str, is_told: bool = True) -> tuple[Trials, list[str]]:
     """A build of a program in C that takes choices, and what was said of it."""
     target = subject.folder / "portable.elf"
-    said = compiled(subject.options, target, "--portable", *options)
+    said = compiled(subject.options, target, "--portable", *options, is_told=is_told)
     content = with_records(content_of(target, MOST_PROGRAM), subject.mark)
     return Trials(subject, content, read_elf(content), ticks), said
 

@@ -5,13 +5,14 @@ from __future__ import annotations
 import functools
 import pathlib
 import re
-from collections.abc import Callable
+from collections.abc import Callable, Sequence
 from typing import NamedTuple
 
-from ..framed.backtrace import Frame, place
-from ..framed.environment_calls import HPGET, HPPUT, REQUESTS, SEND, Call, Tracer, spelled
+from ..framed.backtrace import Frame, place, written
+from ..framed.environment_calls import HPGET, HPPUT, NAMES, REQUESTS, SEND, Call, Tracer, spelled
 from ..framed.replays import Replays
 from ..framed.session import ALL, Node
+from ..limits import MOST_POINTS
 from ..outputs.contested_bytes import Contested
 from ..outputs.written_files import file_name
 from ..prepare.compilation import compiled
@@ -22,6 +23,7 @@ from . import final_variables, orders
 from .call_log import Logged
 from .contested_pairs import Pair
 from .divergence import first_divergence, shown
+from .exposed_accesses import Access
 from .exposed_bytes import DIRECT_GET, Bytes, Exposed
 from .trial_runs import Ending, Stop, Trials, least, looked, memory_of, stops
 from .unbuffered_races import Race
@@ -39,6 +41,7 @@ WHY_MESSAGES = "BSPlib leaves open in which order the messages of a superstep co
 WHY_UNBUFFERED = "BSPlib lets bsp_hpput and bsp_hpget read and write at any time from the call to the end of bsp_sync"
 WHY_EMPTY = "BSPlib leaves open what bsp_move does where no message is left"
 WHY_QUEUE = "BSPlib keeps what bsp_hpmove gives out up to the end of the superstep alone"
+WHY_ADDRESSES = "an address of one rank is none of another: other libraries have each rank's memory elsewhere"
 WHY_HEAP = "C leaves open which bytes malloc's memory has"
 WHY_STACK = "C leaves open what a variable of a function has before it is given a value"
 
@@ -62,6 +65,14 @@ class Finding(NamedTuple):
         return [f"bsprun: {what}: {self.lines[0]}", *(f"  {line}" for line in self.lines[1:])]
 
 
+class Made(NamedTuple):
+    """A call: where it stands, how it is told, and the node that makes it, if it is known."""
+
+    where: str
+    text: str
+    node: Node | None
+
+
 class Findings:
     """Tells of a program by runs of its build that takes choices. `trace` has the run of which something is told."""
 
@@ -69,27 +80,26 @@ class Findings:
         self.trials, self.trace = trials, trace
         self.code = trials.code.know_names()
 
-    def bytes_at(self, superstep: int, where: Bytes) -> str:
-        """Some bytes of a rank, with the variable that they are of."""
-        variable = self.code.variable(where.start)
-        named = f" ({variable})" if variable else ""
+    def bytes_at(self, superstep: int, where: Bytes, *nodes: Node | None) -> str:
+        """Some bytes of a rank, with the variable that they are of. Of these nodes one of the same rank knows variables of functions."""
+        node = next((it for it in nodes if it is not None and it.rank == where.rank), None)
         end = f" to {where.end - 1:#x}" if where.end > where.start + 1 else ""
-        return f"superstep {superstep}, rank {where.rank}: byte {where.start:#x}{named}{end}"
+        return f"superstep {superstep}, rank {where.rank}: byte {written(self.code, where.start, node)}{end}"
 
     @functools.lru_cache(maxsize=64)
     def made(self, rank: int, superstep: int) -> list[Call]:
         """The puts, gets and messages of a rank in a superstep."""
         return self.trace.calls_in(rank, REQUESTS, superstep)
 
-    def call_at(self, superstep: int, it: Logged) -> tuple[str, str]:
+    def call_at(self, superstep: int, it: Logged) -> Made:
         """Where a call stands, and the call with its operands by name."""
         made = self.made(it.rank, superstep) if it.number in REQUESTS else []
         if it.request >= len(made):
-            return self.place_behind(it), "" if it.number in REQUESTS else DIRECT_GET
+            return Made(self.place_behind(it), "" if it.number in REQUESTS else DIRECT_GET, None)
         call = made[it.request]
         node = self.trace.node_of(it.rank, REQUESTS, superstep, call)
         where = place(self.code, node, is_call_told=True) if node else self.place_behind(it)
-        return where, spelled(self.code, node or call.node)
+        return Made(where, spelled(self.code, node or call.node), node)
 
     def place_behind(self, it: Logged) -> str:
         """Where a call stands, by the place to which it goes back."""
@@ -101,31 +111,29 @@ class Findings:
         """Two places in the code that contest bytes, and what comes of the other order."""
         it = pair.first
         head = "another output" if other is not None else "the same output"
-        lines = [f"{head} where two requests of a superstep land in the other order", self.bytes_at(it.superstep, it.where)]
-        if choices != Choices():
-            lines[0] += f", and {described(choices)}"
-        lines[1] += f", and {counted(pair.count - 1, 'more place')}" if pair.count > 1 else ""
-        places = []
-        for asked in sorted((it.last, it.other)):
-            where, call = self.call_at(it.superstep, asked)
+        both = sorted((it.last, it.other))
+        made = [self.call_at(it.superstep, asked) for asked in both]
+        lines = [f"{head} where two requests of a superstep land in the other order"]
+        lines[0] += f", and {described(choices)}" if choices != Choices() else ""
+        more = f", and {counted(pair.count - 1, 'more place')}" if pair.count > 1 else ""
+        lines.append(self.bytes_at(it.superstep, it.where, *(call.node for call in made)) + more)
+        for asked, call in zip(both, made):
             known = (it.row.first, it.row.second) if it.row is not None else ()
             byte = next((f"{of.byte:02x}" for of in known if (of.rank, of.number) == (asked.rank, asked.request)), "lands")
-            lines.append(f"{byte:6} by rank {asked.rank} at {where}: {call}")
-            places.append(line_in(where))
+            lines.append(f"{byte:6} by rank {asked.rank} at {call.where}: {call.text}")
+        places = [line_in(call.where) for call in made]
         lines += [f"then   {other.difference}"] if other is not None else []
         return Finding([*lines, again(choices, number), f"why    {WHY_PUTS}"], tuple(places))
 
-    def exposed(self, superstep: int, it: Exposed, reader: Logged, writer: Logged) -> Finding:
-        """A call that reads what another one, or itself, writes, where who comes first is open."""
+    def exposed(self, superstep: int, it: Exposed, both: Sequence[Logged], other: Other | None) -> Finding:
+        """A call that reads what another one, or itself, writes, where who comes first is open; and what comes of another time."""
         is_own = it.reader == it.writer
+        made = [self.call_at(superstep, asked) for asked in both[: 1 if is_own else 2]]
         head = f"{it.reader.kind} from a rank to itself writes bytes that it reads" if is_own else ""
-        lines = [head or f"{it.reader.kind} reads what {it.writer.kind} of the same superstep writes", self.bytes_at(superstep, it.where)]
-        places = []
-        for what, asked in (("read  ", reader), *(() if is_own else (("write ", writer),))):
-            where, call = self.call_at(superstep, asked)
-            lines.append(f"{what} by rank {asked.rank} at {where}: {call}")
-            places.append(line_in(where))
-        return Finding([*lines, f"why    {WHY_UNBUFFERED}"], tuple(places))
+        lines = [head or f"{it.reader.kind} reads what {it.writer.kind} of the same superstep writes"]
+        lines.append(self.bytes_at(superstep, it.where, *(call.node for call in made)))
+        lines += [f"{what} by rank {asked.rank} at {call.where}: {call.text}" for what, asked, call in zip(("read  ", "write "), both, made)]
+        return Finding([*lines, *of_other(other), f"why    {WHY_UNBUFFERED}"], tuple(line_in(call.where) for call in made))
 
     def no_message(self, superstep: int, it: Logged) -> Finding:
         """A bsp_move where no message is left."""
@@ -144,13 +152,14 @@ class Findings:
         lines += [f"then   {other.difference}", again(chosen), f"why    {WHY_QUEUE}"]
         return Finding(lines, (line_in(where),) if where else ())
 
-    def messages(self, other: Other) -> Finding:
-        """Two messages of which the order counts: where they were sent, and where they are taken."""
+    def messages(self, other: Other, tag_sizes: Callable[[int, int], int]) -> Finding:
+        """Two messages of which the order counts: where they were sent, and where they are taken. `tag_sizes` has the size of a tag by
+        superstep and rank."""
         lines = [f"another output where {described(other.choices)}"]
         chosen = self.trials.first(other.choices, other.is_other)
         superstep, rank, index = chosen.until
         replays = self.trials.replays(chosen)
-        sends = self.messages_to(replays, superstep - 1, rank)
+        sends = self.messages_to(replays, superstep - 1, rank, tag_sizes)
         order = list(range(len(sends)))
         changes = swaps(chosen, superstep, rank, len(sends))
         for one, two in changes[:index]:
@@ -159,18 +168,25 @@ class Findings:
         for at in changes[index] if index < len(changes) else ():
             it = sends[order[at]]
             where = place(self.code, it.node)
-            lines.append(f"sent   by rank {it.node.rank} in superstep {superstep - 1}, at {where}: {shown(it.content)}")
+            tag = f"tag {it.tag.hex(' ')}, " if it.tag else ""
+            lines.append(f"sent   by rank {it.node.rank} in superstep {superstep - 1}, at {where}: {tag}{shown(it.content)}")
         taker = self.entries(replays, chosen.until, *TAKING) or self.entries(replays, Point(superstep, rank, 0), *QUEUE)
         if taker is not None:
             lines.append(f"taken  by rank {rank}, at {place(self.code, taker.node)}")
         return Finding([*lines, f"then   {other.difference}", again(chosen), f"why    {WHY_MESSAGES}"])
 
-    def messages_to(self, replays: Replays, superstep: int, rank: int) -> list[Stop]:
+    def messages_to(self, replays: Replays, superstep: int, rank: int, tag_sizes: Callable[[int, int], int]) -> list[Stop]:
         """The messages that are sent to a rank in a superstep, in the order in which they come here; none where ranks are too many."""
         sites = Tracer(self.code, replays).sites((SEND,))
         points = [(it, site) for it in range(self.trials.nodes) for site in sites]
         script = [*replays.begin(superstep), f"break superstep {superstep + 1}"]
-        found = list(stops(replays, self.code, script, points, lambda node: (node.x[12], node.x[13]))) if len(points) < 1000 else []
+        if len(points) >= MOST_POINTS - 24:
+            return []
+
+        def tag(node: Node) -> tuple[int, int]:
+            return node.x[11], tag_sizes(superstep, node.rank)
+
+        found = list(stops(replays, self.code, script, points, lambda node: (node.x[12], node.x[13]), tag))
         return sorted((it for it in found if it.node.x[10] == rank and it.node.x[17] == SEND), key=lambda it: it.node.rank)
 
     def entries(self, replays: Replays, point: Point, *names: str) -> Stop | None:
@@ -180,7 +196,7 @@ class Findings:
         calls = stops(replays, self.code, script, points, lambda node: (node.x[11], node.x[14]))
         return next((it for it in calls if it.number == point.which), None) if points else None
 
-    def source(self, point: Point) -> Finding:
+    def source(self, point: Point, other: Other | None) -> Finding:
         """A bsp_hpput whose source is another one at bsp_sync."""
         replays = self.trials.replays(Choices())
         lines = ["bsp_hpput has other bytes at its source at bsp_sync than at the call"]
@@ -188,7 +204,7 @@ class Findings:
         lines += self.entry(point, call)
         if call is not None:
             lines += self.change(replays, point, call)
-        return Finding([*lines, f"why    {WHY_UNBUFFERED}"])
+        return Finding([*lines, *of_other(other), f"why    {WHY_UNBUFFERED}"])
 
     def entry(self, point: Point, call: Stop | None) -> list[str]:
         """An unbuffered call."""
@@ -220,15 +236,26 @@ class Findings:
         steps = least(0, end.ticks - after(0)[0].ticks, lambda it: after(it)[1] != content)
         return place(trace.code, after(steps - 1)[0]), other
 
-    def touched(self, it: Race) -> Finding:
+    def touched(self, it: Race, other: Other | None) -> Finding:
         """An unbuffered call whose bytes are written by the rank in whose memory they lie."""
         owner, rank = it.where.rank, it.call.rank
         lines = [f"rank {owner} writes in a superstep what an unbuffered call of rank {rank} names there"]
-        where, call = self.call_at(it.superstep, it.call)
-        lines += [f"superstep {it.superstep}, rank {rank}: {call}", f"at     {where}"]
+        call = self.call_at(it.superstep, it.call)
+        lines += [f"superstep {it.superstep}, rank {rank}: {call.text}", f"at     {call.where}"]
         writer, _ = self.changed_at(self.trace, it.script, owner, it.where.start, it.before)
-        lines.append(f"and    rank {owner} at {writer}: {differing(it.before, it.after)}")
-        return Finding([*lines, f"why    {WHY_UNBUFFERED}"], (line_in(where), line_in(writer)))
+        lines += [f"and    rank {owner} at {writer}: {differing(it.before, it.after)}", *of_other(other)]
+        return Finding([*lines, f"why    {WHY_UNBUFFERED}"], (line_in(call.where), line_in(writer)))
+
+    def accessed(self, it: Access, other: Other | None) -> Finding:
+        """An access of a rank to bytes of an unbuffered call, and what comes of another time of such calls."""
+        owner, rank = it.where.rank, it.call.rank
+        name, what = NAMES[it.call.number][0], "writes" if it.is_target else "reads"
+        deed = "writes" if it.is_write else "reads"
+        lines = [f"rank {owner} {deed} in a superstep what {name} of rank {rank} {what} at any time in it"]
+        call, made = self.call_at(it.superstep, it.call), self.place_behind(it.made)
+        lines += [self.bytes_at(it.superstep, it.where, call.node), f"call   by rank {rank} at {call.where}: {call.text}"]
+        lines += [f"{deed:6} by rank {owner} at {made}", *of_other(other)]
+        return Finding([*lines, f"why    {WHY_UNBUFFERED}"], (line_in(call.where), line_in(made)))
 
     def call(self, other: Other) -> Finding:
         """An unbuffered call of which the time counts."""
@@ -250,8 +277,9 @@ class Findings:
         lines += [f"then   {other.difference}", again(chosen)]
         return Finding([*lines, f"why    {WHY_HEAP}"])
 
-    def stack(self, trials: Trials, choices: Choices, difference: str, said: list[str] | None = None) -> Finding:
-        """A variable of a function that is used before it has a value: what GCC says of such, and where the runs part."""
+    def stack(self, trials: Trials, choices: Choices, difference: str, said: list[str] | None = None, value: str = "") -> Finding:
+        """A variable of a function that is used before it has a value: what GCC says of such, and where the runs part. `value` is what GCC gives
+        such a variable, in a build with another one."""
         lines = ["something else where a variable of a function that was given no value has other bytes"]
         for found in list(filter(None, map(UNSET.match, said if said is not None else self.warned())))[:MOST_TOLD]:
             lines.append(f"GCC    {pathlib.PurePath(found[1]).name}:{found[2]}: {found[3]}")
@@ -260,8 +288,19 @@ class Findings:
             lines.append(f"superstep {divergence.one.superstep}, rank {divergence.rank}: the first call that is another one")
             lines.append(f"at     {divergence.where}: {divergence.one.told}")
             lines.append(f"before {divergence.other.told if divergence.other else 'no call'}")
-        more = [again(choices)] if choices.stack else []
+        more = [again(choices)] if choices.stack else [f"again  give -ftrivial-auto-var-init={value} to bsprun or bspgdb"] if value else []
         return Finding([*lines, f"then   {difference}", *more, f"why    {WHY_STACK}"])
+
+    def addresses(self, choices: Choices, difference: str) -> Finding:
+        """An address of one rank that another one uses."""
+        lines = ["another output where stack and heap lie elsewhere on each rank"]
+        divergence = first_divergence((self.trials, Choices()), (self.trials, choices))
+        if divergence is not None:
+            lines.append(f"superstep {divergence.one.superstep}, rank {divergence.rank}: the first call that is another one")
+            lines.append(f"at     {divergence.where}: {divergence.one.told}")
+            lines.append(f"before {divergence.other.told if divergence.other else 'no call'}")
+        places = (line_in(divergence.where),) if divergence is not None else ()
+        return Finding([*lines, f"then   {difference}", again(choices), f"why    {WHY_ADDRESSES}"], places)
 
     def warned(self) -> list[str]:
         """What GCC says of variables that have no value."""
@@ -283,6 +322,11 @@ def told_contested(trace: Tracer, it: Contested, others: int) -> list[str]:
             where = trace.place_of(rank, REQUESTS, it.superstep, made[number])
             lines.append(f"{byte:02x}     by rank {rank} at {where}: {spelled(trace.code, made[number].node)}")
     return [*lines, *([f"and    {counted(others, 'more place')}"] if others else []), f"why    {WHY_PUTS}"]
+
+
+def of_other(other: Other | None) -> list[str]:
+    """What comes of other choices, and how to make them."""
+    return [] if other is None else [f"then   {other.difference}", again(other.choices)]
 
 
 def again(choices: Choices, pair: int | None = None) -> str:
@@ -320,6 +364,8 @@ def described(choices: Choices) -> str:
     if choices.unbuffered:
         when = "at the call" if choices.unbuffered == EARLY else "at bsp_sync"
         return f"bsp_hpput and bsp_hpget read and write {when}"
+    if choices.is_moved:
+        return "stack and heap lie elsewhere on each rank"
     if choices.queue:
         return f"messages of bsp_hpmove have bytes {choices.queue:#04x} once the next bsp_sync is over"
     return f"fresh memory{'' if choices.stack else ' of malloc'} has bytes {choices.heap:#04x}"

@@ -101,11 +101,13 @@ def with_log(content: bytes, mark: bytes, writes_files: bool) -> bytes:
 
 
 class Stop(NamedTuple):
-    """A rank at one of the addresses at which it was to stop: which of its stops it is, from 0 on, and bytes that the call names."""
+    """A rank at one of the addresses at which it was to stop: which of its stops it is, from 0 on, bytes that the call names, and the tag that
+    it names."""
 
     node: Node
     number: int
     content: bytes
+    tag: bytes = b""
 
 
 class Trials:
@@ -178,9 +180,15 @@ class Trials:
 
     def log(self, choices: Choices) -> list[Superstep]:
         """The calls of a run."""
-        done = emulator.run(self._command(choices._replace(is_logged=True), None))
-        found = report.brief(done.stdout)
-        return supersteps(done.stdout, self.subject.log_mark, found.last if found is not None else -1)
+        return self.log_all([choices])[0]
+
+    def log_all(self, tried: Sequence[Choices]) -> list[list[Superstep]]:
+        """The calls of runs, which are made side by side."""
+        found = []
+        for done in emulator.run_all([self._command(it._replace(is_logged=True), None) for it in tried]):
+            said = report.brief(done.stdout)
+            found.append(supersteps(done.stdout, self.subject.log_mark, said.last if said is not None else -1))
+        return found
 
     def replays(self, choices: Choices) -> Replays:
         """The same run in the debugger, up to the next one that is asked for."""
@@ -211,17 +219,23 @@ def least(low: int, high: int, holds: Callable[[int], bool]) -> int:
 
 
 def stops(
-    replays: Replays, code: Code, script: list[str], points: list[tuple[int, int]], named: Callable[[Node], tuple[int, int]]
+    replays: Replays,
+    code: Code,
+    script: list[str],
+    points: list[tuple[int, int]],
+    named: Callable[[Node], tuple[int, int]],
+    tagged: Callable[[Node], tuple[int, int]] | None = None,
 ) -> Iterator[Stop]:
     """The stops of a run at these points, each a rank and an address, from where a script comes to. `named` says which bytes of the memory
-    a call names, by address and number."""
+    a call names, by address and number, and `tagged` which tag."""
     counts: dict[int, int] = {}
     with replays.session() as session:
         session.ask_all([*script, *(f"break {rank} {address}" for rank, address in points[: MOST_POINTS - 24])])
         while (found := session.ask("go").accepted()[0].split())[:3] == ["stopped", "at", "rank"]:
             node = looked(session, code, int(found[3]))
             counts[node.rank] = counts.get(node.rank, -1) + 1
-            yield Stop(node, counts[node.rank], memory_of(session, node.rank, *named(node)))
+            tag = memory_of(session, node.rank, *tagged(node)) if tagged is not None else b""
+            yield Stop(node, counts[node.rank], memory_of(session, node.rank, *named(node)), tag)
 
 
 def looked(session: Session, code: Code, rank: int) -> Node:

@@ -57,13 +57,13 @@ def optimized(options: argparse.Namespace, names: list[str]) -> list[str]:
     return lines
 
 
-def compiled(options: argparse.Namespace, target: pathlib.Path, *more: str) -> list[str]:
-    """Makes an executable of the sources, with more options for bspcc. Answers what was said of them."""
+def compiled(options: argparse.Namespace, target: pathlib.Path, *more: str, is_told: bool = True) -> list[str]:
+    """Makes an executable of the sources, with more options for bspcc. Answers what was said of them, and tells it where they cannot be."""
     words, environment = command(options, target, "-g", *looks(options), *more)
     done = children.call(words, stdout=subprocess.PIPE, stderr=subprocess.STDOUT, env=environment)
     names = [os.path.abspath(it) for it in options.sources]
     said = of_mistakes([*lines_of(done.stdout, *names), *(optimized(options, names) if options.strict and not more else [])])
     if done.returncode != 0:
-        tell(said)
+        tell(said if is_told else [])
         raise Refused(f"{' '.join(options.sources)} was not compiled")
     return said

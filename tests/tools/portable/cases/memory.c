@@ -116,3 +116,70 @@ CASE(null_when_nothing, INNOCENT)
     void *place = malloc(1);
     say(place != NULL);
 }
+
+/* Addresses that other ranks use. */
+
+CASE(address_of_a_local_sent, OTHER)
+{
+    int mine = 3, *theirs = &mine;
+    bsp_put(next, &theirs, b, 0, sizeof theirs); /* ! */
+    bsp_sync();
+    memcpy(&theirs, b, sizeof theirs);
+    say(*theirs);
+}
+
+CASE(address_of_the_heap_sent, OTHER)
+{
+    int *mine = malloc(sizeof *mine), *theirs;
+    *mine = 7;
+    bsp_send(next, NULL, &mine, sizeof mine); /* ! */
+    bsp_sync();
+    bsp_move(&theirs, sizeof theirs);
+    say(*theirs);
+}
+
+CASE(list_sent_as_it_is, OTHER)
+{
+    struct node {
+        int value;
+        struct node *next;
+    } *first = malloc(sizeof *first), theirs;
+    first->value = 5;
+    first->next = malloc(sizeof *first);
+    first->next->value = 6;
+    bsp_send(next, NULL, first, sizeof *first); /* ! */
+    bsp_sync();
+    bsp_move(&theirs, sizeof theirs);
+    say(theirs.next->value);
+}
+
+CASE(address_comes_back, INNOCENT)
+{
+    int mine = 3, *back = &mine;
+    bsp_put(next, &back, b, 0, sizeof back);
+    bsp_sync();
+    bsp_put(last, b, c, 0, sizeof back);
+    bsp_sync();
+    memcpy(&back, c, sizeof back);
+    say(*back);
+}
+
+CASE(registered_local, INNOCENT)
+{
+    int mine = me;
+    bsp_push_reg(&mine, sizeof mine);
+    bsp_sync();
+    bsp_put(next, &me, &mine, 0, sizeof mine);
+    bsp_sync();
+    say(mine);
+}
+
+CASE(registered_heap, INNOCENT)
+{
+    int *mine = malloc(40 + 40 * (size_t)me);
+    bsp_push_reg(mine, 40);
+    bsp_sync();
+    bsp_put(next, &me, mine, 0, sizeof *mine);
+    bsp_sync();
+    say(*mine);
+}

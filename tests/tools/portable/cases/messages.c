@@ -348,3 +348,75 @@ CASE(histogram, INNOCENT)
         b[take()]++;
     say(weighed(b, 4));
 }
+
+/* Sums that few orders change: not those that are tried by chance. */
+static const double tenths[9] = {4.0, 1.7, 2.3, 3.4, 0.2, 3.0, 1.6, 0.4, 1.1};
+
+static int by_value(const void *one, const void *other)
+{
+    double x = *(const double *)one, y = *(const double *)other;
+    return (x > y) - (x < y);
+}
+
+CASE(sum_that_few_orders_change, OTHER)
+{
+    double value, sum = 0;
+    int i;
+    for (i = 3 * me; i < 3 * me + 3; i++)
+        bsp_send(0, NULL, &tenths[i], sizeof value); /* ! */
+    bsp_sync();
+    while (count_of() > 0) {
+        bsp_move(&value, sizeof value); /* ! */
+        sum += value;
+    }
+    printf("%.17g\n", sum);
+}
+
+CASE(sum_with_an_index, OTHER)
+{
+    struct {
+        int index;
+        double value;
+    } it = {0, 0};
+    double sum = 0;
+    int i;
+    for (i = 3 * me; i < 3 * me + 3; i++) {
+        it.index = i, it.value = tenths[i];
+        bsp_send(0, NULL, &it, sizeof it); /* ! */
+    }
+    bsp_sync();
+    while (count_of() > 0) {
+        bsp_move(&it, sizeof it); /* ! */
+        sum += it.value;
+    }
+    printf("%.17g\n", sum);
+}
+
+CASE(sum_with_few_digits, INNOCENT)
+{
+    double value, sum = 0;
+    int i;
+    for (i = 3 * me; i < 3 * me + 3; i++)
+        bsp_send(0, NULL, &tenths[i], sizeof value);
+    bsp_sync();
+    while (count_of() > 0) {
+        bsp_move(&value, sizeof value);
+        sum += value;
+    }
+    printf("%.3f\n", sum);
+}
+
+CASE(sum_in_order_of_value, INNOCENT)
+{
+    double values[9], sum = 0;
+    int i, count = 0;
+    for (i = 3 * me; i < 3 * me + 3; i++)
+        bsp_send(0, NULL, &tenths[i], sizeof *values);
+    bsp_sync();
+    while (count_of() > 0)
+        bsp_move(&values[count++], sizeof *values);
+    qsort(values, (size_t)count, sizeof *values, by_value);
+    for (i = 0; i < count; i++)
+        sum += values[i];
+    printf("%.17g\n", sum);
+}

@@ -323,6 +323,116 @@ CASE(target_written_late, TIMES)
     say(b[0]);
 }
 
+/* What leaves the bytes as they were. */
+
+CASE(target_zeroed_that_is_zero, TIMES)
+{
+    if (me == 0)
+        HPPUT(1, &seven, b, 0); /* ! */
+    if (me == 1)
+        memset(b, 0, sizeof b); /* ! */
+    bsp_sync();
+    say(b[0]);
+}
+
+CASE(target_zeroed_by_a_loop, TIMES)
+{
+    int i;
+    HPPUT(next, &seven, b, me); /* ! */
+    for (i = 0; i < all; i++)
+        b[i] = 0; /* ! */
+    bsp_sync();
+    say(weighed(b, 3));
+}
+
+static void use(int *value)
+{
+    *(volatile int *)value += 1;
+}
+
+CASE(target_as_scratch, TIMES)
+{
+    int kept = b[0];
+    if (me == 0)
+        HPPUT(1, &seven, b, 0); /* ! */
+    if (me == 1)
+        b[0] = 4; /* ! */
+    use(&b[4]);
+    b[0] = kept;
+    bsp_sync();
+    say(b[0]);
+}
+
+CASE(source_change_undone, TIMES)
+{
+    HPPUT(next, &a[1], b, 0); /* ! */
+    a[1] += 5; /* ! */
+    use(&a[2]);
+    a[1] -= 5;
+    bsp_sync();
+    say(b[0]);
+}
+
+CASE(got_source_change_undone, TIMES)
+{
+    if (me == 0)
+        HPGET(1, a, 1, &b[0]); /* ! */
+    if (me == 1) {
+        a[1] = 5; /* ! */
+        use(&a[2]);
+        a[1] = 101;
+    }
+    bsp_sync();
+    say(b[0]);
+}
+
+CASE(own_target_written_with_what_comes, TIMES)
+{
+    HPGET(next, a, 1, &b[0]); /* ! */
+    b[0] = 100 * next + 1; /* ! */
+    bsp_sync();
+    say(b[0]);
+}
+
+CASE(target_read_by_its_rank, TIMES)
+{
+    if (me == 0)
+        HPPUT(1, &seven, b, 0); /* ! */
+    if (me == 1)
+        say(b[0]); /* ! */
+    bsp_sync();
+}
+
+CASE(message_moved_into_a_target, TIMES)
+{
+    bsp_send(next, NULL, &b[4], WORD);
+    bsp_sync();
+    HPPUT(next, &seven, b, 0); /* ! */
+    bsp_move(b, WORD); /* ! */
+    bsp_sync();
+    say(b[0]);
+}
+
+CASE(copied_over_a_target, TIMES)
+{
+    if (me == 0)
+        HPPUT(1, &seven, b, 2); /* ! */
+    if (me == 1)
+        memcpy(b, c, 4 * WORD); /* ! */
+    bsp_sync();
+    say(b[2]);
+}
+
+CASE(one_byte_of_a_target, TIMES)
+{
+    if (me == 0)
+        bsp_hpput(1, a, b, 3, 6); /* ! */
+    if (me == 1)
+        ((char *)b)[8] = 0; /* ! */
+    bsp_sync();
+    say(b[1]);
+}
+
 /* What looks like it. */
 
 CASE(hpput_ring, INNOCENT)
@@ -494,4 +604,71 @@ CASE(popped_name, INNOCENT)
     PUT(next, &seven, b, 1);
     bsp_sync();
     say(b[1] + c[0]);
+}
+
+CASE(source_written_with_what_it_has, INNOCENT)
+{
+    HPPUT(next, &a[1], b, 0);
+    a[1] = 100 * me + 1;
+    bsp_sync();
+    say(b[0]);
+}
+
+CASE(target_zeroed_before_the_call, INNOCENT)
+{
+    memset(b, 0, sizeof b);
+    HPGET(next, a, 1, &b[0]);
+    bsp_sync();
+    say(b[0]);
+}
+
+CASE(beside_the_target, INNOCENT)
+{
+    HPPUT(next, &seven, b, 3);
+    memset(b, 0, 3 * WORD);
+    memset(b + 4, 0, 3 * WORD);
+    bsp_sync();
+    say(b[3]);
+}
+
+CASE(target_of_another_rank, INNOCENT)
+{
+    if (me == 0)
+        HPPUT(1, &seven, b, 0);
+    if (me == 2)
+        b[0] = 0;
+    bsp_sync();
+    say(b[0]);
+}
+
+CASE(got_source_read, INNOCENT)
+{
+    int sum;
+    HPGET(next, a, 1, &b[0]);
+    sum = a[0] + a[1];
+    bsp_sync();
+    say(sum + b[0]);
+}
+
+CASE(scratch_behind_the_sync, INNOCENT)
+{
+    HPPUT(next, &seven, b, 0);
+    bsp_sync();
+    memset(b, 0, sizeof b);
+    use(&b[0]);
+    bsp_sync();
+    say(b[0]);
+}
+
+CASE(buffers_in_turn, INNOCENT)
+{
+    int i, buffer[2];
+    for (i = 0; i < 6; i++) {
+        buffer[i % 2] = me + i;
+        HPPUT(next, &buffer[i % 2], b, i);
+        if (i % 2 == 1)
+            bsp_sync();
+    }
+    bsp_sync();
+    say(weighed(b, 6));
 }

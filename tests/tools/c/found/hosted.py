@@ -27,12 +27,13 @@ from checks import CLASSES, COMPILER, REPO, Tally, Tool  # noqa: E402
 
 
 class Program(NamedTuple):
-    """A program: its arguments, the files that are beside it, those that it writes, and its ranks."""
+    """A program: its arguments, the files that are beside it, those that it writes, its ranks, and its standard if it is in C++."""
 
     arguments: Tuple[str, ...] = ()
     files: Tuple[str, ...] = ()
     outputs: Tuple[str, ...] = ()
     nodes: int = 4
+    standard: str = "gnu++17"
 
 
 # Those that want more than nothing. One whose name has a file NAME.in reads that.
@@ -42,6 +43,15 @@ SPECIAL: Dict[str, Program] = {
     "pack": Program(files=("runs.txt",), outputs=("runs.out",)),
     "picture": Program(files=("small.pgm",), outputs=("blurred.pgm",)),
     "words": Program(files=("text/prose.txt",)),
+    "filter": Program(files=("text/prose.txt",)),
+    "frequent": Program(files=("text/prose.txt",)),
+    "logger": Program(outputs=tuple(f"run.0{it}.log" for it in range(4))),
+    "modern": Program(standard="gnu++20"),
+    "settings": Program(files=("settings.ini",)),
+    "spill": Program(outputs=("part0.txt", "part2.txt")),
+    "strassen": Program(nodes=7),
+    "sums32": Program(arguments=("text/prose.txt",), files=("text/prose.txt",)),
+    "waves": Program(outputs=("tone.wav",)),
     "append": Program(files=("run.log",), outputs=("run.log",)),
     "checkpoint": Program(outputs=tuple(f"state{it}.bin" for it in range(4))),
     "components": Program(files=("edges.txt",)),
@@ -81,7 +91,7 @@ class Hosted:
         for name in (source.name, *program.files):
             (self.folder / name).parent.mkdir(exist_ok=True)
             shutil.copy(HERE / name, self.folder / name)
-        standard = ["-std=gnu++17"] if source.suffix == ".cpp" else []
+        standard = [f"-std={program.standard}"] if source.suffix == ".cpp" else []
         words = [str(REPO / "bsprun"), "--no-check", "-n", str(program.nodes), *standard, source.name, *program.arguments]
         done = forked.run(words, (HERE / given).read_text() if given else "", self.folder)
         found = done.stdout.encode()
@@ -105,7 +115,7 @@ def main() -> None:
     """Lists the programs, a line each, for the script that runs them on the host."""
     for source in sources():
         it = program_of(source)
-        print(source.stem, source.name, it.nodes, given_of(source), " ".join(it.files), " ".join(it.outputs), " ".join(it.arguments), sep="|")
+        print(source.stem, source.name, it.nodes, given_of(source), " ".join(it.files), " ".join(it.outputs), it.standard, " ".join(it.arguments), sep="|")
 
 
 if __name__ == "__main__":

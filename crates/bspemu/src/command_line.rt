@@ -71,7 +71,8 @@ const FLOAT: &str = "Give each node a unit of floating point, for the instructio
 const LARGE: &str =
     "Allow a large machine: up to 65536 nodes, 2147483648 bytes of memory and 1073741824 bytes of input, and more in a superstep";
 
-const LARGE_FILE: &str = "Read a program that only a large machine takes: a file of at most 268435456 bytes";
+const LARGE_FILE: &str =
+    "Read a program that only a large machine takes: a file of at most 268435456 bytes";
 
 const FLOAT_NAMES: &str =
     "Name instructions of floating point, as on nodes with units for them; without it they are data";

@@ -3,13 +3,12 @@
 --
 -- The manual leaves to the machine which of two exceptions an address raises that is not naturally aligned (sections 8.2 and 8.4: "an
 -- address-misaligned exception or an access-fault exception"), how large a reservation set is (section 8.2), and when an SC fails that may
--- succeed. Here such an address is `Misaligned`, the reservation set is the word that LR loads, and SC succeeds where it may: where the
--- word is reserved, and no SC and no `sync` came since. Memory of this node is written by others only while it waits at a `sync`, so until
--- then no store from another hart or device is to be observed (section 8.2), and aq and rl ask for no more than the order of the program
--- (section 8.1). The hart's own stores leave its reservation, and so do the calls that it makes itself and that write to its memory.
+-- succeed. Here such an address is `Misaligned`, the reservation set is the word that LR loads, and SC succeeds where the last LR reserved its
+-- word and no SC and no environment call came since. Others write to the memory of this node by its calls and while it waits at `sync`, so
+-- until a call no write of another hart or device is to be observed (section 8.2), and aq and rl ask for no more than the order of the
+-- program (section 8.1). The hart's own stores leave its reservation.
 use Rattle.std.specs.Prelude.{◌≡◌, ℕ, ◌%◌, ◌==◌, Bool, false, List, length, IsTrue, if◌then◌else◌, Option, Some, None}
-use Rattle.std.specs.Int.{w32, to_le_bytes}
-use Rattle.node_memory.specs.Bytes.{fits, word_at, with_bytes}
+use Rattle.node_memory.specs.Bytes.{fits, word_at}
 use Rattle.node_memory.specs.Pages.{Owns}
 use Rattle.rv_atomics.specs.declared.instr.AmoOp.{AmoOp}
 use Rattle.rv_atomics.specs.declared.instr.AtomicInstr.{AtomicInstr}
@@ -19,6 +18,7 @@ use Rattle.rv_atomics.specs.declared.reservation.Reservation.TheVariants.{Nothin
 use Rattle.rv_atomics.specs.Values.{amo_value}
 use Rattle.node_core.specs.declared.state.Fault.{Fault}
 use Rattle.node_core.specs.declared.state.Fault.TheVariants.{IllegalInstruction, LoadOutside, StoreOutside, Misaligned}
+use Rattle.node_core.specs.Calls.{with_word}
 use Rattle.node_core.specs.Hart.{Hart, After, reg, with_reg, with_memory, reserves, past, goes_on, faults}
 
 -- naturally aligned, of a word
@@ -31,8 +31,8 @@ on_word outside addr effect h =
     if is_aligned addr then (if fits (length h.memory) addr 4 then effect else faults outside h) else faults Misaligned h
 
 -- `value` in the word at an address
-abbrev pub with_word : ℕ → ℕ → Hart → Hart
-with_word addr value h = with_memory (with_bytes h.memory addr (to_le_bytes w32 value)) h
+abbrev pub storing : ℕ → ℕ → Hart → Hart
+storing addr value h = with_memory (with_word h.memory addr value) h
 
 -- whether the word at an address is reserved
 abbrev pub is_reserved : Reservation → ℕ → Bool
@@ -47,7 +47,7 @@ load_reserved_effect rd addr n h =
 -- a hart after an SC.W: it "writes the word in rs2 to memory, and it writes zero to rd", or it "does not write to memory, and it writes a
 -- nonzero value to rd", of which 1 is the one for an unspecified failure
 abbrev pub stored_conditionally : Bool → ℕ → ℕ → ℕ → Hart → Hart
-stored_conditionally succeeds rd value addr h = if succeeds then with_reg rd 0 (with_word addr value h) else with_reg rd 1 h
+stored_conditionally succeeds rd value addr h = if succeeds then with_reg rd 0 (storing addr value h) else with_reg rd 1 h
 
 -- SC.W (section 8.2): it "succeeds only if the reservation is still valid and the reservation set contains the bytes being written", and
 -- "regardless of success or failure, executing an SC.W instruction invalidates any reservation held by this hart"
@@ -61,7 +61,7 @@ store_conditional_effect rd value addr reservation n h =
 abbrev pub amo_effect : AmoOp → ℕ → ℕ → ℕ → ℕ → Hart → After
 amo_effect op rd operand addr n h =
     let loaded = word_at h.memory addr in
-    on_word StoreOutside addr (goes_on (past n (with_reg rd loaded (with_word addr (amo_value op loaded operand) h)))) h
+    on_word StoreOutside addr (goes_on (past n (with_reg rd loaded (storing addr (amo_value op loaded operand) h)))) h
 
 -- the effect of an instruction of n bytes on a hart with this reservation
 abbrev pub atomic_effect_of : AtomicInstr → Reservation → ℕ → Hart → After

@@ -249,7 +249,7 @@ row Nprocs = plain_row 2 (λ h. answers h.nprocs h)
 -- pid()
 row Pid = plain_row 3 (λ h. answers h.rank h)
 -- sync()
-row Sync = plain_row 4 (λ h. record { hart = advanced (with_nothing_reserved h); state = Synced })
+row Sync = plain_row 4 (λ h. record { hart = advanced h; state = Synced })
 -- push_reg(addr, size)
 row PushReg = asking_row 5 (λ h. range (a0 h) (a1 h) h ∷ room_for_push h ∷ []) push_effect
 -- pop_reg(addr)

@@ -17,7 +17,8 @@ def small_machine(trial: Trial, form: str) -> Machine:
     chance = trial.random
     prices = [chance.choice([0, 1, 7, (1 << 32) - 1]) for _ in range(2)]
     nodes, size, limit = chance.choice(NODES), chance.choice(SIZES), chance.choice(LIMITS)
-    return Machine(nodes, size, limit, prices[0], prices[1], form, floats=chance.randrange(2) == 0)
+    floats = chance.randrange(2) == 0
+    return Machine(nodes, size, limit, prices[0], prices[1], form, floats=floats, atomics=trial.one_apart_in(2))
 
 
 def elf_file(trial: Trial) -> bytes:

@@ -43,12 +43,13 @@ class Machine:
     input: str = ""
     clock: bool = False
     floats: bool = False
+    atomics: bool = False
 
     def words(self) -> List[str]:
         """The words of these options."""
         words = ["--nodes", self.nodes, "--memory", self.memory, "--limit", self.limit, "--g", self.g, "--l", self.l]
         words += ["--format", self.format] + (["--input", self.input] if self.input else []) + ["--clock"] * self.clock
-        words += ["--float"] * self.floats
+        words += ["--float"] * self.floats + ["--atomic"] * self.atomics
         return [str(word) for word in words]
 
 

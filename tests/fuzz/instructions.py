@@ -24,6 +24,9 @@ FORMS = [
     (0x33, [1, 2, 3, 4, 6, 7], [0, 1]), (0x0F, [0, 1], range(128)),
 ]
 
+# The funct5 of the atomic memory operations.
+ATOMICS = [0, 1, *range(4, 32, 4)]
+
 # Prints the number of each rank.
 RANKS = [0x00300893, 0x73, 0x03050513, 0x10A02023, 0x10000513, 0x00100593, 0x01100893, 0x73, 0x00100893, 0x73]
 
@@ -66,6 +69,15 @@ def float_word(chance: random.Random, is_bad: bool) -> int:
     return word ^ (1 << chance.randrange(7, 32) if is_bad and chance.randrange(4) == 0 else 0)
 
 
+def atomic_word(chance: random.Random, is_bad: bool) -> int:
+    """A word of LR, SC or an atomic memory operation, at the address in t1; a bad one may have another register for it, and any bit."""
+    kind = chance.choice([2, 2, 3, 3, *ATOMICS])
+    first = chance.choice([5, 6, 7, 0]) if is_bad else 6
+    word = 0x202F | chance.choice([5, 5, 7, 0]) << 7 | first << 15 | chance.randrange(4) << 25 | kind << 27
+    word |= 0 if kind == 2 and not is_bad else chance.choice([5, 7, 7, 8, 0]) << 20
+    return word ^ (1 << chance.randrange(7, 32) if is_bad and chance.randrange(2) else 0)
+
+
 def pattern(chance: random.Random) -> int:
     """The pattern of a double or of a boxed single: a special one, or one that is near to something, or any."""
     digits, exponents = chance.choice([(52, 11), (23, 8)])
@@ -97,6 +109,10 @@ def words(chance: random.Random, count: int) -> List[int]:
             made[-1] ^= 1 << chance.randrange(32)
         if chance.randrange(100) < rate:
             made.append(chance.choice([0, 0xFFFF_FFFF, chance.randrange(1 << 32)]))
+    # These are apart, so that the other words are those that they are without them.
+    apart = random.Random(sum(made))
+    for _ in range(apart.choice([0, 0, 0, len(made) // 3])):
+        made.insert(apart.randrange(len(made) + 1), atomic_word(apart, apart.randrange(2) == 0))
     return made
 
 

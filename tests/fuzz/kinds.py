@@ -17,8 +17,8 @@ def small_machine(trial: Trial, form: str) -> Machine:
     chance = trial.random
     prices = [chance.choice([0, 1, 7, (1 << 32) - 1]) for _ in range(2)]
     nodes, size, limit = chance.choice(NODES), chance.choice(SIZES), chance.choice(LIMITS)
-    floats, is_large = chance.randrange(2) == 0, trial.one_apart_in(3, "large")
-    return Machine(nodes, size, limit, prices[0], prices[1], form, floats=floats, large=is_large)
+    floats, is_large, atomics = chance.randrange(2) == 0, trial.one_apart_in(3, "large"), trial.one_apart_in(2, "atomics")
+    return Machine(nodes, size, limit, prices[0], prices[1], form, floats=floats, large=is_large, atomics=atomics)
 
 
 def elf_file(trial: Trial) -> bytes:

@@ -33,7 +33,7 @@ class Node(Hart):
     """A node: a hart with registrations, requests, output, a queue and a place in the input."""
 
     def __init__(self, entry: int, memory: bytearray, rank: int, machine: Machine, text: bytes) -> None:
-        super().__init__(entry, memory, machine.floats)
+        super().__init__(entry, memory, machine.floats, machine.atomics)
         self.rank, self.nodes, self.limit, self.text = rank, machine.nodes, machine.limit, text
         self.machine = machine
         self.state, self.ticks, self.cursor = "running", 0, 0
@@ -64,11 +64,12 @@ class Node(Hart):
             self.state = "exhausted"
 
     def call(self) -> str:
-        """Makes the call of a7, unless it has a fault."""
+        """Makes the call of a7, unless it has a fault. The node goes on with nothing reserved."""
         made = self.calls.get(self.x[17])
         fault = made(*self.x[10:15]) if made else "UnknownCall"
         if not fault:
             self.pc = self.pc + 4 & WORD
+            self.reserved = None
         return fault
 
     def stop(self, state: str) -> str:

@@ -25,6 +25,7 @@ class Shape:
     rate: int
     clock: bool
     floats: bool
+    atomics: bool
 
 
 class Program:
@@ -173,11 +174,22 @@ class Program:
         self.lines += [f".word {3 << 20 | 2 << 12 | 5 << 7 | 0x73}", "sw t0,8(t1)", f"sw {chance.choice(['t2', 'tp', 'gp', 'ra'])},12(t1)"]
         self.call(WRITE, place, 16)
 
+    def contend(self) -> None:
+        """Words are changed by instructions of A, and then written, with what these have loaded."""
+        chance, place = self.chance, self.place(16) // 4 * 4
+        self.lines.append(f"li t1,{place + chance.choice([1, 2, 3]) * self.is_bad()}")
+        for _ in range(chance.randint(1, 8)):
+            self.lines.append(f".word {instructions.atomic_word(chance, self.is_bad())}")
+            if chance.randrange(3) == 0:
+                self.lines.append(chance.choice(["addi t1,t1,4", "addi t1,t1,-4", "addi t2,t2,-77", "sw t0,0(t1)", "xori t0,t0,-1"]))
+        self.lines += [f"li t1,{place}", "sw t0,8(t1)", "sw t2,12(t1)"]
+        self.call(WRITE, place, 16)
+
     def act(self) -> None:
         """One thing that ranks may do by themselves, or the same one several times."""
         begin = len(self.lines)
         acts = [self.transfer, self.transfer, self.transfer, self.message, self.message, self.text, self.work]
-        self.chance.choice(acts + [self.compute] * 5 * self.shape.floats)()
+        self.chance.choice(acts + [self.compute] * 5 * self.shape.floats + [self.contend] * 5 * self.shape.atomics)()
         if self.chance.randrange(8) == 0 and self.lines[-1] == "ecall" and len(self.lines) > begin + 1:
             self.labels += 1
             self.lines[-1:] = [f"li s1,{self.chance.choice([2, 3, 20])}", f"again{self.labels}: ecall", "addi s1,s1,-1",
@@ -219,11 +231,12 @@ class Made:
     memory: int
 
 
-def program(chance: random.Random, clock: bool = False, floats: bool = False) -> Made:
-    """A program of some supersteps, which reads a clock where there is one, and computes where there are units of floating point."""
+def program(chance: random.Random, clock: bool = False, floats: bool = False, atomics: bool = False) -> Made:
+    """A program of some supersteps, which reads a clock where there is one, computes where there are units of floating point, and changes
+    words by instructions of A where there are these."""
     nodes, memory = (chance.choices([size for _, size in sizes], [weight for weight, _ in sizes])[0] for sizes in (NODES, MEMORIES))
     base = 0xC00 if memory == 4096 else chance.choice([0x1000, 0x1800, 0x1000])
-    made = Program(chance, Shape(nodes, memory, base, chance.choice([0, 0, 0, 2, 5, 20, 200]), clock, floats))
+    made = Program(chance, Shape(nodes, memory, base, chance.choice([0, 0, 0, 2, 5, 20, 200]), clock, floats, atomics))
     for _ in range(chance.choice([1, 2, 3, 4, 8])):
         if not made.is_full():
             made.superstep()

@@ -41,6 +41,7 @@ class Machine:
     input: str = ""
     clock: bool = False
     floats: bool = False
+    atomics: bool = False
     large: bool = False
 
     @property
@@ -62,7 +63,7 @@ class Machine:
         """The words of these options."""
         words = ["--nodes", self.nodes, "--memory", self.memory, "--limit", self.limit, "--g", self.g, "--l", self.l]
         words += ["--format", self.format] + (["--input", self.input] if self.input else []) + ["--clock"] * self.clock
-        words += ["--float"] * self.floats + ["--large"] * self.large
+        words += ["--float"] * self.floats + ["--atomic"] * self.atomics + ["--large"] * self.large
         return [str(word) for word in words]
 
 

@@ -17,13 +17,14 @@ MOST_LINES = 1 << 20
 def made(trial: Trial) -> Tuple[str, Machine]:
     """A program as a text, and a machine for it."""
     chance = trial.random
-    clock, floats = chance.randrange(3) == 0, trial.one_apart_in(4)
+    clock, floats, atomics = chance.randrange(3) == 0, trial.one_apart_in(4), trial.one_apart_in(3, "atomics")
     is_large = trial.one_apart_in(3, "large")
-    found = programs.program(chance, clock, floats)
+    found = programs.program(chance, clock, floats, atomics)
     limit = chance.choice([3000, 3000, 3000, 3000, 20_000, chance.randint(1, 300)])
     g, l = (chance.choice([0, 1, 3, (1 << 32) - 1]) for _ in range(2))
     given = trial.file("input", bytes(chance.randrange(256) for _ in range(100))) if chance.randrange(2) else ""
-    return trial.file("text", found.text), Machine(found.nodes, found.memory, limit, g, l, "asm", given, clock, floats, is_large)
+    machine = Machine(found.nodes, found.memory, limit, g, l, "asm", given, clock, floats, atomics, is_large)
+    return trial.file("text", found.text), machine
 
 
 def program(trial: Trial) -> None:

@@ -19,6 +19,7 @@ same nodes n = record {
   pc = refl;
   cursor = refl;
   unit = refl;
+  reservation = refl;
   memory_size = length-map-range_with_len (landed_byte (landings_at nodes n.hart.rank) n.hart.memory) 0 (length n.hart.memory);
   ticks = refl;
   limit = refl;

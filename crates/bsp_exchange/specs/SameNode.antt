@@ -11,6 +11,7 @@ pub record IsSameNode (old new : NodeState) : Type 0 where
   pub memory_size : length new.hart.memory ≡ length old.hart.memory
   pub cursor : new.hart.cursor ≡ old.hart.cursor
   pub unit : new.hart.unit ≡ old.hart.unit
+  pub reservation : new.hart.reservation ≡ old.hart.reservation
   pub ticks : new.ticks ≡ old.ticks
   pub limit : new.limit ≡ old.limit
   pub clock : new.clock ≡ old.clock

@@ -69,13 +69,14 @@ workers_rule = checked_rule (codes "workers") in_32_bits (codes "1")
 abbrev pub slice_rule : Rule
 slice_rule = checked_rule (codes "slice") in_64_bits (codes "65536")
 
--- `NAME IMAGE` with what a machine is made of, the prices of its costs, the version in which they are told, whether there are clocks
--- and units of floating point, and whether the machine is a large one
+-- `NAME IMAGE` with what a machine is made of, the prices of its costs, the version in which they are told, whether there are clocks,
+-- units of floating point and the instructions of A, and whether the machine is a large one
 abbrev pub machine_app : Text → NameList → App
 machine_app name formats =
-    with_rule (with_rule (with_rule (with_rule (with_rule (with_rule (with_rule (with_rule (with_rule (with_rule (with_rule (with_rule (new_app
-    name) (file_rule (codes "image"))) (format_rule formats)) nodes_rule) memory_rule) limit_rule) (option_rule (codes "input")))
-    g_rule) l_rule) ledger_rule) (flag_rule (codes "clock"))) (flag_rule (codes "float"))) (flag_rule (codes "large"))
+    with_rule (with_rule (with_rule (with_rule (with_rule (with_rule (with_rule (with_rule (with_rule (with_rule (with_rule (with_rule (with_rule
+    (new_app name) (file_rule (codes "image"))) (format_rule formats)) nodes_rule) memory_rule) limit_rule) (option_rule (codes "input")))
+    g_rule) l_rule) ledger_rule) (flag_rule (codes "clock"))) (flag_rule (codes "float")))
+    (flag_rule (codes "atomic"))) (flag_rule (codes "large"))
 
 -- `run IMAGE` with its options
 abbrev pub run_app : NameList → App

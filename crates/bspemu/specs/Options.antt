@@ -80,6 +80,7 @@ pub record GivesSettings (rows : List Row) (s : Settings) : Type 0 where
   pub limit : GivesNumber 64 (one_of (codes "limit") rows) s.limit
   pub clock : GivesClock rows s.clock
   pub float : GivesFlag (one_of (codes "float") rows) s.float
+  pub atomic : GivesFlag (one_of (codes "atomic") rows) s.atomic
   pub large : GivesFlag (one_of (codes "large") rows) s.large
 
 -- the text of a path that may be there

@@ -68,6 +68,8 @@ const CLOCK: &str =
 
 const FLOAT: &str = "Give each node a unit of floating point, for the instructions of F and D";
 
+const ATOMIC: &str = "Give each node the instructions of A";
+
 const LARGE: &str =
     "Allow a large machine: up to 65536 nodes, 2147483648 bytes of memory and 1073741824 bytes of input, and more in a superstep";
 
@@ -239,6 +241,7 @@ fn machine_command<'a>(
         ledger(alloc),
         flag(alloc, "clock", CLOCK),
         flag(alloc, "float", FLOAT),
+        flag(alloc, "atomic", ATOMIC),
         flag(alloc, "large", LARGE),
     ]?;
     Command::new(alloc, name).args(arguments)

@@ -339,6 +339,7 @@ fn settings_of_machine(found: &ArgMatches<'_>) -> Option<Settings>
         limit: found.get_one("limit")?,
         clock: clock_of(found)?,
         float: found.get_one("float")?,
+        atomic: found.get_one("atomic")?,
         large: found.get_one("large")?,
     })
 }

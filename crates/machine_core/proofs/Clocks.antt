@@ -60,6 +60,7 @@ IsNodeOf-clock s closed n of = record {
   memory = of.memory;
   limit = of.limit;
   unit = of.unit;
+  reservation = of.reservation;
   limits = of.limits;
   sound = record { node = IsNode-clock closed n of.sound.node; hart = of.sound.hart };
 }

@@ -9,6 +9,7 @@ use Rattle.std.proofs.lemmas.List.FromFn.{length-range_with_len, get_or-range_wi
 use Rattle.node_memory.specs.Image.{Image}
 use Rattle.node_memory.proofs.ImageBytes.{length-image_bytes}
 use Rattle.float_unit.specs.State.{start as unit_at_start}
+use Rattle.rv_atomics.specs.declared.reservation.Reservation.TheVariants.{Nothing}
 use Rattle.node_core.specs.Node.{NodeState, IsSoundNode}
 use Rattle.node_core.proofs.Communications.{IsCommunication-none}
 use Rattle.machine_core.specs.declared.settings.Settings.{Settings}
@@ -17,9 +18,9 @@ use Rattle.machine_core.specs.Machine.{fresh, node_at_start}
 use Rattle.machine_core.specs.Sound.{AreInRange, IsNodeOf, IsUnderWay, IsSoundMachine}
 use Rattle.machine_core.proofs.Starts.{few_in_range}
 
-has_unit : (float : Bool) → is_some (if float then Some unit_at_start else None) ≡ float
-has_unit true = refl
-has_unit false = refl
+has : {X : Type 0} (x : X) (asked : Bool) → is_some (if asked then Some x else None) ≡ asked
+has x true = refl
+has x false = refl
 
 module _ (image : Image) (s : Settings) where
   abbrev at_start : ℕ → NodeState
@@ -69,7 +70,8 @@ module _ (image : Image) (s : Settings) where
           nodes = refl;
           memory = length-image_bytes image s.memory;
           limit = refl;
-          unit = has_unit s.float;
+          unit = has unit_at_start s.float;
+          reservation = has Nothing s.atomic;
           limits = (refl, refl);
           sound = IsSoundNode-start (get_or (range_with_len 0 s.nodes) k d) range (omega arith);
         });

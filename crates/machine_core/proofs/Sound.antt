@@ -99,6 +99,7 @@ IsNodeOf-local_step s input n of = record {
   memory = (IsLater-local_step input n).memory_size ∙ of.memory;
   limit = (IsLater-local_step input n).limit ∙ of.limit;
   unit = (IsLater-local_step input n).unit ∙ of.unit;
+  reservation = (IsLater-local_step input n).reservation ∙ of.reservation;
   limits = (IsLater-local_step input n).limits s.large of.limits;
   sound = IsSoundNode-local_step input n of.sound;
 }
@@ -205,6 +206,7 @@ module _ (m : MachineState) where
         memory = length-memory_after (landings_at m.nodes (get_or m.nodes k d).hart.rank) (get_or m.nodes k d).hart.memory ∙ of.memory;
         limit = of.limit;
         unit = of.unit;
+        reservation = of.reservation;
         limits = of.limits;
         sound = IsSoundNode-exchanged m.nodes (omega arith) each (get_or m.nodes k d) of.sound (can.waiting k d within);
       }) in

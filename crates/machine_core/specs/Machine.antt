@@ -5,7 +5,7 @@ use Rattle.std.specs.List.{range_with_len}
 use Rattle.std.specs.Option.{option_or}
 use Rattle.node_memory.specs.Bytes.{is_memory_size}
 use Rattle.node_memory.specs.Image.{Image, is_segment_outside}
-use Rattle.node_core.specs.Node.{NodeState, start_node, with_clock, with_unit}
+use Rattle.node_core.specs.Node.{NodeState, start_node, with_clock, with_unit, with_atomics}
 use Rattle.cost_ledger.specs.declared.CostRow.{CostRow}
 use Rattle.machine_core.specs.declared.error.MachineError.{MachineError}
 use Rattle.machine_core.specs.declared.error.MachineError.TheVariants.{BadNodes, BadMemory, BadLimit, SegmentOutside}
@@ -30,11 +30,12 @@ pub record MachineState : Type 0 where
   -- how it ended, if it has
   pub outcome : Option Outcome
 
--- the node of a rank at its start, with the image in its memory, the limits of a large machine and a unit of floating point where the
--- settings ask for them, and a clock where there are prices for it
+-- the node of a rank at its start, with the image in its memory, the limits of a large machine, a unit of floating point and the
+-- instructions of A where the settings ask for them, and a clock where there are prices for it
 abbrev pub node_at_start : Image → Settings → ℕ → NodeState
 node_at_start image s rank =
-    with_clock (closed_by s.clock []) (with_unit s.float (start_node image rank s.nodes s.memory s.limit s.large))
+    with_clock (closed_by s.clock [])
+    (with_atomics s.atomic (with_unit s.float (start_node image rank s.nodes s.memory s.limit s.large)))
 
 abbrev pub start_nodes : Image → Settings → List NodeState
 start_nodes image s = map (node_at_start image s) (range_with_len 0 s.nodes)

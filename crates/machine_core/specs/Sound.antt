@@ -19,12 +19,14 @@ pub record AreInRange (s : Settings) : Type 0 where
   pub ticks : 0 < s.limit
   pub limit : s.limit ≤ 2 ^ 40
 
--- a sound node with the machine's number of nodes, size of memory and limits, and with a unit of floating point where the machine has them
+-- a sound node with the machine's number of nodes, size of memory and limits, and with a unit of floating point and the instructions of A
+-- where the machine has them
 pub record IsNodeOf (s : Settings) (n : NodeState) : Type 0 where
   pub nodes : n.hart.nprocs ≡ s.nodes
   pub memory : length n.hart.memory ≡ s.memory
   pub limit : n.limit ≡ s.limit
   pub unit : is_some n.hart.unit ≡ s.float
+  pub reservation : is_some n.hart.reservation ≡ s.atomic
   pub limits : HasLimits s.large n.hart.communication
   pub sound : IsSoundNode n
 

@@ -42,6 +42,8 @@ pub struct Settings {
     pub clock: Option<Prices>,
     /// Whether each node has a unit of floating point. Without one, the instructions of F, D and Zicsr are illegal.
     pub float: bool,
+    /// Whether each node has the instructions of A. Else they are illegal.
+    pub atomic: bool,
     /// Whether the machine is a large one, with limits of its own.
     pub large: bool,
 }

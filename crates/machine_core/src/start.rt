@@ -64,6 +64,7 @@ fn first_node<A: Allocator + Copy>(
     match made {
         Ok(mut node) => {
             node.set_unit(settings.float);
+            node.set_atomics(settings.atomic);
             node.set_clock(closed_at_start(settings));
             Ok(node)
         }

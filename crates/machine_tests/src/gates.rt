@@ -21,6 +21,7 @@ const SETTINGS: Settings = Settings {
     limit: 10,
     clock: None,
     float: false,
+    atomic: false,
     large: false,
 };
 

@@ -79,6 +79,7 @@ pub const SETTINGS: Settings = Settings {
     limit: 10_000,
     clock: None,
     float: false,
+    atomic: false,
     large: false,
 };
 

@@ -96,6 +96,7 @@ fn job_of(kind: Kind, format: Format) -> Job {
         format,
         settings: Settings {
             float: matches!(kind, Debugs | Talks),
+            atomic: false,
             ..SETTINGS
         },
         workers: 2,

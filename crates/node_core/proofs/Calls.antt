@@ -20,14 +20,14 @@ use Rattle.node_core.specs.declared.call.Call.TheVariants.{Send, Qsize, GetTag, 
 use Rattle.node_core.specs.declared.state.State.{State}
 use Rattle.node_core.specs.declared.state.State.TheVariants.{Running, Aborted}
 use Rattle.node_core.specs.Communication.{IsWellAddressed, max_tag_size}
-use Rattle.node_core.specs.Hart.{Hart, After, with_reg, with_memory, advanced}
+use Rattle.node_core.specs.Hart.{Hart, After, with_reg, with_memory, with_nothing_reserved, advanced}
 use Rattle.node_core.specs.Calls.{Check, HaveNoFault, checked, checks, performed, call_effect, ecall_effect, a0, a1, a2, a3, a4, put_checks}
 use Rattle.node_core.specs.Calls.{get_checks, send_checks, get_tag_checks, move_checks, output_checks, put_effect, get_effect, send_effect}
 use Rattle.node_core.specs.Calls.{get_tag_effect, move_effect, output_effect, set_tagsize_effect, qsize_effect, taken, moved, first_message}
 use Rattle.node_core.specs.Calls.{place, with_word}
 use Rattle.node_memory.proofs.Bytes.{fits-le, length-bytes_at}
-use Rattle.node_core.proofs.Harts.{Keeps, Keeps-same, Keeps-then, Keeps-pc, Keeps-cursor, Keeps-reg, Keeps-memory, Keeps-pushed}
-use Rattle.node_core.proofs.Harts.{Keeps-popped, Keeps-requested, Keeps-written, Keeps-taken, Keeps-sized}
+use Rattle.node_core.proofs.Harts.{Keeps, Keeps-same, Keeps-then, Keeps-pc, Keeps-cursor, Keeps-reg, Keeps-unreserved, Keeps-memory}
+use Rattle.node_core.proofs.Harts.{Keeps-pushed, Keeps-popped, Keeps-requested, Keeps-written, Keeps-taken, Keeps-sized}
 
 -- a choice keeps what both of its sides keep
 pub Keeps-if : (h : Hart) (b : Bool) (x y : After) → (IsTrue b → Keeps h x.hart) → Keeps h y.hart → Keeps h (if b then x else y).hart
@@ -43,7 +43,9 @@ Keeps-checked h (check ∷ rest) after keeps =
 
 -- the same, where the instruction goes on afterwards
 pub Keeps-advanced : (h next : Hart) → Keeps h next → Keeps h (advanced next)
-Keeps-advanced h next keeps = Keeps-then h next (advanced next) keeps (Keeps-pc next _)
+Keeps-advanced h next keeps =
+    Keeps-then h next (advanced next) keeps
+    (Keeps-then next (with_nothing_reserved next) (advanced next) (Keeps-unreserved next) (Keeps-pc (with_nothing_reserved next) _))
 
 length-stored : (m : List ℕ) (addr : ℕ) (bytes : List ℕ) → fits (length m) addr (length bytes) ≡ true
     → length (with_bytes m addr bytes) ≡ length m

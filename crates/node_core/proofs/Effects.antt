@@ -1,6 +1,7 @@
 -- What an instruction keeps of a hart.
-use Rattle.std.proofs.Common.{◌≡◌, ℕ, ◌%◌, true, List, length, Option, Some, None, Ok, Err, refl, pos, ◌+ℤ◌}
-use Rattle.std.specs.Prelude.{◌==◌, is_some}
+use Rattle.std.proofs.Common.{◌≡◌, ℕ, ◌%◌, Bool, true, false, if◌then◌else◌, List, length, Option, Some, None, Ok, Err, refl, pos, ◌+ℤ◌, w32}
+use Rattle.std.specs.Prelude.{◌==◌, is_some, IsTrue}
+use Rattle.std.specs.Int.{to_le_bytes}
 use Rattle.std.specs.declared.result.Result.{Result}
 use Rattle.node_memory.specs.Bytes.{fits, with_bytes}
 use Rattle.node_memory.proofs.Writes.{length-with_bytes}
@@ -10,7 +11,7 @@ use Rattle.rv_tables.specs.declared.instr.Instr.TheVariants.{R, I, Shift, Load, 
 use Rattle.rv_tables.specs.declared.instr.PlainOp.{PlainOp}
 use Rattle.rv_tables.specs.declared.instr.PlainOp.TheVariants.{Fence, FenceI, Ecall, Ebreak}
 use Rattle.rv_tables.specs.Codes.{decoded, length_of}
-use Rattle.node_core.specs.Hart.{Hart, After, reg, with_reg, with_memory, past, goes_on, next_pc}
+use Rattle.node_core.specs.Hart.{Hart, After, reg, with_reg, with_memory, reserves, past, goes_on, faults, next_pc}
 use Rattle.rv_values.specs.Arithmetic.{modulo, is_taken}
 use Rattle.node_core.specs.Calls.{named_call}
 use Rattle.rv_float_tables.specs.declared.instr.FloatInstr.{FloatInstr}
@@ -23,9 +24,18 @@ use Rattle.float_unit.specs.Effects.{Outcome, float_effect}
 use Rattle.node_core.specs.Effects.{address, effect_of, plain_effect, jumps, store_effect}
 use Rattle.node_core.specs.Floats.{size_of, pattern_at, integer_source, integer_target, with_integer, outcome_effect, float_load_effect}
 use Rattle.node_core.specs.Floats.{float_effect_of, on_unit}
-use Rattle.node_core.specs.Executed.{effect_if_any, code_effect, executed, fetched, float_effect_if_any}
+use Rattle.rv_atomics.specs.declared.instr.AtomicInstr.{AtomicInstr}
+use Rattle.rv_atomics.specs.declared.instr.AtomicInstr.TheVariants.{LoadReserved, StoreConditional, Amo}
+use Rattle.rv_atomics.specs.declared.reservation.Reservation.{Reservation}
+use Rattle.rv_atomics.specs.declared.reservation.Reservation.TheVariants as reservation
+use Rattle.rv_atomics.specs.declared.reservation.Reservation.TheVariants.{Nothing}
+use Rattle.rv_atomics.specs.Codes.{atomic_decoded}
+use Rattle.node_core.specs.declared.state.Fault.{Fault}
+use Rattle.node_core.specs.declared.state.Fault.TheVariants.{LoadOutside, StoreOutside}
+use Rattle.node_core.specs.Atomics.{is_aligned, on_word, storing, is_reserved, stored_conditionally, atomic_effect_of, on_reservation}
+use Rattle.node_core.specs.Executed.{effect_if_any, code_effect, executed, fetched, float_effect_if_any, atomic_effect_if_any}
 use Rattle.node_memory.proofs.Bytes.{fits-le}
-use Rattle.node_core.proofs.Harts.{Keeps, Keeps-same, Keeps-then, Keeps-pc, Keeps-reg, Keeps-unit, Keeps-memory}
+use Rattle.node_core.proofs.Harts.{Keeps, Keeps-same, Keeps-then, Keeps-pc, Keeps-reg, Keeps-unit, Keeps-reserves, Keeps-memory}
 use Rattle.node_core.proofs.Calls.{Keeps-if, Keeps-ecall}
 
 module _ (h : Hart) where
@@ -91,13 +101,55 @@ module _ (h : Hart) (n : ℕ) where
   on-unit None effect is keeps = Keeps-same h
   on-unit (Some u) effect is keeps = keeps u (rw is refl)
 
-  float-any : (i : Option FloatInstr) → Keeps h (float_effect_if_any i n h).hart
-  float-any None = Keeps-same h
-  float-any (Some i) = on-unit h.unit (λ u. float_effect_of i u n h) refl (Keeps-float i)
+  -- a word is written into memory that has room for it
+  Keeps-word : (addr value : ℕ) (start : Hart) → Keeps h start → IsTrue (fits (length start.memory) addr 4)
+      → Keeps h (storing addr value start)
+  Keeps-word addr value start keeps fit =
+      Keeps-then h start _ keeps
+      (Keeps-memory start _ (length-with_bytes start.memory addr (to_le_bytes w32 value) (fits-le (length start.memory) addr 4 fit)))
+
+  Keeps-put : (rd value : ℕ) (next : Hart) → Keeps h next → Keeps h (past n (with_reg rd value next))
+  Keeps-put rd value next keeps = Keeps-past _ (Keeps-then h next _ keeps (Keeps-reg next rd value))
+
+  Keeps-on_word : (outside : Fault) (addr : ℕ) (effect : After) → (IsTrue (fits (length h.memory) addr 4) → Keeps h effect.hart)
+      → Keeps h (on_word outside addr effect h).hart
+  Keeps-on_word outside addr effect keeps =
+      Keeps-if h (is_aligned addr) (if fits (length h.memory) addr 4 then effect else faults outside h) _
+      (λ aligned. Keeps-if h (fits (length h.memory) addr 4) effect _ keeps (Keeps-same h)) (Keeps-same h)
+
+  Keeps-stored_conditionally : (succeeds : Bool) (rd value addr : ℕ) → is_some h.reservation ≡ true
+      → IsTrue (fits (length h.memory) addr 4)
+      → Keeps h (past n (stored_conditionally succeeds rd value addr (reserves Nothing h)))
+  Keeps-stored_conditionally true rd value addr has fit =
+      Keeps-put rd 0 _ (Keeps-word addr value (reserves Nothing h) (Keeps-reserves h Nothing has) fit)
+  Keeps-stored_conditionally false rd value addr has fit = Keeps-put rd 1 _ (Keeps-reserves h Nothing has)
+
+  Keeps-atomic : (i : AtomicInstr) (r : Reservation) → is_some h.reservation ≡ true → Keeps h (atomic_effect_of i r n h).hart
+  Keeps-atomic (LoadReserved order rd rs1) r has =
+      Keeps-on_word LoadOutside (reg h rs1) _ (λ fit. Keeps-put rd _ _ (Keeps-reserves h (reservation.Word (reg h rs1)) has))
+  Keeps-atomic (StoreConditional order rd rs1 rs2) r has =
+      Keeps-on_word StoreOutside (reg h rs1) _
+      (Keeps-stored_conditionally (is_reserved r (reg h rs1)) rd (reg h rs2) (reg h rs1) has)
+  Keeps-atomic (Amo op order rd rs1 rs2) r has =
+      Keeps-on_word StoreOutside (reg h rs1) _ (λ fit. Keeps-put rd _ _ (Keeps-word (reg h rs1) _ h (Keeps-same h) fit))
+
+  on-reservation : (r : Option Reservation) (effect : Reservation → After) → h.reservation ≡ r
+      → ((r : Reservation) → is_some h.reservation ≡ true → Keeps h (effect r).hart) → Keeps h (on_reservation r effect h).hart
+  on-reservation None effect is keeps = Keeps-same h
+  on-reservation (Some r) effect is keeps = keeps r (rw is refl)
+
+  atomic-any : (i : Option AtomicInstr) → Keeps h (atomic_effect_if_any i n h).hart
+  atomic-any None = Keeps-same h
+  atomic-any (Some i) = on-reservation h.reservation (λ r. atomic_effect_of i r n h) refl (Keeps-atomic i)
 
 module _ (h : Hart) where
+  float-any : (i : Option FloatInstr) (code : Code) → Keeps h (float_effect_if_any i code h).hart
+  float-any None code = atomic-any h (length_of code) (atomic_decoded code)
+  float-any (Some i) code =
+      on-unit h (length_of code) h.unit (λ u. float_effect_of i u (length_of code) h) refl (Keeps-float h (length_of code) i)
+
   if_any : (i : Option Instr) (code : Code) (input : List ℕ) → Keeps h (effect_if_any i code input h).hart
-  if_any None code input = float-any h (length_of code) (float_decoded code)
+  if_any None code input = float-any (float_decoded code) code
   if_any (Some i) code input = Keeps-effect h (length_of code) i input
 
   Keeps-code : (code : Option Code) (input : List ℕ) → Keeps h (code_effect code input h).hart

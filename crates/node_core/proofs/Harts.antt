@@ -11,7 +11,9 @@ use Rattle.bsp_requests.specs.Request.{Asked, size_of}
 use Rattle.bsp_requests.specs.Requests.{with_request, with_output, are_too_many, is_full_for}
 use Rattle.node_core.specs.Communication.{Communication, IsCommunication, LiesIn, IsWellAddressed, HasLimits, max_tag_size}
 use Rattle.float_unit.specs.State.{FloatState}
-use Rattle.node_core.specs.Hart.{Hart, IsHart, room_after, with_reg, unit_becomes, with_memory, with_registrations, with_requests}
+use Rattle.rv_atomics.specs.declared.reservation.Reservation.{Reservation}
+use Rattle.node_core.specs.Hart.{Hart, IsHart, room_after, with_reg, unit_becomes, reserves, unreserved, with_nothing_reserved}
+use Rattle.node_core.specs.Hart.{with_memory, with_registrations, with_requests}
 use Rattle.node_core.specs.Node.{Extends}
 use Rattle.node_core.proofs.Communications.{IsCommunication-pushed, IsCommunication-popped, IsCommunication-requested}
 use Rattle.node_core.proofs.Communications.{IsCommunication-written, IsCommunication-taken, IsCommunication-sized}
@@ -63,6 +65,7 @@ pub record Keeps (old new : Hart) : Type 0 where
   pub memory_size : length new.memory ≡ length old.memory
   pub communication : KeepsCommunication old.communication new.communication
   pub unit : is_some new.unit ≡ is_some old.unit
+  pub reservation : is_some new.reservation ≡ is_some old.reservation
   pub sound : IsHart old → IsHart new
 
 pub Keeps-then : (a b c : Hart) → Keeps a b → Keeps b c → Keeps a c
@@ -72,6 +75,7 @@ Keeps-then a b c first second = record {
   memory_size = second.memory_size ∙ first.memory_size;
   communication = KeepsCommunication-then a.communication b.communication c.communication first.communication second.communication;
   unit = second.unit ∙ first.unit;
+  reservation = second.reservation ∙ first.reservation;
   sound = λ sound. second.sound (first.sound sound);
 }
 
@@ -85,6 +89,7 @@ with_rest h pc cursor registers len x0 = record {
   memory_size = refl;
   communication = KeepsCommunication-same h.communication;
   unit = refl;
+  reservation = refl;
   sound =
       λ sound. record {
         ranked = sound.ranked;
@@ -117,6 +122,7 @@ Keeps-unit h u has = record {
   memory_size = refl;
   communication = KeepsCommunication-same h.communication;
   unit = sym has;
+  reservation = refl;
   sound =
       λ sound. record {
         ranked = sound.ranked;
@@ -128,6 +134,35 @@ Keeps-unit h u has = record {
       };
 }
 
+-- another reservation
+with_reservation : (h : Hart) (r : Option Reservation) → is_some r ≡ is_some h.reservation → Keeps h (record h { reservation = r })
+with_reservation h r has = record {
+  rank = refl;
+  nprocs = refl;
+  memory_size = refl;
+  communication = KeepsCommunication-same h.communication;
+  unit = refl;
+  reservation = has;
+  sound =
+      λ sound. record {
+        ranked = sound.ranked;
+        few = sound.few;
+        thirty_two = sound.thirty_two;
+        x0 = sound.x0;
+        memory = sound.memory;
+        communication = sound.communication;
+      };
+}
+
+pub Keeps-reserves : (h : Hart) (r : Reservation) → is_some h.reservation ≡ true → Keeps h (reserves r h)
+Keeps-reserves h r has = with_reservation h (Some r) (sym has)
+
+pub Keeps-unreserved : (h : Hart) → Keeps h (with_nothing_reserved h)
+Keeps-unreserved h = with_reservation h (unreserved h.reservation) (kept h.reservation) where
+  kept : (r : Option Reservation) → is_some (unreserved r) ≡ is_some r
+  kept None = refl
+  kept (Some r) = refl
+
 pub Keeps-memory : (h : Hart) (bytes : List ℕ) → length bytes ≡ length h.memory → Keeps h (with_memory bytes h)
 Keeps-memory h bytes len = record {
   rank = refl;
@@ -135,6 +170,7 @@ Keeps-memory h bytes len = record {
   memory_size = len;
   communication = KeepsCommunication-same h.communication;
   unit = refl;
+  reservation = refl;
   sound =
       λ sound. record {
         ranked = sound.ranked;
@@ -156,6 +192,7 @@ with_communication h c keeps sound = record {
   memory_size = refl;
   communication = keeps;
   unit = refl;
+  reservation = refl;
   sound =
       λ hart. record {
         ranked = hart.ranked;

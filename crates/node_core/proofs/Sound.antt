@@ -65,6 +65,7 @@ IsLater-from s t keeps limit clock ticks = record {
   output = keeps.communication.output;
   limits = keeps.communication.limits;
   unit = keeps.unit;
+  reservation = keeps.reservation;
   ticks = ticks;
 }
 
@@ -88,6 +89,7 @@ IsLater-then a b c first second = record {
       first.output second.output;
   limits = λ large has. second.limits large (first.limits large has);
   unit = second.unit ∙ first.unit;
+  reservation = second.reservation ∙ first.reservation;
   ticks = omega (arith, first.ticks, second.ticks);
 }
 

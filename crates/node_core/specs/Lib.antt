@@ -1,4 +1,5 @@
 pub mod Addresses
+pub mod Atomics
 pub mod Calls
 pub mod Clock
 pub mod Communication

@@ -54,6 +54,7 @@ pub record HartsLookAlike (one other : Hart) : Type 0 where
   pub pc : one.pc ≡ other.pc
   pub cursor : one.cursor ≡ other.cursor
   pub units : OptionalUnitsLookAlike one.unit other.unit
+  pub reservation : one.reservation ≡ other.reservation
 
 -- what is asked of what they communicate
 pub record CommunicationLooksAlike (one other : Hart) : Type 0 where

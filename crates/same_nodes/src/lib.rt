@@ -66,7 +66,7 @@ fn have_come_as_far<A: Allocator>(node: &Node<A>, other: &Node<A>) -> bool
     node.state() == other.state() && node.ticks() == other.ticks() && node.clock() == other.clock()
 }
 
-/// Whether two nodes have the same rank, number of nodes, registers, pc, place in the input and unit of floating point.
+/// Whether two nodes have the same rank, number of nodes, registers, pc, place in the input, unit of floating point and reservation.
 fn have_same_harts<A: Allocator>(node: &Node<A>, other: &Node<A>) -> bool
     requires sound { IsHart node.now.node.hart }
     requires other_sound { IsHart other.now.node.hart }
@@ -76,6 +76,7 @@ fn have_same_harts<A: Allocator>(node: &Node<A>, other: &Node<A>) -> bool
         && node.nprocs() == other.nprocs()
         && node.pc() == other.pc()
         && node.cursor() == other.cursor()
+        && node.reservation() == other.reservation()
         && have_same_registers(node, other)
         && have_same_optional_units(node.unit(), other.unit())
 }

@@ -63,6 +63,7 @@ is_node_of rank byte ranked = record {
   memory = memory_size;
   limit = refl;
   unit = refl;
+  reservation = refl;
   limits = (refl, refl);
   sound = record { node = is_node rank byte; hart = is_hart rank byte ranked };
 }

@@ -41,6 +41,7 @@ waiting rank byte = record {
     communication = has_put byte;
     cursor = 0;
     unit = None;
+    reservation = None;
   };
   state = Synced;
   ticks = 2;
@@ -51,7 +52,7 @@ waiting rank byte = record {
 -- rank 0 has put a 4, and rank 1 a 9
 abbrev pub two_puts : MachineState
 two_puts = record {
-  settings = record { nodes = 2; memory = 4096; limit = 8; clock = None; float = false; large = false };
+  settings = record { nodes = 2; memory = 4096; limit = 8; clock = None; float = false; atomic = false; large = false };
   input = [];
   nodes = waiting 0 4 ∷ waiting 1 9 ∷ [];
   started = 1 ∷ 1 ∷ [];

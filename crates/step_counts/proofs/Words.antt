@@ -23,21 +23,28 @@ use Rattle.rv_float_tables.specs.Codes.{float_decoded}
 use Rattle.float_unit.specs.declared.fault.FloatFault.{FloatFault}
 use Rattle.float_unit.specs.State.{FloatState}
 use Rattle.float_unit.specs.Effects.{Outcome as UnitOutcome, float_effect}
+use Rattle.rv_atomics.specs.declared.instr.AtomicInstr.{AtomicInstr}
+use Rattle.rv_atomics.specs.declared.instr.AtomicInstr.TheVariants.{LoadReserved, StoreConditional, Amo}
+use Rattle.rv_atomics.specs.declared.reservation.Reservation.{Reservation}
+use Rattle.rv_atomics.specs.declared.reservation.Reservation.TheVariants.{Nothing}
+use Rattle.rv_atomics.specs.Codes.{atomic_decoded}
 use Rattle.bsp_requests.specs.Message.{Message}
 use Rattle.node_memory.specs.Bytes.{fits}
 use Rattle.node_memory.specs.Image.{Image}
 use Rattle.node_core.specs.declared.call.Call.{Call}
 use Rattle.node_core.specs.declared.call.Call.TheVariants.{End, Nprocs, Pid, Sync, PushReg, PopReg, Put, Get, Hpput, Hpget, SetTagsize}
 use Rattle.node_core.specs.declared.call.Call.TheVariants.{Send, Qsize, GetTag, Move, Abort, Write, Read}
-use Rattle.node_core.specs.declared.state.Fault.TheVariants.{LoadOutside}
+use Rattle.node_core.specs.declared.state.Fault.{Fault}
+use Rattle.node_core.specs.declared.state.Fault.TheVariants.{LoadOutside, StoreOutside}
 use Rattle.node_core.specs.Addresses.{next_addresses}
+use Rattle.node_core.specs.Atomics.{atomic_effect_of, is_aligned, is_reserved, on_reservation, on_word, stored_conditionally}
 use Rattle.node_core.specs.Calls.{Check, checked, checks, ecall_effect, first_message, get_tag_effect, move_effect, named_call, performed}
 use Rattle.node_core.specs.Clock.{asks_clock, clocked, tells, time_at}
 use Rattle.node_core.specs.Effects.{address, effect_of, load_effect, load_size, loaded, plain_effect, store_effect}
-use Rattle.node_core.specs.Executed.{code_effect, effect_if_any, executed, fetched, float_effect_if_any}
+use Rattle.node_core.specs.Executed.{atomic_effect_if_any, code_effect, effect_if_any, executed, fetched, float_effect_if_any}
 use Rattle.node_core.specs.Floats.{float_effect_of, float_load_effect, integer_source, integer_target}
 use Rattle.node_core.specs.Floats.{on_unit, outcome_effect, pattern_at, size_of}
-use Rattle.node_core.specs.Hart.{Hart, After, faults, goes_on, past, reg, with_reg}
+use Rattle.node_core.specs.Hart.{Hart, After, faults, goes_on, past, reg, reserves, with_reg}
 use Rattle.node_core.specs.Node.{NodeState, PreparedNode, is_running, local_step}
 use Rattle.node_core.proofs.Addresses.{next-running, next-stopped, next-zero}
 use Rattle.node_core.proofs.Sound.{local_step-running}
@@ -151,13 +158,36 @@ module _ (h : Hart) (n : ℕ) where
   word-on_unit None effect leaves = λ word. word
   word-on_unit (Some u) effect leaves = leaves u
 
-  word-float_any : (i : Option FloatInstr) → LeavesWord h (float_effect_if_any i n h)
-  word-float_any None = λ word. word
-  word-float_any (Some i) = word-on_unit h.unit (λ u. float_effect_of i u n h) (word-float i)
+  word-on_word : (outside : Fault) (addr : ℕ) (effect : After) → LeavesWord h effect → LeavesWord h (on_word outside addr effect h)
+  word-on_word outside addr effect leaves =
+      word-if h (is_aligned addr) (if fits (length h.memory) addr 4 then effect else faults outside h) _
+      (word-if h (fits (length h.memory) addr 4) effect _ leaves (λ word. word)) (λ word. word)
+
+  word-atomic : (i : AtomicInstr) (r : Reservation) → LeavesWord h (atomic_effect_of i r n h)
+  word-atomic (LoadReserved order rd rs1) r = word-on_word LoadOutside (reg h rs1) _ (λ word. below _)
+  word-atomic (StoreConditional order rd rs1 rs2) r =
+      word-on_word StoreOutside (reg h rs1)
+      (goes_on (past n (stored_conditionally (is_reserved r (reg h rs1)) rd (reg h rs2) (reg h rs1) (reserves Nothing h))))
+      (λ word. below _)
+  word-atomic (Amo op order rd rs1 rs2) r = word-on_word StoreOutside (reg h rs1) _ (λ word. below _)
+
+  word-on_reservation : (r : Option Reservation) (effect : Reservation → After) → ((r : Reservation) → LeavesWord h (effect r))
+      → LeavesWord h (on_reservation r effect h)
+  word-on_reservation None effect leaves = λ word. word
+  word-on_reservation (Some r) effect leaves = leaves r
+
+  word-atomic_any : (i : Option AtomicInstr) → LeavesWord h (atomic_effect_if_any i n h)
+  word-atomic_any None = λ word. word
+  word-atomic_any (Some i) = word-on_reservation h.reservation (λ r. atomic_effect_of i r n h) (word-atomic i)
 
 module _ (h : Hart) (input : List ℕ) where
+  word-float_any : (i : Option FloatInstr) (code : Code) → LeavesWord h (float_effect_if_any i code h)
+  word-float_any None code = word-atomic_any h (length_of code) (atomic_decoded code)
+  word-float_any (Some i) code =
+      word-on_unit h (length_of code) h.unit (λ u. float_effect_of i u (length_of code) h) (word-float h (length_of code) i)
+
   word-any : (i : Option Instr) (code : Code) → LeavesWord h (effect_if_any i code input h)
-  word-any None code = word-float_any h (length_of code) (float_decoded code)
+  word-any None code = word-float_any (float_decoded code) code
   word-any (Some i) code = word-effect h (length_of code) i input
 
   word-code : (code : Option Code) → LeavesWord h (code_effect code input h)

@@ -14,6 +14,7 @@ from ..framed.replays import Replays, bytes_of
 from ..framed.session import Node, Session, floats_of, node_of, signed
 from ..limits import MOST_SOURCE, MOST_STACK, MOST_TAG, MOST_TICKS
 from ..outputs.report import Report
+from ..program.atomic_names import address_register, atomic_name
 from ..program.code import ECALL, Code, float_name, source_lines
 from ..program.memory_need import size_text
 from ..refusals import Refused, counted, numbered
@@ -158,12 +159,12 @@ class Why:
             "TooMuch": self.too_much,
             "StoreOutside": self.access_outside,
             "LoadOutside": self.access_outside,
+            "Misaligned": self.misaligned,
         }
         ranks = "rank 0 is the only one" if self.nodes == 1 else f"the ranks are 0 to {self.nodes - 1}"
         texts = {
             "BadRank": f"there is no rank {signed(node.x[10])}: with {counted(self.nodes, 'node')} {ranks}",
             "Break": self.trap(node),
-            "Misaligned": f"the program begins at {node.pc:#x}, and instructions stand at even addresses",
             "UnknownCall": f"a7 is {node.x[17]}, and calls have the numbers 1 to {max(NAMES)}",
         }
         return [texts[fault]] if fault in texts else tellers.get(fault, self.no_code)(node, superstep)
@@ -235,8 +236,19 @@ class Why:
             return [f"the code was overwritten: the {unit} at {node.pc:#x} is 0x{content[::-1].hex()}"]
         return [f"the {unit} at {node.pc:#x} is {self.no_instruction(node, content)}"]
 
+    def misaligned(self, node: Node, _superstep: int) -> list[str]:
+        """An instruction at an odd address, or one of extension A on a word at an address that is no multiple of 4."""
+        if node.pc % 2:
+            return [f"the program begins at {node.pc:#x}, and instructions stand at even addresses"]
+        content = self.bytes_at_end(node.rank, node.pc, 4)
+        name, address = atomic_name(content) or "the instruction", node.x[address_register(content)]
+        return [f"{name} is of a word, and its address {address:#x} is no multiple of 4"]
+
     def no_instruction(self, node: Node, content: bytes) -> str:
         """What code is that a node does not have."""
+        atomic = atomic_name(content)
+        if atomic and not self.code.is_atomic:
+            return f"{atomic}, of extension A, which nodes do not have: give --atomic"
         name, mode = float_instruction(content)
         if not name:
             return "no instruction that a node has"

@@ -127,6 +127,7 @@ def prepared(
     else:
         code = read_elf(content)
     code.is_float |= options.float
+    code.is_atomic |= options.atomic
     memory_need.fit(code, options)
     memory_need.expect_room(code, options)
     given = given_input(options, content, tool)
@@ -147,6 +148,8 @@ def prepared(
     settings += ["--limit", str(options.limit), "--clock", "--g", str(options.g), "--l", str(options.l)]
     if code.is_float:
         settings.append("--float")
+    if code.is_atomic:
+        settings.append("--atomic")
     options.large |= limits.are_passed(options.nodes, options.memory)
     if options.large:
         settings.append(limits.OPTION)
@@ -210,7 +213,8 @@ def words_of(job: Job, parser: Parser) -> list[str]:
         words += [name, str(value)] if value != parser.get_default(name.strip("-")) else []
     words += [it for name in [*options.file, *options.found] for it in ("--file", name)]
     words += [it for name in options.files for it in ("--files", name)]
-    words += [*([limits.OPTION] if options.large else []), *(["--float"] if options.float else []), *looks(options), *(options.compiled or [])]
+    words += [option for option, is_given in ((limits.OPTION, options.large), ("--float", options.float), ("--atomic", options.atomic)) if is_given]
+    words += [*looks(options), *(options.compiled or [])]
     return [*words, options.program, *options.sources[1:], *options.args]
 
 

@@ -82,6 +82,7 @@ class Code:
         self.text, self.content = "", content
         # Whether the nodes have units of floating point.
         self.is_float = False
+        self.is_atomic = False
         self.debug: elf.Debug | None = None
         self._variables_of: Variables | None = None
         # What was found out of functions and addresses already.
@@ -212,6 +213,7 @@ def read_elf(content: bytes) -> Code:
     """The code of an ELF file, as far as it can be read."""
     code = Code(content=content, entry=elf.entry(content))
     code.is_float = elf.wants_floats(content)
+    code.is_atomic = elf.wants_atomics(content)
     for address, stored, end in elf.segments(content):
         code.segments.append((address, stored))
         code.need = max(code.need, end)

@@ -5,6 +5,7 @@ from __future__ import annotations
 import contextlib
 import io
 import posixpath
+import re
 import struct
 from collections.abc import Iterator
 from typing import Any
@@ -20,6 +21,8 @@ ELF32_LITTLE, RISCV, OBJECT_FILE = MAGIC + b"\x01\x01\x01", 243, 1
 HEADER = 52
 # The bits of a file's flags that say in which registers of floating point functions take values; zero where in none.
 FLOAT_ABI = 0x6
+# What the attributes of a file say of its instructions.
+ARCHITECTURE = re.compile(rb"rv32([0-9a-z_]+)\0")
 # A section of symbols, the bytes of one of them, and of a name at the most.
 SYMBOLS, SYMBOL_BYTES, MOST_NAME = 2, 16, 1 << 12
 FUNCTION, OBJECT = "STT_FUNC", "STT_OBJECT"
@@ -66,6 +69,15 @@ def entry(content: bytes) -> int:
 def wants_floats(content: bytes) -> bool:
     """Whether an ELF file's functions take values in registers of floating point."""
     return int.from_bytes(content[36:40], "little") & FLOAT_ABI != 0
+
+
+def wants_atomics(content: bytes) -> bool:
+    """Whether an ELF file says that it has instructions of extension A, as `rv32i2p1_m2p0_a2p1` does."""
+    found = ARCHITECTURE.search(section(content, ".riscv.attributes"))
+    if found is None:
+        return False
+    first, *others = found[1].decode().split("_")
+    return any(re.sub(r"\d+p\d+", "", it).startswith("a") for it in others) or "a" in re.sub(r"\d+p\d+", "", first)
 
 
 def section(content: bytes, name: str) -> bytes:

@@ -7,6 +7,8 @@ from typing import NamedTuple, Optional, Tuple
 # Opcodes that change no memory: LOAD, LOAD-FP, MISC-MEM, OP-IMM, AUIPC, OP, LUI, MADD, MSUB, NMSUB, NMADD, OP-FP, BRANCH, JALR, JAL.
 QUIET = {0x03, 0x07, 0x0F, 0x13, 0x17, 0x33, 0x37, 0x43, 0x47, 0x4B, 0x4F, 0x53, 0x63, 0x67, 0x6F}
 LOADS, STORE, STORE_FP, SYSTEM = {0x03, 0x07}, 0x23, 0x27, 0x73
+# LR, SC and the atomic memory operations: they load, but for SC, and SC and the operations store, which is not told in advance.
+ATOMIC, STORE_CONDITIONAL = 0x2F, 3
 # Opcodes that may change registers of floating point or fcsr: LOAD-FP, MADD, MSUB, NMSUB, NMADD, OP-FP, SYSTEM.
 OF_UNIT = {0x07, 0x43, 0x47, 0x4B, 0x4F, 0x53, 0x73}
 # Calls that change no memory before the turn, by their number, and the one that stores a word at its operand. The others that store do so at
@@ -105,6 +107,8 @@ def loaded(code: bytes, x: Tuple[int, ...]) -> Stored:
     if len(code) == 4 and word & 0x7F in LOADS:
         offset = word >> 20
         return Stored((x[word >> 15 & 31] + offset - (offset >> 11 << 12)) % (1 << 32), 1 << (word >> 12 & 3))
+    if len(code) == 4 and word & 0x7F == ATOMIC and word >> 27 != STORE_CONDITIONAL:
+        return Stored(x[word >> 15 & 31], 4)
     half = word & 0xFFFF
     if half & 3 == 0 and half >> 13 in (1, 2, 3):
         # C.FLD, C.LW, C.FLW

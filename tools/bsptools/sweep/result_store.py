@@ -87,7 +87,8 @@ class Store:
         options, image = self.options, str(run.program.image)
         words = ["--nodes", str(run.nodes), "--memory", str(options.memory), "--limit", str(options.limit)]
         is_large = options.large or limits.are_passed(run.nodes, options.memory)
-        words += ["--format", run.program.kind, *(["--float"] if options.float else []), *([limits.OPTION] if is_large else [])]
+        words += ["--format", run.program.kind, *(["--float"] if options.float else [])]
+        words += [*(["--atomic"] if options.atomic else []), *([limits.OPTION] if is_large else [])]
         programs, given = [self.emulator, image], [*filter(None, [run.given]), *options.file]
         rests = [*programs, *given]
         digests = [self.digest_of(it, MOST_PROGRAM) for it in programs] + [self.digest_of(it, MOST_INPUT) for it in given]

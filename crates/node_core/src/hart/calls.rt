@@ -10,6 +10,7 @@ use super::Hart;
 use crate::call::{CLOCK, Call};
 use crate::state::{Fault, State};
 use node_memory::WriteError;
+use rv_atomics::Reservation;
 use std::alloc::{AllocError, Allocator};
 
 /// The registers of a call: its operands, the first of which takes its answer, and its number.
@@ -78,11 +79,14 @@ impl<A: Allocator + Copy> Hart<A> {
         }
     }
 
-    /// Goes on after the ECALL.
+    /// Goes on after the ECALL, with nothing reserved.
     pub(super) fn advance(&mut self) -> State
         ensures hart { goes_on (advanced self.old.hart) ≡ record { hart = self.new.hart; state = result } }
         ensures rest { self.new ≡ record self.old { hart = self.new.hart } }
     {
+        if let Some(reservation) = &mut self.reservation {
+            *reservation = Reservation::Nothing;
+        }
         self.pass(ECALL_BYTES)
     }
 
@@ -91,7 +95,8 @@ impl<A: Allocator + Copy> Hart<A> {
         ensures hart { answers value self.old.hart ≡ record { hart = self.new.hart; state = result } }
         ensures rest { self.new ≡ record self.old { hart = self.new.hart } }
     {
-        self.put(A0, value, ECALL_BYTES)
+        self.set_reg(A0, value);
+        self.advance()
     }
 
     /// Goes on after the ECALL, in the state `after`.

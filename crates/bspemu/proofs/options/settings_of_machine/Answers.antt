@@ -1,4 +1,4 @@
--- Settings are the numbers, the clock and the two flags that were read; where one is missing, the matches cannot give settings.
+-- Settings are the numbers, the clock and the three flags that were read; where one is missing, the matches cannot give settings.
 use Rattle.std.proofs.Common.{codes}
 use Rattle.clap.specs.Words.{found_of}
 use Rattle.bspemu.proofs.Getters.{flag_of_getter, no_flag_of_getter, no_number_of_getter, number_of_getter}
@@ -13,7 +13,8 @@ returns-clause-some c =
       limit = number_of_getter 64 _ found (codes "limit") c.in_ok-get_one-3.ensures.none c.in_ok-get_one-3.ensures.value;
       clock = c.in_ok-clock_of.ensures.some;
       float = flag_of_getter _ found (codes "float") c.in_ok-get_one-4.ensures.none c.in_ok-get_one-4.ensures.value;
-      large = flag_of_getter _ found (codes "large") c.in_ok-get_one-5.ensures.none c.in_ok-get_one-5.ensures.value;
+      atomic = flag_of_getter _ found (codes "atomic") c.in_ok-get_one-5.ensures.none c.in_ok-get_one-5.ensures.value;
+      large = flag_of_getter _ found (codes "large") c.in_ok-get_one-6.ensures.none c.in_ok-get_one-6.ensures.value;
     }
 
 pub returns-in_err-get_one-clause-none : goal.returns-in_err-get_one-clause-none
@@ -43,4 +44,9 @@ returns-in_err-get_one-4-clause-none c =
 pub returns-in_err-get_one-5-clause-none : goal.returns-in_err-get_one-5-clause-none
 returns-in_err-get_one-5-clause-none c =
     rw c.from_residual-in_err-get_one-5.ensures
-    (λ s gives. no_flag_of_getter s.large (found_of c.args.found.now) (codes "large") c.in_err-get_one-5.ensures.value gives.large)
+    (λ s gives. no_flag_of_getter s.atomic (found_of c.args.found.now) (codes "atomic") c.in_err-get_one-5.ensures.value gives.atomic)
+
+pub returns-in_err-get_one-6-clause-none : goal.returns-in_err-get_one-6-clause-none
+returns-in_err-get_one-6-clause-none c =
+    rw c.from_residual-in_err-get_one-6.ensures
+    (λ s gives. no_flag_of_getter s.large (found_of c.args.found.now) (codes "large") c.in_err-get_one-6.ensures.value gives.large)

@@ -1,6 +1,6 @@
 -- Settings without a fault make a node of rank 0; the only errors left are that a segment lies outside, or want of memory.
 use Rattle.std.proofs.Common.{inl, inr, refl, ap, ap₂, ◌∙◌}
-use Rattle.node_core.specs.Node.{PreparedNode, with_clock, with_unit}
+use Rattle.node_core.specs.Node.{PreparedNode, with_clock, with_unit, with_atomics}
 use Rattle.node_memory.specs.declared.memory.MemoryError.TheVariants as memory_error
 use Rattle.machine_core.proofs.Refusals.{err_at, made-sized, fits-made, fits-no_memory, outside-ok, outside-no_memory}
 use Rattle.machine_core.proofs.Starts.{AreInRange-from, few_in_range, settings_fault-nodes}
@@ -30,8 +30,10 @@ returns-in-Ok g c =
     record {
       ok = ap (λ (p : PreparedNode). p.node) c.set_clock.ensures
           ∙ ap₂ with_clock c.closed_at_start.ensures
+          (ap (λ (p : PreparedNode). p.node) c.set_atomics.ensures
+          ∙ ap (with_atomics c.args.settings.now.atomic)
           (ap (λ (p : PreparedNode). p.node) c.set_unit.ensures
-          ∙ ap (with_unit c.args.settings.now.float) (ap (λ (p : PreparedNode). p.node) c.in-Ok.ensures.ok));
+          ∙ ap (with_unit c.args.settings.now.float) (ap (λ (p : PreparedNode). p.node) c.in-Ok.ensures.ok)));
       fits = fits;
       outside = outside-ok _ fits;
       kinds = tt;

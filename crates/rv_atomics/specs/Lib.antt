@@ -1,0 +1,5 @@
+pub mod Codes
+pub mod Mnemonics
+pub mod Operands
+pub mod Rows
+pub mod Values

@@ -6,8 +6,9 @@ import argparse
 import os
 import pathlib
 import shlex
-import tempfile
 from typing import Any, NoReturn
+
+from bsptools import children
 
 from ._runs import made
 from ._tools import BspError
@@ -34,8 +35,8 @@ def bsp(line: str, cell: str) -> Any:
     words = shlex.split(line)
     own = words[: words.index("--")] if "--" in words else words
     asked, options = reader.parse_known_args(own)
-    with tempfile.TemporaryDirectory(prefix="bspemu-") as folder:
-        source = pathlib.Path(folder) / "cell.c"
+    with children.folder("bspemu") as folder:
+        source = folder / "cell.c"
         source.write_text(cell, encoding="utf-8")
         # The headers of a cell lie beside the notebook.
         run = made([*options, f"-I{os.getcwd()}", str(source), *words[len(own) + 1 :]], str(source), b"", check=True)

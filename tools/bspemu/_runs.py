@@ -5,9 +5,9 @@ from __future__ import annotations
 import functools
 import os
 import pathlib
-import tempfile
 from typing import TYPE_CHECKING, Any, Dict, List, Mapping, Optional, Sequence, Union
 
+from bsptools import children
 from bsptools.refusals import counted
 
 from . import _figures, _frames
@@ -71,10 +71,10 @@ def run(
 
 def made(words: List[str], program: str, given: bytes, check: bool) -> Run:
     """The run of a command line of bsprun, with standard input."""
-    with tempfile.TemporaryDirectory(prefix="bspemu-") as folder:
+    with children.folder("bspemu") as folder:
         report, profile, out = (os.path.join(folder, name) for name in ("report.json", "profile.csv", "out"))
         asked = ["--report", report, "--profile", profile, *(["--out", out] if program.endswith(COMPILED) else [])]
-        (pathlib.Path(folder) / "input").write_bytes(given)
+        (folder / "input").write_bytes(given)
         done = call("bsprun", [*asked, "--input", os.path.join(folder, "input"), *words] if given else [*asked, *words])
         if not os.path.exists(report):
             raise BspError(done.told.strip() or f"bsprun ended with status {done.status}, and wrote no report", done.status)
@@ -164,9 +164,9 @@ class Run:
 
         The run is made once more, with its steps counted by address.
         """
-        with tempfile.TemporaryDirectory(prefix="bspemu-") as folder:
-            path = pathlib.Path(folder) / "lines.json"
-            (pathlib.Path(folder) / "input").write_bytes(self._given)
+        with children.folder("bspemu") as folder:
+            path = folder / "lines.json"
+            (folder / "input").write_bytes(self._given)
             words = ["--input", os.path.join(folder, "input")] if self._given else []
             done = call("bsprun", ["--lines-as", f"json={path}", *words, *self._words])
             if not path.exists():

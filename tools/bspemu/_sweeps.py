@@ -6,9 +6,9 @@ import concurrent.futures
 import json
 import os
 import pathlib
-import tempfile
 from typing import TYPE_CHECKING, Any, Dict, Iterable, List, Mapping, Optional, Sequence, Tuple, Union
 
+from bsptools import children
 from bsptools.commands import bspplot, bspsweep
 from bsptools.plot import sweep_table
 from bsptools.prices import spelled
@@ -191,8 +191,8 @@ class Sweep:
         if path is not None:
             self._draw("table", path, options)
             return None
-        with tempfile.TemporaryDirectory(prefix="bspemu-") as folder:
-            target = pathlib.Path(folder) / "table.tex"
+        with children.folder("bspemu") as folder:
+            target = folder / "table.tex"
             self._draw("table", target, options)
             return target.read_text(encoding="utf-8")
 
@@ -200,8 +200,8 @@ class Sweep:
         words = [f"--{name.replace('_', '-')}={value}" for name, value in options.items()]
         if path is None:
             return _figures.of_sweep(figure_of, kind, words, self.table)
-        with tempfile.TemporaryDirectory(prefix="bspemu-") as folder:
-            source = pathlib.Path(folder) / "table.csv"
+        with children.folder("bspemu") as folder:
+            source = folder / "table.csv"
             source.write_text(self.table, encoding="utf-8", errors="surrogateescape")
             source.with_suffix(".csv.json").write_text(json.dumps(self.record), encoding="utf-8")
             done = call("bspplot", [f"--{kind}={os.fspath(path)}", *words, "--", str(source)])

@@ -2,12 +2,14 @@
 
 from __future__ import annotations
 
+import os
 import pathlib
+import select
 import signal
 import subprocess
 import sys
 from fractions import Fraction
-from typing import Any, Iterable, List, NamedTuple, Union
+from typing import Any, Iterable, List, NamedTuple, Tuple, Union
 
 HERE = pathlib.Path(__file__).resolve().parent
 # Beside this package in a checkout; in a wheel, in what it has beside its modules.
@@ -17,6 +19,8 @@ Number = Union[int, Fraction]
 Price = Union[int, float, str, Fraction]
 # For how many seconds a tool may clear away what it has made after it was told to end.
 PATIENCE = 10
+# What a tool may write, in bytes.
+CHUNK, MOST_OUTPUT = 1 << 16, 1 << 28
 _running: "List[subprocess.Popen[bytes]]" = []
 
 
@@ -49,19 +53,37 @@ def words_of(name: str, words: Iterable[str]) -> List[str]:
     return [sys.executable, "-I", "-B", str(STARTER), name, *words]
 
 
-def call(name: str, words: Iterable[str], given: bytes = b"") -> Done:
-    """Runs a tool to its end. Where this is interrupted, as by Ctrl-C or a notebook's stop, the tool is told to end and clears away."""
-    pipes = {"stdin": subprocess.PIPE, "stdout": subprocess.PIPE, "stderr": subprocess.PIPE}
-    with subprocess.Popen(words_of(name, words), **pipes) as child:  # type: ignore[call-overload]
+def call(name: str, words: Iterable[str]) -> Done:
+    """Runs a tool to its end. Where this is interrupted, as by Ctrl-C or a notebook's stop, or the tool writes without an end, it is told to
+    end and clears away."""
+    with subprocess.Popen(words_of(name, words), stdin=subprocess.DEVNULL, stdout=subprocess.PIPE, stderr=subprocess.PIPE) as child:
         _running.append(child)
         try:
-            output, told = child.communicate(given)
+            output, told = _heard(child)
         except BaseException:
             _end(child)
             raise
         finally:
             _running.remove(child)
     return Done(child.returncode, output, told.decode(errors="replace"))
+
+
+def _heard(child: "subprocess.Popen[bytes]") -> Tuple[bytes, bytes]:
+    """What a tool writes up to its end. This process would run out of memory by more than that, with all variables of a notebook."""
+    assert child.stdout is not None and child.stderr is not None
+    parts = {child.stdout.fileno(): bytearray(), child.stderr.fileno(): bytearray()}
+    output, told = parts.values()
+    left = list(parts)
+    while left:
+        for number in select.select(left, [], [])[0]:
+            piece = os.read(number, CHUNK)
+            parts[number] += piece
+            if not piece:
+                left.remove(number)
+        if len(output) + len(told) > MOST_OUTPUT:
+            raise BspError(f"the program writes more than {MOST_OUTPUT} bytes, which are the most here: run it by bsprun, with its output in a file")
+    child.wait()
+    return bytes(output), bytes(told)
 
 
 def _end(child: "subprocess.Popen[bytes]") -> None:

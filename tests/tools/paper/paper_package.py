@@ -12,7 +12,7 @@ import sys
 from typing import Dict, List, Tuple
 
 from base import REPO, Check, Parts
-from checks import COMPILER, SECONDS, Part, Tool, tracked
+from checks import COMPILER, SECONDS, Part, Tool, becomes_true, commands_with, tracked
 
 
 def in_python(name: str) -> bool:
@@ -61,6 +61,7 @@ def parts(make: Parts) -> List[Part]:
         make.part("a notebook", notebook, tools=(*COMPILER, PANDAS, NBCONVERT, KERNEL)),
         make.part("the script of a paper", script, tools=(*COMPILER, PANDAS)),
         make.part("what Python imports", imported, tools=(*COMPILER, PANDAS)),
+        make.part("ends of runs in Python", ends, tools=COMPILER),
         make.part("a wheel outside of the checkout", wheel, tools=(*COMPILER, WHEEL, PIP)),
     ]
 
@@ -108,6 +109,38 @@ def imported(check: Check) -> None:
     done = subprocess.run(again, cwd=check.folder, env=home, capture_output=True, text=True, check=False, timeout=SECONDS)
     same = "6 of 6 runs" not in done.stderr and "3 of 3 runs were made before" in done.stderr and "the table is the same" in done.stderr
     check.expect("one store and one record with bspsweep", same, done.stderr)
+
+
+# Runs what prints more than is taken; and then what does not end.
+ENDLESS = """
+import bspemu
+from bspemu import _tools
+most, _tools.MOST_OUTPUT = _tools.MOST_OUTPUT, 99
+try:
+    bspemu.run("prints.c")
+except bspemu.BspError as error:
+    print(error)
+_tools.MOST_OUTPUT = most
+print("begins", flush=True)
+bspemu.run("loops.c")
+"""
+
+
+def ends(check: Check) -> None:
+    """A program that writes without an end does not take all memory, and a Python that is killed leaves no folder and no run."""
+    scratch = check.folder / "scratch"
+    scratch.mkdir()
+    (check.folder / "prints.c").write_text('#include <stdio.h>\nint main(void) { for (int i = 0; i < 100; i++) puts("more"); return 0; }\n')
+    (check.folder / "loops.c").write_text("int main(void) { for (;;); }\n")
+    environment = {**os.environ, "PYTHONPATH": str(REPO / "tools"), "TMPDIR": str(scratch)}
+    with subprocess.Popen([sys.executable, "-c", ENDLESS], cwd=check.folder, env=environment, stdout=subprocess.PIPE, text=True) as child:
+        assert child.stdout is not None
+        lines = [child.stdout.readline(), child.stdout.readline()]
+        begun = becomes_true(lambda: any(" run " in it for it in commands_with(str(scratch))))
+        child.kill()
+    check.expect("a program that writes more than is taken", "the program writes more than 99 bytes" in lines[0] and lines[1] == "begins\n", lines)
+    is_clear = becomes_true(lambda: not commands_with(str(scratch)) and not list(scratch.iterdir()))
+    check.expect("a Python that is killed", begun and is_clear, (begun, commands_with(str(scratch)), list(scratch.iterdir())))
 
 
 def checkout(check: Check) -> pathlib.Path:

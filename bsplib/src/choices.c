@@ -35,6 +35,7 @@ struct bsp_choices {
     unsigned is_logged;  /* whether the calls are told in records */
     unsigned is_moved;   /* whether the stack and malloc's memory begin elsewhere on each rank */
     unsigned is_alone;   /* whether ranks above 0 have at bsp_begin what their variables had at the start: those that `cut` has, by addresses */
+    unsigned is_summed;  /* whether a sum over the variables that `cut` has, by addresses, is told at bsp_end */
     struct point until;
     unsigned cuts; /* how many there are, by their supersteps, ranks, requests and first bytes */
     struct cut cut[MOST_CUTS];
@@ -80,7 +81,8 @@ static int is_chosen(unsigned index)
 
 /* Calls as tools/bsptools/portable/call_log.py reads them: the machine's number, or one of those below, and where the call goes back to. What
    a call does not have is 0. Of a message `dst` and `offset` are the last 8 bytes of its payload, which may be a number with a point. */
-enum { LOG_DIRECT_GET = 110, LOG_READ = 111, LOG_WRITTEN = 112, LOG_NO_MESSAGE = 115, LOG_INPUT = 118, RECORD_CALLS = 'c', MOST_LOGGED = 32 };
+enum { LOG_DIRECT_GET = 110, LOG_READ = 111, LOG_WRITTEN = 112, LOG_NO_MESSAGE = 115, LOG_INPUT = 118, MOST_LOGGED = 32 };
+enum { RECORD_CALLS = 'c', RECORD_SUM = 'v' };
 struct logged {
     unsigned number, place;
     int pid;
@@ -93,11 +95,28 @@ static struct {
     struct logged all[MOST_LOGGED];
 } log;
 
+/* Writes a record with a word and more bytes. Unlike those of bsp_record it leaves alone what stands in the buffers of the output, so that a
+   run that tells of itself has the output of one that does not, and it is written whether others are wanted or not. */
+static void tell_record(int kind, unsigned word, const void *bytes, int size)
+{
+    static struct {
+        char mark[sizeof bsp_settings.mark];
+        unsigned size, rank, word;
+        char bytes[sizeof log.all];
+    } record;
+    memcpy(record.mark, (const char *)bsp_settings.mark, sizeof record.mark);
+    record.mark[sizeof record.mark - 1] = (char)kind;
+    record.size = (unsigned)(sizeof record.rank + sizeof record.word) + (unsigned)size;
+    record.rank = (unsigned)bsp_pid();
+    record.word = word;
+    memcpy(record.bytes, bytes, (size_t)size);
+    machine_call_2(CALL_WRITE, (long)&record, (long)(record.bytes - (char *)&record) + size);
+}
+
 static void write_log(void)
 {
-    unsigned superstep = here.superstep;
     if (log.count > 0)
-        bsp_record(RECORD_CALLS, &superstep, 1, log.all, log.count * (int)sizeof *log.all);
+        tell_record(RECORD_CALLS, here.superstep, log.all, log.count * (int)sizeof *log.all);
     log.count = 0;
 }
 
@@ -243,7 +262,7 @@ static const struct cut *cuts_from(unsigned request)
 {
     const struct cut *low = bsp_choices.cut, *high = low + bsp_choices.cuts;
     unsigned rank = (unsigned)bsp_pid();
-    if (bsp_choices.is_alone)
+    if (bsp_choices.is_alone || bsp_choices.is_summed)
         return high;
     while (low < high) {
         const struct cut *it = low + (high - low) / 2;
@@ -312,7 +331,7 @@ void __wrap_bsp_get(int pid, const void *src, int offset, void *dst, int nbytes)
     __real_bsp_get(pid, src, offset, dst, nbytes);
 }
 
-/* The last 8 bytes of a message, or zeros. */
+/* The last 8 bytes of a message, or those that there are. */
 struct last {
     unsigned low;
     int high;
@@ -322,6 +341,8 @@ static struct last last_of(const void *payload, int nbytes)
     struct last it = {0, 0};
     if (bsp_choices.is_logged && nbytes >= (int)sizeof it)
         memcpy(&it, (const char *)payload + nbytes - sizeof it, sizeof it);
+    else if (bsp_choices.is_logged && nbytes == (int)sizeof it.low)
+        memcpy(&it.low, payload, sizeof it.low);
     return it;
 }
 
@@ -486,7 +507,7 @@ struct message {
 };
 static struct {
     struct message *all;
-    int is_kept, count, next;
+    int is_kept, count, next, bytes;
     int received_tag, tag, next_tag; /* the sizes of tags in the queue, in this superstep and in the next one */
 } queue;
 
@@ -529,12 +550,12 @@ static void swap_messages(void)
 /* Whether the queue is kept here. Outside of bsp_begin and bsp_end the functions themselves stop the program. */
 static int keeps_queue(void)
 {
-    int messages, bytes, i;
+    int messages, i;
     if (bsp_part != BSP_WITHIN || bsp_choices.memory == 0)
         return 0;
     if (queue.is_kept)
         return 1;
-    __real_bsp_qsize(&messages, &bytes);
+    __real_bsp_qsize(&messages, &queue.bytes);
     queue.all = (struct message *)take_room((size_t)messages * sizeof *queue.all, 0);
     for (i = 0; i < messages; i++) {
         struct message *it = &queue.all[i];
@@ -553,17 +574,14 @@ static int keeps_queue(void)
 
 void __wrap_bsp_qsize(int *nmessages, int *accum_nbytes)
 {
-    int i, bytes = 0;
     if (!keeps_queue()) {
         __real_bsp_qsize(nmessages, accum_nbytes);
         return;
     }
-    for (i = queue.next; i < queue.count; i++)
-        bytes += queue.all[i].size;
     if (nmessages != NULL)
         *nmessages = queue.count - queue.next;
     if (accum_nbytes != NULL)
-        *accum_nbytes = bytes;
+        *accum_nbytes = queue.bytes;
 }
 
 void __wrap_bsp_get_tag(int *status, void *tag)
@@ -581,6 +599,14 @@ void __wrap_bsp_get_tag(int *status, void *tag)
     memcpy(tag, queue.all[queue.next].tag, (size_t)queue.received_tag);
 }
 
+/* Takes the first message that is left. */
+static const struct message *next_message(void)
+{
+    const struct message *it = &queue.all[queue.next++];
+    queue.bytes -= it->size;
+    return it;
+}
+
 void __wrap_bsp_move(void *payload, int reception_nbytes)
 {
     if (reception_nbytes < 0 || !keeps_queue()) {
@@ -588,7 +614,7 @@ void __wrap_bsp_move(void *payload, int reception_nbytes)
     } else if (queue.next == queue.count) {
         LOG(LOG_NO_MESSAGE, 0, 0, 0, 0, 0, 0);
     } else {
-        const struct message *it = &queue.all[queue.next++];
+        const struct message *it = next_message();
         int count = it->size < reception_nbytes ? it->size : reception_nbytes;
         WRITES(payload, count);
         memcpy(payload, it->payload, (size_t)count);
@@ -602,7 +628,7 @@ int __wrap_bsp_hpmove(void **tag_ptr, void **payload_ptr)
         return __real_bsp_hpmove(tag_ptr, payload_ptr);
     if (queue.next == queue.count)
         return -1;
-    it = &queue.all[queue.next++];
+    it = next_message();
     *tag_ptr = it->tag;
     *payload_ptr = it->payload;
     return it->size;
@@ -632,9 +658,29 @@ static void end_log(void)
     write_log();
 }
 
+/* Tells a sum over the variables, from which it is seen whether two runs end with the same ones. */
+static void tell_sum(void)
+{
+    const struct cut *it, *end = bsp_choices.cut + bsp_choices.cuts;
+    unsigned sum = 2166136261u;
+    for (it = bsp_choices.cut; it < end; it++) {
+        const char *at = (const char *)(size_t)it->from, *last = (const char *)(size_t)it->to;
+        for (; last - at >= 4; at += 4) {
+            unsigned word;
+            memcpy(&word, at, sizeof word);
+            sum = (sum ^ word ^ word >> 15) * 16777619u;
+        }
+        for (; at < last; at++)
+            sum = (sum ^ (unsigned char)*at) * 16777619u;
+    }
+    tell_record(RECORD_SUM, sum, "", 0);
+}
+
 int __wrap_bsp_end(void)
 {
     end_log();
+    if (bsp_choices.is_summed && bsp_part == BSP_WITHIN)
+        tell_sum();
     return __real_bsp_end();
 }
 

@@ -27,8 +27,8 @@ KINDS = {
     environment_calls.PUT: exposed_bytes.PUT, environment_calls.GET: exposed_bytes.GET, environment_calls.HPPUT: exposed_bytes.HPPUT,
     environment_calls.HPGET: exposed_bytes.HPGET, SEND: exposed_bytes.SEND, DIRECT_GET: exposed_bytes.DIRECT_GET,
 }  # fmt: skip
-_CALL = struct.Struct("<IIiIIiiI")
-_WORDS, _PID = _CALL.size // 4, 2
+CALL = struct.Struct("<IIiIIiiI")
+_WORDS, _PID = CALL.size // 4, 2
 # What stands in front of the calls of a record.
 SUPERSTEP_BYTES = 4
 
@@ -63,7 +63,7 @@ class Superstep:
     @functools.cached_property
     def numbers(self) -> Set[int]:
         """The numbers of its calls. Each is a byte."""
-        return {number for content in self.records.values() for number in set(content[:: _CALL.size])}
+        return {number for content in self.records.values() for number in set(content[:: CALL.size])}
 
     @functools.cached_property
     def calls(self) -> Dict[int, List[Logged]]:
@@ -71,7 +71,7 @@ class Superstep:
         found: Dict[int, List[Logged]] = {}
         for rank, content in sorted(self.records.items()):
             made, request = found.setdefault(rank, []), 0
-            for operands in _CALL.iter_unpack(content):
+            for operands in CALL.iter_unpack(content):
                 made.append(Logged(rank, request, *operands))
                 request += operands[0] in REQUESTS
         return found
@@ -140,7 +140,7 @@ def supersteps(content: bytes, mark: bytes, last: int) -> List[Superstep]:
     found: List[Superstep] = []
     for kind, piece in Marks(mark).take(content):
         record = record_of(kind, piece) if kind == CALLS else None
-        if record is None or len(record.content) % _CALL.size != SUPERSTEP_BYTES:
+        if record is None or len(record.content) % CALL.size != SUPERSTEP_BYTES:
             continue
         superstep = int.from_bytes(record.content[:SUPERSTEP_BYTES], "little")
         if superstep <= last:

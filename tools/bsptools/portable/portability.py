@@ -2,11 +2,13 @@
 
 from __future__ import annotations
 
+import concurrent.futures
 import contextlib
 import functools
 import math
 import pathlib
 import re
+import subprocess
 from collections.abc import Callable, Iterator
 from dataclasses import dataclass, field
 
@@ -26,7 +28,7 @@ from .call_log import INPUT, NO_MESSAGE, Logged, Superstep
 from .contested_pairs import Pair, pairs
 from .exposed_bytes import Exposed
 from .portability_findings import CALLS, QUEUE, Finding, Findings, Other, again, described, parted, told_contested, told_variable
-from .trial_runs import Ending, NoRoom, Subject, Trials, least
+from .trial_runs import Ending, NoRoom, Subject, Trials, ending_of, least
 
 TIMES = (Choices(unbuffered=EARLY), Choices(unbuffered=LATE))
 PATTERNS = (0x40, 0xC1)
@@ -34,6 +36,7 @@ PATTERNS = (0x40, 0xC1)
 SPOILT = 0x5A
 # GCC gives each variable of a function that has no value these bits, in builds for the second and third run.
 VALUES = ("pattern", "zero")
+MOST_BUILDS = 3
 CHANGED = "the source of an unbuffered call is other at bsp_sync: call "
 # What a program says where there are more nodes than it takes, and one that ends with a status of its own.
 MORE_NODES = b"there are more nodes than the program takes in bsp_begin"
@@ -79,12 +82,17 @@ class Verdict:
 class Portable:
     """Looks for what a run rests on."""
 
-    def __init__(self, subject: Subject, trials: Trials, ended: Ending, accepted: Accepted) -> None:
-        self.subject, self.trials, self.ended, self.accepted = subject, trials, ended, accepted
+    def __init__(self, builds: Builds, trials: Trials, ended: Ending, contested: contested_bytes.Found, accepted: Accepted) -> None:
+        self.builds, self.subject = builds, builds.subject
+        self.trials, self.ended, self.contested, self.accepted = trials, ended, contested, accepted
         self.code = trials.code.know_names()
         self.variables = final_variables.of_program(self.code)
+        self.cuts = orders.variables_of(self.code)
         self.known: dict[Choices, list[bytes]] = {}
         self.told_pairs: set[tuple[int, ...]] = set()
+        self.on_other_nodes: list[tuple[int, subprocess.CompletedProcess[bytes]]] = []
+        # Whether something of what seldom counts does, so that each part of it is looked for by itself.
+        self.is_rare = True
         self.verdict = Verdict()
 
     @functools.cached_property
@@ -101,6 +109,36 @@ class Portable:
     def log(self) -> list[Superstep]:
         """The calls of the run as it is."""
         return self.trials.log(Choices())
+
+    def begin(self) -> None:
+        """Makes the first runs, none of which depends on what another one comes to, side by side."""
+        if self.subject.options.sources:
+            for value in VALUES:
+                self.builds.begin(*options_for(value))
+        nodes = [it for it in (self.trials.nodes - 1, self.trials.nodes + 1) if 1 <= it <= MOST_NODES]
+        if len(self.cuts) < MOST_CUTS:
+            self.trials.summed = self.cuts
+        beside = [self.subject.command(it, self.trials.limit) for it in nodes]
+        done = self.trials.begin_all([Choices(), *self.fresh_choices()], logged=[Choices()], beside=beside)
+        self.on_other_nodes = list(zip(nodes, done))
+
+    def fresh_choices(self) -> list[Choices]:
+        """The runs with other bytes in fresh memory. Where a run is told by what it writes alone, one of them has also all else that seldom
+        comes to something else, and that is looked for by itself only if it does."""
+        plain = [Choices(heap=it, stack=it) for it in PATTERNS]
+        return plain if self.is_silent else [*plain[:-1], self.rare]
+
+    @property
+    def rare(self) -> Choices:
+        """All that seldom comes to something else."""
+        byte = PATTERNS[-1]
+        return Choices(heap=byte, stack=byte, is_moved=True, is_alone=self.can_be_alone, cuts=self.cuts if self.can_be_alone else ())
+
+    @property
+    def can_be_alone(self) -> bool:
+        """Whether rank 0 alone could have done what is before bsp_begin. Where bsp_init is called, that is so in each run."""
+        can = bool(self.cuts and self.trials.room and self.trials.nodes > 1)
+        return can and len(self.cuts) < MOST_CUTS and not ("bsp_init" in self.code.names or not self.code.names)
 
     def made(self, *numbers: int) -> bool:
         """Whether a rank makes such a call in the run as it is."""
@@ -138,7 +176,9 @@ class Portable:
 
     def difference(self, choices: Choices) -> final_variables.Difference | None:
         """The first variable that has something else at the end."""
-        if not self.variables:
+        sums = [self.trials.known[it].sums if it in self.trials.known else () for it in (Choices(), choices)]
+        is_told = len(sums[0]) == len(sums[1]) == self.trials.nodes and not self.is_silent
+        if not self.variables or (is_told and sums[0] == sums[1]):
             return None
         return final_variables.difference(self.variables, self.memories(Choices()), self.memories(choices))
 
@@ -178,7 +218,10 @@ class Portable:
 
     def look(self) -> None:
         """Looks for all, and takes down what is found."""
-        contested = self.contested()
+        contested = self.contested
+        what = counted(contested.places, "place") if contested.places else "nothing"
+        self.verdict.exact.append(f"puts and gets: {what} contested in {counted(self.ended.last + 1, 'superstep')} (exact)")
+        self.begin()
         base = self.base()
         if base != self.ended:
             difference = parted(self.ended, base)
@@ -188,6 +231,7 @@ class Portable:
                 self.verdict.found.append(Finding(told_contested(self.trace, contested.first, contested.places - 1)))
             self.ended = base
             self.fresh()
+            self.other_nodes()
             return
         if contested.first is not None:
             self.pairs(Choices())
@@ -198,6 +242,7 @@ class Portable:
         if self.fresh():
             self.addresses()
             self.alone()
+        self.other_nodes()
 
     def tried(self, what: str, look: Callable[[], None]) -> None:
         """Looks for something where there is room for what is kept."""
@@ -207,16 +252,6 @@ class Portable:
             look()
         except NoRoom:
             self.leave_out(f"not tried: {what}, since the memory has no room for them above the program's own")
-
-    def contested(self) -> contested_bytes.Found:
-        """Bytes to which two requests of a superstep bring different values, in the run as it is."""
-        show("bsprun: looking for contested bytes")
-        workers = ["--workers", str(self.subject.options.workers)]
-        settings = [*self.subject.settings, *workers]
-        found = contested_bytes.in_run(self.subject.program, settings, self.trials.nodes, self.ended.last, self.subject.folder)
-        what = counted(found.places, "place") if found.places else "nothing"
-        self.verdict.exact.append(f"puts and gets: {what} contested in {counted(self.ended.last + 1, 'superstep')} (exact)")
-        return found
 
     def pairs(self, choices: Choices) -> None:
         """The pairs of lines that contest bytes in a run, and what the run comes to where the others count."""
@@ -388,7 +423,7 @@ class Portable:
             self.leave_out(f"not tried: {ACCESSES}, which takes bspcc --portable=accesses")
             return None
         try:
-            trials, _ = built(self.subject, self.trials.ticks, "--portable=accesses", "-Og", is_told=False)
+            trials, _ = self.builds.get(self.trials.ticks, "--portable=accesses", "-Og")
         except Refused:
             self.leave_out(f"not tried: {ACCESSES}, for which the program was not compiled")
             return None
@@ -416,17 +451,16 @@ class Portable:
     def addresses(self) -> None:
         """Stack and heap elsewhere on each rank, so that an address of one is none of another."""
         choices = Choices(is_moved=True)
-        if self.ends_otherwise(choices):
+        if self.is_rare and self.ends_otherwise(choices):
             self.find(self.findings().addresses(choices, parted(self.ended, self.trials.run(choices))))
         else:
             self.verdict.tried.append("stack and heap elsewhere on each rank")
 
     def alone(self) -> None:
         """What rank 0 alone has done before bsp_begin. Where bsp_init is called, that is so in each run."""
-        cuts = orders.variables_of(self.code)
-        if self.has("bsp_init") or not cuts or not self.trials.room or self.trials.nodes == 1:
+        if not self.can_be_alone or not self.is_rare:
             return
-        choices = Choices(is_alone=True, cuts=cuts)
+        choices = Choices(is_alone=True, cuts=self.cuts)
         try:
             if not self.ends_otherwise(choices):
                 return
@@ -446,8 +480,9 @@ class Portable:
     def fresh(self) -> bool:
         """Fresh memory with other bytes. Answers whether nothing was found."""
         patterns = [Choices(heap=it, stack=it) for it in PATTERNS]
-        self.trials.run_all(patterns)
-        for choices in patterns:
+        self.is_rare = self.is_silent or self.rare in self.trials.roomless or self.ends_otherwise(self.rare)
+        self.trials.run_all(patterns if self.is_rare else patterns[:1])
+        for choices in patterns if self.is_rare else patterns[:1]:
             other = self.other(choices, self.is_silent)
             heap = other and self.other(choices._replace(stack=0), self.is_silent)
             if heap is not None:
@@ -457,29 +492,33 @@ class Portable:
             if other is not None:
                 return False
         for value in VALUES if self.subject.options.sources else ():
-            options = ["-Wuninitialized", "-Wmaybe-uninitialized", f"-ftrivial-auto-var-init={value}"]
-            trials, said = built(self.subject, self.trials.ticks, *options)
-            trials.room = self.trials.room
+            trials, said = self.builds.get(self.trials.ticks, *options_for(value))
+            trials.room = trials.room and self.trials.room
             ending = trials.run(Choices())
             if ending != self.ended:
                 self.find(self.findings().stack(trials, Choices(), parted(self.ended, ending), said, value))
                 return False
         self.verdict.tried.append(f"fresh memory in {len(PATTERNS)} patterns")
-        self.note_variables(*patterns)
+        self.note_variables(*(patterns if self.is_rare else patterns[:1]))
         return True
 
     def other_nodes(self) -> None:
         """The program on one node less and one more, for information."""
         told = []
-        for nodes in (it for it in (self.trials.nodes - 1, self.trials.nodes + 1) if 1 <= it <= MOST_NODES):
+        for nodes, done in self.on_other_nodes:
             try:
-                ending = self.subject.run(nodes, self.trials.limit)
+                ending = ending_of(done, self.subject.mark)
             except Refused:
                 continue
             if MORE_NODES not in ending.output:
                 output = "the same output" if ending.output == self.ended.output else "another output"
                 told.append(f"on {counted(nodes, 'node')} {output if ending.outcome == 'ended' else ending.outcome}")
         self.verdict.notes += [f"for information: {', '.join(told)}"] if told else []
+
+
+def options_for(value: str) -> list[str]:
+    """The options of a build in which GCC gives variables of functions these values."""
+    return ["-Wuninitialized", "-Wmaybe-uninitialized", f"-ftrivial-auto-var-init={value}"]
 
 
 def exposed_in(step: Superstep) -> Iterator[tuple[frozenset[int], Exposed, Logged, Logged]]:
@@ -494,12 +533,36 @@ def exposed_in(step: Superstep) -> Iterator[tuple[frozenset[int], Exposed, Logge
         yield pair, it, calls[it.reader], calls[it.writer]
 
 
-def built(subject: Subject, ticks: int, *options: str, is_told: bool = True) -> tuple[Trials, list[str]]:
-    """A build of a program in C that takes choices, and what was said of it."""
-    target = subject.folder / "portable.elf"
-    said = compiled(subject.options, target, "--portable", *options, is_told=is_told)
-    content = with_records(content_of(target, MOST_PROGRAM), subject.mark)
-    return Trials(subject, content, read_elf(content), ticks), said
+class Builds:
+    """Builds of a program in C, which are made beside one another and beside runs."""
+
+    def __init__(self, subject: Subject) -> None:
+        self.subject, self.pool = subject, concurrent.futures.ThreadPoolExecutor(MOST_BUILDS)
+        self.made: dict[tuple[str, ...], concurrent.futures.Future[tuple[bytes, list[str]]]] = {}
+
+    def __enter__(self) -> Builds:
+        return self
+
+    def __exit__(self, *_: object) -> None:
+        for it in self.made.values():
+            it.cancel()
+        self.pool.shutdown()
+
+    def begin(self, *options: str) -> concurrent.futures.Future[tuple[bytes, list[str]]]:
+        """Begins a build with these options."""
+        if options not in self.made:
+            target = self.subject.folder / f"portable{len(self.made)}.elf"
+            self.made[options] = self.pool.submit(self._build, target, options)
+        return self.made[options]
+
+    def get(self, ticks: int, *options: str) -> tuple[Trials, list[str]]:
+        """A build that takes choices, and what was said of it."""
+        content, said = self.begin(*options).result()
+        return Trials(self.subject, content, read_elf(content), ticks), said
+
+    def _build(self, target: pathlib.Path, options: tuple[str, ...]) -> tuple[bytes, list[str]]:
+        said = compiled(self.subject.options, target, "--portable", *options, is_told=not options)
+        return with_records(content_of(target, MOST_PROGRAM), self.subject.mark), said
 
 
 def with_records(content: bytes, mark: bytes) -> bytes:
@@ -515,17 +578,21 @@ def verdict(job: Job, folder: pathlib.Path) -> Verdict | None:
     image = folder / "plain.elf"
     image.write_bytes(content)
     subject = Subject(options, job.program, read_elf(content), [str(image), *job.settings[1:]], folder, mark)
-    ended = subject.run(options.nodes, options.limit)
-    if ended.outcome != "ended" and OWN_STATUS not in ended.output:
-        return None
-    trials = built(subject, ended.ticks)[0] if options.sources else Trials(subject, content, subject.code, ended.ticks)
-    accepted = Accepted(options.accept, options.accept_all)
-    portable = Portable(subject, trials, ended, accepted)
-    portable.look()
-    portable.other_nodes()
-    show("")
-    accepted.write()
-    return portable.verdict
+    with Builds(subject) as builds:
+        if options.sources:
+            builds.begin()
+        show("bsprun: looking for contested bytes")
+        file = folder / "contested.csv"
+        ended = subject.run(file)
+        if ended.outcome != "ended" and OWN_STATUS not in ended.output:
+            return None
+        trials = builds.get(ended.ticks)[0] if options.sources else Trials(subject, content, subject.code, ended.ticks)
+        accepted = Accepted(options.accept, options.accept_all)
+        portable = Portable(builds, trials, ended, contested_bytes.read(file, trials.nodes, ended.last), accepted)
+        portable.look()
+        show("")
+        accepted.write()
+        return portable.verdict
 
 
 def is_portable(job: Job, folder: pathlib.Path) -> bool:

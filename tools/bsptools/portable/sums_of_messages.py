@@ -5,6 +5,7 @@ The sum of numbers with a point depends on their order. A few orders by chance m
 
 from __future__ import annotations
 
+import itertools
 import math
 import struct
 from collections.abc import Iterator, Sequence
@@ -12,63 +13,86 @@ from typing import List, NamedTuple, Tuple
 
 from ..framed.environment_calls import SEND
 from ..prepare.library_choices import NUMBERED, WORD, Choices, swaps
-from .call_log import Superstep
+from .call_log import CALL, Superstep
 
 # How many queues are looked at, of how many messages each, and how many orders of them are tried here.
-MOST_QUEUES, MOST_MESSAGES, MOST_ORDERS = 64, 256, 32
-# What is a number with a point and what is something else is told by its size.
+MOST_QUEUES, MOST_MESSAGES, MOST_ORDERS = 16, 256, 32
+# What is a number with a point is told from something else by its size.
 LEAST, MOST = 1e-30, 1e30
-DOUBLE = struct.calcsize("<d")
+SINGLE, DOUBLE = struct.Struct("<f"), struct.Struct("<d")
+WORDS = struct.Struct("<Ii")
 
 
 class Queue(NamedTuple):
-    """The numbers of a rank's messages in a superstep, as they come here."""
+    """The numbers of a rank's messages in a superstep, as they come here, and whether they are of 32 bits."""
 
     superstep: int
     rank: int
     numbers: Tuple[float, ...]
+    is_single: bool
 
     def sum_in(self, choices: Choices) -> float:
         """Their sum in an order."""
         order = list(self.numbers)
         for one, other in swaps(choices, self.superstep, self.rank, len(order)):
             order[one], order[other] = order[other], order[one]
-        return sum_of(order)
+        return sum_of(order, self.is_single)
 
 
-def sum_of(numbers: Sequence[float]) -> float:
+def sum_of(numbers: Sequence[float], is_single: bool) -> float:
     """The sum, rounded after each number. Python's own may be another one."""
     total = 0.0
     for it in numbers:
-        total += it
+        total = rounded(total + it) if is_single else total + it
     return total
 
 
+def rounded(number: float) -> float:
+    """The nearest number of 32 bits, or infinity where there is none."""
+    try:
+        return float(SINGLE.unpack(SINGLE.pack(number))[0])
+    except OverflowError:
+        return math.inf
+
+
+def number_of(nbytes: int, low: int, high: int) -> float:
+    """The number at the end of a message of so many bytes, by the words that the library tells; not one, where it is likely none."""
+    stored = WORDS.pack(low, high)
+    number = DOUBLE.unpack(stored)[0] if nbytes >= DOUBLE.size else SINGLE.unpack(stored[:4])[0] if nbytes == SINGLE.size else math.nan
+    return float(number) if number == 0 or LEAST < abs(number) < MOST else math.nan
+
+
 def queues(steps: Sequence[Superstep]) -> Iterator[Queue]:
-    """The queues of messages that have a number with a point at their end each."""
+    """The queues of messages each of which has a number with a point at its end. A superstep is left out in which the first message of a rank
+    has none."""
     for superstep, step in enumerate(steps):
-        if SEND not in step.numbers:
+        if SEND not in step.numbers or not all(map(begins_with_number, step.records.values())):
             continue
-        found: dict[int, List[float]] = {}
+        found: dict[int, List[Tuple[int, float]]] = {}
         for it in step.all():
             if it.number == SEND:
-                number = struct.unpack("<d", struct.pack("<Ii", it.dst, it.offset))[0] if it.nbytes >= DOUBLE else math.nan
-                found.setdefault(it.pid, []).append(number)
-        for rank, numbers in sorted(found.items()):
-            if 2 < len(numbers) <= MOST_MESSAGES and all(it == 0 or LEAST < abs(it) < MOST for it in numbers):
-                yield Queue(superstep + 1, rank, tuple(numbers))
+                found.setdefault(it.pid, []).append((it.nbytes, number_of(it.nbytes, it.dst, it.offset)))
+        for rank, messages in sorted(found.items()):
+            sizes, numbers = {size for size, _ in messages}, tuple(number for _, number in messages)
+            if 2 < len(numbers) <= MOST_MESSAGES and len(sizes) == 1 and not any(map(math.isnan, numbers)):
+                yield Queue(superstep + 1, rank, numbers, SINGLE.size in sizes)
+
+
+def begins_with_number(content: bytes) -> bool:
+    """Whether the first message of a rank's calls has a number, or there is none."""
+    it = next((it for it in CALL.iter_unpack(content) if it[0] == SEND), None)
+    return it is None or not math.isnan(number_of(it[6], it[4], it[5]))
 
 
 def orders_of_sums(steps: Sequence[Superstep], most: int) -> List[Choices]:
     """Orders in which some of these sums are others than here, those first in which most are."""
-    found = [it for _, it in zip(range(MOST_QUEUES), queues(steps))]
-    here = [sum_of(it.numbers) for it in found]
+    found = list(itertools.islice(queues(steps), MOST_QUEUES))
+    here = [sum_of(it.numbers, it.is_single) for it in found]
     counts: List[Tuple[int, int]] = []
     number = 1
     for _ in range(MOST_ORDERS if found else 0):
         number = number * 1664525 + 1013904223 & WORD
-        choices = Choices(order=NUMBERED, seed=number)
-        count = sum(it.sum_in(choices) != one for it, one in zip(found, here))
+        count = sum(it.sum_in(Choices(order=NUMBERED, seed=number)) != one for it, one in zip(found, here))
         counts.append((-count, number))
         if count == len(found):
             break

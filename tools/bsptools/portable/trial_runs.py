@@ -16,7 +16,7 @@ from ..limits import MOST_POINTS, MOST_TICKS
 from ..outputs import contested_bytes, output_records, report
 from ..outputs.output_demux import OUTPUT, Marks
 from ..outputs.written_files import Files
-from ..prepare.library_choices import WORD, Choices, Point, image_with
+from ..prepare.library_choices import WORD, Choices, Cut, Point, image_with
 from ..program.code import Code
 from ..refusals import Refused, lines_of, show
 from .call_log import CALLS, Superstep, supersteps
@@ -24,7 +24,9 @@ from .call_log import CALLS, Superstep, supersteps
 # Bytes above the program's memory, where messages and calls are kept, and what the library says where they are too few.
 ROOM = 1 << 22
 NO_ROOM = b": there is no room for what bsprun --portable keeps\n"
-# What stands in front of the records of a run that is logged, where its program writes no others. No text has such bytes.
+# The kind of the record with a sum over a rank's variables.
+SUM = ord("v")
+# What stands in front of the records of a run, where its program writes no others. No text has such bytes.
 LOG_MARK = b"\0bsprun\5\0\1\2\3\4\5\6"
 # How many more instructions a run under choices may make, and how many times as many.
 MORE_TICKS, TIMES = 100_000_000, 20
@@ -39,13 +41,14 @@ class NoRoom(Exception):
 @dataclass(frozen=True)
 class Ending:
     """What a run wrote, and how it ended; files are there where --out has the program write them, each with its rank and its name. Its last
-    superstep, and the sum of all w, are no part of what is compared."""
+    superstep, the sum of all w, and sums of ranks over their variables, are no part of what is compared."""
 
     output: bytes
     outcome: str
     files: tuple[tuple[int, bytes, bytes], ...]
     last: int = field(compare=False)
     ticks: int = field(compare=False)
+    sums: tuple[tuple[int, bytes], ...] = field(compare=False, default=())
 
 
 class Subject(NamedTuple):
@@ -64,39 +67,41 @@ class Subject(NamedTuple):
         """What stands before the records of a run that is logged."""
         return self.mark or LOG_MARK
 
-    def run(self, nodes: int, limit: int) -> Ending:
-        """The program as it is, on some number of nodes and with another limit."""
+    def run(self, file: pathlib.Path) -> Ending:
+        """The program as it is, which writes what is contested into a file."""
+        workers = ["--workers", str(self.options.workers)]
+        command = [*self.program, "run", *self.settings, *workers, "--report", "--contested", str(file)]
+        return ending_of(emulator.run(command), self.mark)
+
+    def command(self, nodes: int, limit: int) -> list[str]:
+        """What runs the program as it is, on some number of nodes and with another limit."""
         settings = list(self.settings)
         settings[settings.index("--nodes") + 1] = str(nodes)
         settings[settings.index("--limit") + 1] = str(limit)
-        return ending_of(emulator.run([*self.program, "run", *settings, "--report"]), self.mark)
+        return [*self.program, "run", *settings, "--report"]
 
 
 def ending_of(done: subprocess.CompletedProcess[bytes], mark: bytes) -> Ending:
-    """What a run with a report came to."""
+    """What a run with a report came to: its output without the records, the files and the sums that these tell of."""
     found = report.brief(done.stdout)
     if found is None:
         raise Refused("the program could not be run once more", *lines_of(done.stderr))
-    output, written = with_files(bytes(found.output), mark)
-    return Ending(output, found.outcome, written, found.last, found.work)
-
-
-def with_files(content: bytes, mark: bytes) -> tuple[bytes, tuple[tuple[int, bytes, bytes], ...]]:
-    """The output of a run without its records, and the files that these tell of."""
-    marks, written, output = Marks(mark), Files(), bytearray()
-    for kind, piece in marks.take(content):
-        record = output_records.record_of(kind, piece) if kind != OUTPUT else None
+    marks, written, output, sums = Marks(mark), Files(), bytearray(), {}
+    for kind, piece in marks.take(bytes(found.output)):
         if kind == OUTPUT:
             output += piece
-        elif record is not None and kind not in (output_records.NOTE, CALLS):
-            written.take(record)
+        elif kind not in (output_records.NOTE, CALLS) and (record := output_records.record_of(kind, piece)) is not None:
+            if kind == SUM:
+                sums[record.rank] = record.content
+            else:
+                written.take(record)
     files = tuple((it.rank, it.name, bytes(it.content)) for it in written.files.values())
-    return bytes(output + marks.left()), files
+    return Ending(bytes(output + marks.left()), found.outcome, files, found.last, found.work, tuple(sorted(sums.items())))
 
 
 def with_log(content: bytes, mark: bytes, writes_files: bool) -> bytes:
-    """An image that writes records of its calls behind this mark."""
-    flags = output_records.RECORDS | (output_records.WRITES_FILES if writes_files else 0)
+    """An image that tells of itself behind this mark, and has no other records but where it writes files."""
+    flags = output_records.RECORDS | output_records.WRITES_FILES if writes_files else 0
     return output_records.settings_in(content, flags, 0, mark)
 
 
@@ -121,6 +126,11 @@ class Trials:
         self.room = ROOM if code.need <= self.memory else 0
         self.known: dict[Choices, Ending] = {}
         self.contested: dict[Choices, contested_bytes.Found] = {}
+        self.logs: dict[Choices, list[Superstep]] = {}
+        # The runs that found no room for what is kept.
+        self.roomless: set[Choices] = set()
+        # Where the variables lie of which sums are told.
+        self.summed: tuple[Cut, ...] = ()
         self.images = 0
 
     @property
@@ -133,12 +143,14 @@ class Trials:
         """The most instructions of a node: a run under choices that goes on and on has an end."""
         return min(TIMES * self.ticks + MORE_TICKS, MOST_TICKS)
 
-    def _settings_for(self, choices: Choices) -> list[str]:
-        """The settings of a run, of which the image is written."""
+    def _settings_for(self, choices: Choices, is_told: bool) -> list[str]:
+        """The settings of a run, of which the image is written. It has records, unless it is one of the debugger, which parts none."""
         image = self.subject.folder / f"chosen{self.images}.elf"
         self.images += 1
+        if is_told and not choices.cuts:
+            choices = choices._replace(is_summed=bool(self.summed), cuts=self.summed)
         content = image_with(self.content, self.with_memory(choices))
-        image.write_bytes(with_log(content, self.subject.log_mark, bool(self.subject.mark)) if choices.is_logged else content)
+        image.write_bytes(with_log(content, self.subject.log_mark, bool(self.subject.mark)) if is_told else content)
         settings = [str(image), *self.subject.settings[1:]]
         settings[settings.index("--memory") + 1] = str(min(self.subject.options.memory + self.room, self.most_memory))
         settings[settings.index("--limit") + 1] = str(self.limit)
@@ -151,7 +163,10 @@ class Trials:
     def go_without_room(self) -> None:
         """Leaves messages and calls to the machine, which has room for them."""
         self.room = 0
+        self.roomless.clear()
         self.known.clear()
+        self.contested.clear()
+        self.logs.clear()
 
     def run(self, choices: Choices) -> Ending:
         """What a run comes to."""
@@ -159,40 +174,53 @@ class Trials:
 
     def run_all(self, tried: Sequence[Choices], is_contested: bool = False) -> list[Ending]:
         """What runs come to, which are made side by side; also what is contested in each, if that is asked for."""
-        left = [it for it in dict.fromkeys(tried) if it not in self.known or (is_contested and it not in self.contested)]
-        if left:
-            show("bsprun: trying other choices")
-        files = [self.subject.folder / f"contested{at}.csv" for at in range(len(left))]
-        commands = [self._command(it, file if is_contested else None) for it, file in zip(left, files)]
-        for it, file, done in zip(left, files, emulator.run_all(commands) if left else []):
-            ending = ending_of(done, self.subject.log_mark if it.is_logged else self.subject.mark)
-            if NO_ROOM in ending.output and ending.outcome != "ended":
-                raise NoRoom
-            self.known[it] = ending
-            if is_contested:
-                self.contested[it] = contested_bytes.read(file, self.nodes, ending.last)
+        self.begin_all(tried, is_contested)
+        if not self.roomless.isdisjoint(tried):
+            raise NoRoom
         return [self.known[it] for it in tried]
+
+    def begin_all(
+        self, tried: Sequence[Choices], is_contested: bool = False, logged: Sequence[Choices] = (), beside: Sequence[list[str]] = ()
+    ) -> list[subprocess.CompletedProcess[bytes]]:
+        """Makes those of these runs that are not known, side by side, and answers what other commands come to that are made beside them. Some
+        are logged."""
+        left = [it for it in dict.fromkeys(tried) if it not in self.roomless and self.lacks(it, is_contested, it in logged)]
+        if left or beside:
+            show("bsprun: trying other choices")
+        files = [self.subject.folder / f"contested{at}.csv" if is_contested else None for at in range(len(left))]
+        commands = [self._command(it._replace(is_logged=it in logged), file) for it, file in zip(left, files)]
+        done = emulator.run_all([*commands, *beside]) if left or beside else []
+        for it, file, one in zip(left, files, done):
+            ending = ending_of(one, self.subject.log_mark)
+            if NO_ROOM in ending.output and ending.outcome != "ended":
+                self.roomless.add(it)
+                continue
+            self.known[it] = ending
+            if it in logged:
+                self.logs[it] = supersteps(one.stdout, self.subject.log_mark, ending.last)
+            if file is not None:
+                self.contested[it] = contested_bytes.read(file, self.nodes, ending.last)
+        return done[len(left) :]
+
+    def lacks(self, choices: Choices, is_contested: bool, is_logged: bool) -> bool:
+        """Whether something is not known of a run."""
+        return choices not in self.known or (is_contested and choices not in self.contested) or (is_logged and choices not in self.logs)
 
     def _command(self, choices: Choices, file: pathlib.Path | None) -> list[str]:
         workers = ["--workers", str(self.subject.options.workers)]
         more = ["--contested", str(file)] if file is not None else []
-        return [*self.subject.program, "run", *self._settings_for(choices), *workers, "--report", *more]
+        return [*self.subject.program, "run", *self._settings_for(choices, is_told=True), *workers, "--report", *more]
 
     def log(self, choices: Choices) -> list[Superstep]:
         """The calls of a run."""
-        return self.log_all([choices])[0]
-
-    def log_all(self, tried: Sequence[Choices]) -> list[list[Superstep]]:
-        """The calls of runs, which are made side by side."""
-        found = []
-        for done in emulator.run_all([self._command(it._replace(is_logged=True), None) for it in tried]):
-            said = report.brief(done.stdout)
-            found.append(supersteps(done.stdout, self.subject.log_mark, said.last if said is not None else -1))
-        return found
+        self.begin_all([choices], logged=[choices])
+        if choices in self.roomless:
+            raise NoRoom
+        return self.logs[choices]
 
     def replays(self, choices: Choices) -> Replays:
         """The same run in the debugger, up to the next one that is asked for."""
-        return Replays([*self.subject.program, "debug", *self._settings_for(choices)], self.subject.options.memory)
+        return Replays([*self.subject.program, "debug", *self._settings_for(choices, is_told=False)], self.subject.options.memory)
 
     def first(self, choices: Choices, is_other: Callable[[Choices], bool]) -> Choices:
         """The same choices up to the first that, with those before it, makes the run come to something else; `until` is that point."""

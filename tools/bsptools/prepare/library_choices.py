@@ -62,7 +62,8 @@ class Choices(NamedTuple):
     """What is chosen at each point before `until`. `memory` is the bytes of a node's memory that are the program's; `heap` and `stack` are
     each byte of fresh memory, and `queue` each byte of what bsp_hpmove gave out, once the next bsp_sync is over, or 0 for what is there. A
     run that is logged tells its calls in records. One that is moved has stack and heap elsewhere on each rank. In one that is alone, ranks
-    above 0 have at bsp_begin the variables of the start: those that `cuts` has by their addresses."""
+    above 0 have at bsp_begin the variables of the start: those that `cuts` has by their addresses. One that is summed tells a sum over
+    these at bsp_end."""
 
     memory: int = 0
     order: int = AS_SENT
@@ -74,6 +75,7 @@ class Choices(NamedTuple):
     is_logged: bool = False
     is_moved: bool = False
     is_alone: bool = False
+    is_summed: bool = False
     until: Point = EVERYWHERE
     cuts: Tuple[Cut, ...] = ()
     ranges: Tuple[Range, ...] = ()

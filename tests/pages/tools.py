@@ -57,7 +57,7 @@ TOOLS: List[Want] = [
     Want("xz-utils", r"tests/halfwords/make", functools.partial(on_path, "xz")),
     Want(GDB.package, r"\./bspgdb\b", GDB.is_here),
     Want(PYELFTOOLS.package, r"\./bsprun\b", PYELFTOOLS.is_here),
-    Want("matplotlib", r"\./bspplot\b", lambda: matplotlib_version() is not None),
+    Want("matplotlib", r"\./bspplot\b|bench/large --draw", lambda: matplotlib_version() is not None),
     Want("objdump", r"\bobjdump ", functools.partial(on_path, "objdump")),
 ]
 

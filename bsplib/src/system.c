@@ -340,14 +340,8 @@ __attribute__((noreturn)) void _exit(int status)
         machine_call_0(CALL_END);
 }
 
-/* What abort and raise of a C library ask for. */
+/* What a C library asks for. */
 __attribute__((weak)) int getpid(void)
 {
     return 1;
-}
-
-__attribute__((weak)) int kill(int process, int signal)
-{
-    (void)process;
-    bsp_stop_with("the program was stopped by signal ", signal, "");
 }

@@ -25,6 +25,7 @@ struct sockaddr_in {
 #define INADDR_ANY ((in_addr_t)0)
 #define INADDR_LOOPBACK ((in_addr_t)0x7f000001)
 #define INADDR_NONE ((in_addr_t)-1)
+#define INET_ADDRSTRLEN 16
 enum { IPPROTO_IP = 0, IPPROTO_TCP = 6, IPPROTO_UDP = 17 };
 static inline uint16_t htons(uint16_t number) { return __builtin_bswap16(number); }
 static inline uint16_t ntohs(uint16_t number) { return __builtin_bswap16(number); }

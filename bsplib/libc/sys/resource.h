@@ -15,6 +15,19 @@ extern "C" {
 
 int getrusage(int, struct rusage *);
 
+/* Limits, of which none is set. */
+typedef unsigned long rlim_t;
+struct rlimit {
+    rlim_t rlim_cur, rlim_max;
+};
+#define RLIM_INFINITY (~(rlim_t)0)
+enum { RLIMIT_CPU, RLIMIT_FSIZE, RLIMIT_DATA, RLIMIT_STACK, RLIMIT_CORE, RLIMIT_NOFILE = 7, RLIMIT_AS = 9 };
+enum { PRIO_PROCESS, PRIO_PGRP, PRIO_USER };
+int getrlimit(int which, struct rlimit *to);
+int setrlimit(int which, const struct rlimit *limit);
+int getpriority(int which, id_t who);
+int setpriority(int which, id_t who, int priority);
+
 #ifdef __cplusplus
 }
 #endif

@@ -31,7 +31,7 @@ class Written:
     def parts(self) -> tuple[str, ...]:
         """The names of the folders that lead to it, and its own, below the folder where files go. Nothing where it would not be below that, or
         has no name that a file can have."""
-        first, *names = os.fsdecode(self.name).split("/")
+        first, *names = below_here(os.fsdecode(self.name)).split("/")
         found: list[str] = []
         for name in (first, *names):
             if name == ".." and not found:
@@ -104,7 +104,7 @@ class Files:
         for it in self.files.values():
             others = found.setdefault(it.parts, [])
             if not it.parts:
-                lines.append(f"{file_name(it.name)} was not written: it is no name of a file below {folder}, where files go")
+                lines.append(f"{file_name(it.name)} was not written: its name leads out of {folder}, where files go: give it a name without / in front")
             elif any(other.rank == it.rank for other in others):
                 lines.append(f"{file_name(it.name)} was not written: rank {it.rank} wrote {file_name(others[0].name)}, which is the same file")
             else:
@@ -124,6 +124,14 @@ class Files:
         if not self.is_whole:
             lines.append(f"not all was written: {MOST_FILES} files and {MOST_WRITTEN} bytes are the most of a run")
         return lines[:MOST_LINES] + ([f"and {len(lines) - MOST_LINES} more such lines"] if len(lines) > MOST_LINES else [])
+
+
+def below_here(name: str) -> str:
+    """A path from / on as one from the current folder on, if it leads there."""
+    with contextlib.suppress(OSError):
+        here = os.path.join(os.getcwd(), "")
+        return name[len(here) :] if name.startswith(here) else name
+    return name
 
 
 def file_name(name: bytes) -> str:

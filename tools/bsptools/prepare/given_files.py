@@ -22,13 +22,21 @@ def given_files(options: argparse.Namespace) -> list[tuple[bytes, bytes]]:
         content = content_of(name, most)
         size += len(content)
         expect_fits(size, most)
-        found.append((os.fsencode(name), content))
+        found.append((os.fsencode(told_names(options).get(name, name)), content))
     for word in dict.fromkeys(options.args):
         if word not in names and os.path.isfile(word) and size + os.path.getsize(word) <= most:
             content = content_of(word, most)
             size += len(content)
             found.append((os.fsencode(word), content))
     return found
+
+
+def told_names(options: argparse.Namespace) -> dict[str, str]:
+    """The name by which a program knows each file that the user has given, by the file's path: the last part alone, so that the program may name
+    it in any folder. Files with the same last part keep their paths."""
+    paths = dict.fromkeys([*options.file, *(it for folder in options.files for it in files_of(folder))])
+    last = [os.path.basename(it) for it in paths]
+    return {it: name if last.count(name) == 1 else it for it, name in zip(paths, last)}
 
 
 def expect_fits(size: int, most: int) -> None:

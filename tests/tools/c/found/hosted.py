@@ -64,6 +64,10 @@ SPECIAL: Dict[str, Program] = {
 }
 
 
+# Programs that are not built, and what is said of that.
+REFUSED: Dict[str, str] = {"prime128": "bspcc: GCC has __int128 for processors of 64 bits alone, and nodes have 32: use uint64_t, or two of them"}
+
+
 def sources() -> List[pathlib.Path]:
     """The programs."""
     return sorted(it for it in HERE.iterdir() if it.suffix in (".c", ".cpp"))
@@ -93,6 +97,10 @@ class Hosted:
             shutil.copy(HERE / name, self.folder / name)
         standard = [f"-std={program.standard}"] if source.suffix == ".cpp" else []
         words = [str(REPO / "bsprun"), "--no-check", "-n", str(program.nodes), *standard, source.name, *program.arguments]
+        if source.stem in REFUSED:
+            refusal = forked.run(words, "", self.folder)
+            self.tally.expect(f"as on the host, {source.name}", refusal.returncode == 1 and REFUSED[source.stem] in refusal.stderr, refusal)
+            return
         done = forked.run(words, (HERE / given).read_text() if given else "", self.folder)
         found = done.stdout.encode()
         for name in program.outputs:

@@ -236,7 +236,7 @@ class Telling:
         (self.folder / "linked/a").symlink_to("../theirs")
         names = ["/outside", "..", "../outside", "a/../../outside", "a/", ".", ""]
         for name in names:
-            self.expect(f"a file by the name {name}", self.run("--out", "p", "over.elf", name), 1, f"{name} was not written: it is no name of a file below p")
+            self.expect(f"a file by the name {name}", self.run("--out", "p", "over.elf", name), 1, f"{name} was not written: its name leads out of p, where files go: give it a name without / in front")
         done = self.run("--out", "p", "over.elf", "a/x", "b/x", "./c", "a/../d")
         found = {str(it.relative_to(self.folder / "p")): it.read_text() for it in (self.folder / "p").rglob("*") if it.is_file()}
         self.expect("files of one last name", done, 0)

@@ -9,13 +9,14 @@
 static int by_text(const void *a, const void *b) { return strcmp(a, b); }
 static int by_key(const void *key, const void *item) { return *(const int *)key - *(const int *)item; }
 
-static int leaves, depth_of_all;
+static int nodes, roots;
 static void walk(const void *node, VISIT visit, int depth)
 {
-    if (visit == postorder || visit == leaf)
-        printf("%s%s", *(char *const *)node, visit == leaf ? ", " : "; ");
-    if (visit == leaf)
-        leaves++, depth_of_all += depth > 0;
+    if (visit == postorder || visit == leaf) {
+        printf("%s, ", *(char *const *)node);
+        nodes++;
+        roots += depth == 0;
+    }
 }
 
 int main(void)
@@ -32,7 +33,7 @@ int main(void)
             printf("(%s again) ", *found);
     }
     twalk(root, walk);
-    printf("%d leaves, %d below, %s\n", leaves, depth_of_all, tfind("plum", &root, by_text) ? "with plum" : "no plum");
+    printf("%d nodes, %d root, %s\n", nodes, roots, tfind("plum", &root, by_text) ? "with plum" : "no plum");
     tdelete("plum", &root, by_text);
     printf("%s\n", tfind("plum", &root, by_text) ? "with plum" : "no plum");
     for (int i = 0; i < 12; i++) {

@@ -55,9 +55,12 @@ def tracked() -> List[str]:
 
 
 def units(program: Union[str, pathlib.Path]) -> List[str]:
-    """The option of the emulator for nodes with units of floating point, where a program was compiled for these."""
+    """The options of the emulator for nodes with units of floating point, and with the instructions of A, where a program was compiled for
+    these."""
     content = pathlib.Path(program).read_bytes()
-    return ["--float"] if content.startswith(b"\x7fELF") and elf.wants_floats(content) else []
+    if not content.startswith(b"\x7fELF"):
+        return []
+    return ["--float"] * elf.wants_floats(content) + ["--atomic"] * elf.wants_atomics(content)
 
 
 def on_path(name: str) -> bool:

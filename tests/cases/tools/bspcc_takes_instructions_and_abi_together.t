@@ -22,7 +22,7 @@ Of the instructions and the ABI each says the other one. In the flags of the fil
   $ flags -march=rv32im -mabi=ilp32
       0
 
-The flags that Makefiles have for RISC-V are taken. A is left out of them.
+The flags that Makefiles have for RISC-V are taken, with extension A.
 
   $ flags -march=rv32gc
       5
@@ -45,10 +45,10 @@ libraries.
   bspcc: -march=rv32imfdc goes with -mabi=ilp32d, and not with -mabi=ilp32: leave one of the two out (stderr)
   [1]
   $ flags -march=rv32gcv
-  bspcc: -march=rv32imfdcv has instructions of V, which nodes do not have: give rv32imfdc, or rv32imc for nodes without units of floating point (stderr)
+  bspcc: -march=rv32imafdcv has instructions of V, which nodes do not have: give rv32imfdc, or rv32imc for nodes without units of floating point (stderr)
   [1]
   $ flags -march=rv32i2p1m2p0a2p1v1p0
-  bspcc: -march=rv32i2p1m2p0v1p0 has instructions of V, which nodes do not have: give rv32imfdc, or rv32imc for nodes without units of floating point (stderr)
+  bspcc: -march=rv32i2p1m2p0a2p1v1p0 has instructions of V, which nodes do not have: give rv32imfdc, or rv32imc for nodes without units of floating point (stderr)
   [1]
   $ flags -march=rv32imc_zifencei
   bspcc: GCC has no libraries for -march=rv32imc_zifencei: give rv32imfdc, or rv32imc for nodes without units of floating point (stderr)

@@ -1,5 +1,5 @@
 //! A node of the machine: a hart of RV32IMC with a memory of its own, which makes environment calls by ECALL. It may have a unit of
-//! floating point, and then has the instructions of F and D.
+//! floating point, and then has the instructions of F and D. It may have the instructions of A, and then a reservation.
 //!
 //! The model of a [`Node`] is one record, a `NodeState`, with two notes beside it: whether room is made for the turn of its
 //! registrations, and which pages of its memory are private and not shared with other nodes. The record has the hart (rank, number of
@@ -13,10 +13,12 @@
 //! - Each step of a running node is one tick, also where it ends in a fault. It executes the instruction at pc, or else
 //!   it ends in the first fault of this order: `Misaligned` where pc is odd, `FetchOutside` where the two bytes at
 //!   pc do not lie in the memory, or the four where the low bits of these two are 11, `IllegalInstruction` where no instruction
-//!   has that code, or one of floating point and the node has no unit, and then the instruction's own. Then pc is past the instruction's 2
-//!   or 4 bytes, or where a jump goes.
+//!   has that code, or one of floating point and the node has no unit, or one of A and the node has none of these, and then the
+//!   instruction's own. Then pc is past the instruction's 2 or 4 bytes, or where a jump goes.
 //! - [`Node::set_unit`] gives a node a unit of floating point. What its instructions do to it is what `float_unit` says; loads and stores
 //!   of its registers are as others. Nothing else changes it, and no step gives a node a unit or takes it away.
+//! - [`Node::set_atomics`] gives a node the instructions of A. LR reserves a word, SC stores where its word is reserved, and each SC and
+//!   each environment call on which the node goes on invalidates the reservation. Their addresses are aligned, else they are `Misaligned`.
 //! - A fault leaves the hart as it was, pc too: only state and ticks differ. No jump is a fault. Loads and stores work at any
 //!   address, with the least significant byte first.
 //! - A node that has made its last tick and still runs is [`Exhausted`](State::Exhausted); one that stops by that very
@@ -77,7 +79,7 @@
 //! Any other number is `UnknownCall`, and so is 19 on a node without a clock. Where two stores of one call overlap, the later named lands
 //! over the earlier.
 //!
-//! Sources: The RISC-V Instruction Set Manual, Volume I: Unprivileged ISA, 20191213, chapters 2, 3, 7, 9, 11, 12 and 16, for
+//! Sources: The RISC-V Instruction Set Manual, Volume I: Unprivileged ISA, 20191213, chapters 2, 3, 7, 8, 9, 11, 12 and 16, for
 //! the instructions; BSPlib (Hill and others, 1998) for the calls but `write` and `read`; `abort` stops its own node alone, and
 //! `hpput` and `hpget` are `put` and `get`. Own rules for faults, ticks, output, input, limits and the numbers of the calls.
 #![tactic(auto)]

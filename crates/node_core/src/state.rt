@@ -5,12 +5,12 @@ use std::fmt;
 /// Why a node was stopped by its own program (own rules).
 #[derive(Clone, Copy, Debug, PartialEq, Eq)]
 pub enum Fault {
-    /// The code at pc is that of no instruction, or of one of floating point and the node has no unit for it; or an instruction asks for
-    /// the rounding mode in frm, and that is none.
+    /// The code at pc is that of no instruction, or of one of floating point and the node has no unit for it, or of one of A and the node
+    /// has none of these; or an instruction asks for the rounding mode in frm, and that is none.
     IllegalInstruction,
     /// The two bytes at pc, or the four where their low bits are 11, are not all in memory.
     FetchOutside,
-    /// pc is odd.
+    /// pc is odd, or the address of an instruction of A is no multiple of 4.
     Misaligned,
     /// A load reaches past the memory, also one into x0.
     LoadOutside,

@@ -37,11 +37,7 @@ impl<A: Allocator + Copy> Hart<A> {
     }
 
     /// Executes an instruction of `size` bytes, where the hart has the instructions of A.
-    fn execute_on_reservation(
-        &mut self,
-        instr: AtomicInstr,
-        size: u32,
-    ) -> Result<State, AllocError>
+    fn execute_on_reservation(&mut self, instr: AtomicInstr, size: u32) -> Result<State, AllocError>
         requires { IsEncodable instr }
         ensures ok { IfOk result (λ state.
             Atomics.on_reservation self.old.hart.reservation (λ r. Atomics.atomic_effect_of instr r size self.old.hart) self.old.hart
@@ -66,7 +62,13 @@ impl<A: Allocator + Copy> Hart<A> {
                 let (addr, value) = (self.reg(rs1), self.reg(rs2));
                 self.store_conditional(rd, value, addr, reservation, size)
             }
-            AtomicInstr::Amo { op, rd, rs1, rs2, .. } => {
+            AtomicInstr::Amo {
+                op,
+                rd,
+                rs1,
+                rs2,
+                ..
+            } => {
                 let (addr, operand) = (self.reg(rs1), self.reg(rs2));
                 self.amo(op, rd, operand, addr, size)
             }
@@ -81,7 +83,7 @@ impl<A: Allocator + Copy> Hart<A> {
         ensures rest { self.new ≡ record self.old { hart = self.new.hart } }
         ensures communication { self.new.hart.communication ≡ self.old.hart.communication }
     {
-        if addr % 4 != 0 {
+        if !is_aligned(addr) {
             return State::Faulted(Fault::Misaligned);
         }
         match self.memory.plain().load32(addr) {
@@ -113,7 +115,7 @@ impl<A: Allocator + Copy> Hart<A> {
             (IsTrue (Atomics.is_reserved reservation addr) × Atomics.IsStorable addr self.old.hart) }
         ensures shared { OnErr result (Owns self.new.private addr 4 → ⊥) }
     {
-        if addr % 4 != 0 {
+        if !is_aligned(addr) {
             return Ok(State::Faulted(Fault::Misaligned));
         }
         if !self.memory.plain().fits(addr, 4) {
@@ -151,18 +153,26 @@ impl<A: Allocator + Copy> Hart<A> {
         ensures refuses { OnErr result (Atomics.IsStorable addr self.old.hart) }
         ensures shared { OnErr result (Owns self.new.private addr 4 → ⊥) }
     {
-        if addr % 4 != 0 {
+        if !is_aligned(addr) {
             return Ok(State::Faulted(Fault::Misaligned));
         }
         let Some(loaded) = self.memory.plain().load32(addr) else {
             return Ok(State::Faulted(Fault::StoreOutside));
         };
-        match self.memory.store32(addr, amo_value(op, loaded, operand)) {
+        let stored = amo_value(op, loaded, operand);
+        match self.memory.store32(addr, stored) {
             Ok(()) => Ok(self.put(rd, loaded, size)),
             Err(WriteError::Outside) => Ok(State::Faulted(Fault::StoreOutside)),
             Err(WriteError::NoMemory) => Err(AllocError),
         }
     }
+}
+
+/// Whether an address is naturally aligned, of a word.
+fn is_aligned(addr: u32) -> bool
+    ensures { result ≡ Atomics.is_aligned addr }
+{
+    addr % 4 == 0
 }
 
 /// Whether the word at an address is reserved.

@@ -58,7 +58,7 @@ returns-in_err-machine-clause-nothing_written g c =
 pub run_plain_live-requires : goal.run_plain_live-requires
 run_plain_live-requires g c =
     let out = stream g.W.Write.contents c.args.out.now c.args.out.now in
-    λ lifetimes bounds. ap (λ (m : MachineState). m.output) (c.in_ok-machine.ensures.ok out).is
+    ap (λ (m : MachineState). m.output) (c.in_ok-machine.ensures.ok out).is
 
 pub returns-in_err-run_plain_live-clause-err : goal.returns-in_err-run_plain_live-clause-err
 returns-in_err-run_plain_live-clause-err g c =

@@ -26,7 +26,7 @@ loop-machine-init g c = record {
 pub make_plain_superstep-requires-clause-going : goal.make_plain_superstep-requires-clause-going
 make_plain_superstep-requires-clause-going g c =
     let open_yet = ap is_some (sym c.outcome.ensures.value) ∙ c.is_none.ensures ∙ ap not c.loop-machine-test.true in
-    λ lifetimes bounds. none_from c.loop-machine.machine.outcome (λ x is. false≢true (sym open_yet ∙ ap is_some is))
+    none_from c.loop-machine.machine.outcome (λ x is. false≢true (sym open_yet ∙ ap is_some is))
 
 pub returns-in_err-make_plain_superstep-clause-err : goal.returns-in_err-make_plain_superstep-clause-err
 returns-in_err-make_plain_superstep-clause-err g c =

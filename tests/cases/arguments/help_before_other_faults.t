@@ -17,6 +17,7 @@
         --ledger <VERSION>  Version of the ledger: 2, in which h leaves out what a rank moves to itself and m counts messages, or 1, in which h counts it [default: 2]
         --clock             Give each node a clock, which call 19 reads: the cost of the supersteps that are over, and its own ticks in this one
         --float             Give each node a unit of floating point, for the instructions of F and D
+        --atomic            Give each node the instructions of A
         --large             Allow a large machine: up to 65536 nodes, 2147483648 bytes of memory and 1073741824 bytes of input, and more in a superstep
         --report            After the output write the costs of the supersteps, their total and the outcome
         --live              Write each superstep's output as soon as it is over

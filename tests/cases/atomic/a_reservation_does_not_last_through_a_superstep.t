@@ -1,4 +1,4 @@
-Between LR and SC another rank puts into the word. SC finds nothing reserved after the sync, and after each other call.
+Between LR and SC the rank puts into the word, which lands at the sync. Nothing is reserved then: SC fails, and the word is that of the put.
 
   $ cat >put.s <<END
   >         la   s0,cell
@@ -25,4 +25,7 @@ Between LR and SC another rank puts into the word. SC finds nothing reserved aft
   > seven:  .word 7
   > cell:   .word 5
   > END
-  $ printf 'go\nregs 0\n' | bspemu debug put.s --format asm --atomic | grep -o 'x5 [0-9a-f]*\|x7 [0-9a-f]*\|fault.*'
+  $ printf 'go\nregs 0\n' | bspemu debug put.s --format asm --atomic | sed -n '1,2p;4p'
+  rank 0 stopped: fault Break
+  rank 0 pc 00000058 ticks 23 state fault Break
+  x4=00000000 x5=00000001 x6=00000009 x7=00000007

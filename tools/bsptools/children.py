@@ -306,8 +306,8 @@ def place() -> str:
 
 @functools.lru_cache(maxsize=None)
 def _tell_of_place(chosen: str, held: str) -> None:
-    """Says once that the folder for such things that the environment names is not taken."""
-    tell([f"temporary files are in {held}: in {chosen}, as the environment has it, others may rename them"])
+    """Says once that the folder for such things is another one than that of TMPDIR."""
+    tell([f"temporary files are in {held}, since others may rename what is in {chosen}"])
 
 
 @contextlib.contextmanager

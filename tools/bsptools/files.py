@@ -11,6 +11,8 @@ from typing import IO
 
 from .refusals import Refused, Unfit, about
 
+# So many links Linux follows, one after another.
+MOST_LINKS = 40
 GONE = "the folder that this was started in is gone"
 
 
@@ -81,6 +83,7 @@ def replaced(path: str | os.PathLike[str]) -> Iterator[str]:
 
     A link stays, and leads to the new file. What is no ordinary file, as a pipe, is written to as it is.
     """
+    _expect_own_link(path)
     target = os.path.realpath(path)
     if os.path.exists(target) and not os.path.isfile(target):
         yield os.fspath(path)
@@ -91,13 +94,34 @@ def replaced(path: str | os.PathLike[str]) -> Iterator[str]:
     try:
         yield beside
         with about(path):
-            if os.path.exists(target):
-                os.chmod(beside, os.stat(target).st_mode)
+            _keep_mode(target, beside)
             if os.path.getsize(beside) > 0:
                 os.replace(beside, target)
     finally:
         with contextlib.suppress(OSError):
             os.unlink(beside)
+
+
+def _expect_own_link(path: str | os.PathLike[str]) -> None:
+    """Refuses a link that another user has put into a folder for all, as /tmp, and that may lead to a file of this user's. So does Linux where
+    a file is opened, but not where one is replaced."""
+    place = os.fspath(path)
+    for _ in range(MOST_LINKS):
+        folder = os.path.dirname(place) or os.curdir
+        if not os.path.islink(place):
+            return
+        link, above = os.lstat(place), os.stat(folder)
+        if above.st_mode & stat.S_ISVTX and above.st_mode & stat.S_IWOTH and link.st_uid not in (os.geteuid(), above.st_uid):
+            raise Refused(f"{os.fspath(path)} is a link of another user's: give another name")
+        place = os.path.join(folder, os.readlink(place))
+
+
+def _keep_mode(path: str, new: str) -> None:
+    """Gives a new file the rights of the one whose place it takes, if that is this user's too: another one would choose who may write it."""
+    with contextlib.suppress(FileNotFoundError):
+        found = os.stat(path)
+        if found.st_uid == os.geteuid():
+            os.chmod(new, stat.S_IMODE(found.st_mode) & 0o777)
 
 
 def beside_name() -> str:

@@ -158,7 +158,7 @@ def links(tally: Tally, folder: pathlib.Path) -> None:
     there, before = str(bench.folder / "all"), os.getcwd()
     cases: List[Tuple[List[str], List[int]]] = [
         ([stolen, whole], [0]), ([whole, stolen], [1]), ([f"{there}/mine/lab/sum.c", f"{there}/theirs/sum.c"], [0]), ([whole], []),
-        (["mine/lab/sum.c"], [0]), (["all/theirs/sum.c"], []), (["./all/mine/lab/sum.c"], [0]),
+        (["mine/lab/sum.c"], [0]), (["all/theirs/sum.c"], []), (["./all/mine/lab/sum.c"], [0]), ([".", "/", ".."], []),
     ]  # fmt: skip
     os.chdir(bench.folder)
     try:

@@ -70,7 +70,7 @@ def hand_ins(paths: Sequence[str]) -> List[HandIn]:
 def hand_in(path: str, below: int = 0) -> HandIn:
     """A hand-in of a file. What is no ordinary file is none: a link may lead to the solution. So may the last of its folders, of which so many
     are no links."""
-    *folders, name = pathlib.PurePath(path).parts
+    *folders, name = pathlib.PurePath(path).parts or (os.curdir,)
     first = max(len(folders) - below, 0)
     top = pathlib.PurePath(*folders[:first])
     with about(path), contextlib.closing(contextlib.ExitStack()) as opened:

@@ -570,9 +570,9 @@ def with_records(content: bytes, mark: bytes) -> bytes:
     return output_records.settings_in(content, output_records.RECORDS | output_records.WRITES_FILES, 0, mark) if mark else content
 
 
-def verdict(job: Job, folder: pathlib.Path) -> Verdict | None:
+def verdict(job: Job, folder: pathlib.Path, accepted: Accepted | None = None) -> Verdict | None:
     """Tries a program whose run as a job has ended well, and answers what was found and what was tried; nothing where it does not end well by
-    itself."""
+    itself. Pairs of lines that are found are noted among those that are accepted."""
     options, mark = job.options, job.mark if job.options.out is not None else b""
     content = with_records(content_of(folder / "program.elf" if options.sources else options.program, MOST_PROGRAM), mark)
     image = folder / "plain.elf"
@@ -587,19 +587,18 @@ def verdict(job: Job, folder: pathlib.Path) -> Verdict | None:
         if ended.outcome != "ended" and OWN_STATUS not in ended.output:
             return None
         trials = builds.get(ended.ticks)[0] if options.sources else Trials(subject, content, subject.code, ended.ticks)
-        accepted = Accepted(options.accept, options.accept_all)
-        portable = Portable(builds, trials, ended, contested_bytes.read(file, trials.nodes, ended.last), accepted)
+        portable = Portable(builds, trials, ended, contested_bytes.read(file, trials.nodes, ended.last), accepted or Accepted(None, None))
         portable.look()
         show("")
-        accepted.write()
         return portable.verdict
 
 
-def is_portable(job: Job, folder: pathlib.Path) -> bool:
-    """Tells the verdict; answers whether nothing was found."""
-    found = verdict(job, folder)
+def is_portable(job: Job, folder: pathlib.Path, accepted: Accepted) -> bool:
+    """Tells the verdict, and writes the pairs that were found where that is asked for; answers whether nothing was found."""
+    found = verdict(job, folder, accepted)
     if found is None:
         tell(["bsprun: not tried: other choices, since the program by itself does not end well"])
         return True
     tell(found.lines())
+    accepted.write()
     return not found.found

@@ -100,5 +100,6 @@ def headers_of(name: str, made_of: pathlib.Path) -> tuple[str, ...]:
     source, library = os.path.abspath(name), os.path.join(os.path.dirname(os.path.realpath(emulator.program("bspcc"))), "bsplib", "")
     written = content_of(made_of, MOST_PROGRAM).replace(b"\\\n", b" ").partition(b": ")[2]
     paths = [os.fsdecode(ESCAPED.sub(rb"\1\2", it)) for it in DEPENDENCY.findall(written)]
-    own = [it for it in paths if it != source and not os.path.realpath(it).startswith(library)]
+    # GCC does not escape a line feed in a name, of which parts stand there then.
+    own = [it for it in paths if it != source and not os.path.realpath(it).startswith(library) and os.path.isfile(it)]
     return tuple(os.path.join(os.path.dirname(name), os.path.relpath(it, os.path.dirname(source))) for it in own)

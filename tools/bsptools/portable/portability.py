@@ -197,6 +197,13 @@ class Portable:
         """Whether a run has another output or outcome."""
         return self.trials.run(choices) != self.ended
 
+    def changes(self, choices: Choices) -> bool:
+        """The same, or whether there is no room for what such a run keeps."""
+        try:
+            return self.ends_otherwise(choices)
+        except NoRoom:
+            return True
+
     def other(self, choices: Choices, counts_variables: bool) -> Other | None:
         """Whether a run under these choices comes to something else, in its output, its outcome, or its variables where these count."""
         if self.ends_otherwise(choices):
@@ -480,7 +487,7 @@ class Portable:
     def fresh(self) -> bool:
         """Fresh memory with other bytes. Answers whether nothing was found."""
         patterns = [Choices(heap=it, stack=it) for it in PATTERNS]
-        self.is_rare = self.is_silent or self.rare in self.trials.roomless or self.ends_otherwise(self.rare)
+        self.is_rare = self.is_silent or self.changes(self.rare)
         self.trials.run_all(patterns if self.is_rare else patterns[:1])
         for choices in patterns if self.is_rare else patterns[:1]:
             other = self.other(choices, self.is_silent)

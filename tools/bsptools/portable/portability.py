@@ -48,6 +48,8 @@ MOST_SUMS = 2
 # What puts and gets, also where it is not called in the run as it is.
 ASKING = ("__wrap_bsp_put", "__wrap_bsp_get", *CALLS)
 ACCESSES = "accesses of ranks to bytes of unbuffered calls"
+# Over how many bytes of variables a run tells a sum.
+MOST_SUMMED = 1 << 22
 # How many pairs of places are told of each kind.
 MOST_PAIRS = 16
 NOT_LOOKED_FOR = (
@@ -116,7 +118,7 @@ class Portable:
             for value in VALUES:
                 self.builds.begin(*options_for(value))
         nodes = [it for it in (self.trials.nodes - 1, self.trials.nodes + 1) if 1 <= it <= MOST_NODES]
-        if len(self.cuts) < MOST_CUTS:
+        if len(self.cuts) < MOST_CUTS and sum(it.end - it.start for it in self.cuts) <= MOST_SUMMED:
             self.trials.summed = self.cuts
         beside = [self.subject.command(it, self.trials.limit) for it in nodes]
         done = self.trials.begin_all([Choices(), *self.fresh_choices()], logged=[Choices()], beside=beside)
@@ -595,7 +597,9 @@ def verdict(job: Job, folder: pathlib.Path) -> Verdict | None:
             return None
         trials = builds.get(ended.ticks)[0] if options.sources else Trials(subject, content, subject.code, ended.ticks)
         accepted = Accepted(options.accept, options.accept_all)
-        portable = Portable(builds, trials, ended, contested_bytes.read(file, trials.nodes, ended.last), accepted)
+        # Of these the first is told at most. Where there is one, the build that takes choices tells all of them.
+        contested = contested_bytes.read(file, trials.nodes, ended.last, most=1)
+        portable = Portable(builds, trials, ended, contested, accepted)
         portable.look()
         show("")
         accepted.write()

@@ -53,7 +53,8 @@ MOST_SUMMED = 1 << 22
 # How many pairs of places are told of each kind.
 MOST_PAIRS = 16
 NOT_LOOKED_FOR = (
-    "memory behind free", "addresses of variables on other ranks", "what main's own variables have before bsp_begin", "bsp_time", "the order of the ranks' output", "numbers of another size",
+    "memory behind free", "addresses of variables on other ranks", "what main's own variables have before bsp_begin", "bsp_time",
+    "the order of the ranks' output", "numbers of another size",
 )  # fmt: skip
 
 
@@ -370,9 +371,18 @@ class Portable:
         else:
             self.verdict.tried += [name] if tried else []
             self.note_variables(*tried[:3], *(it for it in tried[3:] if it.order == NUMBERED))
+            self.note_sums(tried)
         if asks:
             self.contested_in(tried)
         self.queue()
+
+    def note_sums(self, tried: list[Choices]) -> None:
+        """Tells, as no mistake by itself, of messages whose numbers have another sum in an order that was tried."""
+        found = sums_of_messages.other_sum(self.log, tried)
+        if found is not None:
+            choices, it = found
+            line = f"rank {it.rank} gets {len(it.numbers)} messages in superstep {it.superstep} whose numbers have another sum in another order"
+            self.verdict.notes.append(f"for information: {line}: --order {orders.spelled(choices)}")
 
     def tag_size(self, superstep: int, rank: int) -> int:
         """How many bytes the tags of a rank have in a superstep of the run as it is."""

@@ -658,20 +658,26 @@ static void end_log(void)
     write_log();
 }
 
+typedef unsigned __attribute__((may_alias)) any_word;
+
+static unsigned sum_with(unsigned sum, unsigned more)
+{
+    return (sum ^ more ^ more >> 15) * 16777619u;
+}
+
 /* Tells a sum over the variables, from which it is seen whether two runs end with the same ones. */
 static void tell_sum(void)
 {
     const struct cut *it, *end = bsp_choices.cut + bsp_choices.cuts;
     unsigned sum = 2166136261u;
     for (it = bsp_choices.cut; it < end; it++) {
-        const char *at = (const char *)(size_t)it->from, *last = (const char *)(size_t)it->to;
-        for (; last - at >= 4; at += 4) {
-            unsigned word;
-            memcpy(&word, at, sizeof word);
-            sum = (sum ^ word ^ word >> 15) * 16777619u;
-        }
+        const unsigned char *at = (const unsigned char *)(size_t)it->from, *last = (const unsigned char *)(size_t)it->to;
+        for (; at < last && (size_t)at % sizeof sum != 0; at++)
+            sum = sum_with(sum, *at);
+        for (; last - at >= (int)sizeof sum; at += sizeof sum)
+            sum = sum_with(sum, *(const any_word *)at);
         for (; at < last; at++)
-            sum = (sum ^ (unsigned char)*at) * 16777619u;
+            sum = sum_with(sum, *at);
     }
     tell_record(RECORD_SUM, sum, "", 0);
 }

@@ -61,13 +61,13 @@ class Found(NamedTuple):
         return self.rows[0] if self.rows else None
 
 
-def read(path: str | os.PathLike[str], nodes: int, last: int) -> Found:
-    """What is contested in a run of so many nodes, of which this is the last superstep, by its file. What no emulator writes is refused, as
-    far as places are looked at."""
+def read(path: str | os.PathLike[str], nodes: int, last: int, most: int = MOST_PLACES) -> Found:
+    """What is contested in a run of so many nodes, of which this is the last superstep, by its file; of the places so many are looked at. What
+    no emulator writes is refused, as far as that."""
     found: list[Contested] = []
     places = 0
     try:
-        for it in rows(path):
+        for it in rows(path, most):
             if isinstance(it, int):
                 places = it
                 break
@@ -79,14 +79,14 @@ def read(path: str | os.PathLike[str], nodes: int, last: int) -> Found:
     return Found(places + len(found), found)
 
 
-def rows(path: str | os.PathLike[str]) -> Iterator[Contested | int]:
-    """The rows of a file of contested bytes up to MOST_PLACES, and then how many there are more; what is none raises ValueError."""
+def rows(path: str | os.PathLike[str], most: int = MOST_PLACES) -> Iterator[Contested | int]:
+    """The first rows of a file of contested bytes, and then how many there are more; what is none raises ValueError."""
     with about(path), open(path, encoding="ascii", errors="replace", newline="") as file:
         if os.fstat(file.fileno()).st_size > MOST_BYTES:
             raise Refused(f"the contested bytes have more than {MOST_BYTES} bytes of lines: take fewer nodes, or fewer supersteps")
         if file.readline(2 * MOST_LINE) != HEADER + "\n":
             raise Unfit("it does not begin as contested bytes do")
-        for _ in range(MOST_PLACES):
+        for _ in range(most):
             line = file.readline(MOST_LINE)
             if not line:
                 return

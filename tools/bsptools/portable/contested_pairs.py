@@ -11,7 +11,7 @@ from typing import Dict, List, NamedTuple, Tuple
 
 from ..framed.environment_calls import PUTS
 from ..outputs.contested_bytes import Contested, Request
-from ..prepare.library_choices import Cut
+from ..prepare.library_choices import MOST_CUTS, Cut
 from .call_log import Logged, Superstep
 from .exposed_bytes import Bytes
 
@@ -33,7 +33,8 @@ class Place(NamedTuple):
 
 @dataclass
 class Pair:
-    """Two places in the code that contest bytes: the first of these, how many there are, and what has the others count everywhere."""
+    """Two places in the code that contest bytes: the first of these, how many there are, and what has the others count everywhere, as far as
+    there is room for it in an image."""
 
     first: Place
     count: int = 0
@@ -56,7 +57,7 @@ def pairs(rows: Sequence[Contested], steps: Sequence[Superstep]) -> List[Pair]:
     for place in places(rows, steps):
         pair = found.setdefault(pair_of(place), Pair(place))
         pair.count += 1
-        pair.cuts += place.cuts
+        pair.cuts += place.cuts if len(pair.cuts) <= MOST_CUTS else ()
         pair.first = place if pair.first.row is None and place.row is not None else pair.first
     return list(found.values())
 

@@ -48,10 +48,13 @@ MOST_SUMS = 2
 # What puts and gets, also where it is not called in the run as it is.
 ASKING = ("__wrap_bsp_put", "__wrap_bsp_get", *CALLS)
 ACCESSES = "accesses of ranks to bytes of unbuffered calls"
+# Over how many bytes of variables a run tells a sum.
+MOST_SUMMED = 1 << 22
 # How many pairs of places are told of each kind.
 MOST_PAIRS = 16
 NOT_LOOKED_FOR = (
-    "memory behind free", "addresses of variables on other ranks", "what main's own variables have before bsp_begin", "bsp_time", "the order of the ranks' output", "numbers of another size",
+    "memory behind free", "addresses of variables on other ranks", "what main's own variables have before bsp_begin", "bsp_time",
+    "the order of the ranks' output", "numbers of another size",
 )  # fmt: skip
 
 
@@ -116,7 +119,7 @@ class Portable:
             for value in VALUES:
                 self.builds.begin(*options_for(value))
         nodes = [it for it in (self.trials.nodes - 1, self.trials.nodes + 1) if 1 <= it <= MOST_NODES]
-        if len(self.cuts) < MOST_CUTS:
+        if len(self.cuts) < MOST_CUTS and sum(it.end - it.start for it in self.cuts) <= MOST_SUMMED:
             self.trials.summed = self.cuts
         beside = [self.subject.command(it, self.trials.limit) for it in nodes]
         done = self.trials.begin_all([Choices(), *self.fresh_choices()], logged=[Choices()], beside=beside)
@@ -196,6 +199,13 @@ class Portable:
     def ends_otherwise(self, choices: Choices) -> bool:
         """Whether a run has another output or outcome."""
         return self.trials.run(choices) != self.ended
+
+    def changes(self, choices: Choices) -> bool:
+        """The same, or whether there is no room for what such a run keeps."""
+        try:
+            return self.ends_otherwise(choices)
+        except NoRoom:
+            return True
 
     def other(self, choices: Choices, counts_variables: bool) -> Other | None:
         """Whether a run under these choices comes to something else, in its output, its outcome, or its variables where these count."""
@@ -361,9 +371,18 @@ class Portable:
         else:
             self.verdict.tried += [name] if tried else []
             self.note_variables(*tried[:3], *(it for it in tried[3:] if it.order == NUMBERED))
+            self.note_sums(tried)
         if asks:
             self.contested_in(tried)
         self.queue()
+
+    def note_sums(self, tried: list[Choices]) -> None:
+        """Tells, as no mistake by itself, of messages whose numbers have another sum in an order that was tried."""
+        found = sums_of_messages.other_sum(self.log, tried)
+        if found is not None:
+            choices, it = found
+            line = f"rank {it.rank} gets {len(it.numbers)} messages in superstep {it.superstep} whose numbers have another sum in another order"
+            self.verdict.notes.append(f"for information: {line}: --order {orders.spelled(choices)}")
 
     def tag_size(self, superstep: int, rank: int) -> int:
         """How many bytes the tags of a rank have in a superstep of the run as it is."""
@@ -480,7 +499,7 @@ class Portable:
     def fresh(self) -> bool:
         """Fresh memory with other bytes. Answers whether nothing was found."""
         patterns = [Choices(heap=it, stack=it) for it in PATTERNS]
-        self.is_rare = self.is_silent or self.rare in self.trials.roomless or self.ends_otherwise(self.rare)
+        self.is_rare = self.is_silent or self.changes(self.rare)
         self.trials.run_all(patterns if self.is_rare else patterns[:1])
         for choices in patterns if self.is_rare else patterns[:1]:
             other = self.other(choices, self.is_silent)
@@ -587,7 +606,9 @@ def verdict(job: Job, folder: pathlib.Path, accepted: Accepted | None = None) ->
         if ended.outcome != "ended" and OWN_STATUS not in ended.output:
             return None
         trials = builds.get(ended.ticks)[0] if options.sources else Trials(subject, content, subject.code, ended.ticks)
-        portable = Portable(builds, trials, ended, contested_bytes.read(file, trials.nodes, ended.last), accepted or Accepted(None, None))
+        # Of these the first is told at most. Where there is one, the build that takes choices tells all of them.
+        contested = contested_bytes.read(file, trials.nodes, ended.last, most=1)
+        portable = Portable(builds, trials, ended, contested, accepted or Accepted(None, None))
         portable.look()
         show("")
         return portable.verdict

@@ -97,3 +97,10 @@ def orders_of_sums(steps: Sequence[Superstep], most: int) -> List[Choices]:
         if count == len(found):
             break
     return [Choices(order=NUMBERED, seed=it) for count, it in sorted(counts)[:most] if count < 0]
+
+
+def other_sum(steps: Sequence[Superstep], tried: Sequence[Choices]) -> Tuple[Choices, Queue] | None:
+    """The first of some orders in which such a sum is another one than here, and whose it is."""
+    found = list(itertools.islice(queues(steps), MOST_QUEUES))
+    here = [sum_of(it.numbers, it.is_single) for it in found]
+    return next(((choices, it) for choices in tried for it, one in zip(found, here) if it.sum_in(choices) != one), None)

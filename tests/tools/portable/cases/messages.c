@@ -392,7 +392,7 @@ CASE(sum_with_an_index, OTHER)
     printf("%.17g\n", sum);
 }
 
-CASE(sum_with_few_digits, INNOCENT)
+CASE(sum_with_few_digits, SUMS)
 {
     double value, sum = 0;
     int i;

@@ -104,7 +104,7 @@ class Files:
         for it in self.files.values():
             others = found.setdefault(it.parts, [])
             if not it.parts:
-                lines.append(f"{file_name(it.name)} was not written: its name leads out of {folder}, where files go: give it a name without / in front")
+                lines.append(f"{file_name(it.name)} was not written: that is not a file below {folder}, where files go: use a name below it")
             elif any(other.rank == it.rank for other in others):
                 lines.append(f"{file_name(it.name)} was not written: rank {it.rank} wrote {file_name(others[0].name)}, which is the same file")
             else:

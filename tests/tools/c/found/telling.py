@@ -236,7 +236,10 @@ class Telling:
         (self.folder / "linked/a").symlink_to("../theirs")
         names = ["/outside", "..", "../outside", "a/../../outside", "a/", ".", ""]
         for name in names:
-            self.expect(f"a file by the name {name}", self.run("--out", "p", "over.elf", name), 1, f"{name} was not written: its name leads out of p, where files go: give it a name without / in front")
+            said = f"{name} was not written: that is not a file below p, where files go: use a name below it"
+            self.expect(f"a file by the name {name}", self.run("--out", "p", "over.elf", name), 1, said)
+        self.expect("a file here, from / on", self.run("--out", "from", "over.elf", str(self.folder.resolve() / "a/x")), 0)
+        self.tally.expect("its place", (self.folder / "from/a/x").exists(), list(self.folder.glob("from/**/*")))
         done = self.run("--out", "p", "over.elf", "a/x", "b/x", "./c", "a/../d")
         found = {str(it.relative_to(self.folder / "p")): it.read_text() for it in (self.folder / "p").rglob("*") if it.is_file()}
         self.expect("files of one last name", done, 0)
@@ -314,6 +317,12 @@ class Telling:
         )
         self.expect("a word that is a file", self.run("reads.c", "in.txt"), 0, "in.txt 12\nin.txt 5\n")
         self.expect("a folder", self.run("--files", "data", "reads.c", "two.txt", "data/one.txt"), 0, "two.txt 8\ndata/one.txt 7\n")
+        done = self.run("--files", "data", "reads.c", "elsewhere/one.txt", "/there/two.txt")
+        self.expect("a folder, by other paths", done, 0, "elsewhere/one.txt 7\n/there/two.txt 8\n")
+        (self.folder / "more").mkdir()
+        (self.folder / "more/one.txt").write_text("9\n")
+        done = self.run("--file", "data/one.txt", "--file", "more/one.txt", "reads.c", "../more/one.txt", "./data/one.txt")
+        self.expect("two files of one last name", done, 0, "../more/one.txt 9\n./data/one.txt 7\n")
         self.expect("no folder", self.run("--files", "no", "reads.c"), 1, "bsprun: no: No such file or directory")
 
     def sizes(self) -> None:

@@ -1,4 +1,4 @@
-/* Signals that a program raises itself, handlers that jump out, and functions for the end. */
+/* Signals that a program raises itself, and handlers that jump out. */
 #include <assert.h>
 #include <bsp.h>
 #include <setjmp.h>
@@ -23,13 +23,6 @@ static void out(int sig)
     siglongjmp(back, sig);
 }
 
-static int rank;
-static void bye(void)
-{
-    if (rank == 0)
-        fputs("bye\n", stdout);
-}
-
 static int divide(int a, int b)
 {
     if (b == 0)
@@ -43,8 +36,6 @@ int main(void)
     int sig;
 
     bsp_begin(bsp_nprocs());
-    rank = bsp_pid();
-    atexit(bye);
     assert(signal(SIGUSR1, note) == SIG_DFL);
     assert(signal(SIGUSR1, note) == note);
     raise(SIGUSR1);

@@ -1,6 +1,7 @@
 -- Two courses of a superstep: one in which every call reads as early and writes as late as it may, and one in which a byte is written early
 -- and read late.
-use Rattle.std.proofs.Common.{◌≡◌, ℕ, ◌+◌, ◌-◌, ◌<◌, ◌≤◌, ◌↔◌, ◌==◌, inl, inr, Bool, true, false, not, ◌&&◌, cond, List, refl, sym, ap, subst, ◌∙◌, arith}
+use Rattle.std.proofs.Common.{◌≡◌, ℕ, ◌+◌, ◌-◌, ◌<◌, ◌≤◌, ◌↔◌, ◌==◌, inl, inr, Bool, true, false, not, ◌&&◌, cond, List}
+use Rattle.std.proofs.Common.{refl, sym, ap, subst, ◌∙◌, arith}
 use Rattle.std.specs.Prelude.{Contains, IsTrue, nat_le, if◌then◌else◌}
 use Rattle.std.proofs.lemmas.Bool.{both_ways, cases_Bool, not-true, not-false, and_parts, leb-true, eqb-true}
 use Rattle.std.proofs.lemmas.Bool.Decides.{nat_tests}
@@ -142,9 +143,11 @@ late-reader rank addr c r =
 free-first : (s : Sort) (early later : Bool) (n m : ℕ) → early ≡ false → not (reads_at_call s && later) ≡ true → (later ≡ false → n < m)
     → IsBefore (at_work n) (read_late s early (at_work m))
 free-first Put early later n m late apart behind = inr (refl, behind (not-true later apart))
-free-first HpPut early later n m late apart behind = subst (λ e. IsBefore (at_work n) (free_at e (at_work m))) (sym late) (inl (omega arith))
+free-first HpPut early later n m late apart behind =
+    subst (λ e. IsBefore (at_work n) (free_at e (at_work m))) (sym late) (inl (omega arith))
 free-first Get early later n m late apart behind = inl (omega arith)
-free-first HpGet early later n m late apart behind = subst (λ e. IsBefore (at_work n) (free_at e (at_work m))) (sym late) (inl (omega arith))
+free-first HpGet early later n m late apart behind =
+    subst (λ e. IsBefore (at_work n) (free_at e (at_work m))) (sym late) (inl (omega arith))
 free-first Send early later n m late apart behind = inr (refl, behind (not-true later apart))
 free-first DirectGet early later n m late apart behind = inr (refl, behind (not-true later apart))
 
@@ -163,10 +166,12 @@ written-first : (s t : Sort) (early late later : Bool) (n m : ℕ) → (is_unbuf
     → IsBefore (write_early s early (at_work n)) (read_late t late (at_work m))
 written-first Put t early late later n m soon far free behind = put-first t late m far free
 written-first HpPut t early late later n m soon far free behind =
-    subst (λ e. IsBefore (free_at e (at_work n)) (read_late t late (at_work m))) (sym (soon refl)) (free-first t late later n m far free behind)
+    subst (λ e. IsBefore (free_at e (at_work n)) (read_late t late (at_work m))) (sym (soon refl))
+    (free-first t late later n m far free behind)
 written-first Get t early late later n m soon far free behind = put-first t late m far free
 written-first HpGet t early late later n m soon far free behind =
-    subst (λ e. IsBefore (free_at e (at_work n)) (read_late t late (at_work m))) (sym (soon refl)) (free-first t late later n m far free behind)
+    subst (λ e. IsBefore (free_at e (at_work n)) (read_late t late (at_work m))) (sym (soon refl))
+    (free-first t late later n m far free behind)
 written-first Send t early late later n m soon far free behind = put-first t late m far free
 written-first DirectGet t early late later n m soon far free behind = put-first t late m far free
 
@@ -179,7 +184,8 @@ may_write_first : (calls : List Call) (rank addr : ℕ) (reader writer : Call) �
 may_write_first calls rank addr reader writer read written free = (
   writes_first rank addr writer,
   writes_first-is_allowed calls rank addr writer,
-  written-first writer.sort reader.sort (is_early rank addr writer (addr - writer.target)) (is_early rank addr reader (addr - reader.source))
+  written-first writer.sort reader.sort (is_early rank addr writer (addr - writer.target))
+      (is_early rank addr reader (addr - reader.source))
       (reader.caller == writer.caller && nat_le reader.number writer.number) (number_behind writer writer) (number_behind writer reader)
       (early-writer rank addr writer written) (late-reader rank addr reader read) free (called-behind reader writer),
 )
@@ -251,7 +257,8 @@ never-first HpGet t later made read written made' read' written' there is is' wo
     let at = read-at_call t made' read' written' is' both.0 in
     behind-free made read written made' read' is (order both.1) at before
 never-first Send t later made read written made' read' written' there is is' works order closed before = absurd (both_ways false refl there)
-never-first DirectGet t later made read written made' read' written' there is is' works order closed before = absurd (both_ways false refl there)
+never-first DirectGet t later made read written made' read' written' there is is' works order closed before =
+    absurd (both_ways false refl there)
 
 -- of two calls of a rank the first is made no later
 made-in_order : (calls : List Call) (course : Course) (reader writer : Call) → IsAllowed calls course → Contains calls reader

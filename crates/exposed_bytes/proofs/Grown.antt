@@ -191,7 +191,8 @@ met_writers-more at w readers writers old new within is here keeps before = reco
 pub met_readers-kept : (at : ℕ) (readers writers : List Call) (old new : List Exposure)
     → ((p q : ℕ) → IsTold old p q → IsTold new p q) → AreMetReaders at readers writers old → AreMetReaders at readers writers new
 met_readers-kept at readers writers old new keeps before = record {
-  told = λ k rank addr a b high there other exposes behind. keeps a.place b.place (before.told k rank addr a b high there other exposes behind);
+  told = λ k rank addr a b high there other exposes behind.
+      keeps a.place b.place (before.told k rank addr a b high there other exposes behind);
 }
 
 pub met-all : (at at' : ℕ) (readers writers : List Call) (found : List Exposure) → length readers ≤ at → length writers ≤ at'
@@ -200,7 +201,8 @@ pub met-all : (at at' : ℕ) (readers writers : List Call) (found : List Exposur
 met-all at at' readers writers found first second readers_met writers_met a b rank addr of_readers of_writers exposes =
     elim (cases_lt (source_key a) (target_key b)) [
       | inl before ↦
-          readers_met.told of_readers.0 rank addr a b (omega (arith, first, of_readers.1)) of_readers.2 of_writers exposes (omega (arith, before))
+          readers_met.told of_readers.0 rank addr a b (omega (arith, first, of_readers.1)) of_readers.2 of_writers exposes
+          (omega (arith, before))
       | inr behind ↦
           writers_met.told of_writers.0 rank addr a b (omega (arith, second, of_writers.1)) of_writers.2 of_readers exposes behind
     ]

@@ -32,8 +32,8 @@ HaveOtherPlaces d e = d.reader.place ≡ e.reader.place → d.writer.place ≢ e
 abbrev pub AreOfOtherPlaces : List Exposure → Type 0
 AreOfOtherPlaces found = AllPairs HaveOtherPlaces found
 
--- ranges are those that the calls of a superstep expose: each one is of two calls, and all that these expose; of each two places of the code
--- from which two calls expose bytes there is one, and not another
+-- ranges are those that the calls of a superstep expose: each one is of two calls, and all that these expose; of each two places of the
+-- code from which two calls expose bytes there is one, and not another
 pub record AreExposures (calls : List Call) (found : List Exposure) : Type 0 where
   pub sound : All (IsOf calls) found
   pub told : (reader writer : Call) (rank addr : ℕ) → Contains calls reader → Contains calls writer → Exposes rank addr reader writer

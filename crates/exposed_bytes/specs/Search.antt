@@ -13,6 +13,7 @@ target_key c = c.target_rank * 2 ^ 32 + c.target
 -- what was found grows by ranges of calls of these two lists
 pub record AddsFrom (readers writers : List Call) (old new : List Exposure) : Type 0 where
   pub keeps : (p q : ℕ) → IsTold old p q → IsTold new p q
-  pub sound : (calls : List Call) → ((c : Call) → Contains readers c → Contains calls c) → ((c : Call) → Contains writers c → Contains calls c)
+  pub sound : (calls : List Call) → ((c : Call) → Contains readers c → Contains calls c)
+      → ((c : Call) → Contains writers c → Contains calls c)
       → All (IsOf calls) old → All (IsOf calls) new
   pub once : AreOfOtherPlaces old → AreOfOtherPlaces new

@@ -4,7 +4,8 @@ ghost use Rattle.std.specs.Prelude.{◌≡◌, ◌≤◌, ◌<◌, ◌↔◌, �
 ghost use Rattle.exposed_bytes.specs.declared.call.Call.{Call};
 ghost use Rattle.exposed_bytes.specs.declared.exposure.Exposure.{Exposure};
 ghost use Rattle.exposed_bytes.specs.Courses.{MayReadFirst, MayWriteFirst};
-ghost use Rattle.exposed_bytes.specs.Examples.{get_by_0, put_by_2, hpget_by_0, moved_by_0, kept_by_0, put_by_0, later_by_0, send_by_0, put_to_0};
+ghost use Rattle.exposed_bytes.specs.Examples.{get_by_0, put_by_2, hpget_by_0, moved_by_0, kept_by_0, put_by_0, later_by_0};
+ghost use Rattle.exposed_bytes.specs.Examples.{send_by_0, put_to_0};
 ghost use Rattle.exposed_bytes.specs.Exposed.{IsExposed, Reads, Writes, is_open, is_unbuffered};
 ghost use Rattle.exposed_bytes.specs.Found.{AreExposures, HavePlacesOfTheirOwn, IsIn};
 
@@ -18,12 +19,14 @@ pub fn open_bytes_may_come_in_both_orders()
 
 /// In which order the calls of a superstep are listed does not matter.
 pub fn an_order_of_calls_does_not_matter()
-    ensures { (calls others : List Call) (rank addr : ℕ) → IsPermutation calls others → IsExposed calls rank addr → IsExposed others rank addr }
+    ensures { (calls others : List Call) (rank addr : ℕ)
+        → IsPermutation calls others → IsExposed calls rank addr → IsExposed others rank addr }
 {}
 
 /// Without an unbuffered call nothing is exposed.
 pub fn unbuffered_calls_alone_expose()
-    ensures { (calls : List Call) (rank addr : ℕ) → IsExposed calls rank addr → (c : Call) × Contains calls c × IsTrue (is_unbuffered c.sort) }
+    ensures { (calls : List Call) (rank addr : ℕ)
+        → IsExposed calls rank addr → (c : Call) × Contains calls c × IsTrue (is_unbuffered c.sort) }
 {}
 
 /// What is told are the exposed bytes: each byte of a range is one, and where no range is told there is none. If each call has a place of

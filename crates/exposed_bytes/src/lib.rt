@@ -1,7 +1,7 @@
 //! Which bytes of a superstep unbuffered calls expose.
 //!
-//! BSPlib (Hill and others, 1998) says of each call when it reads its source and writes its target. A put is buffered: it reads at the call,
-//! and writes at the end of the superstep. A get reads at the end of the superstep, before anything buffered is written. An unbuffered put
+//! BSPlib (Hill and others, 1998) says of each call when it reads its source and writes its target. A put is buffered: it reads at the
+//! call, and writes at the end of the superstep. A get reads at the end of the superstep, before anything buffered is written. An unbuffered put
 //! or get may read and write at any time from the call to the end of the superstep. A byte is *exposed* if one call reads it, one call
 //! writes it, and BSPlib leaves open which of the two comes first: then another library may give the program another value.
 //!

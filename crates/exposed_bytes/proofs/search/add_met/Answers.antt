@@ -1,6 +1,7 @@
 -- Each reader is met with the writers that begin no earlier, and each writer with the readers that do: so all are met.
 use Rattle.std.proofs.Common.{arith, length}
-use Rattle.exposed_bytes.proofs.Grown.{AddsFrom-trans, call_at, call_at-is, contains_at, met_readers-more, met_readers-kept, met_writers-more, met-all}
+use Rattle.exposed_bytes.proofs.Grown.{AddsFrom-trans, call_at, call_at-is, contains_at, met_readers-more, met_readers-kept}
+use Rattle.exposed_bytes.proofs.Grown.{met_writers-more, met-all}
 use Rattle.exposed_bytes.proofs.search.add_met.Goals as goal
 
 pub loop-reader-preserved : goal.loop-reader-preserved

@@ -1,0 +1,5 @@
+pub mod Courses
+pub mod Examples
+pub mod Exposed
+pub mod Found
+pub mod Search

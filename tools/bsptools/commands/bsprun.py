@@ -15,7 +15,6 @@ from ..limits import MOST_WORKERS, WORKERS
 from ..machines import Take
 from ..options import Parser
 from ..outputs.report import Report
-from ..portable.accepted_places import Accepted
 from ..prepare.given_files import files_read, outputs_of
 from ..prepare.job import Job, prepared
 from ..refusals import BY_SIGNAL, REFUSED, UNWRITTEN, Refused, about, counted, put, show, tell
@@ -236,7 +235,10 @@ def main(words: list[str]) -> int:
     outputs = outputs_of(options)
     files.expect_apart(outputs, files_read(options))
     files.expect_writable(outputs)
-    accepted = Accepted(options.accept, options.accept_all)
+    if options.portable:
+        from ..portable.accepted_places import Accepted
+
+        options.accepted = Accepted(options.accept, options.accept_all)
     if options.out is not None and not os.path.isdir(options.out):
         if os.path.lexists(options.out):
             raise Refused(f"--out wants a folder, which {options.out} is not")
@@ -252,5 +254,5 @@ def main(words: list[str]) -> int:
         if options.portable and (status == 0 or getattr(options, "is_tried", False)):
             from ..portable.portability import is_portable
 
-            return status if is_portable(job, folder, accepted) else OTHERWISE
+            return status if is_portable(job, folder, options.accepted) else OTHERWISE
         return status

@@ -73,7 +73,7 @@ def atomic_word(chance: random.Random, is_bad: bool) -> int:
     """A word of LR, SC or an atomic memory operation, at the address in t1; a bad one may have another register for it, and any bit."""
     kind = chance.choice([2, 2, 3, 3, *ATOMICS])
     first = chance.choice([5, 6, 7, 0]) if is_bad else 6
-    word = 0x202F | chance.choice([5, 5, 7, 0]) << 7 | first << 15 | chance.randrange(4) << 25 | kind << 27
+    word: int = 0x202F | chance.choice([5, 5, 7, 0]) << 7 | first << 15 | chance.randrange(4) << 25 | kind << 27
     word |= 0 if kind == 2 and not is_bad else chance.choice([5, 7, 7, 8, 0]) << 20
     return word ^ (1 << chance.randrange(7, 32) if is_bad and chance.randrange(2) else 0)
 

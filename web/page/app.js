@@ -43,7 +43,7 @@ function isFloat(image) {
 
 // ---- the program
 
-function isElf(bytes) {
+function isExecutable(bytes) {
   return bytes[0] === 0x7f && bytes[1] === 0x45 && bytes[2] === 0x4c && bytes[3] === 0x46;
 }
 
@@ -79,7 +79,7 @@ function takeElf(name, bytes, source = "") {
 async function takeFile(file) {
   const bytes = new Uint8Array(await file.arrayBuffer());
   $("examples").value = "";
-  isElf(bytes) ? takeElf(file.name, bytes) : takeText(file.name, new TextDecoder().decode(bytes));
+  isExecutable(bytes) ? takeElf(file.name, bytes) : takeText(file.name, new TextDecoder().decode(bytes));
 }
 
 function choose(name) {

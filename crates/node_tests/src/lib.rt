@@ -1,8 +1,10 @@
-//! Tests of `failing_allocator` and `counted_io`: of what no contract says and no run of the program shows. They stand outside of the
-//! crates that they test, as users of what these export, since a crate that has tests is proved twice.
+//! Tests of `failing_allocator`, `counted_io` and `exposed_bytes`: of what no contract says and no run of the program shows. They stand
+//! outside of the crates that they test, as users of what these export, since a crate that has tests is proved twice.
 #![tactic(auto)]
 
 #[cfg(test)]
 mod allocator;
 #[cfg(test)]
 mod counted;
+#[cfg(test)]
+mod exposed;

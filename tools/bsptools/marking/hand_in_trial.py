@@ -196,8 +196,9 @@ class Trial:
             program=str(program), nodes=run.nodes, input=given, file=[pathlib.PurePath(name).name for name, _ in run.given], files=[],
             args=list(run.args), argv0="program", check=False, strict=False, compiled=constants,
             format="c" if is_text else "elf", bspemu=self.program,
-            limit=run.limit, memory=self.plan.memory, stack=None, large=False, float=False, g=run.g, l=run.l, rate=limits.RATE, fill=None,
-            out=None, found=[], is_here=False, portable=is_text, sources=[], workers=1, tries=TRIES, accept=None, accept_all=None,
+            limit=run.limit, memory=self.plan.memory, stack=None, large=False, float=False, atomic=False, g=run.g, l=run.l,
+            rate=limits.RATE, fill=None, out=None, found=[], is_here=False, portable=is_text, sources=[],
+            workers=1, tries=TRIES, accept=None, accept_all=None,
         )  # fmt: skip
         return prepared(options, place, "bspcheck", is_marked=True)
 

@@ -4,4 +4,4 @@ use Rattle.bspemu.proofs.Sessions.{answer_of_list}
 use Rattle.bspemu.proofs.program.list.Goals as goal
 
 pub returns : goal.returns
-returns g c = rw c.ended.ensures (answer_of_list _ _ _ refl c.list_session.ensures.ok c.list_session.ensures.err)
+returns g c = rw c.ended.ensures (answer_of_list c.args.options.now _ _ refl c.list_session.ensures.ok c.list_session.ensures.err)

@@ -202,6 +202,14 @@ def compilers(tally: Tally, folder: pathlib.Path) -> None:
         tally.expect(name, found == [("right", False), ("does not compile", True)], (found, done))
 
 
+def has_file(folder: pathlib.Path, name: str) -> bool:
+    """Whether a file of this name is in a folder or below it. Folders of other runs may go meanwhile."""
+    try:
+        return any(folder.rglob(name))
+    except FileNotFoundError:
+        return False
+
+
 def texts(tally: Tally, bench: Bench, shown: str) -> None:
     """What stands in the forms of the marks."""
     page = (bench.folder / "m.html").read_text()
@@ -213,7 +221,7 @@ def texts(tally: Tally, bench: Bench, shown: str) -> None:
     tally.expect("JUnit XML", len(suites) == len(bench.rows("m.csv")), len(suites))
     cells = [it for row in bench.rows("m.csv") for it in row.values() if it[:1] in ("=", "+", "-", "@")]
     tally.expect("no formula in the table", not cells, cells)
-    left = [it.name for it in pathlib.Path(os.environ.get("TMPDIR", "/tmp")).glob("bspcheck-*") if any(it.rglob("flood.c"))]
+    left = [it.name for it in pathlib.Path(os.environ.get("TMPDIR", "/tmp")).glob("bspcheck-*") if has_file(it, "flood.c")]
     tally.expect("nothing is left of what they wrote", not left, left)
 
 

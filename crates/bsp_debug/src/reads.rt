@@ -7,7 +7,6 @@ ghost use Rattle.bsp_debug.specs.Debugger.{floats_of as floats_of_unit, register
 ghost use Rattle.bsp_debug.specs.Reply.{answer, bytes as bytes_answer, queue as queue_answer, costs as costs_answer};
 
 use crate::reply::Reply;
-use bsp_requests::Message;
 use float_unit::FloatUnit;
 use list_vec::ListVec;
 use machine_core::Machine;
@@ -81,21 +80,10 @@ pub(crate) fn queue_of<A: Allocator + Copy>(
     let mut messages = Vec::with_capacity(alloc, inbox.count())?;
     for i in 0..inbox.count() {
         if let Some(message) = inbox.at(i) {
-            messages.push(copy_of(message)?)?;
+            messages.push(message.try_clone()?)?;
         }
     }
     Ok(Reply::Queue(ListVec::from_vec(messages)))
-}
-
-/// The same message.
-fn copy_of<A: Allocator>(message: &Message<A>) -> Result<Message<A>, AllocError>
-    ensures { IfOk result (λ copy. copy ≡ message.now) }
-{
-    Ok(Message {
-        sender: message.sender,
-        tag: message.tag.try_clone()?,
-        payload: message.payload.try_clone()?,
-    })
 }
 
 /// The costs of the supersteps that are over.

@@ -3,14 +3,14 @@
 ghost use Rattle.std.specs.Prelude.{◌≡◌, ◌+◌, ◌<◌, ◌^◌, false, length, IsTrue, OnOk, OnErr};
 ghost use Rattle.node_memory.specs.Bytes.{fits, bytes_at};
 ghost use Rattle.node_memory.specs.Pages.{KeepsPrivate};
-ghost use Rattle.bsp_exchange.specs.Arrivals.{nothing, FitsIn, IsPrepared, CanTake, with_arrivals};
+ghost use Rattle.bsp_exchange.specs.Arrivals.{nothing, message_of, FitsIn, IsPrepared, CanTake, with_arrivals};
 ghost use Rattle.bsp_exchange.specs.Parts.{bytes_in};
 
 use crate::landings::Landings;
 use crate::patch_list::{land, prepare};
 use crate::puts::Puts;
 use crate::smalls::Smalls;
-use bsp_requests::{Inbox, Message};
+use bsp_requests::{Inbox, Message, Outgoing};
 use node_core::Node;
 use node_memory::Memory;
 use shared_bytes::SharedBytes;
@@ -99,19 +99,13 @@ impl<A: Allocator + Copy> Arrivals<A> {
     pub(crate) fn add_message(
         &mut self,
         sender: u16,
-        tag: &SharedBytes<A>,
-        payload: &SharedBytes<A>,
+        message: &Outgoing<A>,
     ) -> Result<(), AllocError>
         ensures ok { OnOk result (self.new ≡ record self.old {
-          messages = self.old.messages ++ record { sender = sender; tag = tag.now; payload = payload.now } ∷ [];
+          messages = self.old.messages ++ message_of sender message.now ∷ [];
         }) }
     {
-        let message = Message {
-            sender,
-            tag: tag.try_clone()?,
-            payload: payload.try_clone()?,
-        };
-        self.messages.push(message)?;
+        self.messages.push(message.arrived(sender)?)?;
         Ok(())
     }
 

@@ -133,7 +133,7 @@ fn leaves_area<A: Allocator + Copy>(nodes: &[Node<A>], request: &Request<A>) -> 
 fn is_outside<A: Allocator + Copy>(
     nodes: &[Node<A>],
     rank: u16,
-    slot: usize,
+    slot: u16,
     offset: u32,
     len: usize,
 ) -> bool
@@ -153,15 +153,11 @@ pub(crate) fn ends_past(size: u32, offset: u32, len: usize) -> bool
 }
 
 /// The area at a place of the list in effect of a rank's node.
-pub(crate) fn area_at<A: Allocator + Copy>(
-    nodes: &[Node<A>],
-    rank: u16,
-    slot: usize,
-) -> Option<Area>
+pub(crate) fn area_at<A: Allocator + Copy>(nodes: &[Node<A>], rank: u16, slot: u16) -> Option<Area>
     ensures { result ≡ area_at (states nodes.now) rank slot }
 {
     let node = node_at(nodes, rank)?;
-    node.slots().area(slot)
+    node.slots().area(slot as usize)
 }
 
 /// The node of a rank.

@@ -125,8 +125,9 @@ fn add_requests<A: Allocator + Copy>(
     ensures loads { OnOk result (loads.new
         ≡ with_transfers loads.old (transfers_of node.now.node.hart.rank node.now.node.hart.communication.requests.requests)) }
 {
+    let caller = node.rank();
     for request in node.requests().as_slice() {
-        add_request(nodes, node.rank(), request, parts, loads)?;
+        add_request(nodes, caller, request, parts, loads)?;
     }
     Ok(())
 }
@@ -170,7 +171,7 @@ fn add_request<A: Allocator + Copy>(
             add_transfer(target as usize, caller as usize, u64::from(len), 0, loads);
         }
         Request::Send(message) => {
-            let len = (message.tag.len() + message.payload.len()) as u64;
+            let len = message.size() as u64;
             let target = message.target as usize;
             add_message(caller as u16, message, parts)?;
             add_transfer(caller as usize, target, len, 1, loads);
@@ -221,7 +222,7 @@ fn add_message<A: Allocator + Copy>(
     requires target { message.now.target < length parts.old }
     ensures { OnOk result (parts.new ≡ changed_at (with_message (message_of sender message.now)) message.now.target parts.old) }
 {
-    parts[message.target as usize].add_message(sender, &message.tag, &message.payload)
+    parts[message.target as usize].add_message(sender, message)
 }
 
 /// Where a transfer of `len` bytes begins in the memory of its area's node; none where it does not keep to the area.
@@ -229,7 +230,7 @@ fn add_message<A: Allocator + Copy>(
 fn start_inside<A: Allocator + Copy>(
     nodes: &[Node<A>],
     target: u16,
-    slot: usize,
+    slot: u16,
     offset: u32,
     len: usize,
 ) -> Option<u32>
@@ -260,7 +261,7 @@ fn recall_sound<A: Allocator>(node: &Node<A>)
 pub fn start_of<A: Allocator + Copy>(
     nodes: &[Node<A>],
     target: u16,
-    slot: usize,
+    slot: u16,
     offset: u32,
     len: usize,
 ) -> u32

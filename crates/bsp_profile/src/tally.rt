@@ -185,7 +185,7 @@ fn add_request<A: Allocator + Copy>(
             add_bytes(count, get.target as usize, caller, bytes, cells);
         }
         Request::Send(message) => {
-            let bytes = (message.tag.len() + message.payload.len()) as u64;
+            let bytes = message.size() as u64;
             add_bytes(count, caller, message.target as usize, bytes, cells);
             add_message(caller, message.target as usize, cells);
         }

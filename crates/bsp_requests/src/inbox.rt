@@ -1,6 +1,6 @@
 //! The messages that a node has not read yet.
 
-ghost use Rattle.std.specs.Prelude.{◌≡◌, ◌^◌, ◌<◌, ◌++◌, length, drop, All, IfOk, OnOk, option_copied, slice_get};
+ghost use Rattle.std.specs.Prelude.{◌≡◌, ◌^◌, ◌<◌, ◌≤◌, ◌++◌, length, take, drop, All, IfOk, OnOk, option_copied, slice_get};
 ghost use Rattle.bsp_requests.specs.Inbox.{payload_bytes, IsQueue};
 ghost use Rattle.bsp_requests.specs.Message.{IsShort};
 
@@ -9,32 +9,63 @@ use std::alloc::{AllocError, Allocator};
 use std::collections::VecDeque;
 use std::marker::Model;
 
-/// A message that was sent in the superstep before.
+/// A message that was sent in the superstep before. [`Outgoing::arrived`](crate::Outgoing::arrived) makes it.
 #[derive(Drop)]
 pub struct Message<A: Allocator> {
     /// The rank of the node that sent it.
     pub sender: u16,
-    pub tag: SharedBytes<A>,
-    pub payload: SharedBytes<A>,
+    tag_len: u32,
+    // The tag, and then the payload.
+    bytes: SharedBytes<A>,
 }
 
 impl<A: Allocator> Model for Message<A> {
+    ghost use Rattle.std.specs.Prelude.{◌≤◌, length, take, drop};
     ghost use Rattle.bsp_requests.specs.Message.{Message as MessageValue};
 
     ghost Value = { MessageValue };
 
-    ghost view = { λ m. record { sender = m.sender; tag = m.tag; payload = m.payload } };
+    ghost view = { λ m. record { sender = m.sender; tag = take m.tag_len m.bytes; payload = drop m.tag_len m.bytes } };
+
+    ghost invariant = { λ m. m.tag_len ≤ length m.bytes };
 }
 
 impl<A: Allocator> Message<A> {
+    /// A message from `sender`, whose tag is the first `tag_len` of `bytes`, and whose payload is the rest.
+    pub(crate) fn new(sender: u16, tag_len: u32, bytes: SharedBytes<A>) -> Self
+        requires { tag_len ≤ length bytes }
+        ensures { result ≡ record { sender = sender; tag = take tag_len bytes; payload = drop tag_len bytes } }
+    {
+        Message {
+            sender,
+            tag_len,
+            bytes,
+        }
+    }
+
+    pub fn tag(&self) -> &[u8]
+        ensures { result.now ≡ self.now.tag }
+    {
+        &self.bytes.as_slice()[..self.tag_len as usize]
+    }
+
+    pub fn payload(&self) -> &[u8]
+        ensures { result.now ≡ self.now.payload }
+    {
+        &self.bytes.as_slice()[self.tag_len as usize..]
+    }
+
     /// The same message, which shares its bytes.
-    fn try_clone(&self) -> Result<Self, AllocError>
+    ///
+    /// # Errors
+    /// If they have too many clones.
+    pub fn try_clone(&self) -> Result<Self, AllocError>
         ensures { IfOk result (λ m. m ≡ self.now) }
     {
         Ok(Message {
             sender: self.sender,
-            tag: self.tag.try_clone()?,
-            payload: self.payload.try_clone()?,
+            tag_len: self.tag_len,
+            bytes: self.bytes.try_clone()?,
         })
     }
 }
@@ -124,7 +155,7 @@ impl<A: Allocator> Inbox<A> {
         ensures rest { self.new ≡ drop 1 self.old }
     {
         let first = self.messages.pop_front()?;
-        self.bytes -= first.payload.len() as u64;
+        self.bytes -= first.payload().len() as u64;
         Some(first)
     }
 }
@@ -135,7 +166,7 @@ pub fn payload_bytes<A: Allocator>(messages: &[Message<A>]) -> u128
 {
     let mut bytes: u128 = 0;
     for message in messages {
-        bytes += message.payload.len() as u128;
+        bytes += message.payload().len() as u128;
     }
     bytes
 }

@@ -1,7 +1,8 @@
 //! Puts, gets and sends, each as it was asked for.
 
-ghost use Rattle.std.specs.Prelude.{◌≡◌, ◌-◌, ◌^◌, min, IfOk};
+ghost use Rattle.std.specs.Prelude.{◌≡◌, ◌+◌, ◌≤◌, length, take, drop, IfOk};
 
+use crate::inbox::Message;
 use shared_bytes::SharedBytes;
 use std::alloc::{AllocError, Allocator};
 use std::marker::Model;
@@ -12,7 +13,7 @@ pub struct Put<A: Allocator> {
     /// The rank of the node that the bytes go to.
     pub target: u16,
     /// The place in the list of registrations of the area that they go to.
-    pub slot: usize,
+    pub slot: u16,
     /// Where in the area they begin, in bytes.
     pub offset: u32,
     pub bytes: SharedBytes<A>,
@@ -46,7 +47,7 @@ pub struct Get {
     /// The rank of the node that the bytes come from.
     pub target: u16,
     /// The place in the list of registrations of the area that they come from.
-    pub slot: usize,
+    pub slot: u16,
     /// Where in the area they begin, in bytes.
     pub offset: u32,
     /// The address in the caller's memory that they go to.
@@ -56,31 +57,78 @@ pub struct Get {
 }
 
 /// A message on its way to another node (BSPlib's `bsp_send`).
+// For memory: its tag and its payload are one value, since each request takes as much room as the largest kind.
 #[derive(Drop)]
 pub struct Outgoing<A: Allocator> {
     /// The rank of the node that it goes to.
     pub target: u16,
-    pub tag: SharedBytes<A>,
-    pub payload: SharedBytes<A>,
+    tag_len: u32,
+    // The tag, and then the payload.
+    bytes: SharedBytes<A>,
 }
 
 impl<A: Allocator> Model for Outgoing<A> {
+    ghost use Rattle.std.specs.Prelude.{◌≤◌, length, take, drop};
     ghost use Rattle.bsp_requests.specs.Outgoing.{Outgoing as OutgoingValue};
 
     ghost Value = { OutgoingValue };
 
-    ghost view = { λ s. record { target = s.target; tag = s.tag; payload = s.payload } };
+    ghost view = { λ s. record { target = s.target; tag = take s.tag_len s.bytes; payload = drop s.tag_len s.bytes } };
+
+    ghost invariant = { λ s. s.tag_len ≤ length s.bytes };
 }
 
 impl<A: Allocator> Outgoing<A> {
+    /// A message to `target`, whose tag is the first `tag_len` of `bytes`, and whose payload is the rest.
+    pub fn new(target: u16, tag_len: u32, bytes: SharedBytes<A>) -> Self
+        requires { tag_len ≤ length bytes }
+        ensures { result ≡ record { target = target; tag = take tag_len bytes; payload = drop tag_len bytes } }
+    {
+        Outgoing {
+            target,
+            tag_len,
+            bytes,
+        }
+    }
+
+    pub fn tag(&self) -> &[u8]
+        ensures { result.now ≡ self.now.tag }
+    {
+        &self.bytes.as_slice()[..self.tag_len as usize]
+    }
+
+    pub fn payload(&self) -> &[u8]
+        ensures { result.now ≡ self.now.payload }
+    {
+        &self.bytes.as_slice()[self.tag_len as usize..]
+    }
+
+    /// The bytes of its tag and its payload together.
+    pub fn size(&self) -> usize
+        ensures { result ≡ length self.now.tag + length self.now.payload }
+    {
+        self.bytes.len()
+    }
+
+    /// The same message as it arrives, from the node of rank `sender`. It shares its bytes.
+    ///
+    /// # Errors
+    /// If they have too many clones.
+    pub fn arrived(&self, sender: u16) -> Result<Message<A>, AllocError>
+        ensures { IfOk result (λ m. m ≡ record { sender = sender; tag = self.now.tag; payload = self.now.payload }) }
+    {
+        let bytes = self.bytes.try_clone()?;
+        Ok(Message::new(sender, self.tag_len, bytes))
+    }
+
     /// The same message, which shares its bytes.
     fn try_clone(&self) -> Result<Self, AllocError>
         ensures { IfOk result (λ s. s ≡ self.now) }
     {
         Ok(Outgoing {
             target: self.target,
-            tag: self.tag.try_clone()?,
-            payload: self.payload.try_clone()?,
+            tag_len: self.tag_len,
+            bytes: self.bytes.try_clone()?,
         })
     }
 }
@@ -108,17 +156,14 @@ impl<A: Allocator> Request<A> {
         Ok(request)
     }
 
-    /// The bytes that it counts, or the greatest `u64` where there are more.
+    /// The bytes that it counts.
     pub(crate) fn size(&self) -> u64
-        ensures { result ≡ min (size_of (asked self.now)) (2 ^ 64 - 1) }
+        ensures { result ≡ size_of (asked self.now) }
     {
         match self {
             Request::Put(put) => put.bytes.len() as u64,
             Request::Get(get) => u64::from(get.len),
-            Request::Send(message) => {
-                let tag = message.tag.len() as u64;
-                tag.saturating_add(message.payload.len() as u64)
-            }
+            Request::Send(message) => message.size() as u64,
         }
     }
 }

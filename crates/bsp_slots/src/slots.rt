@@ -154,11 +154,12 @@ impl<A: Allocator + Copy> Slots<A> {
         Ok(())
     }
 
-    /// The position of the last entry of `addr` in the list in effect.
-    pub fn find(&self, addr: u32) -> Option<usize>
+    /// The position of the last entry of `addr` in the list in effect, for which 16 bits suffice.
+    pub fn find(&self, addr: u32) -> Option<u16>
         ensures { result ≡ last_position self.now.registrations.in_effect addr }
     {
-        last_position(&self.in_effect, addr)
+        let slot = last_position(&self.in_effect, addr)?;
+        Some(slot as u16)
     }
 
     /// The entry at the position `slot` of the list in effect.

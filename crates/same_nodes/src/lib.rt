@@ -192,8 +192,8 @@ fn are_same_requests<A: Allocator>(request: &Request<A>, other: &Request<A>) -> 
         }
         (Request::Send(message), Request::Send(other)) => {
             message.target == other.target
-                && message.tag.as_slice() == other.tag.as_slice()
-                && message.payload.as_slice() == other.payload.as_slice()
+                && message.tag() == other.tag()
+                && message.payload() == other.payload()
         }
         _ => false,
     }
@@ -227,8 +227,8 @@ fn are_same_messages<A: Allocator>(message: &Message<A>, other: &Message<A>) -> 
     ensures { IsTrue result → message.now ≡ other.now }
 {
     message.sender == other.sender
-        && message.tag.as_slice() == other.tag.as_slice()
-        && message.payload.as_slice() == other.payload.as_slice()
+        && message.tag() == other.tag()
+        && message.payload() == other.payload()
 }
 
 /// Whether two memories have the same bytes.

@@ -5,7 +5,7 @@
 //! Contracts see it as the list of its bytes. That clones of the same bytes share memory is not proved.
 #![tactic(auto)]
 
-ghost use Rattle.std.specs.Prelude.{◌≡◌, ◌≤◌, ◌==◌, [], length, take, IfOk, IfSome, IsOk, OnOk, OnErr};
+ghost use Rattle.std.specs.Prelude.{◌≡◌, ◌+◌, ◌≤◌, ◌==◌, ◌++◌, [], length, take, IfOk, IfSome, IsOk, OnOk, OnErr};
 
 use std::alloc::{AllocError, Allocator};
 use std::marker::Model;
@@ -103,6 +103,25 @@ impl<A: Allocator> SharedBytes<A> {
         }
     }
 
+    /// The bytes of two slices, those of the second behind those of the first: at most 22. No memory is taken.
+    pub fn few_of_two(first: &[u8], second: &[u8]) -> Self
+        requires { length first.now + length second.now ≤ 22 }
+        ensures { result ≡ first.now ++ second.now }
+    {
+        let middle = first.len();
+        let len = middle + second.len();
+        let mut room = [0; 22];
+        room[..middle].copy_from_slice(first);
+        room[middle..len].copy_from_slice(second);
+        let within = Within {
+            len: len as u8,
+            room,
+        };
+        SharedBytes {
+            held: Held::Within(within),
+        }
+    }
+
     /// No bytes. No memory is taken.
     #[inline]
     pub fn empty() -> Self
@@ -170,8 +189,7 @@ impl<A: Allocator> SharedBytes<A> {
                 if within.len > 16 {
                     return None;
                 }
-                let mut few = [0; 16];
-                few.copy_from_slice(&within.room[..16]);
+                let few = *within.room.first_chunk::<16>()?;
                 Some((few, u32::from(within.len)))
             }
             Held::Shared(_) => None,

@@ -90,9 +90,9 @@ impl<A: Allocator + Copy> Hart<A> {
             Some(message) => write_word_and_bytes(
                 &mut self.memory,
                 status,
-                message.payload.len() as u32,
+                message.payload().len() as u32,
                 tag,
-                message.tag.as_slice(),
+                message.tag(),
             ),
             None => self.memory.store32(status, u32::MAX),
         };
@@ -115,7 +115,7 @@ impl<A: Allocator + Copy> Hart<A> {
         let Some(message) = self.communication.inbox.first() else {
             return Ok(self.advance());
         };
-        let payload = message.payload.as_slice();
+        let payload = message.payload();
         let count = payload.len().min(most);
         match self.memory.write_range(addr, &payload[..count]) {
             Ok(()) => {}

@@ -186,17 +186,10 @@ impl<A: Allocator + Copy> Hart<A> {
         if self.communication.requests.is_full_for(size) {
             return Ok(State::Faulted(Fault::TooMuch));
         }
-        let Ok(tag) = self.memory.plain().read_range(tag, tag_len) else {
+        let Ok(bytes) = self.memory.plain().read_two(tag, tag_len, payload, len) else {
             return Err(AllocError);
         };
-        let Ok(payload) = self.memory.plain().read_range(payload, len) else {
-            return Err(AllocError);
-        };
-        let message = Outgoing {
-            target: target as u16,
-            tag,
-            payload,
-        };
+        let message = Outgoing::new(target as u16, tag_len, bytes);
         match self.communication.requests.add_send(message) {
             Ok(()) => Ok(self.advance()),
             Err(_) => Err(AllocError),

@@ -105,6 +105,50 @@ impl<A: Allocator + Copy> Memory<A> {
         }
     }
 
+    /// A copy of the `first_len` bytes from `first` on, and behind them of the `second_len` bytes from `second` on, which can be shared. Both
+    /// ranges lie in the memory.
+    ///
+    /// # Errors
+    /// If memory is refused.
+    #[inline(never)]
+    pub fn read_two(
+        &self,
+        first: u32,
+        first_len: u32,
+        second: u32,
+        second_len: u32,
+    ) -> Result<SharedBytes<A>, AllocError>
+        requires first { IsTrue (fits (length self.now.bytes) first first_len) }
+        requires second { IsTrue (fits (length self.now.bytes) second second_len) }
+        ensures { IfOk result (λ v.
+            v ≡ bytes_at self.now.bytes first first_len ++ bytes_at self.now.bytes second second_len) }
+    {
+        if first_len == 0 {
+            return self.read(second, second_len);
+        }
+        let len = first_len as usize + second_len as usize;
+        if len <= FEW {
+            let front = self.read(first, first_len)?;
+            let back = self.read(second, second_len)?;
+            return Ok(SharedBytes::few_of_two(front.as_slice(), back.as_slice()));
+        }
+        let mut bytes = Vec::with_capacity(self.alloc, len)?;
+        self.append_range(first, first_len, &mut bytes)?;
+        self.append_range(second, second_len, &mut bytes)?;
+        SharedBytes::from_vec(bytes)
+    }
+
+    /// A copy of the `len` bytes from `addr` on, which lie in the memory.
+    fn read(&self, addr: u32, len: u32) -> Result<SharedBytes<A>, AllocError>
+        requires { IsTrue (fits (length self.now.bytes) addr len) }
+        ensures { IfOk result (λ v. v ≡ bytes_at self.now.bytes addr len) }
+    {
+        match self.read_few(addr, len) {
+            Some(bytes) => Ok(bytes),
+            None => self.read_more(addr, len),
+        }
+    }
+
     /// The `len` bytes from `addr` on, which lie in the memory, where they are few, and stand so far before the end of their page that as
     /// many as few may be do.
     #[inline(always)]

@@ -5,7 +5,7 @@ use Rattle.std.proofs.lemmas.Option.{slice_get_cases, slice_get_within, get_or_f
 use Rattle.bsp_requests.specs.Message.{Message}
 use Rattle.bsp_debug.specs.Reply.{queue as queue_answer}
 use Rattle.bsp_debug.proofs.reads.queue_of.Goals as goal
-use Rattle.bsp_debug.proofs.reads.queue_of.Goals.{in-Some+in_ok-copy_of+in_ok-push, in_default}
+use Rattle.bsp_debug.proofs.reads.queue_of.Goals.{in-Some+in_ok-try_clone+in_ok-push, in_default}
 
 -- the first messages with the next one are those up to and with it
 take-next : (inbox queue : List Message) (i : ℕ) (m : Message) (first : List Message) → inbox ≡ queue → Some m ≡ slice_get inbox i
@@ -31,8 +31,8 @@ loop-i-preserved g c =
     let inbox = c.inbox-inbox.result.now in
     let queue = c.args.node.now.node.hart.communication.queue in
     elim c.match-at.branch [
-      | in-Some+in_ok-copy_of+in_ok-push w ↦
-          rw (w.messages-is, w.in_ok-push.ensures.items, w.in_ok-copy_of.ensures)
+      | in-Some+in_ok-try_clone+in_ok-push w ↦
+          rw (w.messages-is, w.in_ok-push.ensures.items, w.in_ok-try_clone.ensures)
           (take-next inbox queue c.loop-i.i w.in-Some.message.now c.loop-i.messages.items c.inbox-inbox.ensures w.in-Some.ensures
           c.loop-i.invariant)
       | in_default w ↦

@@ -11,13 +11,12 @@ use Rattle.bsp_exchange.proofs.gather.add_message.Goals as goal
 pub returns : goal.returns
 returns g c =
     let parts = c.args.parts.now in
-    let sent : Outgoing = record { target = c.message.inside.target; tag = c.message.inside.tag; payload = c.message.inside.payload } in
-    let f : Outgoing → Received → Received = λ m. with_message (message_of c.args.sender m) in
+    let target = c.message.inside.target in
+    let f : Received → Received = with_message (message_of c.args.sender c.args.message.now) in
     let within = subst (λ (m : Outgoing). m.target < length parts) (sym c.message.view_is) c.requires.target in
-    subst (λ (m : Outgoing). OnOk c.add_message.result (set parts sent.target c.add_message.new.self ≡ changed_at (f m) m.target parts))
-    c.message.view_is
-    (put_back (f sent) sent.target parts c.index-parts-message.result c.add_message.new.self c.add_message.result within
-    c.index-parts-message.is (rw c.index-parts-message.is c.add_message.ensures.ok))
+    subst (λ (m : Outgoing). OnOk c.add_message.result (set parts target c.add_message.new.self ≡ changed_at f m.target parts)) c.message.view_is
+    (put_back f target parts c.index-parts-message.result c.add_message.new.self c.add_message.result within c.index-parts-message.is
+    (rw c.index-parts-message.is c.add_message.ensures.ok))
 
 pub bounds-parts-message-inside : goal.bounds-parts-message-inside
 bounds-parts-message-inside g c = subst (λ (m : Outgoing). m.target < length c.args.parts.now) (sym c.message.view_is) c.requires.target

@@ -1,5 +1,5 @@
 -- A put, a get and a send each change the parts and the loads as the definitions say, and a put or get that is added keeps to its area.
-use Rattle.std.proofs.Common.{◌≡◌, ℕ, ◌+◌, ◌<◌, ◌≤◌, ◌^◌, List, length, Fits, w16, w64, ap, sym, subst, ◌∙◌, arith}
+use Rattle.std.proofs.Common.{◌≡◌, ℕ, ◌<◌, ◌≤◌, ◌^◌, List, length, Fits, w16, ap, sym, subst, ◌∙◌, arith}
 use Rattle.std.specs.Prelude.{is_none}
 use Rattle.std.proofs.lemmas.Result.{IfOk-from_err}
 use Rattle.bsp_requests.specs.Outgoing.{Outgoing}
@@ -27,13 +27,7 @@ target_there p a n m is less same = there (target_of p) n m (subst (λ (x : Aske
 size_within : (p a : Asked) (bytes most : ℕ) → p ≡ a → bytes ≡ size_of p → size_of a ≤ most → bytes ≤ most
 size_within p a bytes most is of within = subst (λ (k : ℕ). k ≤ most) (sym (of ∙ ap size_of is)) within
 
--- sums of two lengths, and sizes and ranks as words
-both : (a b x y : ℕ) → a ≡ x → b ≡ y → a + b ≡ x + y
-both a b x y first second = omega (arith, first, second)
-
-fits_64 : (n : ℕ) → n ≤ 2 ^ 32 → Fits w64 n
-fits_64 n within = omega (arith, within)
-
+-- a rank as a word
 fits_16 : (k n : ℕ) → k < n → n ≤ max_nodes → Fits w16 k
 fits_16 k n less few = omega (arith, less, few)
 
@@ -153,13 +147,6 @@ returns-in_ok-add_get-in-Get-clause-loads g c =
     loads_is (asks_get c.in-Get.get) (asked c.args.request.now) c.args.caller c.args.loads.now c.add_transfer-in-Get.new.loads is
     (c.add_transfer-in-Get.ensures ∙ ap added c.from.ensures)
 
-pub overflow_add-len : goal.overflow_add-len
-overflow_add-len g c =
-    let m : Outgoing = record { target = c.message.inside.target; tag = c.message.inside.tag; payload = c.message.inside.payload } in
-    let is : asks_send m ≡ asked c.args.request.now = ap asks_send c.message.view_is ∙ ap asked (sym c.in-Send.is) in
-    fits_64 _ (size_within (asks_send m) (asked c.args.request.now) _ (2 ^ 32) is (both _ _ _ _ c.len.ensures c.len-in-Send.ensures)
-    c.requires.limit)
-
 pub overflow_cast-caller-in-Send : goal.overflow_cast-caller-in-Send
 overflow_cast-caller-in-Send g c = fits_16 _ _ c.requires.caller c.requires.few
 
@@ -173,15 +160,16 @@ add_transfer-requires-in-Send-clause-from g c = there _ _ _ c.requires.caller c.
 
 pub add_transfer-requires-in-Send-clause-to : goal.add_transfer-requires-in-Send-clause-to
 add_transfer-requires-in-Send-clause-to g c =
-    let m : Outgoing = record { target = c.message.inside.target; tag = c.message.inside.tag; payload = c.message.inside.payload } in
-    let is : asks_send m ≡ asked c.args.request.now = ap asks_send c.message.view_is ∙ ap asked (sym c.in-Send.is) in
-    target_there (asks_send m) (asked c.args.request.now) _ _ is c.requires.target c.requires.ranks
+    let m : Outgoing = c.in-Send.message in
+    let is : asks_send m ≡ asked c.args.request.now = ap asked (sym c.in-Send.is) in
+    subst (λ (x : Outgoing). x.target < length c.args.loads.now) (sym c.message.view_is)
+    (target_there (asks_send m) (asked c.args.request.now) _ (length c.args.loads.now) is c.requires.target c.requires.ranks)
 
 pub add_transfer-requires-in-Send-clause-limit : goal.add_transfer-requires-in-Send-clause-limit
 add_transfer-requires-in-Send-clause-limit g c =
-    let m : Outgoing = record { target = c.message.inside.target; tag = c.message.inside.tag; payload = c.message.inside.payload } in
-    let is : asks_send m ≡ asked c.args.request.now = ap asks_send c.message.view_is ∙ ap asked (sym c.in-Send.is) in
-    size_within (asks_send m) (asked c.args.request.now) _ (2 ^ 32) is (both _ _ _ _ c.len.ensures c.len-in-Send.ensures) c.requires.limit
+    let m : Outgoing = c.in-Send.message in
+    let is : asks_send m ≡ asked c.args.request.now = ap asked (sym c.in-Send.is) in
+    size_within (asks_send m) (asked c.args.request.now) _ (2 ^ 32) is c.size-len.ensures c.requires.limit
 
 pub add_transfer-requires-in-Send-clause-room : goal.add_transfer-requires-in-Send-clause-room
 add_transfer-requires-in-Send-clause-room g c = c.requires.room
@@ -199,12 +187,17 @@ returns-in_ok-add_message-in-Send-clause-ok g c =
 
 pub returns-in_ok-add_message-in-Send-clause-loads : goal.returns-in_ok-add_message-in-Send-clause-loads
 returns-in_ok-add_message-in-Send-clause-loads g c =
-    let m : Outgoing = record { target = c.message.inside.target; tag = c.message.inside.tag; payload = c.message.inside.payload } in
-    let is : asks_send m ≡ asked c.args.request.now = ap asks_send c.message.view_is ∙ ap asked (sym c.in-Send.is) in
+    let m : Outgoing = c.in-Send.message in
+    let is : asks_send m ≡ asked c.args.request.now = ap asked (sym c.in-Send.is) in
     let added =
     λ (bytes : ℕ). with_transfer c.args.loads.now (record { from = c.args.caller; to = m.target; bytes = bytes; messages = 1 }) in
+    let to_is =
+    ap
+    (λ (x : Outgoing). with_transfer c.args.loads.now
+    (record { from = c.args.caller; to = x.target; bytes = c.size-len.result; messages = 1 }))
+    c.message.view_is in
     loads_is (asks_send m) (asked c.args.request.now) c.args.caller c.args.loads.now c.add_transfer-in-Send.new.loads is
-    (c.add_transfer-in-Send.ensures ∙ ap added (both _ _ _ _ c.len.ensures c.len-in-Send.ensures))
+    (c.add_transfer-in-Send.ensures ∙ to_is ∙ ap added c.size-len.ensures)
 
 pub returns-in_err-add_put-in-Put-clause-inside : goal.returns-in_err-add_put-in-Put-clause-inside
 returns-in_err-add_put-in-Put-clause-inside g c = IfOk-from_err c.from_residual.result _ c.from_residual.ensures.0

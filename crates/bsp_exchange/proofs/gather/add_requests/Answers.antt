@@ -36,7 +36,7 @@ loop-request-preserved g c =
     asked_here n.hart.communication.requests.requests c.as_slice-request-items.result.now i c.request-item.result lent
     c.loop-request-test.true c.request-item.is in
     let added = c.in_ok-add_request.ensures in
-    let new = added.ok ∙ ap (λ k. with_asked nodes k parts r) c.rank.ensures in
+    let new = added.ok ∙ ap (λ k. with_asked nodes k parts r) c.rank-caller.ensures in
     record {
       size = c.add_request.auto.parts ∙ c.loop-request.invariant.size;
       inside = sym (keeps_here nodes n i r is added.inside) ∙ c.loop-request.invariant.inside;
@@ -46,7 +46,7 @@ loop-request-preserved g c =
           ∙ c.loop-request.invariant.same;
       added =
           next_transfer c.args.loads.now c.loop-request.loads c.add_request.new.loads n.hart.rank n.hart.communication.requests.requests i r
-          c.loop-request.invariant.added is (added.loads ∙ ap (λ k. with_transfer c.loop-request.loads (transfer k r)) c.rank.ensures);
+          c.loop-request.invariant.added is (added.loads ∙ ap (λ k. with_transfer c.loop-request.loads (transfer k r)) c.rank-caller.ensures);
     }
 
 pub add_request-requires-clause-limit : goal.add_request-requires-clause-limit

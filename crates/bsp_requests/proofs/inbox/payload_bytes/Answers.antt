@@ -14,7 +14,7 @@ overflow_add-bytes g c = omega arith
 
 pub loop-message-preserved : goal.loop-message-preserved
 loop-message-preserved g c =
-    let is = c.len.ensures ∙ ap (λ (m : Message). length m.payload) (c.message.view_is ∙ c.message-item.is) in (
+    let is = ap length c.payload.ensures ∙ ap (λ (m : Message). length m.payload) c.message-item.is in (
       omega arith,
       ap₂ (λ a b. a + b) c.loop-message.invariant.1 is
           ∙ sym (sum_by_more (λ (m : Message). length m.payload) c.args.messages.now c.loop-message.message-index c.message-item.result

@@ -4,11 +4,11 @@ use Rattle.std.proofs.lemmas.List.{take-take}
 use Rattle.shared_bytes.specs.Held.{held_bytes}
 use Rattle.shared_bytes.proofs.SharedBytes.within_16.Goals as goal
 
-pub returns-else-within-gt16-clause-first : goal.returns-else-within-gt16-clause-first
-returns-else-within-gt16-clause-first g c =
+pub returns-in_ok-few-in-Within-clause-first : goal.returns-in_ok-few-in-Within-clause-first
+returns-in_ok-few-in-Within-clause-first g c =
     let within = c.in-Within.within in
-    ap (λ (n : ℕ). take n c.copy_from_slice.new.self) c.from.ensures
-    ∙ ap (take within.len) c.copy_from_slice.ensures.after
+    ap (λ (n : ℕ). take n c.in_ok-few-in-Within.field-0.now) c.from.ensures
+    ∙ ap (take within.len) c.in_ok-few-in-Within.ensures.cases.same
     ∙ take-take within.len 16 within.room (omega arith)
     ∙ sym (ap held_bytes c.in-Within.is)
     ∙ c.self.view_is

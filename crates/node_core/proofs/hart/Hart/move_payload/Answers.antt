@@ -30,10 +30,10 @@ returns-in-Err-clause-ok g c =
     let h = (hart_view c.self.inside).hart in
     let read = rw (← c.self.view_is) at c.reg-addr.ensures in
     let asked = rw (← c.self.view_is) at c.reg.ensures in
-    let bytes = take c.min-count.result c.as_slice-payload.result.now in
+    let bytes = take c.min-count.result c.payload-payload.result.now in
     let move : IsMove h c.in-Some.message.now c.reg-addr.result bytes =
-    IsMove-read h c.in-Some.message.now c.reg-addr.result c.reg.result c.min-count.result c.as_slice-payload.result.now
-    (sym c.first.ensures ∙ ap option_copied c.in-Some.is) read asked (rw (← c.message.view_is) c.as_slice-payload.ensures)
+    IsMove-read h c.in-Some.message.now c.reg-addr.result c.reg.result c.min-count.result c.payload-payload.result.now
+    (sym c.first.ensures ∙ ap option_copied c.in-Some.is) read asked c.payload-payload.ensures
     c.min-count.ensures in
     rw (← c.self.view_is) (not_written-ok h _ _ c.in-Err.error c.not_written.result c.not_written.ensures.ok c.in-Err.ensures.err
     (λ outside. move-outside h c.in-Some.message.now c.reg-addr.result bytes move (c.in-Err.ensures.outside.0 (ap Err outside))))
@@ -50,10 +50,10 @@ returns-in-Err-clause-refuses g c =
     let h = (hart_view c.self.inside).hart in
     let read = rw (← c.self.view_is) at c.reg-addr.ensures in
     let asked = rw (← c.self.view_is) at c.reg.ensures in
-    let bytes = take c.min-count.result c.as_slice-payload.result.now in
+    let bytes = take c.min-count.result c.payload-payload.result.now in
     let move : IsMove h c.in-Some.message.now c.reg-addr.result bytes =
-    IsMove-read h c.in-Some.message.now c.reg-addr.result c.reg.result c.min-count.result c.as_slice-payload.result.now
-    (sym c.first.ensures ∙ ap option_copied c.in-Some.is) read asked (rw (← c.message.view_is) c.as_slice-payload.ensures)
+    IsMove-read h c.in-Some.message.now c.reg-addr.result c.reg.result c.min-count.result c.payload-payload.result.now
+    (sym c.first.ensures ∙ ap option_copied c.in-Some.is) read asked c.payload-payload.ensures
     c.min-count.ensures in
     rw (← c.self.view_is) (not_written-refuses _ c.in-Err.error c.not_written.result c.not_written.ensures.err (λ refused.
     let fit : fits (length h.memory) c.reg-addr.result (length bytes) ≡ true =
@@ -70,10 +70,10 @@ returns-clause-ok g c =
     let h = (hart_view c.self.inside).hart in
     let read = rw (← c.self.view_is) at c.reg-addr.ensures in
     let asked = rw (← c.self.view_is) at c.reg.ensures in
-    let bytes = take c.min-count.result c.as_slice-payload.result.now in
+    let bytes = take c.min-count.result c.payload-payload.result.now in
     let move : IsMove h c.in-Some.message.now c.reg-addr.result bytes =
-    IsMove-read h c.in-Some.message.now c.reg-addr.result c.reg.result c.min-count.result c.as_slice-payload.result.now
-    (sym c.first.ensures ∙ ap option_copied c.in-Some.is) read asked (rw (← c.message.view_is) c.as_slice-payload.ensures)
+    IsMove-read h c.in-Some.message.now c.reg-addr.result c.reg.result c.min-count.result c.payload-payload.result.now
+    (sym c.first.ensures ∙ ap option_copied c.in-Some.is) read asked c.payload-payload.ensures
     c.min-count.ensures in
     let fit : fits (length h.memory) c.reg-addr.result (length bytes) ≡ true =
     true-unless _ (λ out. let outside = c.in-Ok.ensures.outside.1 out in cc) in

@@ -6,6 +6,7 @@ use Rattle.std.specs.Option.{option_map}
 use Rattle.std.proofs.lemmas.Int.{ints}
 use Rattle.std.specs.List.{list_all, All}
 use Rattle.rv_tables.specs.Operands.{IsRegister, IsImmediate}
+use Rattle.rv_atomics.specs.declared.extensions.Extensions.{Extensions}
 use Rattle.asm_syntax.specs.declared.error.LineError.{LineError}
 use Rattle.asm_syntax.specs.declared.error.LineError.TheVariants.{NoMemory}
 use Rattle.asm_syntax.specs.declared.form.Form.{Form}
@@ -13,7 +14,7 @@ use Rattle.asm_syntax.specs.declared.form.Form.TheVariants.{Arithmetic, WithImme
 use Rattle.asm_syntax.specs.declared.form.Form.TheVariants.{UpperImmediate, JumpAndLink, JumpAndLinkRegister, NoOperands, WordData}
 use Rattle.asm_syntax.specs.declared.form.Form.TheVariants.{HalfData, ByteData, TextData, ZeroData, AlignData, EntryPoint, Nop, Move}
 use Rattle.asm_syntax.specs.declared.form.Form.TheVariants.{LoadImmediate, LoadAddress, Jump, JumpRegister, Return, Call, BranchIfZero}
-use Rattle.asm_syntax.specs.declared.form.Form.TheVariants.{BranchIfNotZero, Float}
+use Rattle.asm_syntax.specs.declared.form.Form.TheVariants.{BranchIfNotZero, Float, LoadReserved, StoreConditional, AtomicMemory}
 use Rattle.asm_syntax.specs.Faults.{if_ok}
 use Rattle.asm_syntax.specs.FloatOperands.{float_operation}
 use Rattle.asm_syntax.specs.Forms.{form_named, reading}
@@ -23,7 +24,7 @@ use Rattle.asm_syntax.specs.Parse.{line_of, line_with, labels_in, behind_labels,
 use Rattle.asm_syntax.specs.Ranges.{Range, up_to, signed, unsigned, is_within, IsWithin}
 use Rattle.asm_syntax.specs.Shapes.{none, one, two, three, one_or_more, no_operands, a_register, two_registers, three_registers, a_number}
 use Rattle.asm_syntax.specs.Shapes.{register_and_number, registers_and_number, register_and_address, a_target, register_and_target}
-use Rattle.asm_syntax.specs.Shapes.{registers_and_target, targets, numbers, a_text}
+use Rattle.asm_syntax.specs.Shapes.{registers_and_target, register_and_base, registers_and_base, targets, numbers, a_text}
 use Rattle.asm_syntax.specs.Statements.{Statement, Line, IsInRange, half_range, byte_range, word_range, most_space, most_align}
 use Rattle.asm_syntax.specs.Tokens.{Token, name, tokens_of}
 use Rattle.asm_syntax.proofs.FloatFacts.{float_operation-fault, float_operation-ok}
@@ -70,6 +71,19 @@ register_and_address-ok os o h =
     let found = judged-ok {X = ℕ × Address} (λ p. is_within (signed 12) p.1.offset) (two register_in address_in os) o h in
     let t = two-some register_in address_in os o found.0 in
     (register_in-some t.0 o.0 t.2, address_in-some t.1 o.1 t.3, immediate o.1.offset (is_within-true (signed 12) o.1.offset found.1))
+
+register_and_base-ok : (os : List (List Token)) (o : ℕ × Address) → register_and_base os ≡ Ok o → IsRegister o.0 × IsRegister o.1.base
+register_and_base-ok os o h =
+    let found = judged-ok {X = ℕ × Address} (λ p. is_within (up_to 0) p.1.offset) (two register_in address_in os) o h in
+    let t = two-some register_in address_in os o found.0 in
+    (register_in-some t.0 o.0 t.2, address_in-some t.1 o.1 t.3)
+
+registers_and_base-ok : (os : List (List Token)) (o : ℕ × ℕ × Address) → registers_and_base os ≡ Ok o
+    → IsRegister o.0 × IsRegister o.2.base × IsRegister o.1
+registers_and_base-ok os o h =
+    let found = judged-ok {X = ℕ × ℕ × Address} (λ p. is_within (up_to 0) p.2.offset) (three register_in register_in address_in os) o h in
+    let t = three-some register_in register_in address_in os o found.0 in
+    (register_in-some t.0 o.0 t.3, address_in-some t.2 o.2 t.5, register_in-some t.1 o.1 t.4)
 
 a_target-ok : (os : List (List Token)) (t : Target) → a_target os ≡ Ok t → IsTarget t
 a_target-ok os t h = fits_target-true t (judged-ok fits_target (one target_in os) t h).1
@@ -141,18 +155,22 @@ reading-in_range Call os s h = said _ (a_target os) _ s (a_target-ok os) (λ x p
 reading-in_range BranchIfZero os s h = said _ (register_and_target os) _ s (register_and_target-ok os) (λ x p. (p.0, omega arith, p.1)) h
 reading-in_range BranchIfNotZero os s h = said _ (register_and_target os) _ s (register_and_target-ok os) (λ x p. (p.0, omega arith, p.1)) h
 reading-in_range (Float form) os s h = said _ (float_operation form os) _ s (float_operation-ok form os) (λ x p. p) h
+reading-in_range (LoadReserved order) os s h = said _ (register_and_base os) _ s (register_and_base-ok os) (λ x p. p) h
+reading-in_range (StoreConditional order) os s h = said _ (registers_and_base os) _ s (registers_and_base-ok os) (λ x p. p) h
+reading-in_range (AtomicMemory op order) os s h = said _ (registers_and_base os) _ s (registers_and_base-ok os) (λ x p. p) h
 
-pub statement_in-in_range : (float : Bool) (ts : List Token) (s : Option Statement) → statement_in float ts ≡ Ok s → IfSome s IsInRange
-statement_in-in_range float [] s h = subst (λ (o : Option Statement). IfSome o IsInRange) (same h) tt where
+pub statement_in-in_range : (extensions : Extensions) (ts : List Token) (s : Option Statement) → statement_in extensions ts ≡ Ok s
+    → IfSome s IsInRange
+statement_in-in_range extensions [] s h = subst (λ (o : Option Statement). IfSome o IsInRange) (same h) tt where
   same : ◌≡◌ {A = Result (Option Statement) LineError} (Ok None) (Ok s) → None ≡ s
   same h = cc
-statement_in-in_range float (name m ∷ ts) s h = by_form (form_named float m) h where
+statement_in-in_range extensions (name m ∷ ts) s h = by_form (form_named extensions m) h where
   by_form : (o : Option Form) → if_ok Some (statement_of_form o (operands_in ts)) ≡ Ok s → IfSome s IsInRange
   by_form None h = absurd (no_ok h)
   by_form (Some form) h =
       let parts = if_ok-ok {Y = Option Statement} Some (reading form (operands_in ts)) s h in
       subst (λ (o : Option Statement). IfSome o IsInRange) parts.2 (reading-in_range form (operands_in ts) parts.0 parts.1)
-statement_in-in_range float _ s h = absurd (no_ok h)
+statement_in-in_range extensions _ s h = absurd (no_ok h)
 
 -- the same of a value of the code that stands for a statement
 pub IfSome-mapped : {S : Type 0} (value : S → Statement) (o : Option S) → IfSome (option_map value o) IsInRange
@@ -160,16 +178,17 @@ pub IfSome-mapped : {S : Type 0} (value : S → Statement) (o : Option S) → If
 IfSome-mapped value None h = tt
 IfSome-mapped value (Some s) h = h
 
-line_with-in_range : (float : Bool) (o : Option (List Token)) (line : Line) → line_with float o ≡ Ok line → IfSome line.statement IsInRange
-line_with-in_range float None line h = absurd (no_ok h)
-line_with-in_range float (Some ts) line h =
-    let parts = if_ok-ok (λ s. record { labels = labels_in ts; statement = s }) (statement_in float (behind_labels ts)) line h in
-    subst (λ (l : Line). IfSome l.statement IsInRange) parts.2 (statement_in-in_range float (behind_labels ts) parts.0 parts.1)
+line_with-in_range : (extensions : Extensions) (o : Option (List Token)) (line : Line) → line_with extensions o ≡ Ok line
+    → IfSome line.statement IsInRange
+line_with-in_range extensions None line h = absurd (no_ok h)
+line_with-in_range extensions (Some ts) line h =
+    let parts = if_ok-ok (λ s. record { labels = labels_in ts; statement = s }) (statement_in extensions (behind_labels ts)) line h in
+    subst (λ (l : Line). IfSome l.statement IsInRange) parts.2 (statement_in-in_range extensions (behind_labels ts) parts.0 parts.1)
 
 -- the statement of a line is in range
-pub in_range : (float : Bool) (line : List ℕ) (said : Line) → line_of float line ≡ Ok said → IfSome said.statement IsInRange
+pub in_range : (extensions : Extensions) (line : List ℕ) (said : Line) → line_of extensions line ≡ Ok said → IfSome said.statement IsInRange
 unfolding line_of
-in_range float line said h = line_with-in_range float (tokens_of line) said h
+in_range extensions line said h = line_with-in_range extensions (tokens_of line) said h
 
 -- no fault is want of memory
 no_operands-fault : (os : List (List Token)) → no_operands os ≢ Err NoMemory
@@ -195,6 +214,13 @@ registers_and_number-fault range os = judged-fault {X = ℕ × ℕ × ℤ} (λ p
 
 register_and_address-fault : (os : List (List Token)) → register_and_address os ≢ Err NoMemory
 register_and_address-fault os = judged-fault {X = ℕ × Address} (λ p. is_within (signed 12) p.1.offset) (two register_in address_in os)
+
+register_and_base-fault : (os : List (List Token)) → register_and_base os ≢ Err NoMemory
+register_and_base-fault os = judged-fault {X = ℕ × Address} (λ p. is_within (up_to 0) p.1.offset) (two register_in address_in os)
+
+registers_and_base-fault : (os : List (List Token)) → registers_and_base os ≢ Err NoMemory
+registers_and_base-fault os =
+    judged-fault {X = ℕ × ℕ × Address} (λ p. is_within (up_to 0) p.2.offset) (three register_in register_in address_in os)
 
 a_target-fault : (os : List (List Token)) → a_target os ≢ Err NoMemory
 a_target-fault os = judged-fault {X = Target} (fits_target) (one target_in os)
@@ -243,24 +269,27 @@ reading-fault Call os = if_ok-fault _ (a_target os) (a_target-fault os)
 reading-fault BranchIfZero os = if_ok-fault _ (register_and_target os) (register_and_target-fault os)
 reading-fault BranchIfNotZero os = if_ok-fault _ (register_and_target os) (register_and_target-fault os)
 reading-fault (Float form) os = if_ok-fault _ (float_operation form os) (float_operation-fault form os)
+reading-fault (LoadReserved order) os = if_ok-fault _ (register_and_base os) (register_and_base-fault os)
+reading-fault (StoreConditional order) os = if_ok-fault _ (registers_and_base os) (registers_and_base-fault os)
+reading-fault (AtomicMemory op order) os = if_ok-fault _ (registers_and_base os) (registers_and_base-fault os)
 
 form-fault : (o : Option Form) (os : List (List Token)) → statement_of_form o os ≢ Err NoMemory
 form-fault None os h = cc
 form-fault (Some form) os h = reading-fault form os h
 
-statement_in-fault : (float : Bool) (ts : List Token) → statement_in float ts ≢ Err NoMemory
-statement_in-fault float [] h = cc
-statement_in-fault float (name m ∷ ts) h =
-    if_ok-fault {Y = Option Statement} Some (statement_of_form (form_named float m) (operands_in ts))
-    (form-fault (form_named float m) (operands_in ts)) h
-statement_in-fault float _ h = cc
+statement_in-fault : (extensions : Extensions) (ts : List Token) → statement_in extensions ts ≢ Err NoMemory
+statement_in-fault extensions [] h = cc
+statement_in-fault extensions (name m ∷ ts) h =
+    if_ok-fault {Y = Option Statement} Some (statement_of_form (form_named extensions m) (operands_in ts))
+    (form-fault (form_named extensions m) (operands_in ts)) h
+statement_in-fault extensions _ h = cc
 
-line_with-fault : (float : Bool) (o : Option (List Token)) → line_with float o ≢ Err NoMemory
-line_with-fault float None h = cc
-line_with-fault float (Some ts) h =
-    if_ok-fault (λ s. record { labels = labels_in ts; statement = s }) (statement_in float (behind_labels ts))
-    (statement_in-fault float (behind_labels ts)) h
+line_with-fault : (extensions : Extensions) (o : Option (List Token)) → line_with extensions o ≢ Err NoMemory
+line_with-fault extensions None h = cc
+line_with-fault extensions (Some ts) h =
+    if_ok-fault (λ s. record { labels = labels_in ts; statement = s }) (statement_in extensions (behind_labels ts))
+    (statement_in-fault extensions (behind_labels ts)) h
 
-pub never_memory : (float : Bool) (line : List ℕ) → line_of float line ≢ Err NoMemory
+pub never_memory : (extensions : Extensions) (line : List ℕ) → line_of extensions line ≢ Err NoMemory
 unfolding line_of
-never_memory float line h = line_with-fault float (tokens_of line) h
+never_memory extensions line h = line_with-fault extensions (tokens_of line) h

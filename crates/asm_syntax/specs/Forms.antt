@@ -1,7 +1,7 @@
 -- The statements of the language (own language): each has one rule, of its mnemonic, its operands with their ranges, and
 -- what it says. Names and pseudo-instructions are those of the RISC-V Assembly Programmer's Handbook (RISC-V Unprivileged
 -- ISA 20191213, chapter 25), but `li`, `la` and `call` have meanings of this language's own.
-use Rattle.std.specs.Prelude.{ℕ, Bool, if◌then◌else◌, pos, nat_abs, List, [], ◌∷◌, ◌++◌, map, codes, find, Option, None, Result}
+use Rattle.std.specs.Prelude.{ℕ, if◌then◌else◌, pos, nat_abs, List, [], ◌∷◌, ◌++◌, map, codes, find, Option, None, Result}
 use Rattle.std.specs.Option.{option_map, option_or}
 use Rattle.std.specs.Str.{bytes_eq}
 use Rattle.rv_tables.specs.declared.instr.Instr.{Instr}
@@ -11,12 +11,16 @@ use Rattle.rv_tables.specs.declared.instr.BranchOp.TheVariants.{Beq, Bne}
 use Rattle.rv_tables.specs.Mnemonics.{r_mnemonic, i_mnemonic, shift_mnemonic, load_mnemonic, store_mnemonic, branch_mnemonic}
 use Rattle.rv_tables.specs.Mnemonics.{upper_mnemonic, plain_mnemonic, mnemonic_of}
 use Rattle.rv_tables.specs.Rows.{encodings}
+use Rattle.rv_atomics.specs.declared.extensions.Extensions.{Extensions}
+use Rattle.rv_atomics.specs.declared.instr.AtomicInstr.{AtomicInstr}
+use Rattle.rv_atomics.specs.declared.instr.AtomicInstr.TheVariants as atomic
+use Rattle.rv_atomics.specs.Mnemonics.{atomic_mnemonic_of, atomic_named}
 use Rattle.asm_syntax.specs.declared.form.Form.{Form}
 use Rattle.asm_syntax.specs.declared.form.Form.TheVariants.{Arithmetic, WithImmediate, ShiftByAmount, LoadFrom, StoreTo, BranchTo}
 use Rattle.asm_syntax.specs.declared.form.Form.TheVariants.{UpperImmediate, JumpAndLink, JumpAndLinkRegister, NoOperands, WordData}
 use Rattle.asm_syntax.specs.declared.form.Form.TheVariants.{HalfData, ByteData, TextData, ZeroData, AlignData, EntryPoint, Nop, Move}
 use Rattle.asm_syntax.specs.declared.form.Form.TheVariants.{LoadImmediate, LoadAddress, Jump, JumpRegister, Return, Call, BranchIfZero}
-use Rattle.asm_syntax.specs.declared.form.Form.TheVariants.{BranchIfNotZero, Float}
+use Rattle.asm_syntax.specs.declared.form.Form.TheVariants.{BranchIfNotZero, Float, LoadReserved, StoreConditional, AtomicMemory}
 use Rattle.asm_syntax.specs.declared.error.LineError.{LineError}
 use Rattle.asm_syntax.specs.Faults.{if_ok}
 use Rattle.asm_syntax.specs.FloatForms.{float_form_named, float_mnemonic}
@@ -24,11 +28,11 @@ use Rattle.asm_syntax.specs.FloatOperands.{float_operation}
 use Rattle.asm_syntax.specs.Ranges.{up_to, signed, unsigned}
 use Rattle.asm_syntax.specs.Shapes.{no_operands, a_register, two_registers, three_registers, a_number, register_and_number}
 use Rattle.asm_syntax.specs.Shapes.{registers_and_number, register_and_address, a_target, register_and_target, registers_and_target}
-use Rattle.asm_syntax.specs.Shapes.{targets, numbers, a_text}
+use Rattle.asm_syntax.specs.Shapes.{register_and_base, registers_and_base, targets, numbers, a_text}
 use Rattle.asm_syntax.specs.Tokens.{Token}
 use Rattle.asm_syntax.specs.Statements.{Statement, instruction, float_instruction, branch, jump_and_link, load_immediate, load_address}
 use Rattle.asm_syntax.specs.Statements.{words, halves, bytes, ascii, space, align, entry, word_range, half_range, byte_range, most_space}
-use Rattle.asm_syntax.specs.Statements.{most_align}
+use Rattle.asm_syntax.specs.Statements.{most_align, atomic_instruction}
 
 -- a rule of the language: a mnemonic, and what the operands behind it say, or their fault
 pub record Rule : Type 0 where
@@ -38,7 +42,8 @@ pub record Rule : Type 0 where
 abbrev pub rule : {X : Type 0} → List ℕ → (List (List Token) → Result X LineError) → (X → Statement) → Rule
 rule mnemonic operands says = record { mnemonic = mnemonic; reading = λ os. if_ok says (operands os) }
 
--- the rule of each statement: those of the rows, those of data, those of the pseudo-instructions, and those of floating point
+-- the rule of each statement: those of the rows, those of data, those of the pseudo-instructions, those of floating point, and those of
+-- the atomic instructions, which have the operands that the examples of sections 8.2 to 8.4 have
 abbrev pub rule_of : Form → Rule
 rule_of (Arithmetic op) =
     rule (r_mnemonic op) three_registers (λ (rd, rs1, rs2). instruction (R op rd rs1 rs2))
@@ -78,6 +83,15 @@ rule_of Call = rule (codes "call") a_target (jump_and_link 1)
 rule_of BranchIfZero = rule (codes "beqz") register_and_target (λ (rs, t). branch Beq rs 0 t)
 rule_of BranchIfNotZero = rule (codes "bnez") register_and_target (λ (rs, t). branch Bne rs 0 t)
 rule_of (Float form) = rule (float_mnemonic form) (float_operation form) float_instruction
+rule_of (LoadReserved order) =
+    rule (atomic_mnemonic_of (atomic.LoadReserved order 0 0)) register_and_base
+    (λ (rd, a). atomic_instruction (atomic.LoadReserved order rd a.base))
+rule_of (StoreConditional order) =
+    rule (atomic_mnemonic_of (atomic.StoreConditional order 0 0 0)) registers_and_base
+    (λ (rd, rs2, a). atomic_instruction (atomic.StoreConditional order rd a.base rs2))
+rule_of (AtomicMemory op order) =
+    rule (atomic_mnemonic_of (atomic.Amo op order 0 0 0)) registers_and_base
+    (λ (rd, rs2, a). atomic_instruction (atomic.Amo op order rd a.base rs2))
 
 -- what operands of a statement say, or their fault
 abbrev pub reading : Form → List (List Token) → Result Statement LineError
@@ -96,6 +110,11 @@ form_of (Jal rd imm) = JumpAndLink
 form_of (Jalr rd rs1 imm) = JumpAndLinkRegister
 form_of (Plain op) = NoOperands op
 
+abbrev pub atomic_form_of : AtomicInstr → Form
+atomic_form_of (atomic.LoadReserved order rd rs1) = LoadReserved order
+atomic_form_of (atomic.StoreConditional order rd rs1 rs2) = StoreConditional order
+atomic_form_of (atomic.Amo op order rd rs1 rs2) = AtomicMemory op order
+
 -- the statements of data and the pseudo-instructions
 unfoldable pub own_forms : List Form
 own_forms =
@@ -103,7 +122,7 @@ own_forms =
     ∷ Nop ∷ Move ∷ LoadImmediate ∷ LoadAddress ∷ Jump ∷ JumpRegister ∷ Return ∷ Call ∷ BranchIfZero ∷ BranchIfNotZero
     ∷ []
 
--- the statements of the language, without those of floating point: one for each row of the instruction set, and its own
+-- the statements of the language, without those of extensions: one for each row of the instruction set, and its own
 unfoldable pub forms : List Form
 forms = map (λ e. form_of (e.read 0)) encodings ++ own_forms
 
@@ -114,8 +133,12 @@ integer_form_named mnemonic = find (λ form. bytes_eq (rule_of form).mnemonic mn
 unfoldable pub own_form_named : List ℕ → Option Form
 own_form_named mnemonic = find (λ form. bytes_eq (rule_of form).mnemonic mnemonic) own_forms
 
--- the statement with a mnemonic, in the language with statements of floating point or in that without them. None of these has the mnemonic
--- of another one
-abbrev pub form_named : (float : Bool) → List ℕ → Option Form
-form_named float mnemonic =
-    option_or (integer_form_named mnemonic) (if float then option_map Float (float_form_named mnemonic) else None)
+-- the statement of an extension with a mnemonic, where the language has that extension
+abbrev pub extension_form_named : Extensions → List ℕ → Option Form
+extension_form_named extensions mnemonic =
+    option_or (if extensions.float then option_map Float (float_form_named mnemonic) else None)
+    (if extensions.atomic then option_map atomic_form_of (atomic_named mnemonic) else None)
+
+-- the statement with a mnemonic, in the language with the statements of some extensions. None of these has the mnemonic of another one
+abbrev pub form_named : Extensions → List ℕ → Option Form
+form_named extensions mnemonic = option_or (integer_form_named mnemonic) (extension_form_named extensions mnemonic)

@@ -6,7 +6,7 @@ use Rattle.std.specs.Option.{option_map, option_and_then}
 use Rattle.asm_syntax.specs.declared.error.LineError.{LineError}
 use Rattle.asm_syntax.specs.Faults.{judged}
 use Rattle.asm_syntax.specs.Operands.{Address, Target, register_in, number_in, address_in, target_in, text_in, fits_target}
-use Rattle.asm_syntax.specs.Ranges.{Range, signed, is_within}
+use Rattle.asm_syntax.specs.Ranges.{Range, signed, up_to, is_within}
 use Rattle.asm_syntax.specs.Tokens.{Token}
 
 -- no operands: what is read of them, where there are none
@@ -72,6 +72,14 @@ registers_and_number range os = judged (λ (rd, rs1, n). is_within range n) (thr
 -- `rd,n(rs1)`, with a number of 12 bits
 abbrev pub register_and_address : List (List Token) → Result (ℕ × Address) LineError
 register_and_address os = judged (λ (rd, a). is_within (signed 12) a.offset) (two register_in address_in os)
+
+-- `rd,(rs1)`, with no number but 0
+abbrev pub register_and_base : List (List Token) → Result (ℕ × Address) LineError
+register_and_base os = judged (λ (rd, a). is_within (up_to 0) a.offset) (two register_in address_in os)
+
+-- `rd,rs2,(rs1)`
+abbrev pub registers_and_base : List (List Token) → Result (ℕ × ℕ × Address) LineError
+registers_and_base os = judged (λ (rd, rs2, a). is_within (up_to 0) a.offset) (three register_in register_in address_in os)
 
 -- `target`
 abbrev pub a_target : List (List Token) → Result Target LineError

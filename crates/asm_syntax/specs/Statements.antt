@@ -6,6 +6,8 @@ use Rattle.rv_tables.specs.declared.instr.BranchOp.{BranchOp}
 use Rattle.rv_tables.specs.Operands.{IsRegister, IsEncodable}
 use Rattle.rv_float_tables.specs.declared.instr.FloatInstr.{FloatInstr}
 use Rattle.rv_float_tables.specs.Operands.{IsEncodable as IsFloatEncodable}
+use Rattle.rv_atomics.specs.declared.instr.AtomicInstr.{AtomicInstr}
+use Rattle.rv_atomics.specs.Operands.{IsEncodable as IsAtomicEncodable}
 use Rattle.asm_syntax.specs.Operands.{Target, IsTarget}
 use Rattle.asm_syntax.specs.Ranges.{Range, signed_or_unsigned, IsWithin}
 
@@ -15,6 +17,8 @@ pub data Statement : Type 0 where
   instruction : Instr → Statement
   -- one of floating point
   float_instruction : FloatInstr → Statement
+  -- one of extension A
+  atomic_instruction : AtomicInstr → Statement
   -- its row, rs1, rs2 and where it goes to
   branch : BranchOp → ℕ → ℕ → Target → Statement
   -- rd and where it goes to
@@ -64,6 +68,7 @@ most_align = 12
 abbrev pub IsInRange : Statement → Type 0
 IsInRange (instruction i) = IsEncodable i
 IsInRange (float_instruction i) = IsFloatEncodable i
+IsInRange (atomic_instruction i) = IsAtomicEncodable i
 IsInRange (branch op rs1 rs2 target) = IsRegister rs1 × IsRegister rs2 × IsTarget target
 IsInRange (jump_and_link rd target) = IsRegister rd × IsTarget target
 IsInRange (load_immediate rd n) = IsRegister rd × IsWithin word_range n

@@ -52,6 +52,10 @@ address_value a = record { offset = a.offset; base = a.base }
 abbrev pub register_address_value : ℕ × AddressCode → ℕ × Address
 register_address_value o = (o.0, address_value o.1)
 
+-- two registers and an address
+abbrev pub registers_address_value : ℕ × ℕ × AddressCode → ℕ × ℕ × Address
+registers_address_value o = (o.0, o.1, address_value o.2)
+
 -- the operands between commas
 abbrev pub operand_values : List (Bor (List TokenCode)) → List (List Token)
 operand_values operands = map (λ operand. map token_value operand.now) operands

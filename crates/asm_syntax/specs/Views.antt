@@ -3,11 +3,12 @@ use Rattle.std.specs.Prelude.{ℕ, map}
 use Rattle.std.specs.Option.{option_map}
 use Rattle.asm_syntax.specs.Operands.{Target}
 use Rattle.asm_syntax.specs.Statements.{Statement, Line, instruction, float_instruction, branch, jump_and_link, load_immediate}
-use Rattle.asm_syntax.specs.Statements.{load_address, words, halves, bytes, ascii, space, align, entry}
+use Rattle.asm_syntax.specs.Statements.{load_address, words, halves, bytes, ascii, space, align, entry, atomic_instruction}
 use Rattle.asm_syntax.specs.declared.statement.Target.{Target as TargetCode}
 use Rattle.asm_syntax.specs.declared.statement.Statement.{Statement as StatementCode}
 use Rattle.asm_syntax.specs.declared.statement.Statement.TheVariants.{Instruction, FloatInstruction, Branch, Jal, LoadImmediate}
 use Rattle.asm_syntax.specs.declared.statement.Statement.TheVariants.{LoadAddress, Words, Halves, Bytes, Ascii, Space, Align, Entry}
+use Rattle.asm_syntax.specs.declared.statement.Statement.TheVariants.{AtomicInstruction}
 use Rattle.asm_syntax.specs.declared.statement.Line.{Line as LineCode}
 
 -- targets, statements and lines of the code as those of the definitions
@@ -24,6 +25,7 @@ registers_target_value o = (o.0, o.1, target_value o.2)
 abbrev pub statement_value : {A : Type 0} → StatementCode A → Statement
 statement_value (Instruction i) = instruction i
 statement_value (FloatInstruction i) = float_instruction i
+statement_value (AtomicInstruction i) = atomic_instruction i
 statement_value (Branch op rs1 rs2 target) = branch op rs1 rs2 (target_value target)
 statement_value (Jal rd target) = jump_and_link rd (target_value target)
 statement_value (LoadImmediate rd n) = load_immediate rd n

@@ -1,9 +1,10 @@
 //! The statements of the language by their mnemonics.
 
 ghost use Rattle.std.specs.Prelude.{◌≡◌};
-ghost use Rattle.asm_syntax.specs.Forms.{form_named, integer_form_named, form_of, own_form_named};
+ghost use Rattle.asm_syntax.specs.Forms.{form_named, integer_form_named, extension_form_named, form_of, atomic_form_of, own_form_named};
 
 use crate::float_form::{FloatForm, float_form_named};
+use rv_atomics::{AmoOp, AtomicInstr, Extensions, Order, atomic_named};
 use rv_tables::{
     BranchOp, IOp, Instr, LoadOp, PlainOp, ROp, ShiftOp, StoreOp, UpperOp, instr_named, named,
 };
@@ -56,6 +57,12 @@ pub(crate) enum Form {
     BranchIfNotZero,
     /// One of floating point.
     Float(FloatForm),
+    /// `lr.w`, and the same with `.aq`, `.rl` or `.aqrl`.
+    LoadReserved(Order),
+    /// `sc.w`, likewise.
+    StoreConditional(Order),
+    /// `amoadd.w` and its kin, likewise.
+    AtomicMemory(AmoOp, Order),
 }
 
 /// The statements of data and the pseudo-instructions.
@@ -79,17 +86,43 @@ static OWN_FORMS: [(&str, Form); 17] = [
     ("bnez", Form::BranchIfNotZero),
 ];
 
-/// The statement with a mnemonic. Those of floating point are among them where `float` says so.
-pub(crate) fn form_named(float: bool, mnemonic: &[u8]) -> Option<Form>
-    ensures { result ≡ form_named float mnemonic.now }
+/// The statement with a mnemonic. Those of extensions are among them where the language has these.
+pub(crate) fn form_named(extensions: Extensions, mnemonic: &[u8]) -> Option<Form>
+    ensures { result ≡ form_named extensions mnemonic.now }
 {
     match integer_form_named(mnemonic) {
-        None if float => float_form_named(mnemonic).map(Form::Float),
+        None => extension_form_named(extensions, mnemonic),
         form => form,
     }
 }
 
-/// The statement with a mnemonic, if it is none of floating point.
+/// The statement with a mnemonic, if it is of an extension that the language has.
+fn extension_form_named(extensions: Extensions, mnemonic: &[u8]) -> Option<Form>
+    ensures { result ≡ extension_form_named extensions mnemonic.now }
+{
+    let of_floats = if extensions.float {
+        float_form_named(mnemonic).map(Form::Float)
+    } else {
+        None
+    };
+    match of_floats {
+        None if extensions.atomic => atomic_named(mnemonic).map(atomic_form_of),
+        form => form,
+    }
+}
+
+/// The statement of an instruction of A.
+fn atomic_form_of(instr: AtomicInstr) -> Form
+    ensures { result ≡ atomic_form_of instr }
+{
+    match instr {
+        AtomicInstr::LoadReserved { order, .. } => Form::LoadReserved(order),
+        AtomicInstr::StoreConditional { order, .. } => Form::StoreConditional(order),
+        AtomicInstr::Amo { op, order, .. } => Form::AtomicMemory(op, order),
+    }
+}
+
+/// The statement with a mnemonic, if it is of no extension.
 #[tactic(auto, using(crate::proofs::FormNames::integer_form_parts))]
 fn integer_form_named(mnemonic: &[u8]) -> Option<Form>
     ensures { result ≡ integer_form_named mnemonic.now }

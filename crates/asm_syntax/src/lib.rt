@@ -10,12 +10,12 @@
 //!   asks for; or the fault of the line, which is the least of those that it has, in the order of [`LineError`].
 //! - [`laws`] has what holds of every line.
 //!
-//! There are two languages: one with the statements of floating point, and one without them, in which their mnemonics are none. A caller
-//! says of each line in which it is.
+//! A language has the statements of some extensions, as [`Extensions`](rv_atomics::Extensions) says: of floating point, and of A. In a
+//! language without an extension its mnemonics are none. A caller says of each line in which language it is.
 //!
-//! The names of instructions and registers are those of `rv_tables` and `rv_float_tables`, and numbers those of `numerals`. The language is
-//! this project's own; it is a part of what the RISC-V Assembly Programmer's Handbook has (The RISC-V Instruction Set Manual, Volume I:
-//! Unprivileged ISA, 20191213, chapter 25).
+//! The names of instructions and registers are those of `rv_tables`, `rv_float_tables` and `rv_atomics`, and numbers those of `numerals`.
+//! The language is this project's own; it is a part of what the RISC-V Assembly Programmer's Handbook has (The RISC-V Instruction Set
+//! Manual, Volume I: Unprivileged ISA, 20191213, chapter 25).
 #![tactic(auto)]
 
 mod bytes;

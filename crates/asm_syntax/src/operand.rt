@@ -6,7 +6,7 @@ ghost use Rattle.numerals.specs.Numbers.{number_value as value_of};
 ghost use Rattle.asm_syntax.specs.Faults.{judged, if_ok};
 ghost use Rattle.asm_syntax.specs.Limits.{clamped, clamped_based, clamped_target};
 ghost use Rattle.asm_syntax.specs.Operands.{register_in, number_in, in_parentheses, based_in, address_in, target_in, text_in, fits_target};
-ghost use Rattle.asm_syntax.specs.Ranges.{from_to, signed, is_within, IsWithin};
+ghost use Rattle.asm_syntax.specs.Ranges.{from_to, signed, up_to, is_within, IsWithin};
 ghost use Rattle.asm_syntax.specs.TokenViews.{address_value, token_value, unescaped, based_value};
 ghost use Rattle.asm_syntax.specs.Views.{target_value};
 
@@ -116,6 +116,20 @@ pub(crate) fn memory_address(operand: &[Token<'_>]) -> Result<Address, LineError
             offset: number as i32,
             base,
         })
+    } else {
+        Err(LineError::OutOfRange)
+    }
+}
+
+/// An address in memory that is in a register, with no number but 0.
+pub(crate) fn base_address(operand: &[Token<'_>]) -> Result<Address, LineError>
+    ensures { if_ok address_value result
+        ≡ judged (λ a. is_within (up_to 0) a.offset) (address_in (map token_value operand.now)) }
+{
+    let NumberAndBase { number, base } = based(operand).ok_or(LineError::BadOperand)?;
+    let base = reg_number(base).ok_or(LineError::BadOperand)?;
+    if number == 0 {
+        Ok(Address { offset: 0, base })
     } else {
         Err(LineError::OutOfRange)
     }

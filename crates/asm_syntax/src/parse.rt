@@ -15,25 +15,26 @@ use crate::statement::{Line, Statement};
 use crate::token::{Token, tokens};
 use crate::{data, float_operands, pseudo, rows};
 use list_vec::ListVec;
+use rv_atomics::Extensions;
 use std::alloc::{AllocError, Allocator};
 
-/// What a line says: its labels and its statement. A line is any bytes without its line feed. Statements of floating point are of the
-/// language where `float` says so.
+/// What a line says: its labels and its statement. A line is any bytes without its line feed. The language has the statements of
+/// some extensions.
 ///
 /// The error is the first fault of [`LineError`] that the line has, or `NoMemory` where memory is refused.
 #[tactic(auto, unfolding(crate::specs::Parse::line_of))]
 pub fn parse_line<'a, A: Allocator + Copy>(
     alloc: A,
-    float: bool,
+    extensions: Extensions,
     line: &'a [u8],
 ) -> Result<Line<'a, A>, LineError>
-    ensures ok { IfOk result (λ l. line_of float line.now ≡ Ok (line_value l)) }
+    ensures ok { IfOk result (λ l. line_of extensions line.now ≡ Ok (line_value l)) }
     ensures in_range { IfOk result (λ l. IfSome l.statement (λ s. IsInRange (statement_value s))) }
-    ensures err { IfErr result (λ e. e ≢ LineError.NoMemory → line_of float line.now ≡ Err e) }
+    ensures err { IfErr result (λ e. e ≢ LineError.NoMemory → line_of extensions line.now ≡ Err e) }
 {
     let tokens = tokens(alloc, line)?;
     let (labels, rest) = labels(alloc, &tokens)?;
-    let statement = statement(alloc, float, rest)?;
+    let statement = statement(alloc, extensions, rest)?;
     Ok(Line {
         labels: ListVec::from_vec(labels),
         statement,
@@ -62,16 +63,16 @@ fn labels<'t, 'a, A: Allocator + Copy>(
 /// The statement that tokens without labels spell, if there is one.
 fn statement<'a, A: Allocator + Copy>(
     alloc: A,
-    float: bool,
+    extensions: Extensions,
     tokens: &[Token<'a>],
 ) -> Result<Option<Statement<'a, A>>, LineError>
-    ensures ok { IfOk result (λ s. statement_in float (map token_value tokens.now) ≡ Ok (option_map statement_value s)) }
-    ensures err { IfErr result (λ e. e ≢ LineError.NoMemory → statement_in float (map token_value tokens.now) ≡ Err e) }
+    ensures ok { IfOk result (λ s. statement_in extensions (map token_value tokens.now) ≡ Ok (option_map statement_value s)) }
+    ensures err { IfErr result (λ e. e ≢ LineError.NoMemory → statement_in extensions (map token_value tokens.now) ≡ Err e) }
 {
     match tokens {
         [] => Ok(None),
         [Token::Name(mnemonic), rest @ ..] => {
-            let statement = statement_named(alloc, float, mnemonic, rest)?;
+            let statement = statement_named(alloc, extensions, mnemonic, rest)?;
             Ok(Some(statement))
         }
         _ => Err(LineError::UnknownMnemonic),
@@ -81,16 +82,16 @@ fn statement<'a, A: Allocator + Copy>(
 /// The statement that a mnemonic and the tokens behind it spell.
 fn statement_named<'a, A: Allocator + Copy>(
     alloc: A,
-    float: bool,
+    extensions: Extensions,
     mnemonic: &[u8],
     tokens: &[Token<'a>],
 ) -> Result<Statement<'a, A>, LineError>
     ensures ok { IfOk result (λ s.
-        statement_of_form (form_named float mnemonic.now) (operands_in (map token_value tokens.now)) ≡ Ok (statement_value s)) }
+        statement_of_form (form_named extensions mnemonic.now) (operands_in (map token_value tokens.now)) ≡ Ok (statement_value s)) }
     ensures err { IfErr result (λ e. e ≢ LineError.NoMemory
-        → statement_of_form (form_named float mnemonic.now) (operands_in (map token_value tokens.now)) ≡ Err e) }
+        → statement_of_form (form_named extensions mnemonic.now) (operands_in (map token_value tokens.now)) ≡ Err e) }
 {
-    let form = form_named(float, mnemonic).ok_or(LineError::UnknownMnemonic)?;
+    let form = form_named(extensions, mnemonic).ok_or(LineError::UnknownMnemonic)?;
     let operands = operands(alloc, tokens)?;
     read(alloc, form, &operands)
 }
@@ -153,5 +154,8 @@ fn read<'a, A: Allocator + Copy>(
             let instr = float_operands::operation(form, operands)?;
             Ok(Statement::FloatInstruction(instr))
         }
+        Form::LoadReserved(order) => rows::load_reserved(order, operands),
+        Form::StoreConditional(order) => rows::store_conditional(order, operands),
+        Form::AtomicMemory(op, order) => rows::atomic_memory(op, order, operands),
     }
 }

@@ -11,6 +11,7 @@ use crate::form::Form;
 use crate::shapes;
 use crate::statement::Statement;
 use crate::token::Token;
+use rv_atomics::{AmoOp, AtomicInstr, Order};
 use rv_tables::{BranchOp, IOp, Instr, LoadOp, PlainOp, ROp, ShiftOp, StoreOp, UpperOp};
 use std::alloc::Allocator;
 
@@ -131,4 +132,52 @@ pub(crate) fn no_operands<'a, A: Allocator + Copy>(
 {
     shapes::nothing(operands)?;
     Ok(Statement::Instruction(Instr::Plain { op }))
+}
+
+/// `lr.w rd,(rs1)`.
+pub(crate) fn load_reserved<'a, A: Allocator + Copy>(
+    order: Order,
+    operands: &[&[Token<'a>]],
+) -> Result<Statement<'a, A>, LineError>
+    ensures { if_ok statement_value result ≡ reading (Form.LoadReserved order) (operand_values operands.now) }
+{
+    let (rd, address) = shapes::register_base(operands)?;
+    let rs1 = address.base;
+    Ok(Statement::AtomicInstruction(AtomicInstr::LoadReserved { order, rd, rs1 }))
+}
+
+/// `sc.w rd,rs2,(rs1)`.
+pub(crate) fn store_conditional<'a, A: Allocator + Copy>(
+    order: Order,
+    operands: &[&[Token<'a>]],
+) -> Result<Statement<'a, A>, LineError>
+    ensures { if_ok statement_value result ≡ reading (Form.StoreConditional order) (operand_values operands.now) }
+{
+    let (rd, rs2, address) = shapes::two_registers_base(operands)?;
+    let rs1 = address.base;
+    Ok(Statement::AtomicInstruction(AtomicInstr::StoreConditional {
+        order,
+        rd,
+        rs1,
+        rs2,
+    }))
+}
+
+/// `amoadd.w rd,rs2,(rs1)` and its kin.
+pub(crate) fn atomic_memory<'a, A: Allocator + Copy>(
+    op: AmoOp,
+    order: Order,
+    operands: &[&[Token<'a>]],
+) -> Result<Statement<'a, A>, LineError>
+    ensures { if_ok statement_value result ≡ reading (Form.AtomicMemory op order) (operand_values operands.now) }
+{
+    let (rd, rs2, address) = shapes::two_registers_base(operands)?;
+    let rs1 = address.base;
+    Ok(Statement::AtomicInstruction(AtomicInstr::Amo {
+        op,
+        order,
+        rd,
+        rs1,
+        rs2,
+    }))
 }

@@ -8,7 +8,7 @@ ghost use Rattle.asm_syntax.specs.Faults.{judged, if_ok};
 ghost use Rattle.asm_syntax.specs.Operands.{register_in};
 ghost use Rattle.asm_syntax.specs.Ranges.{from_to, IsWithin};
 ghost use Rattle.asm_syntax.specs.Shapes as Shapes;
-ghost use Rattle.asm_syntax.specs.TokenViews.{operand_values, register_address_value, token_value, unescaped};
+ghost use Rattle.asm_syntax.specs.TokenViews.{operand_values, register_address_value, registers_address_value, token_value, unescaped};
 ghost use Rattle.asm_syntax.specs.Views.{target_value, register_target_value, registers_target_value};
 
 use crate::error::LineError;
@@ -130,6 +130,30 @@ pub(crate) fn register_address(operands: &[&[Token<'_>]]) -> Result<(u8, Address
     let register = operand::register(first)?;
     let address = operand::memory_address(second)?;
     Ok((register, address))
+}
+
+/// `rd,(rs1)`, with no number in front of the `(` but 0.
+pub(crate) fn register_base(operands: &[&[Token<'_>]]) -> Result<(u8, Address), LineError>
+    ensures { if_ok register_address_value result ≡ Shapes.register_and_base (operand_values operands.now) }
+{
+    let [first, second] = operands else {
+        return Err(LineError::BadOperand);
+    };
+    let register = operand::register(first)?;
+    let address = operand::base_address(second)?;
+    Ok((register, address))
+}
+
+/// `rd,rs2,(rs1)`, likewise.
+pub(crate) fn two_registers_base(operands: &[&[Token<'_>]]) -> Result<(u8, u8, Address), LineError>
+    ensures { if_ok registers_address_value result ≡ Shapes.registers_and_base (operand_values operands.now) }
+{
+    let [first, second, third] = operands else {
+        return Err(LineError::BadOperand);
+    };
+    let (rd, rs2) = both_registers(first, second)?;
+    let address = operand::base_address(third)?;
+    Ok((rd, rs2, address))
 }
 
 /// A target.

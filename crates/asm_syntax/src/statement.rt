@@ -1,6 +1,7 @@
 //! What a line says.
 
 use list_vec::ListVec;
+use rv_atomics::AtomicInstr;
 use rv_float_tables::FloatInstr;
 use rv_tables::{BranchOp, Instr};
 use std::alloc::Allocator;
@@ -22,6 +23,8 @@ pub enum Statement<'a, A: Allocator> {
     Instruction(Instr),
     /// An instruction of floating point. Its operands fit.
     FloatInstruction(FloatInstr),
+    /// An instruction of A. Its operands fit.
+    AtomicInstruction(AtomicInstr),
     /// A branch to a target.
     Branch {
         op: BranchOp,

@@ -4,6 +4,7 @@ use Rattle.std.specs.Prelude.{codes, if◌then◌else◌, Option, Some, None, is
 use Rattle.std.specs.Fmt.{decimal}
 use Rattle.std.specs.List.{slice_split, take_while, filter, flat_map, enumerate_from, Any}
 use Rattle.std.specs.Option.{option_map_or}
+use Rattle.rv_atomics.specs.declared.extensions.Extensions.{Extensions}
 use Rattle.node_memory.specs.Bytes.{bytes_at}
 use Rattle.node_core.specs.Node.{NodeState}
 use Rattle.machine_core.specs.declared.outcome.Outcome.{Outcome}
@@ -136,12 +137,16 @@ kept_line at = option_map_or (λ (m : MachineState). kept_text at.0 m.exchanges 
 abbrev pub kept_lines : List (Option MachineState) → List ℕ
 kept_lines kept = flat_map kept_line (enumerate_from 0 kept)
 
+-- the extensions that a node has
+abbrev pub extensions_of : NodeState → Extensions
+extensions_of n = record { float = is_some n.hart.unit; atomic = is_some n.hart.reservation }
+
 -- memory of a node from an address on, in a form that shows so many words, characters or codes, or as many as there are up to the
--- memory's end; if the address lies in it. Instructions of floating point have their names where the node has a unit for them
-abbrev pub memory_or_refusal : (form : Form) → (float : Bool) → (addr count : ℕ) → (memory : List ℕ) → List ℕ
-memory_or_refusal form float addr count memory =
+-- memory's end; if the address lies in it. Instructions of the extensions that the node has have their names
+abbrev pub memory_or_refusal : (form : Form) → (extensions : Extensions) → (addr count : ℕ) → (memory : List ℕ) → List ℕ
+memory_or_refusal form extensions addr count memory =
     if nat_lt addr (length memory)
-    then shown_text form float addr count (bytes_at memory addr (shown_len form count (length memory - addr)))
+    then shown_text form extensions addr count (bytes_at memory addr (shown_len form count (length memory - addr)))
     else verdict_text (Refused BadRange)
 
 -- what is told of the node of a rank, if there is one
@@ -150,7 +155,7 @@ of_node_or_refusal told m rank = option_map_or told (slice_get m.nodes rank) (ve
 
 abbrev pub shown_or_refusal : MachineState → Form → (rank addr count : ℕ) → List ℕ
 shown_or_refusal m form rank addr count =
-    of_node_or_refusal (λ (n : NodeState). memory_or_refusal form (is_some n.hart.unit) addr count n.hart.memory) m rank
+    of_node_or_refusal (λ (n : NodeState). memory_or_refusal form (extensions_of n) addr count n.hart.memory) m rank
 
 -- whether there is a node of the rank whose memory has the address
 abbrev pub has_address : MachineState → (rank addr : ℕ) → Bool

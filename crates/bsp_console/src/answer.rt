@@ -33,6 +33,7 @@ use debug_lines::{
     point_lines, request_lines, setup_line, shown_len, shown_text,
 };
 use machine_core::Machine;
+use rv_atomics::Extensions;
 use std::alloc::{AllocError, Allocator};
 use std::io::Write;
 
@@ -348,7 +349,11 @@ fn memory_shown<A: Allocator + Copy>(
     let len = shown_len(form, count, memory.size() - addr);
     let mut bytes = Vec::new(alloc);
     memory.append_range(addr, len, &mut bytes)?;
-    let text = shown_text(alloc, form, node.unit().is_some(), addr, count, bytes)?;
+    let extensions = Extensions {
+        float: node.unit().is_some(),
+        atomic: node.reservation().is_some(),
+    };
+    let text = shown_text(alloc, form, extensions, addr, count, bytes)?;
     Ok(done(text.into_bytes()))
 }
 

@@ -55,11 +55,11 @@ answer_of_debug o (Ok done) ok err = (refl, ok)
 answer_of_debug o (Err e) ok err = err
 
 pub answer_of_list : (o : ListOptions) (c : Conversion) (r : Result (Unit {0}) SessionError) → c.format ≡ o.format
-    → OnOk r (AnswersListing o.float c) → IfErr r (IsErrorOfListing o.float c) → IsAnswerOfList o (answer_of_end r)
+    → OnOk r (AnswersListing o.extensions c) → IfErr r (IsErrorOfListing o.extensions c) → IsAnswerOfList o (answer_of_end r)
 answer_of_list o c (Ok done) same ok err = (refl, (c, same, ok))
 answer_of_list o c (Err e) same ok err = (c, same, err)
 
-pub answer_of_asm : (o : AsmOptions) (c : Conversion) (r : Result (Unit {0}) SessionError) → c.format ≡ Asm o.float
+pub answer_of_asm : (o : AsmOptions) (c : Conversion) (r : Result (Unit {0}) SessionError) → c.format ≡ Asm o.extensions
     → OnOk r (AnswersAssembly c) → IfErr r (IsErrorOfAssembly c) → IsAnswerOfAsm o (answer_of_end r)
 answer_of_asm o c (Ok done) same ok err = (refl, (c, same, ok))
 answer_of_asm o c (Err e) same ok err = (c, same, err)

@@ -93,14 +93,14 @@ debug_app formats =
 -- `list IMAGE` with its options
 abbrev pub list_app : NameList → App
 list_app formats =
-    with_rule (with_rule (with_rule (with_rule (new_app (codes "list")) (file_rule (codes "image"))) (format_rule formats))
-    (flag_rule (codes "float"))) (flag_rule (codes "large"))
+    with_rule (with_rule (with_rule (with_rule (with_rule (new_app (codes "list")) (file_rule (codes "image"))) (format_rule formats))
+    (flag_rule (codes "float"))) (flag_rule (codes "atomic"))) (flag_rule (codes "large"))
 
--- `asm TEXT IMAGE` with its option
+-- `asm TEXT IMAGE` with its options
 abbrev pub asm_app : App
 asm_app =
-    with_rule (with_rule (with_rule (new_app (codes "asm")) (file_rule (codes "text"))) (file_rule (codes "image")))
-    (flag_rule (codes "float"))
+    with_rule (with_rule (with_rule (with_rule (new_app (codes "asm")) (file_rule (codes "text"))) (file_rule (codes "image")))
+    (flag_rule (codes "float"))) (flag_rule (codes "atomic"))
 
 -- with no words the program answers with its help, and `--version` asks for its version
 abbrev pub bspemu_shape : Shape

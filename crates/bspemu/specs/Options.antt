@@ -7,6 +7,7 @@ use Rattle.clap.specs.Words.{Row, Text, first_of, one_of, subcommand_of, fault_o
 use Rattle.clap.specs.declared.error.Error.{Error}
 use Rattle.clap.specs.declared.error.kind.ErrorKind.{ErrorKind}
 use Rattle.clap.specs.declared.error.kind.ErrorKind.TheVariants.{ArgumentConflict, MissingSubcommand, OutOfMemory}
+use Rattle.rv_atomics.specs.declared.extensions.Extensions.{Extensions}
 use Rattle.bsp_session.specs.declared.job.Format.{Format}
 use Rattle.bsp_session.specs.declared.job.Format.TheVariants.{Elf, Raw, Asm}
 use Rattle.cost_ledger.specs.declared.LedgerText.{LedgerText}
@@ -31,14 +32,14 @@ IsNeverMet {X} P = (x : X) → P x → ⊥
 abbrev pub name_of_format : Format → Text
 name_of_format (Elf large) = codes "elf"
 name_of_format (Raw large) = codes "raw"
-name_of_format (Asm float) = codes "asm"
+name_of_format (Asm extensions) = codes "asm"
 
--- a text may have statements of floating point where they are asked for, and only there; another file has the limits of a large machine
+-- a text may have the statements of the extensions that are asked for, and of no others; another file has the limits of a large machine
 -- where that is asked for, and only there
-abbrev pub IsFormatFor : (float large : Bool) → Format → Type 0
-IsFormatFor float large (Asm names) = names ≡ float
-IsFormatFor float large (Elf is_large) = is_large ≡ large
-IsFormatFor float large (Raw is_large) = is_large ≡ large
+abbrev pub IsFormatFor : Extensions → (large : Bool) → Format → Type 0
+IsFormatFor extensions large (Asm known) = known ≡ extensions
+IsFormatFor extensions large (Elf is_large) = is_large ≡ large
+IsFormatFor extensions large (Raw is_large) = is_large ≡ large
 
 -- a value spells this number of so many bits in decimal digits, which a plus may precede
 pub record GivesNumber (bits : ℕ) (value : Option Text) (n : ℕ) : Type 0 where
@@ -83,6 +84,15 @@ pub record GivesSettings (rows : List Row) (s : Settings) : Type 0 where
   pub atomic : GivesFlag (one_of (codes "atomic") rows) s.atomic
   pub large : GivesFlag (one_of (codes "large") rows) s.large
 
+-- the extensions that nodes with these settings have
+abbrev pub extensions_of : Settings → Extensions
+extensions_of s = record { float = s.float; atomic = s.atomic }
+
+-- the matches of a subcommand without a machine ask for these extensions
+pub record GivesExtensions (rows : List Row) (extensions : Extensions) : Type 0 where
+  pub float : GivesFlag (one_of (codes "float") rows) extensions.float
+  pub atomic : GivesFlag (one_of (codes "atomic") rows) extensions.atomic
+
 -- the text of a path that may be there
 abbrev pub text_of : Option (Bor Text) → Option Text
 text_of path = option_map (λ text. text.now) path
@@ -93,7 +103,7 @@ pub record GivesMachineOptions (rows : List Row) (o : MachineOptions) : Type 0 w
   pub input : first_of (codes "input") rows ≡ text_of o.input
   pub format : first_of (codes "format") rows ≡ Some (name_of_format o.job.format)
   pub settings : GivesSettings rows o.job.settings
-  pub language : IsFormatFor o.job.settings.float o.job.settings.large o.job.format
+  pub language : IsFormatFor (extensions_of o.job.settings) o.job.settings.large o.job.format
   pub g : GivesNumber 32 (one_of (codes "g") rows) o.job.g
   pub l : GivesNumber 32 (one_of (codes "l") rows) o.job.l
   pub ledger : GivesLedger rows o.job.ledger
@@ -147,15 +157,15 @@ pub record GivesDebugOptions (rows : List Row) (o : DebugOptions) : Type 0 where
 pub record GivesListOptions (rows : List Row) (o : ListOptions) : Type 0 where
   pub image : first_of (codes "image") rows ≡ Some o.image.now
   pub format : first_of (codes "format") rows ≡ Some (name_of_format o.format)
-  pub float : GivesFlag (one_of (codes "float") rows) o.float
+  pub extensions : GivesExtensions rows o.extensions
   pub large : GivesFlag (one_of (codes "large") rows) o.large
-  pub language : IsFormatFor o.float o.large o.format
+  pub language : IsFormatFor o.extensions o.large o.format
 
 -- the matches of `asm` give these options
 pub record GivesAsmOptions (rows : List Row) (o : AsmOptions) : Type 0 where
   pub text : first_of (codes "text") rows ≡ Some o.text.now
   pub image : first_of (codes "image") rows ≡ Some o.image.now
-  pub float : GivesFlag (one_of (codes "float") rows) o.float
+  pub extensions : GivesExtensions rows o.extensions
 
 -- the matches of a subcommand of this name give this action
 abbrev pub GivesAction : Text → List Row → Action → Type 0

@@ -1,6 +1,7 @@
 -- How the program ends (own rules).
 use Rattle.std.specs.Prelude.{◌≡◌, ◌≢◌, ◌⊎◌, ◌++◌, ◌<◌, ℕ, Bool, true, false, Option, None, List, Some, Result, Ok, Err, codes}
 use Rattle.std.specs.Borrow.{Bor}
+use Rattle.rv_atomics.specs.declared.extensions.Extensions.{Extensions}
 use Rattle.clap.specs.Words.{Text, kind_of}
 use Rattle.clap.specs.declared.error.Error.{Error}
 use Rattle.clap.specs.declared.error.kind.ErrorKind.{ErrorKind}
@@ -108,33 +109,33 @@ IsAnswerOfDebug o (Err (CannotOpen path)) = NamesFile o.machine path
 IsAnswerOfDebug o (Err TooManyNodes) = ⊥
 IsAnswerOfDebug o (Err (Session error)) = IsDebugError o.framed o.machine.job error
 
--- a file in this format was listed, with the names of instructions of floating point or without them, and an error that this can have
-abbrev pub IsListed : (float : Bool) → Format → Type 0
-IsListed float format = (c : Conversion) × (c.format ≡ format) × AnswersListing float c
+-- a file in this format was listed, with the names of the instructions of some extensions, and an error that this can have
+abbrev pub IsListed : Extensions → Format → Type 0
+IsListed extensions format = (c : Conversion) × (c.format ≡ format) × AnswersListing extensions c
 
-abbrev pub IsListError : (float : Bool) → Format → SessionError → Type 0
-IsListError float format error = (c : Conversion) × (c.format ≡ format) × IsErrorOfListing float c error
+abbrev pub IsListError : Extensions → Format → SessionError → Type 0
+IsListError extensions format error = (c : Conversion) × (c.format ≡ format) × IsErrorOfListing extensions c error
 
 -- an answer that a listing with these options can have
 abbrev pub IsAnswerOfList : ListOptions → Result Outcome RunError → Type 0
-IsAnswerOfList o (Ok outcome) = (outcome ≡ Ended) × IsListed o.float o.format
+IsAnswerOfList o (Ok outcome) = (outcome ≡ Ended) × IsListed o.extensions o.format
 IsAnswerOfList o (Err (CannotOpen path)) = (o.image.now ≢ codes "-") × (o.image ≡ path)
 IsAnswerOfList o (Err TooManyNodes) = ⊥
-IsAnswerOfList o (Err (Session error)) = IsListError o.float o.format error
+IsAnswerOfList o (Err (Session error)) = IsListError o.extensions o.format error
 
--- the image of a text, with statements of floating point or without them, was saved, and an error that this can have
-abbrev pub IsSaved : (float : Bool) → Type 0
-IsSaved float = (c : Conversion) × (c.format ≡ Asm float) × AnswersAssembly c
+-- the image of a text with the statements of some extensions was saved, and an error that this can have
+abbrev pub IsSaved : Extensions → Type 0
+IsSaved extensions = (c : Conversion) × (c.format ≡ Asm extensions) × AnswersAssembly c
 
-abbrev pub IsAsmError : (float : Bool) → SessionError → Type 0
-IsAsmError float error = (c : Conversion) × (c.format ≡ Asm float) × IsErrorOfAssembly c error
+abbrev pub IsAsmError : Extensions → SessionError → Type 0
+IsAsmError extensions error = (c : Conversion) × (c.format ≡ Asm extensions) × IsErrorOfAssembly c error
 
 -- an answer that an assembly with these options can have
 abbrev pub IsAnswerOfAsm : AsmOptions → Result Outcome RunError → Type 0
-IsAnswerOfAsm o (Ok outcome) = (outcome ≡ Ended) × IsSaved o.float
+IsAnswerOfAsm o (Ok outcome) = (outcome ≡ Ended) × IsSaved o.extensions
 IsAnswerOfAsm o (Err (CannotOpen path)) = (o.text ≡ path) ⊎ (o.image ≡ path)
 IsAnswerOfAsm o (Err TooManyNodes) = ⊥
-IsAnswerOfAsm o (Err (Session error)) = IsAsmError o.float error
+IsAnswerOfAsm o (Err (Session error)) = IsAsmError o.extensions error
 
 -- an answer that an action can have
 abbrev pub IsAnswer : Action → Result Outcome RunError → Type 0

@@ -79,7 +79,11 @@ const LARGE_FILE: &str =
 const FLOAT_NAMES: &str =
     "Name instructions of floating point, as on nodes with units for them; without it they are data";
 
+const ATOMIC_NAMES: &str = "Name instructions of A; without it they are data";
+
 const FLOAT_STATEMENTS: &str = "Take statements of floating point, those of F and D";
+
+const ATOMIC_STATEMENTS: &str = "Take statements of A";
 
 const WORKERS: &str =
     "Most threads that run the nodes, 1 to 64; what is written does not depend on it";
@@ -132,7 +136,7 @@ There are more lines at a terminal, and with --interactive or --framed:
   over RANK            make a step of this rank, and at a call of a function all steps up to its return
   words RANK ADDR N    show N words of the memory of this rank
   text RANK ADDR N     show N bytes of it as a text, or those before the first that is 0
-  list RANK ADDR N     show N instructions of it, with --float those of floating point by name
+  list RANK ADDR N     show N instructions of it: those of F, D and A by name if the nodes have them
   areas RANK           show the areas that this rank has registered
   requests RANK        show what this rank has asked for in this superstep
   where [RANK]         show where this rank, or each rank, is: its address, superstep and state
@@ -255,6 +259,7 @@ fn list_command<'a>(alloc: Global, formats: &'a [&'a str]) -> Result<Command<'a>
         .arg(file(alloc, "image", "IMAGE", IMAGE))?
         .arg(format(alloc, formats))?
         .arg(flag(alloc, "float", FLOAT_NAMES))?
+        .arg(flag(alloc, "atomic", ATOMIC_NAMES))?
         .arg(flag(alloc, "large", LARGE_FILE))
 }
 
@@ -266,7 +271,8 @@ fn asm_command<'a>(alloc: Global) -> Result<Command<'a>, AllocError>
         .after_help(ASM_AFTER_HELP)
         .arg(file(alloc, "text", "TEXT", TEXT))?
         .arg(file(alloc, "image", "IMAGE", SAVED_IMAGE))?
-        .arg(flag(alloc, "float", FLOAT_STATEMENTS))
+        .arg(flag(alloc, "float", FLOAT_STATEMENTS))?
+        .arg(flag(alloc, "atomic", ATOMIC_STATEMENTS))
 }
 
 /// A file that has to be there, by its place.

@@ -3,7 +3,7 @@
 ghost use Rattle.std.specs.Prelude.{◌≡◌, IfOk, IfErr, IfNone, IfSome, false, is_some, map, true};
 ghost use Rattle.clap.specs.Words.{found_of, kind_of, rows_of, subcommand_rows_of};
 ghost use Rattle.bspemu.specs.Options.{AsksFor, AsksForSeveral, Gives, GivesAction, GivesAsmOptions};
-ghost use Rattle.bspemu.specs.Options.{GivesClock, GivesDebugOptions, GivesLedger, GivesListOptions};
+ghost use Rattle.bspemu.specs.Options.{GivesClock, GivesDebugOptions, GivesExtensions, GivesLedger, GivesListOptions};
 ghost use Rattle.bspemu.specs.Options.{GivesMachineOptions, GivesPrices, GivesRunOptions, GivesSettings};
 ghost use Rattle.bspemu.specs.Options.{GivesOutputMode, HasConflict, IsFaultOf, IsLack, IsNeverMet, Tells};
 ghost use Rattle.bspemu.specs.Options.{IsFormatFor, are_several, name_of_format, number_of_ledger, text_of};
@@ -12,6 +12,7 @@ use crate::command_line::command;
 use bsp_session::{Format, Job, LedgerText, Prices, Settings};
 use clap::error::ErrorKind;
 use clap::{ArgMatches, Error};
+use rv_atomics::Extensions;
 use std::alloc::{AllocError, Global};
 use std::convert::AsStr;
 
@@ -81,8 +82,8 @@ pub struct ListOptions<'a> {
     /// The file of the program; `-` is standard input.
     pub image: &'a str,
     pub format: Format,
-    /// Whether instructions of floating point have their names.
-    pub float: bool,
+    /// The extensions whose instructions have their names.
+    pub extensions: Extensions,
     /// Whether the file may be as long as one for a large machine.
     pub large: bool,
 }
@@ -94,8 +95,8 @@ pub struct AsmOptions<'a> {
     pub text: &'a str,
     /// The file to save the image in.
     pub image: &'a str,
-    /// Whether the text may have statements of floating point.
-    pub float: bool,
+    /// The extensions whose statements the text may have.
+    pub extensions: Extensions,
 }
 
 /// What the command line asks for.
@@ -288,11 +289,15 @@ fn options_of_machine<'a>(
     ensures none { IfNone result (IsNeverMet (GivesMachineOptions (rows_of (found_of found.now)))) }
 {
     let settings = settings_of_machine(found)?;
+    let extensions = Extensions {
+        float: settings.float,
+        atomic: settings.atomic,
+    };
     Some(MachineOptions {
         image: found.get_str("image")?,
         input: found.get_str("input"),
         job: Job {
-            format: format_named(found.get_str("format")?, settings.float, settings.large)?,
+            format: format_named(found.get_str("format")?, extensions, settings.large)?,
             settings,
             workers,
             slice,
@@ -308,12 +313,12 @@ fn options_of_list<'a>(list: &ArgMatches<'a>) -> Option<ListOptions<'a>>
     ensures some { IfSome result (GivesListOptions (rows_of (found_of list.now))) }
     ensures none { IfNone result (IsNeverMet (GivesListOptions (rows_of (found_of list.now)))) }
 {
-    let float = list.get_one("float")?;
+    let extensions = extensions_of(list)?;
     let large = list.get_one("large")?;
     Some(ListOptions {
         image: list.get_str("image")?,
-        format: format_named(list.get_str("format")?, float, large)?,
-        float,
+        format: format_named(list.get_str("format")?, extensions, large)?,
+        extensions,
         large,
     })
 }
@@ -325,7 +330,18 @@ fn options_of_asm<'a>(asm: &ArgMatches<'a>) -> Option<AsmOptions<'a>>
     Some(AsmOptions {
         text: asm.get_str("text")?,
         image: asm.get_str("image")?,
-        float: asm.get_one("float")?,
+        extensions: extensions_of(asm)?,
+    })
+}
+
+/// The extensions that a subcommand without a machine is asked for.
+fn extensions_of(found: &ArgMatches<'_>) -> Option<Extensions>
+    ensures some { IfSome result (GivesExtensions (rows_of (found_of found.now))) }
+    ensures none { IfNone result (IsNeverMet (GivesExtensions (rows_of (found_of found.now)))) }
+{
+    Some(Extensions {
+        float: found.get_one("float")?,
+        atomic: found.get_one("atomic")?,
     })
 }
 
@@ -386,16 +402,16 @@ fn ledger_numbered(number: u32) -> Option<LedgerText>
     }
 }
 
-/// The format with a name; a text may have statements of floating point where `float` says so, and another file has the limits of a large
-/// machine where `large` says so.
-fn format_named(name: &str, float: bool, large: bool) -> Option<Format>
-    ensures some { IfSome result (λ format. (name.now ≡ name_of_format format) × IsFormatFor float large format) }
+/// The format with a name; a text may have the statements of these extensions, and another file has the limits of a large machine where
+/// `large` says so.
+fn format_named(name: &str, extensions: Extensions, large: bool) -> Option<Format>
+    ensures some { IfSome result (λ format. (name.now ≡ name_of_format format) × IsFormatFor extensions large format) }
     ensures none { IfNone result (IsNeverMet (λ format. name.now ≡ name_of_format format)) }
 {
     match name {
         "elf" => Some(Format::Elf { large }),
         "raw" => Some(Format::Raw { large }),
-        "asm" => Some(Format::Asm { float }),
+        "asm" => Some(Format::Asm { extensions }),
         _ => None,
     }
 }

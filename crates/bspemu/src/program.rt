@@ -395,7 +395,7 @@ fn list<'a, R: AllocGlobal + Files + Input + Print>(
     ended(list_session(
         rt.alloc(),
         options.format,
-        options.float,
+        options.extensions,
         &mut image,
         &mut out,
     ))
@@ -412,7 +412,7 @@ fn assemble<'a, R: AllocGlobal + Files + Input>(
     let text = open_file(rt, options.text)?;
     let mut image = Counted::new(create(rt, options.image, &text)?);
     let mut text = Counted::new(text);
-    ended(asm_session(rt.alloc(), options.float, &mut text, &mut image))
+    ended(asm_session(rt.alloc(), options.extensions, &mut text, &mut image))
 }
 
 /// The status of an answer, after a line on standard error where it has no outcome.

@@ -3,6 +3,7 @@ use Rattle.std.specs.Prelude.{ℕ, ◌+◌, ◌*◌, ◌/◌, ◌%◌, ◌==◌,
 use Rattle.std.specs.Prelude.{if◌then◌else◌, min, List, [], ◌∷◌, ◌++◌, length, take, codes}
 use Rattle.std.specs.Fmt.{decimal}
 use Rattle.std.specs.List.{enumerate_from, flat_map, prefix_len, range_with_len}
+use Rattle.rv_atomics.specs.declared.extensions.Extensions.{Extensions}
 use Rattle.node_memory.specs.Bytes.{word_at}
 use Rattle.bsp_slots.specs.declared.area.Area.{Area}
 use Rattle.bsp_requests.specs.Request.{Asked, asks_put, asks_get, asks_send}
@@ -70,14 +71,14 @@ text_line bs = codes "\"" ++ flat_map character (take (prefix_len is_of_text bs)
 
 -- the first lines of the listing of bytes from an address on, so many of them, in which instructions of floating point have their names, or
 -- are data
-abbrev pub code_lines : (float : Bool) → (addr count : ℕ) → List ℕ → List ℕ
-code_lines float addr count bs = flat_map (ended_line float) (take count (listing_lines addr bs))
+abbrev pub code_lines : (extensions : Extensions) → (addr count : ℕ) → List ℕ → List ℕ
+code_lines extensions addr count bs = flat_map (ended_line extensions) (take count (listing_lines addr bs))
 
 -- bytes from an address on in a form that shows so many words, characters or codes
-abbrev pub shown_text : Form → (float : Bool) → (addr count : ℕ) → List ℕ → List ℕ
-shown_text Words float addr count bs = word_lines addr bs
-shown_text Text float addr count bs = text_line bs
-shown_text Codes float addr count bs = code_lines float addr count bs
+abbrev pub shown_text : Form → (extensions : Extensions) → (addr count : ℕ) → List ℕ → List ℕ
+shown_text Words extensions addr count bs = word_lines addr bs
+shown_text Text extensions addr count bs = text_line bs
+shown_text Codes extensions addr count bs = code_lines extensions addr count bs
 
 -- ---- what a node has registered, and what it has asked for
 

@@ -170,7 +170,7 @@ fn add_message<A: Allocator, B: Allocator>(
 ) -> Result<(), AllocError>
     ensures { IfOk result (λ _. string_bytes text.new ≡ string_bytes text.old ++ message_line message.now) }
 {
-    let tag = Octets(message.tag.as_slice());
-    let payload = Octets(message.payload.as_slice());
+    let tag = Octets(message.tag());
+    let payload = Octets(message.payload());
     writeln!(text, "from {} tag {tag} payload {payload}", message.sender)
 }

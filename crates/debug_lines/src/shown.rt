@@ -17,6 +17,7 @@ use bsp_requests::{Get, Request, Requests};
 use bsp_slots::{Area, Slots};
 use list_vec::ListVec;
 use node_memory::Segment;
+use rv_atomics::Extensions;
 use rv_listing::{EightDigits, Lines, ShownLine, word_at};
 use std::alloc::{AllocError, Allocator};
 
@@ -62,23 +63,23 @@ fn unit_of(form: Form) -> u64
     }
 }
 
-/// Bytes from the address `addr` on, as so many words, characters or codes. Where `float` says so, instructions of floating point have
-/// their names among codes; else they are data. It is an error only where memory is refused.
+/// Bytes from the address `addr` on, as so many words, characters or codes. Among codes instructions of these extensions have their
+/// names, and those of others are data. It is an error only where memory is refused.
 pub fn shown_text<A: Allocator, B: Allocator>(
     alloc: B,
     form: Form,
-    float: bool,
+    extensions: Extensions,
     addr: u32,
     count: u32,
     bytes: Vec<u8, A>,
 ) -> Result<String<B>, AllocError>
     requires { addr + length bytes.items < 2 ^ 32 }
-    ensures { IfOk result (λ text. string_bytes text ≡ shown_text form float addr count bytes.items) }
+    ensures { IfOk result (λ text. string_bytes text ≡ shown_text form extensions addr count bytes.items) }
 {
     match form {
         Form::Words => word_lines(alloc, addr, bytes.as_slice()),
         Form::Text => text_line(alloc, bytes.as_slice()),
-        Form::Codes => code_lines(alloc, float, addr, count, bytes),
+        Form::Codes => code_lines(alloc, extensions, addr, count, bytes),
     }
 }
 
@@ -162,37 +163,37 @@ fn add_characters<B: Allocator>(text: &mut String<B>, bytes: &[u8]) -> Result<()
 /// The first lines of the listing of bytes from an address on.
 fn code_lines<A: Allocator, B: Allocator>(
     alloc: B,
-    float: bool,
+    extensions: Extensions,
     addr: u32,
     count: u32,
     bytes: Vec<u8, A>,
 ) -> Result<String<B>, AllocError>
     requires { addr + length bytes.items < 2 ^ 32 }
-    ensures { IfOk result (λ text. string_bytes text ≡ code_lines float addr count bytes.items) }
+    ensures { IfOk result (λ text. string_bytes text ≡ code_lines extensions addr count bytes.items) }
 {
     let size = bytes.len() as u32;
     let bytes = ListVec::from_vec(bytes);
     let segment = Segment { addr, bytes, size };
     let mut text = String::new(alloc);
-    add_codes(&mut text, float, Lines::new(&segment), count)?;
+    add_codes(&mut text, extensions, Lines::new(&segment), count)?;
     Ok(text)
 }
 
 /// Adds the first lines of a listing to a text.
 fn add_codes<B: Allocator>(
     text: &mut String<B>,
-    float: bool,
+    extensions: Extensions,
     mut lines: Lines<'_>,
     count: u32,
 ) -> Result<(), AllocError>
     ensures { IfOk result (λ _. string_bytes text.new
-        ≡ string_bytes text.old ++ flat_map (ended_line float) (take count lines.entry)) }
+        ≡ string_bytes text.old ++ flat_map (ended_line extensions) (take count lines.entry)) }
 {
     for _told in 0..count {
         let Some(line) = lines.next() else {
             return Ok(());
         };
-        writeln!(text, "{}", ShownLine { line, float })?;
+        writeln!(text, "{}", ShownLine { line, extensions })?;
     }
     Ok(())
 }
@@ -290,8 +291,8 @@ fn add_asked<A: Allocator, B: Allocator>(
         Request::Put(put) => add_put(text, put.target, put.slot, put.offset, put.bytes.len()),
         Request::Get(get) => add_get(text, *get),
         Request::Send(message) => {
-            let payload = message.payload.len();
-            add_send(text, message.target, payload, message.tag.len())
+            let payload = message.payload().len();
+            add_send(text, message.target, payload, message.tag().len())
         }
     }
 }
@@ -300,7 +301,7 @@ fn add_asked<A: Allocator, B: Allocator>(
 fn add_put<B: Allocator>(
     text: &mut String<B>,
     target: u16,
-    slot: usize,
+    slot: u16,
     offset: u32,
     bytes: usize,
 ) -> Result<(), AllocError>

@@ -1,4 +1,5 @@
 -- The lemmas of this crate's proofs: rows and their steps, turns and their halves, runs, what stays true, ends.
+pub mod Absent
 pub mod Addresses
 pub mod Clocks
 pub mod Closings

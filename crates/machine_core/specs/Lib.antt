@@ -1,3 +1,4 @@
+pub mod Absent
 pub mod Clock
 pub mod Closing
 pub mod Events

@@ -12,6 +12,7 @@ ghost use Rattle.cost_ledger.specs.CostRow.{AreAtMostV1, IsBounded, total_in};
 ghost use Rattle.machine_core.specs.declared.error.MachineError.TheVariants.{BadNodes, BadMemory, BadLimit};
 ghost use Rattle.machine_core.specs.declared.event.Event.{Event};
 ghost use Rattle.machine_core.specs.declared.settings.Settings.{Settings};
+ghost use Rattle.machine_core.specs.Absent.{LacksAtomics};
 ghost use Rattle.machine_core.specs.Clock.{HasClock};
 ghost use Rattle.machine_core.specs.Machine.{MachineState, fresh, node_at_start, settings_fault};
 ghost use Rattle.machine_core.specs.Turn.{was_stopped, has_ended, lowest, cost_row, turned, with_phases, superstep, end_of};
@@ -108,6 +109,12 @@ pub fn clocks_count_on_from_what_is_over()
     ensures { (image : Image) (input : List ℕ) (settings : Settings) (events : List Event) → AreInRange settings
         → let m = after (fresh image input settings) events in
         m.outcome ≡ None → AllZip (HasClock settings.clock m.ledger) m.nodes m.started }
+{}
+
+/// Unless they are asked for, no node has the instructions of A: whatever events were made, each of them is illegal on each node.
+pub fn instructions_of_a_are_illegal_unless_they_are_asked_for()
+    ensures { (image : Image) (input : List ℕ) (settings : Settings) (events : List Event) → AreInRange settings
+        → settings.atomic ≡ false → All (λ n. LacksAtomics n.hart) (after (fresh image input settings) events).nodes }
 {}
 
 /// Supersteps are few and their costs small: a sound machine has made at most `limit` exchanges, has a row of costs for at most

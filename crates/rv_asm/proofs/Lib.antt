@@ -1,3 +1,4 @@
+pub mod EachAtomicWord
 pub mod EachFloatWord
 pub mod EachWord
 pub mod FormatWords

@@ -5,6 +5,7 @@ use Rattle.std.specs.List.{list_any}
 use Rattle.std.specs.Option.{option_or, option_map_or}
 use Rattle.std.specs.Str.{bytes_eq}
 use Rattle.std.proofs.Common.{nat_lt, ◌^◌}
+use Rattle.rv_atomics.specs.declared.extensions.Extensions.{Extensions}
 use Rattle.asm_syntax.specs.Lines.{lines_of}
 use Rattle.asm_syntax.specs.Parse.{line_of}
 use Rattle.asm_syntax.specs.Statements.{Line, Statement}
@@ -56,36 +57,37 @@ first_or_later : (number line : ℕ) (fault : Option AsmKind) (others : Option (
 first_or_later number line None others h = inr h
 first_or_later number line (Some kind) others h = inl (ap Some (same_kind (number, kind) (line, NoMemory) h))
 
-module _ (float : Bool) (never : (text : List ℕ) → line_of float text ≢ Err private.NoMemory) where
+module _ (extensions : Extensions) (never : (text : List ℕ) → line_of extensions text ≢ Err private.NoMemory) where
   alone_never : (number address : ℕ) (known : List ℕ → Bool) (texts : List (List ℕ)) (line : ℕ)
-      → first_faulty_line fault_alone (placed float number address known texts) ≢ Some (line, NoMemory)
+      → first_faulty_line fault_alone (placed extensions number address known texts) ≢ Some (line, NoMemory)
   alone_never number address known [] line h = cc
   alone_never number address known (text ∷ rest) line h =
-      let known' : List ℕ → Bool = (λ name. list_any (λ label. bytes_eq label name) (line_labels (line_of float text)) || known name) in
-      ⊎_elim (line_never address known (line_of float text) (never text))
-      (alone_never (number + 1) (end_from address (line_of float text)) known' rest line)
-      (first_or_later number line (fault_of_line address known (line_of float text))
-      (first_faulty_line fault_alone (placed float (number + 1) (end_from address (line_of float text)) known' rest)) h)
+      let known' : List ℕ → Bool =
+      (λ name. list_any (λ label. bytes_eq label name) (line_labels (line_of extensions text)) || known name) in
+      ⊎_elim (line_never address known (line_of extensions text) (never text))
+      (alone_never (number + 1) (end_from address (line_of extensions text)) known' rest line)
+      (first_or_later number line (fault_of_line address known (line_of extensions text))
+      (first_faulty_line fault_alone (placed extensions (number + 1) (end_from address (line_of extensions text)) known' rest)) h)
 
   from_never : (symbols : Symbols) (number address : ℕ) (texts : List (List ℕ)) (line : ℕ)
-      → uses_from float symbols number address texts ≢ Some (line, NoMemory)
+      → uses_from extensions symbols number address texts ≢ Some (line, NoMemory)
   from_never symbols number address [] line h = cc
   from_never symbols number address (text ∷ rest) line h =
-      ⊎_elim (use_never symbols address (line_statement (line_of float text)))
-      (from_never symbols (number + 1) (end_from address (line_of float text)) rest line)
-      (first_or_later number line (option_and_then (fault_of_use symbols address) (line_statement (line_of float text)))
-      (uses_from float symbols (number + 1) (end_from address (line_of float text)) rest) h)
+      ⊎_elim (use_never symbols address (line_statement (line_of extensions text)))
+      (from_never symbols (number + 1) (end_from address (line_of extensions text)) rest line)
+      (first_or_later number line (option_and_then (fault_of_use symbols address) (line_statement (line_of extensions text)))
+      (uses_from extensions symbols (number + 1) (end_from address (line_of extensions text)) rest) h)
 
-  pub never_memory : (text : List ℕ) (line : ℕ) → text_fault float text ≢ Some (line, NoMemory)
+  pub never_memory : (text : List ℕ) (line : ℕ) → text_fault extensions text ≢ Some (line, NoMemory)
   unfolding text_fault
-  never_memory text line h = by (first_faulty_line fault_alone (places_of float text)) refl h
+  never_memory text line h = by (first_faulty_line fault_alone (places_of extensions text)) refl h
     where
       second : Option (ℕ × AsmKind)
-      second = first_faulty_line (fault_of_uses (symbols_of (places_of float text))) (places_of float text)
+      second = first_faulty_line (fault_of_uses (symbols_of (places_of extensions text))) (places_of extensions text)
 
-      by : (first : Option (ℕ × AsmKind)) → first_faulty_line fault_alone (places_of float text) ≡ first
+      by : (first : Option (ℕ × AsmKind)) → first_faulty_line fault_alone (places_of extensions text) ≡ first
           → option_or first second ≢ Some (line, NoMemory)
       by None e k =
-          from_never (symbols_of (places_of float text)) 1 0 (lines_of text) line
-          (sym (uses-placed float (symbols_of (places_of float text)) 1 0 (λ _. false) (lines_of text)) ∙ k)
+          from_never (symbols_of (places_of extensions text)) 1 0 (lines_of text) line
+          (sym (uses-placed extensions (symbols_of (places_of extensions text)) 1 0 (λ _. false) (lines_of text)) ∙ k)
       by (Some fault) e k = alone_never 1 0 (λ _. false) (lines_of text) line (e ∙ k)

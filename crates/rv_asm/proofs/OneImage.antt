@@ -3,16 +3,19 @@ use Rattle.std.proofs.Common.{◌≡◌, Bool, ℕ, zero, suc, ◌+◌, ◌^◌,
 use Rattle.std.proofs.Common.{Some, None, Result, Ok, refl, sym, ◌∙◌, ap, subst, arith, w32}
 use Rattle.std.specs.Int.{to_le_bytes}
 use Rattle.std.proofs.lemmas.List.Elements.{All-contains}
+use Rattle.rv_atomics.specs.declared.extensions.Extensions.{Extensions}
 use Rattle.node_memory.specs.Image.{Image, segments_from_0}
 use Rattle.rv_tables.specs.declared.instr.Instr.{Instr}
 use Rattle.rv_tables.specs.declared.instr.Instr.TheVariants.{Branch, Jal}
 use Rattle.asm_syntax.specs.Statements.{Line, Statement, instruction, float_instruction, branch, jump_and_link, load_immediate}
+use Rattle.asm_syntax.specs.Statements.{atomic_instruction}
 use Rattle.asm_syntax.specs.Statements.{load_address, words, halves, bytes, ascii, space, align, entry}
 use Rattle.asm_syntax.specs.declared.error.LineError.{LineError}
 use Rattle.rv_asm.specs.Layout.{Spell, load_of, lui_addi, HasBytes}
 use Rattle.rv_asm.specs.Symbols.{Symbols}
 use Rattle.rv_asm.specs.Targets.{modulo, value_of, offset_to}
 use Rattle.rv_asm.specs.Text.{LineHasBytes, AreLaid, IsImageOfText, last_entry}
+use Rattle.rv_asm.proofs.EachAtomicWord.{one_atomic_word}
 use Rattle.rv_asm.proofs.EachFloatWord.{one_float_word}
 use Rattle.rv_asm.proofs.EachWord.{one_word}
 use Rattle.rv_asm.proofs.Sizes.{length-line}
@@ -32,6 +35,8 @@ one_statement : (symbols : Symbols) (address : ℕ) (statement : Statement) (x y
 one_statement symbols address (instruction i) x y h k = one_spelling (i ∷ []) x y h k
 one_statement symbols address (float_instruction i) x y (v, v_in, is_v, e) (w, w_in, is_w, e') =
     e ∙ ap (to_le_bytes w32) (one_float_word i v w v_in w_in is_v is_w) ∙ sym e'
+one_statement symbols address (atomic_instruction i) x y (v, v_in, is_v, e) (w, w_in, is_w, e') =
+    e ∙ ap (to_le_bytes w32) (one_atomic_word i v w v_in w_in is_v is_w) ∙ sym e'
 one_statement symbols address (branch op rs1 rs2 target) x y h k =
     one_code (value_of symbols target) (λ v. Branch op rs1 rs2 (offset_to address v) ∷ []) x y h k
 one_statement symbols address (jump_and_link rd target) x y h k =
@@ -91,9 +96,10 @@ same_where P None None f g = refl
 same_where P None (Some y) f g = g refl
 same_where P (Some x) p f g = f refl
 
-pub one_image : (float : Bool) (text : List ℕ) (image image' : Image) → IsImageOfText float text image → IsImageOfText float text image'
+pub one_image : (extensions : Extensions) (text : List ℕ) (image image' : Image) → IsImageOfText extensions text image
+    → IsImageOfText extensions text image'
     → image ≡ image'
-one_image float text image image' h k =
+one_image extensions text image image' h k =
     let lines : k.out.lines ≡ h.out.lines = ok_lines k.out.lines h.out.lines (sym k.out.are_lines ∙ h.out.are_lines) in
     let laid : AreLaid k.symbols 0 h.out.lines k.bytes = subst (λ ls. AreLaid k.symbols 0 ls k.bytes) lines k.out.laid in
     let enters : last_entry k.symbols 0 h.out.lines ≡ image'.entry =

@@ -4,6 +4,7 @@ use Rattle.std.proofs.Common.{◌∙◌, ap, subst, ◌⊎◌, inl, inr, ⊎_eli
 use Rattle.std.specs.List.{list_any}
 use Rattle.std.specs.Str.{bytes_eq}
 use Rattle.std.specs.Cmp.Lexicographic.{bytes_decides}
+use Rattle.rv_atomics.specs.declared.extensions.Extensions.{Extensions}
 use Rattle.asm_syntax.specs.Lines.{lines_of}
 use Rattle.asm_syntax.specs.Parse.{line_of}
 use Rattle.asm_syntax.specs.Statements.{Line}
@@ -29,17 +30,18 @@ Contains-from_list_any (label ∷ rest) name h =
     (λ later. Contains-cons label rest name (Contains-from_list_any rest name later))
     (or_cases (bytes_eq label name) (list_any (λ l. bytes_eq l name) rest) h)
 
-from_lines : (float : Bool) (symbols : Symbols) (number address : ℕ) (known : List ℕ → Bool) (texts : List (List ℕ)) (lines : List Line)
+from_lines : (extensions : Extensions) (symbols : Symbols) (number address : ℕ) (known : List ℕ → Bool)
+    (texts : List (List ℕ)) (lines : List Line)
     (name : List ℕ)
-    → map (line_of float) texts ≡ map Ok lines
-    → is_some (symbols_from symbols (placed float number address known texts) name) ≡ true
+    → map (line_of extensions) texts ≡ map Ok lines
+    → is_some (symbols_from symbols (placed extensions number address known texts) name) ≡ true
     → (is_some (symbols name) ≡ true) ⊎ Any (λ line. Contains line.labels name) lines
-from_lines float symbols number address known [] lines name are h = inl h
-from_lines float symbols number address known (text ∷ rest) [] name are h = cc
-from_lines float symbols number address known (text ∷ rest) (line ∷ lines) name are h =
-    let says : line_of float text ≡ Ok line = cc in
-    let further : map (line_of float) rest ≡ map Ok lines = cc in
-    let labels : line_labels (line_of float text) ≡ line.labels = ap line_labels says in
+from_lines extensions symbols number address known [] lines name are h = inl h
+from_lines extensions symbols number address known (text ∷ rest) [] name are h = cc
+from_lines extensions symbols number address known (text ∷ rest) (line ∷ lines) name are h =
+    let says : line_of extensions text ≡ Ok line = cc in
+    let further : map (line_of extensions) rest ≡ map Ok lines = cc in
+    let labels : line_labels (line_of extensions text) ≡ line.labels = ap line_labels says in
     ⊎_elim
     (λ before. ⊎_elim
     (λ here.
@@ -48,18 +50,20 @@ from_lines float symbols number address known (text ∷ rest) (line ∷ lines) n
       line,
       omega arith,
       refl,
-      subst (λ l. Contains l name) labels (Contains-from_list_any (line_labels (line_of float text)) name here),
+      subst (λ l. Contains l name) labels (Contains-from_list_any (line_labels (line_of extensions text)) name here),
     ))
     (λ already. inl already)
-    (or_cases (list_any (λ label. bytes_eq label name) (line_labels (line_of float text))) (is_some (symbols name))
-    (sym (is_some-with_labels symbols (line_labels (line_of float text)) address name) ∙ before)))
+    (or_cases (list_any (λ label. bytes_eq label name) (line_labels (line_of extensions text))) (is_some (symbols name))
+    (sym (is_some-with_labels symbols (line_labels (line_of extensions text)) address name) ∙ before)))
     (λ later. inr (Any-cons (λ l. Contains l.labels name) line lines later))
-    (from_lines float (with_labels symbols (line_labels (line_of float text)) address) (number + 1) (end_from address (line_of float text))
-    (λ other. list_any (λ label. bytes_eq label other) (line_labels (line_of float text)) || known other) rest lines name further h)
+    (from_lines extensions (with_labels symbols (line_labels (line_of extensions text)) address) (number + 1)
+    (end_from address (line_of extensions text))
+    (λ other. list_any (λ label. bytes_eq label other) (line_labels (line_of extensions text)) || known other) rest lines name further h)
 
-pub only_labels_of : (float : Bool) (symbols : Symbols) (text : List ℕ) (lines : List Line)
-    → ((name : List ℕ) → symbols name ≡ symbols_of (places_of float text) name) → map (line_of float) (lines_of text) ≡ map Ok lines
+pub only_labels_of : (extensions : Extensions) (symbols : Symbols) (text : List ℕ) (lines : List Line)
+    → ((name : List ℕ) → symbols name ≡ symbols_of (places_of extensions text) name) → map (line_of extensions) (lines_of text)
+    ≡ map Ok lines
     → (name : List ℕ) → IsSome (symbols name) → Any (λ line. Contains line.labels name) lines
-only_labels_of float symbols text lines known are name some =
+only_labels_of extensions symbols text lines known are name some =
     ⊎_elim (λ none. cc) (λ any. any)
-    (from_lines float no_symbols 1 0 (λ _. false) (lines_of text) lines name are (ap is_some (sym (known name)) ∙ some))
+    (from_lines extensions no_symbols 1 0 (λ _. false) (lines_of text) lines name are (ap is_some (sym (known name)) ∙ some))

@@ -4,6 +4,7 @@ use Rattle.std.proofs.Common.{None, is_some, Bor, option_map, refl, sym, ◌∙�
 use Rattle.std.specs.List.{list_any}
 use Rattle.std.specs.Option.{option_map_or, option_or}
 use Rattle.std.specs.Str.{bytes_eq}
+use Rattle.rv_atomics.specs.declared.extensions.Extensions.{Extensions}
 use Rattle.asm_syntax.specs.Lines.{lines_of}
 use Rattle.asm_syntax.specs.Parse.{line_of}
 use Rattle.rv_asm.specs.Faults.{fault_of_line, fault_alone, first_faulty_line}
@@ -36,26 +37,26 @@ is_some-with_labels symbols (label ∷ rest) address name =
     ∙ ap (λ b. list_any (λ l. bytes_eq l name) rest || b) (is_some-with_symbol symbols label address name)
     ∙ or_mid (bytes_eq label name) (list_any (λ l. bytes_eq l name) rest) (is_some (symbols name))
 
-module _ (float : Bool) (symbols grown : Symbols) (number address end : ℕ) (line : List ℕ) (texts : List (List ℕ))
-    (ends : end ≡ end_from address (line_of float line))
-    (labels : (name : List ℕ) → grown name ≡ with_labels symbols (line_labels (line_of float line)) address name) where
-  known_next : (name : List ℕ) → (list_any (λ label. bytes_eq label name) (line_labels (line_of float line)) || is_some (symbols name))
+module _ (extensions : Extensions) (symbols grown : Symbols) (number address end : ℕ) (line : List ℕ) (texts : List (List ℕ))
+    (ends : end ≡ end_from address (line_of extensions line))
+    (labels : (name : List ℕ) → grown name ≡ with_labels symbols (line_labels (line_of extensions line)) address name) where
+  known_next : (name : List ℕ) → (list_any (λ label. bytes_eq label name) (line_labels (line_of extensions line)) || is_some (symbols name))
       ≡ is_some (grown name)
-  known_next name = sym (ap is_some (labels name) ∙ is_some-with_labels symbols (line_labels (line_of float line)) address name)
+  known_next name = sym (ap is_some (labels name) ∙ is_some-with_labels symbols (line_labels (line_of extensions line)) address name)
 
-  pub judged_more : fault_of_line address (λ name. is_some (symbols name)) (line_of float line) ≡ None
-      → first_faulty_line fault_alone (placed float number address (λ name. is_some (symbols name)) (line ∷ texts))
-      ≡ first_faulty_line fault_alone (placed float (number + 1) end (λ name. is_some (grown name)) texts)
+  pub judged_more : fault_of_line address (λ name. is_some (symbols name)) (line_of extensions line) ≡ None
+      → first_faulty_line fault_alone (placed extensions number address (λ name. is_some (symbols name)) (line ∷ texts))
+      ≡ first_faulty_line fault_alone (placed extensions (number + 1) end (λ name. is_some (grown name)) texts)
   judged_more none =
       ap (λ f. option_or (option_map (λ kind. (number, kind)) f)
       (first_faulty_line fault_alone
-      (placed float (number + 1) (end_from address (line_of float line))
-      (λ name. list_any (λ label. bytes_eq label name) (line_labels (line_of float line)) || is_some (symbols name)) texts))) none
-      ∙ (λ i. first_faulty_line fault_alone (placed float (number + 1) (sym ends i) (λ name. known_next name i) texts))
+      (placed extensions (number + 1) (end_from address (line_of extensions line))
+      (λ name. list_any (λ label. bytes_eq label name) (line_labels (line_of extensions line)) || is_some (symbols name)) texts))) none
+      ∙ (λ i. first_faulty_line fault_alone (placed extensions (number + 1) (sym ends i) (λ name. known_next name i) texts))
 
-  pub known_more : (name : List ℕ) → symbols_from symbols (placed float number address (λ p. is_some (symbols p)) (line ∷ texts)) name
-      ≡ symbols_from grown (placed float (number + 1) end (λ p. is_some (grown p)) texts) name
-  known_more name = λ i. symbols_from (λ p. sym (labels p) i) (placed float (number + 1) (sym ends i) (λ p. known_next p i) texts) name
+  pub known_more : (name : List ℕ) → symbols_from symbols (placed extensions number address (λ p. is_some (symbols p)) (line ∷ texts)) name
+      ≡ symbols_from grown (placed extensions (number + 1) end (λ p. is_some (grown p)) texts) name
+  known_more name = λ i. symbols_from (λ p. sym (labels p) i) (placed extensions (number + 1) (sym ends i) (λ p. known_next p i) texts) name
 
 pub left-below : (rest : Option (Bor (List ℕ))) (n : ℕ) → IfSome rest (λ r. length r.now < n) → left_in rest ≤ n
 left-below None n h = omega arith

@@ -10,6 +10,7 @@ use Rattle.rv_tables.specs.declared.instr.Instr.{Instr}
 use Rattle.rv_tables.specs.declared.instr.Instr.TheVariants.{Branch, Jal}
 use Rattle.asm_syntax.specs.Operands.{Target}
 use Rattle.asm_syntax.specs.Statements.{Statement, instruction, float_instruction, branch, jump_and_link, load_immediate, load_address}
+use Rattle.asm_syntax.specs.Statements.{atomic_instruction}
 use Rattle.asm_syntax.specs.Statements.{words, halves, bytes, ascii, space, align, entry}
 use Rattle.rv_asm.specs.Layout.{Spell, load_of, lui_addi, size_of, HasBytes, word_bytes}
 use Rattle.rv_asm.specs.Places.{end_of_statement}
@@ -50,6 +51,7 @@ pub length-private : (symbols : Symbols) (address : ℕ) (statement : Statement)
     → length private ≡ size_of statement address
 length-private symbols address (instruction i) private h = length-spelled (i ∷ []) private h
 length-private symbols address (float_instruction i) private (w, w_in, is, e) = ap length e
+length-private symbols address (atomic_instruction i) private (w, w_in, is, e) = ap length e
 length-private symbols address (branch op rs1 rs2 target) private h =
     length-code (value_of symbols target) (λ v. Branch op rs1 rs2 (offset_to address v) ∷ []) 4 private (λ _. refl) h
 length-private symbols address (jump_and_link rd target) private h =

@@ -8,6 +8,7 @@ use Rattle.std.specs.Option.{option_map_or, option_or}
 use Rattle.std.proofs.lemmas.Int.{ints}
 use lib.Signed.{le_z_yes}
 use Rattle.std.proofs.lemmas.List.Elements.{All-nil, All-cons, All-head, All-tail}
+use Rattle.rv_atomics.specs.declared.extensions.Extensions.{Extensions}
 use Rattle.node_memory.specs.Image.{Image, segments_from_0}
 use Rattle.rv_tables.specs.declared.instr.Instr.{Instr}
 use Rattle.rv_tables.specs.declared.instr.Instr.TheVariants.{I, Branch, Upper, Jal}
@@ -18,6 +19,7 @@ use Rattle.rv_tables.specs.Operands.{IsSigned, IsEven, IsEncodable, IsImmediate,
 use Rattle.asm_syntax.specs.Lines.{lines_of}
 use Rattle.asm_syntax.specs.Parse.{line_of}
 use Rattle.asm_syntax.specs.Statements.{Line, Statement, IsInRange, instruction, float_instruction, branch, jump_and_link, load_immediate}
+use Rattle.asm_syntax.specs.Statements.{atomic_instruction}
 use Rattle.asm_syntax.specs.Statements.{load_address, words, halves, bytes, ascii, space, align, entry}
 use Rattle.rv_asm.specs.declared.errors.AsmKind.{AsmKind}
 use Rattle.rv_asm.specs.declared.errors.AsmKind.TheVariants.{OutOfRange, UndefinedLabel}
@@ -27,6 +29,7 @@ use Rattle.rv_asm.specs.Places.{places_of, symbols_of, line_statement, end_of_st
 use Rattle.rv_asm.specs.Symbols.{Symbols}
 use Rattle.rv_asm.specs.Targets.{modulo, value_of, offset_to, is_signed, is_reached}
 use Rattle.rv_asm.specs.Text.{LineHasBytes, AreLaid, IsImageOfText, last_entry}
+use Rattle.rv_asm.proofs.EachAtomicWord.{the_atomic_word}
 use Rattle.rv_asm.proofs.EachFloatWord.{the_word}
 use Rattle.rv_asm.proofs.EachWord.{word_of}
 use Rattle.rv_asm.proofs.Laying.{uses_from, uses-placed, ok_parts}
@@ -132,6 +135,8 @@ statement_bytes : (symbols : Symbols) (address : ℕ) (statement : Statement) �
 statement_bytes symbols address (instruction i) r h = one i r
 statement_bytes symbols address (float_instruction i) r h =
     let w = the_word i r in (to_le_bytes w32 w.word, (w.word, w.fits, w.only.0, refl))
+statement_bytes symbols address (atomic_instruction i) r h =
+    let w = the_atomic_word i r in (to_le_bytes w32 w.word, (w.word, w.fits, w.only.0, refl))
 statement_bytes symbols address (branch op rs1 rs2 target) r h =
     jump_of (value_of symbols target) 13 address (λ v. Branch op rs1 rs2 (offset_to address v)) h
     (λ v e. (r.0, r.1, reached_branch (offset_to address v) e))
@@ -160,30 +165,31 @@ fault_parts number None others h = (refl, h)
 fault_parts number (Some kind) others h = cc
 
 -- lines, and their bytes from an address on
-record Laid (float : Bool) (symbols : Symbols) (address : ℕ) (texts : List (List ℕ)) : Type 0 where
+record Laid (extensions : Extensions) (symbols : Symbols) (address : ℕ) (texts : List (List ℕ)) : Type 0 where
   lines : List Line
   bytes : List ℕ
-  are_lines : map (line_of float) texts ≡ map Ok lines
+  are_lines : map (line_of extensions) texts ≡ map Ok lines
   laid : AreLaid symbols address lines bytes
 
-module _ (float : Bool) (ranges : (text : List ℕ) (line : Line) → line_of float text ≡ Ok line → IfSome line.statement IsInRange) where
-  lay : (symbols : Symbols) (number address : ℕ) (texts : List (List ℕ)) → AreSound float symbols address texts
-      → uses_from float symbols number address texts ≡ None
-      → Laid float symbols address texts
+module _ (extensions : Extensions)
+    (ranges : (text : List ℕ) (line : Line) → line_of extensions text ≡ Ok line → IfSome line.statement IsInRange) where
+  lay : (symbols : Symbols) (number address : ℕ) (texts : List (List ℕ)) → AreSound extensions symbols address texts
+      → uses_from extensions symbols number address texts ≡ None
+      → Laid extensions symbols address texts
   lay symbols number address [] sound uses = record { lines = []; bytes = []; are_lines = refl; laid = refl }
   lay symbols number address (text ∷ rest) sound uses =
-      let p = ok_parts (line_of float text)
+      let p = ok_parts (line_of extensions text)
       (λ l. All (λ label. symbols label ≡ Some address) l.labels × (end_of_statement address l.statement ≤ 2 ^ 24))
       sound.0 in
-      let says : line_statement (line_of float text) ≡ p.0.statement = ap line_statement p.1 in
-      let faults = fault_parts number (option_and_then (fault_of_use symbols address) (line_statement (line_of float text)))
-      (uses_from float symbols (number + 1) (end_from address (line_of float text)) rest) uses in
+      let says : line_statement (line_of extensions text) ≡ p.0.statement = ap line_statement p.1 in
+      let faults = fault_parts number (option_and_then (fault_of_use symbols address) (line_statement (line_of extensions text)))
+      (uses_from extensions symbols (number + 1) (end_from address (line_of extensions text)) rest) uses in
       let none : option_and_then (fault_of_use symbols address) p.0.statement ≡ None =
       sym (ap (option_and_then (fault_of_use symbols address)) says) ∙ faults.0 in
       let private = line_bytes symbols address p.0.statement (ranges text p.0 p.1) none in
-      let ends : end_from address (line_of float text) ≡ address + length private.0 =
+      let ends : end_from address (line_of extensions text) ≡ address + length private.0 =
       ap (end_of_statement address) says ∙ sym (length-line symbols address p.0.statement private.0 private.1) in
-      let more = lay symbols (number + 1) (end_from address (line_of float text)) rest sound.1 faults.1 in
+      let more = lay symbols (number + 1) (end_from address (line_of extensions text)) rest sound.1 faults.1 in
       record {
         lines = p.0 ∷ more.lines;
         bytes = private.0 ++ more.bytes;
@@ -191,17 +197,17 @@ module _ (float : Bool) (ranges : (text : List ℕ) (line : Line) → line_of fl
         laid = (private.0, more.bytes, refl, p.2.0, private.1, subst (λ e. AreLaid symbols e more.lines more.bytes) ends more.laid);
       }
 
-  pub some_image : (text : List ℕ) → text_fault float text ≡ None → (image : Image) × IsImageOfText float text image
+  pub some_image : (text : List ℕ) → text_fault extensions text ≡ None → (image : Image) × IsImageOfText extensions text image
   unfolding text_fault
   some_image text h =
-      let symbols = symbols_of (places_of float text) in
-      let parts = none_parts (first_faulty_line fault_alone (places_of float text))
-      (first_faulty_line (fault_of_uses symbols) (places_of float text)) h in
-      let l = lay symbols 1 0 (lines_of text) (sound_text float symbols text parts.0 (λ q. refl))
-      (sym (uses-placed float symbols 1 0 (λ _. false) (lines_of text)) ∙ parts.1) in
+      let symbols = symbols_of (places_of extensions text) in
+      let parts = none_parts (first_faulty_line fault_alone (places_of extensions text))
+      (first_faulty_line (fault_of_uses symbols) (places_of extensions text)) h in
+      let l = lay symbols 1 0 (lines_of text) (sound_text extensions symbols text parts.0 (λ q. refl))
+      (sym (uses-placed extensions symbols 1 0 (λ _. false) (lines_of text)) ∙ parts.1) in
       let image : Image = record { entry = last_entry symbols 0 l.lines; segments = segments_from_0 l.bytes } in (
         image,
-        image-laid float text symbols l.bytes image (λ q. refl)
+        image-laid extensions text symbols l.bytes image (λ q. refl)
             (record { lines = l.lines; are_lines = l.are_lines; laid = l.laid; entry_is = refl }) refl,
       )
     where

@@ -6,6 +6,7 @@ use Rattle.std.specs.Option.{option_map_or, option_or}
 use Rattle.std.specs.Str.{bytes_eq}
 use Rattle.std.specs.Cmp.Lexicographic.{bytes_decides}
 use Rattle.std.proofs.lemmas.List.Elements.{All-nil, All-cons}
+use Rattle.rv_atomics.specs.declared.extensions.Extensions.{Extensions}
 use Rattle.asm_syntax.specs.Lines.{lines_of}
 use Rattle.asm_syntax.specs.Parse.{line_of}
 use Rattle.asm_syntax.specs.Statements.{Line}
@@ -24,10 +25,10 @@ IsSoundLine symbols address line =
     IsOkAnd line (λ l. All (λ label. symbols label ≡ Some address) l.labels × (end_of_statement address l.statement ≤ 2 ^ 24))
 
 -- so have those of lines from an address on, each where the one before it ends
-abbrev pub AreSound : (float : Bool) → Symbols → ℕ → List (List ℕ) → Type 0
-AreSound float symbols address [] = Unit {0}
-AreSound float symbols address (text ∷ rest) =
-    IsSoundLine symbols address (line_of float text) × AreSound float symbols (end_from address (line_of float text)) rest
+abbrev pub AreSound : (extensions : Extensions) → Symbols → ℕ → List (List ℕ) → Type 0
+AreSound extensions symbols address [] = Unit {0}
+AreSound extensions symbols address (text ∷ rest) =
+    IsSoundLine symbols address (line_of extensions text) × AreSound extensions symbols (end_from address (line_of extensions text)) rest
 
 -- no test of the first judging fails
 record PassesTests (address : ℕ) (known : List ℕ → Bool) (line : Line) : Type 0 where
@@ -105,49 +106,55 @@ distinct_labels address known (Ok line) h = (passes address known line h).distin
 distinct_labels address known (Err fault) h = refl
 
 -- the first line of some without a fault, and those behind it
-module _ (float : Bool) (symbols : Symbols) (number address : ℕ) (text : List ℕ) (rest : List (List ℕ))
-    (h : first_faulty_line fault_alone (placed float number address (λ p. is_some (symbols p)) (text ∷ rest)) ≡ None) where
+module _ (extensions : Extensions) (symbols : Symbols) (number address : ℕ) (text : List ℕ) (rest : List (List ℕ))
+    (h : first_faulty_line fault_alone (placed extensions number address (λ p. is_some (symbols p)) (text ∷ rest)) ≡ None) where
   after : Symbols
-  after = with_labels symbols (line_labels (line_of float text)) address
+  after = with_labels symbols (line_labels (line_of extensions text)) address
 
-  head : fault_of_line address (λ p. is_some (symbols p)) (line_of float text) ≡ None
+  head : fault_of_line address (λ p. is_some (symbols p)) (line_of extensions text) ≡ None
   head =
-      none_parts number (fault_of_line address (λ p. is_some (symbols p)) (line_of float text))
+      none_parts number (fault_of_line address (λ p. is_some (symbols p)) (line_of extensions text))
       (first_faulty_line fault_alone
-      (placed float (number + 1) (end_from address (line_of float text))
-      (λ name. list_any (λ label. bytes_eq label name) (line_labels (line_of float text)) || is_some (symbols name)) rest)) h
+      (placed extensions (number + 1) (end_from address (line_of extensions text))
+      (λ name. list_any (λ label. bytes_eq label name) (line_labels (line_of extensions text)) || is_some (symbols name)) rest)) h
 
-  tail : first_faulty_line fault_alone (placed float (number + 1) (end_from address (line_of float text)) (λ p. is_some (after p)) rest)
+  tail : first_faulty_line fault_alone
+      (placed extensions (number + 1) (end_from address (line_of extensions text)) (λ p. is_some (after p)) rest)
       ≡ None
   unfolding after
-  tail = sym (judged_more float symbols after number address (end_from address (line_of float text)) text rest refl (λ name. refl) head) ∙ h
+  tail =
+      sym (judged_more extensions symbols after number address (end_from address (line_of extensions text)) text rest refl (λ name. refl) head)
+      ∙ h
 
-  further : (name : List ℕ) → symbols_from symbols (placed float number address (λ p. is_some (symbols p)) (text ∷ rest)) name
-      ≡ symbols_from after (placed float (number + 1) (end_from address (line_of float text)) (λ p. is_some (after p)) rest) name
+  further : (name : List ℕ) → symbols_from symbols (placed extensions number address (λ p. is_some (symbols p)) (text ∷ rest)) name
+      ≡ symbols_from after (placed extensions (number + 1) (end_from address (line_of extensions text)) (λ p. is_some (after p)) rest) name
   unfolding after
-  further = known_more float symbols after number address (end_from address (line_of float text)) text rest refl (λ name. refl)
+  further = known_more extensions symbols after number address (end_from address (line_of extensions text)) text rest refl (λ name. refl)
 
   not_again : (name : List ℕ) → is_some (symbols name) ≡ true → after name ≡ symbols name
   unfolding after
   not_again name k =
-      unchanged symbols (line_labels (line_of float text)) address name
-      (apart (λ p. is_some (symbols p)) (line_labels (line_of float text)) name
-      (distinct_labels address (λ p. is_some (symbols p)) (line_of float text) head) k)
+      unchanged symbols (line_labels (line_of extensions text)) address name
+      (apart (λ p. is_some (symbols p)) (line_labels (line_of extensions text)) name
+      (distinct_labels address (λ p. is_some (symbols p)) (line_of extensions text) head) k)
 
-  of_line : (name : List ℕ) → list_any (λ label. bytes_eq label name) (line_labels (line_of float text)) ≡ true → after name ≡ Some address
+  of_line : (name : List ℕ) → list_any (λ label. bytes_eq label name) (line_labels (line_of extensions text)) ≡ true
+      → after name ≡ Some address
   unfolding after
-  of_line name member = given symbols (line_labels (line_of float text)) address name (inr member)
+  of_line name member = given symbols (line_labels (line_of extensions text)) address name (inr member)
 
 -- the lines behind a label do not change its address
-kept : (float : Bool) (symbols : Symbols) (number address : ℕ) (texts : List (List ℕ)) (name : List ℕ)
-    → first_faulty_line fault_alone (placed float number address (λ p. is_some (symbols p)) texts) ≡ None → is_some (symbols name) ≡ true
-    → symbols_from symbols (placed float number address (λ p. is_some (symbols p)) texts) name ≡ symbols name
-kept float symbols number address [] name h k = refl
-kept float symbols number address (text ∷ rest) name h k =
-    let same = not_again float symbols number address text rest h name k in
-    further float symbols number address text rest h name
-    ∙ kept float (after float symbols number address text rest h) (number + 1) (end_from address (line_of float text)) rest name
-    (tail float symbols number address text rest h) (ap is_some same ∙ k) ∙ same
+kept : (extensions : Extensions) (symbols : Symbols) (number address : ℕ) (texts : List (List ℕ)) (name : List ℕ)
+    → first_faulty_line fault_alone (placed extensions number address (λ p. is_some (symbols p)) texts) ≡ None → is_some (symbols name)
+    ≡ true
+    → symbols_from symbols (placed extensions number address (λ p. is_some (symbols p)) texts) name ≡ symbols name
+kept extensions symbols number address [] name h k = refl
+kept extensions symbols number address (text ∷ rest) name h k =
+    let same = not_again extensions symbols number address text rest h name k in
+    further extensions symbols number address text rest h name
+    ∙ kept extensions (after extensions symbols number address text rest h) (number + 1) (end_from address (line_of extensions text))
+    rest name
+    (tail extensions symbols number address text rest h) (ap is_some same ∙ k) ∙ same
 
 each_member : (P : List ℕ → Type 0) (labels : List (List ℕ))
     → ((name : List ℕ) → list_any (λ label. bytes_eq label name) labels ≡ true → P name)
@@ -166,24 +173,26 @@ sound_line symbols address known (Ok line) h f =
     (each_member (λ label. symbols label ≡ Some address) line.labels f, (passes address known line h).within)
 
 -- where no line has a fault in the first judging, the lines are sound with the labels of all
-pub sound : (float : Bool) (symbols : Symbols) (number address : ℕ) (texts : List (List ℕ))
-    → first_faulty_line fault_alone (placed float number address (λ p. is_some (symbols p)) texts) ≡ None
-    → AreSound float (symbols_from symbols (placed float number address (λ p. is_some (symbols p)) texts)) address texts
-sound float symbols number address [] h = tt
-sound float symbols number address (text ∷ rest) h =
-    let grown = after float symbols number address text rest h in
-    let at_end = end_from address (line_of float text) in
-    let others = tail float symbols number address text rest h in
-    let all = further float symbols number address text rest h in (
-      sound_line _ address (λ p. is_some (symbols p)) (line_of float text) (head float symbols number address text rest h)
-          (λ name m. let at_label = of_line float symbols number address text rest h name m in
-          all name ∙ kept float grown (number + 1) at_end rest name others (ap is_some at_label) ∙ at_label),
-      subst (λ all_symbols. AreSound float all_symbols at_end rest) (λ i name. sym (all name) i)
-          (sound float grown (number + 1) at_end rest others),
+pub sound : (extensions : Extensions) (symbols : Symbols) (number address : ℕ) (texts : List (List ℕ))
+    → first_faulty_line fault_alone (placed extensions number address (λ p. is_some (symbols p)) texts) ≡ None
+    → AreSound extensions (symbols_from symbols (placed extensions number address (λ p. is_some (symbols p)) texts)) address texts
+sound extensions symbols number address [] h = tt
+sound extensions symbols number address (text ∷ rest) h =
+    let grown = after extensions symbols number address text rest h in
+    let at_end = end_from address (line_of extensions text) in
+    let others = tail extensions symbols number address text rest h in
+    let all = further extensions symbols number address text rest h in (
+      sound_line _ address (λ p. is_some (symbols p)) (line_of extensions text) (head extensions symbols number address text rest h)
+          (λ name m. let at_label = of_line extensions symbols number address text rest h name m in
+          all name ∙ kept extensions grown (number + 1) at_end rest name others (ap is_some at_label) ∙ at_label),
+      subst (λ all_symbols. AreSound extensions all_symbols at_end rest) (λ i name. sym (all name) i)
+          (sound extensions grown (number + 1) at_end rest others),
     )
 
 -- a text without a fault in the first judging is sound with its labels
-pub sound_text : (float : Bool) (symbols : Symbols) (text : List ℕ) → first_faulty_line fault_alone (places_of float text) ≡ None
-    → ((name : List ℕ) → symbols name ≡ symbols_of (places_of float text) name) → AreSound float symbols 0 (lines_of text)
-sound_text float symbols text judged known =
-    subst (λ s. AreSound float s 0 (lines_of text)) (λ i name. sym (known name) i) (sound float no_symbols 1 0 (lines_of text) judged)
+pub sound_text : (extensions : Extensions) (symbols : Symbols) (text : List ℕ)
+    → first_faulty_line fault_alone (places_of extensions text) ≡ None
+    → ((name : List ℕ) → symbols name ≡ symbols_of (places_of extensions text) name) → AreSound extensions symbols 0 (lines_of text)
+sound_text extensions symbols text judged known =
+    subst (λ s. AreSound extensions s 0 (lines_of text)) (λ i name. sym (known name) i)
+    (sound extensions no_symbols 1 0 (lines_of text) judged)

@@ -4,6 +4,7 @@ use Rattle.std.specs.Prelude.{◌≡◌, ◌≢◌, ℕ, ◌^◌, Bool, false, �
 use Rattle.std.specs.Prelude.{option_and_then, Result, Ok, Err}
 use Rattle.std.specs.Str.{bytes_eq}
 use Rattle.std.specs.Option.{option_map_or, option_or}
+use Rattle.rv_atomics.specs.declared.extensions.Extensions.{Extensions}
 use Rattle.asm_syntax.specs.Statements.{Statement, Line}
 use Rattle.asm_syntax.specs.declared.error.LineError.{LineError}
 use Rattle.asm_syntax.specs.declared.error.LineError.TheVariants as private
@@ -64,7 +65,7 @@ first_faulty_line fault_of (place ∷ rest) =
     option_or (option_map (λ kind. (place.number, kind)) (fault_of place)) (first_faulty_line fault_of rest)
 
 -- the first faulty line of the first judging and its fault; where there is none, those of the second
-unfoldable pub text_fault : (float : Bool) → List ℕ → Option (ℕ × AsmKind)
-text_fault float text =
-    let places = places_of float text in
+unfoldable pub text_fault : (extensions : Extensions) → List ℕ → Option (ℕ × AsmKind)
+text_fault extensions text =
+    let places = places_of extensions text in
     option_or (first_faulty_line fault_alone places) (first_faulty_line (fault_of_uses (symbols_of places)) places)

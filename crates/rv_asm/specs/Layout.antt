@@ -15,9 +15,11 @@ use Rattle.rv_tables.specs.Fields.{bits, sign_extended}
 use Rattle.rv_tables.specs.Rows.{instruction_of}
 use Rattle.rv_float_tables.specs.declared.instr.FloatInstr.{FloatInstr}
 use Rattle.rv_float_tables.specs.Rows.{float_instruction_of}
+use Rattle.rv_atomics.specs.declared.instr.AtomicInstr.{AtomicInstr}
+use Rattle.rv_atomics.specs.Rows.{atomic_instruction_of}
 use Rattle.asm_syntax.specs.Operands.{Target}
 use Rattle.asm_syntax.specs.Statements.{Statement, instruction, float_instruction, branch, jump_and_link, load_immediate, load_address}
-use Rattle.asm_syntax.specs.Statements.{words, halves, bytes, ascii, space, align, entry}
+use Rattle.asm_syntax.specs.Statements.{words, halves, bytes, ascii, space, align, entry, atomic_instruction}
 use Rattle.rv_asm.specs.Symbols.{Symbols}
 use Rattle.rv_asm.specs.Targets.{modulo, is_signed, value_of, uses_undefined, offset_to}
 
@@ -38,6 +40,10 @@ Spell (i ∷ rest) private = (w : ℕ) × (more : List ℕ) × IsWordOf i w × S
 abbrev pub SpellFloat : FloatInstr → List ℕ → Type 0
 SpellFloat i private = (w : ℕ) × (w < 2 ^ 32) × (float_instruction_of w ≡ Some i) × (private ≡ to_le_bytes w32 w)
 
+-- the bytes of an instruction of A, likewise
+abbrev pub SpellAtomic : AtomicInstr → List ℕ → Type 0
+SpellAtomic i private = (w : ℕ) × (w < 2 ^ 32) × (atomic_instruction_of w ≡ Some i) × (private ≡ to_le_bytes w32 w)
+
 -- a word goes into a register by its upper 20 bits, rounded, and its low 12 bits as a signed number
 abbrev pub lui_addi : ℕ → ℕ → List Instr
 lui_addi rd word = Upper Lui rd (bits (word + 0x800) 31 12) ∷ I Addi rd rd (sign_extended 12 (bits word 11 0)) ∷ []
@@ -54,6 +60,7 @@ load_of rd word = if is_short word then I Addi rd 0 (cast_signed w32 word) ∷ [
 abbrev pub size_of : Statement → ℕ → ℕ
 size_of (instruction i) address = 4
 size_of (float_instruction i) address = 4
+size_of (atomic_instruction i) address = 4
 size_of (branch op rs1 rs2 target) address = 4
 size_of (jump_and_link rd target) address = 4
 size_of (load_immediate rd n) address = 4 * length (load_of rd (modulo (2 ^ 32) n))
@@ -74,6 +81,7 @@ word_bytes symbols target = option_map_or (to_le_bytes w32) (value_of symbols ta
 abbrev pub HasBytes : Symbols → ℕ → Statement → List ℕ → Type 0
 HasBytes symbols address (instruction i) private = Spell (i ∷ []) private
 HasBytes symbols address (float_instruction i) private = SpellFloat i private
+HasBytes symbols address (atomic_instruction i) private = SpellAtomic i private
 HasBytes symbols address (branch op rs1 rs2 target) private =
     IsSomeAnd (value_of symbols target) (λ value. Spell (Branch op rs1 rs2 (offset_to address value) ∷ []) private)
 HasBytes symbols address (jump_and_link rd target) private =

@@ -3,6 +3,7 @@ use Rattle.std.specs.Prelude.{ℕ, ◌+◌, List, [], ◌∷◌, fold, Bool, fal
 use Rattle.std.specs.List.{list_any}
 use Rattle.std.specs.Option.{option_map_or}
 use Rattle.std.specs.Str.{bytes_eq}
+use Rattle.rv_atomics.specs.declared.extensions.Extensions.{Extensions}
 use Rattle.asm_syntax.specs.Lines.{lines_of}
 use Rattle.asm_syntax.specs.Parse.{line_of}
 use Rattle.asm_syntax.specs.Statements.{Statement, Line}
@@ -40,17 +41,17 @@ abbrev pub is_among : List (List ℕ) → List ℕ → Bool
 is_among labels name = list_any (λ label. bytes_eq label name) labels
 
 -- lines from a number and an address on, each where the one before it ends, with the labels of those before. They are in the language
--- with statements of floating point, or in that without them
-abbrev pub placed : (float : Bool) → ℕ → ℕ → (List ℕ → Bool) → List (List ℕ) → List Place
-placed float number address is_earlier [] = []
-placed float number address is_earlier (text ∷ rest) =
-    record { number = number; address = address; is_earlier = is_earlier; line = line_of float text }
-    ∷ placed float (number + 1) (end_from address (line_of float text))
-    (λ name. is_among (line_labels (line_of float text)) name || is_earlier name) rest
+-- with the statements of some extensions
+abbrev pub placed : (extensions : Extensions) → ℕ → ℕ → (List ℕ → Bool) → List (List ℕ) → List Place
+placed extensions number address is_earlier [] = []
+placed extensions number address is_earlier (text ∷ rest) =
+    record { number = number; address = address; is_earlier = is_earlier; line = line_of extensions text }
+    ∷ placed extensions (number + 1) (end_from address (line_of extensions text))
+    (λ name. is_among (line_labels (line_of extensions text)) name || is_earlier name) rest
 
 -- the lines of a text: they are counted from 1, and the first is at address 0
-abbrev pub places_of : (float : Bool) → List ℕ → List Place
-places_of float text = placed float 1 0 (λ _. false) (lines_of text)
+abbrev pub places_of : (extensions : Extensions) → List ℕ → List Place
+places_of extensions text = placed extensions 1 0 (λ _. false) (lines_of text)
 
 -- the labels of lines, each with its line's address
 abbrev pub symbols_of : List Place → Symbols

@@ -11,6 +11,7 @@ use crate::program::Program;
 use crate::second_pass::write_lines;
 use list_vec::ListVec;
 use node_memory::{Image, Segment};
+use rv_atomics::Extensions;
 use std::alloc::{AllocError, Allocator};
 
 /// A program as an image: one segment at 0 with all its bytes, and none where there are none.
@@ -34,22 +35,22 @@ fn image_of<A: Allocator + Copy>(alloc: A, program: Program<A>) -> Result<Image<
     })
 }
 
-/// The image of an assembly text, or its first fault. Statements of floating point are of the language where `float` says so.
+/// The image of an assembly text, or its first fault. The language has the statements of some extensions.
 ///
 /// The text has at most 4 MiB, of any bytes. It is gone through twice: once for the addresses of its labels, and once for
 /// its bytes. Its labels are kept in an ordered map.
 pub fn assemble<A: Allocator + Copy>(
     alloc: A,
-    float: bool,
+    extensions: Extensions,
     text: &[u8],
 ) -> Result<Image<A>, AsmError>
     requires { length text.now ≤ 2 ^ 22 }
-    ensures ok { IfOk result (λ image. IsImageOfText float text.now image) }
-    ensures faultless { OnOk result (text_fault float text.now ≡ None) }
-    ensures err { IfErr result (λ e. e.kind ≢ AsmKind.NoMemory → text_fault float text.now ≡ Some (e.line, e.kind)) }
+    ensures ok { IfOk result (λ image. IsImageOfText extensions text.now image) }
+    ensures faultless { OnOk result (text_fault extensions text.now ≡ None) }
+    ensures err { IfErr result (λ e. e.kind ≢ AsmKind.NoMemory → text_fault extensions text.now ≡ Some (e.line, e.kind)) }
     ensures no_memory { IfErr result (λ e. e.kind ≡ AsmKind.NoMemory → e.line ≡ 0) }
 {
-    let labels = define_labels(alloc, float, text)?;
-    let program = write_lines(alloc, float, &labels, text)?;
+    let labels = define_labels(alloc, extensions, text)?;
+    let program = write_lines(alloc, extensions, &labels, text)?;
     Ok(image_of(alloc, program)?)
 }

@@ -18,6 +18,7 @@ use crate::labels::Labels;
 use crate::layout::end_of;
 use crate::targets::is_out_of_reach;
 use asm_syntax::{Line, Statement, parse_line, split_line};
+use rv_atomics::Extensions;
 use std::alloc::Allocator;
 
 /// Whether a line's statement is a jump to a number that its offset does not reach.
@@ -76,35 +77,35 @@ fn define<'a, A: Allocator + Copy>(
 /// Judges a line at `address` and adds its labels; answers where it ends.
 fn define_line<'a, A: Allocator + Copy>(
     alloc: A,
-    float: bool,
+    extensions: Extensions,
     labels: &mut Labels<'a, A>,
     text: &'a [u8],
     address: u32,
 ) -> Result<u32, AsmKind>
     requires { address ≤ 2 ^ 24 }
-    ensures ok { OnOk result (fault_of_line address (λ q. is_some (symbols labels.old q)) (line_of float text.entry.now) ≡ None) }
-    ensures end { IfOk result (λ end. end ≡ end_from address (line_of float text.entry.now)) }
+    ensures ok { OnOk result (fault_of_line address (λ q. is_some (symbols labels.old q)) (line_of extensions text.entry.now) ≡ None) }
+    ensures end { IfOk result (λ end. end ≡ end_from address (line_of extensions text.entry.now)) }
     ensures limit { IfOk result (λ end. end ≤ 2 ^ 24) }
     ensures labels { OnOk result ((q : List ℕ) → symbols labels.new q
-        ≡ with_labels (symbols labels.old) (line_labels (line_of float text.entry.now)) address q) }
+        ≡ with_labels (symbols labels.old) (line_labels (line_of extensions text.entry.now)) address q) }
     ensures err { IfErr result (λ kind. kind ≢ AsmKind.NoMemory
-        → fault_of_line address (λ q. is_some (symbols labels.old q)) (line_of float text.entry.now) ≡ Some kind) }
+        → fault_of_line address (λ q. is_some (symbols labels.old q)) (line_of extensions text.entry.now) ≡ Some kind) }
 {
-    let line = parse_line(alloc, float, text)?;
+    let line = parse_line(alloc, extensions, text)?;
     define(alloc, labels, &line, address)
 }
 
 /// The labels of a text with their addresses, or the first fault of the first judging.
 pub fn define_labels<'a, A: Allocator + Copy>(
     alloc: A,
-    float: bool,
+    extensions: Extensions,
     text: &'a [u8],
 ) -> Result<Labels<'a, A>, AsmError>
     requires { length text.now ≤ 2 ^ 22 }
-    ensures ok { OnOk result (first_faulty_line fault_alone (places_of float text.entry.now) ≡ None) }
-    ensures labels { IfOk result (λ labels. (q : List ℕ) → symbols labels q ≡ symbols_of (places_of float text.entry.now) q) }
+    ensures ok { OnOk result (first_faulty_line fault_alone (places_of extensions text.entry.now) ≡ None) }
+    ensures labels { IfOk result (λ labels. (q : List ℕ) → symbols labels q ≡ symbols_of (places_of extensions text.entry.now) q) }
     ensures err { IfErr result (λ e. e.kind ≢ AsmKind.NoMemory
-        → first_faulty_line fault_alone (places_of float text.entry.now) ≡ Some (e.line, e.kind)) }
+        → first_faulty_line fault_alone (places_of extensions text.entry.now) ≡ Some (e.line, e.kind)) }
     ensures no_memory { IfErr result (λ e. e.kind ≡ AsmKind.NoMemory → e.line ≡ 0) }
 {
     let mut labels = Labels::new(alloc);
@@ -113,7 +114,7 @@ pub fn define_labels<'a, A: Allocator + Copy>(
     let mut rest = Some(text);
     'lines: while let Some(remaining) = rest {
         let (line, after) = split_line(remaining);
-        match define_line(alloc, float, &mut labels, line, address) {
+        match define_line(alloc, extensions, &mut labels, line, address) {
             Ok(end) => address = end,
             Err(kind) => return Err(AsmError::at(number, kind)),
         }

@@ -46,6 +46,7 @@ fn size_of<A: Allocator>(statement: &Statement<'_, A>, address: u32) -> u64
     match statement {
         Statement::Instruction(_)
         | Statement::FloatInstruction(_)
+        | Statement::AtomicInstruction(_)
         | Statement::Branch { .. }
         | Statement::Jal { .. } => 4,
         Statement::LoadImmediate { value, .. } => load_size(word_of(*value)),

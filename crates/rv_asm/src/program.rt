@@ -48,6 +48,7 @@ impl<A: Allocator + Copy> Program<A> {
         match statement {
             Statement::Instruction(instr) => writer::push_instr(bytes, instr),
             Statement::FloatInstruction(instr) => writer::push_float_instr(bytes, instr),
+            Statement::AtomicInstruction(instr) => writer::push_atomic_instr(bytes, instr),
             Statement::Branch {
                 op,
                 rs1,

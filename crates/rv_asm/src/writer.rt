@@ -7,11 +7,12 @@ ghost use Rattle.std.specs.Int.{w16, w32, to_le_bytes};
 ghost use Rattle.rv_tables.specs.Fields.{bits, sign_extended};
 ghost use Rattle.rv_tables.specs.Operands.{IsEncodable, IsImmediate, IsRegister};
 ghost use Rattle.rv_float_tables.specs.Operands.{IsEncodable as IsFloatEncodable};
+ghost use Rattle.rv_atomics.specs.Operands.{IsEncodable as IsAtomicEncodable};
 ghost use Rattle.asm_syntax.specs.Operands.{IsTarget};
 ghost use Rattle.asm_syntax.specs.Statements.{words};
 ghost use Rattle.asm_syntax.specs.Views.{target_value};
 ghost use Rattle.rv_asm.specs.Labels.{symbols};
-ghost use Rattle.rv_asm.specs.Layout.{Spell, SpellFloat, lui_addi, load_of, word_bytes};
+ghost use Rattle.rv_asm.specs.Layout.{Spell, SpellAtomic, SpellFloat, lui_addi, load_of, word_bytes};
 ghost use Rattle.rv_asm.specs.Targets.{modulo, uses_undefined, is_reached};
 ghost use Rattle.rv_asm.specs.Writing.{Adds};
 
@@ -20,6 +21,7 @@ use crate::labels::Labels;
 use crate::layout::is_short;
 use crate::targets::{self, reaches_branch, reaches_jal};
 use asm_syntax::Target;
+use rv_atomics::AtomicInstr;
 use rv_float_tables::FloatInstr;
 use rv_tables::{BranchOp, IOp, Instr, UpperOp, encode};
 use std::alloc::Allocator;
@@ -46,6 +48,21 @@ pub fn push_float_instr<A: Allocator>(
     ensures err { IfErr result (λ kind. (kind ≡ AsmKind.NoMemory) ⊎ ((kind ≡ AsmKind.OutOfRange) × ¬ IsFloatEncodable instr.now)) }
 {
     let Some(word) = rv_float_tables::encode(instr) else {
+        return Err(AsmKind::OutOfRange);
+    };
+    bytes.extend_from_slice(&word.to_le_bytes())?;
+    Ok(())
+}
+
+/// Writes the word of an instruction of A.
+pub fn push_atomic_instr<A: Allocator>(
+    bytes: &mut Vec<u8, A>,
+    instr: &AtomicInstr,
+) -> Result<(), AsmKind>
+    ensures ok { OnOk result (Adds (SpellAtomic instr.now) bytes.old.items bytes.new.items) }
+    ensures err { IfErr result (λ kind. (kind ≡ AsmKind.NoMemory) ⊎ ((kind ≡ AsmKind.OutOfRange) × ¬ IsAtomicEncodable instr.now)) }
+{
+    let Some(word) = rv_atomics::encode(instr) else {
         return Err(AsmKind::OutOfRange);
     };
     bytes.extend_from_slice(&word.to_le_bytes())?;

@@ -11,7 +11,7 @@ use Rattle.rv_tables.specs.declared.instr.Instr.{Instr}
 use Rattle.rv_tables.proofs.Pairs.{AllPairs-from_pass}
 use Rattle.rv_tables.proofs.Spelling as IntegerSpelling
 use Rattle.rv_tables.proofs.Tables.{apart, IsDisjoint-from_apart, HasDisjointRows, HasDisjointRows-from_apart}
-use Rattle.rv_tables.proofs.Tables.{tables_apart, Reads-from_read_off, read_off-Reads}
+use Rattle.rv_tables.proofs.Tables.{tables_apart, read_off-met, Reads-from_read_off, read_off-Reads}
 use Rattle.rv_float_tables.specs.Rows as Floats
 use Rattle.rv_float_tables.specs.declared.instr.FloatInstr.{FloatInstr}
 use Rattle.rv_float_tables.proofs.Spelling as FloatSpelling
@@ -43,6 +43,12 @@ Spells-from_instruction w i h = Reads-from_read_off atomic_encodings w i h
 pub atomic_instruction_of-Spells : (w : ℕ) (i : AtomicInstr) → Spells w i → atomic_instruction_of w ≡ Some i
 unfolding atomic_instruction_of
 atomic_instruction_of-Spells w i s = read_off-Reads atomic_encodings encodings_disjoint w i s
+
+-- the row that a word meets reads its instruction
+pub atomic_instruction_of-met : (w : ℕ) (e : AtomicEncoding) → Contains atomic_encodings e → MeetsRow w e.row
+    → atomic_instruction_of w ≡ Some (e.read w)
+unfolding atomic_instruction_of
+atomic_instruction_of-met w e listed met = read_off-met atomic_encodings encodings_disjoint w e listed met
 
 pub same_from_Spells : (w : ℕ) (i j : AtomicInstr) → Spells w i → Spells w j → i ≡ j
 same_from_Spells w i j s t = same_Some i j (sym (atomic_instruction_of-Spells w i s) ∙ atomic_instruction_of-Spells w j t)

@@ -3,3 +3,4 @@ pub mod Mnemonics
 pub mod Operands
 pub mod Rows
 pub mod Values
+pub mod Words

@@ -3,7 +3,6 @@
 -- `frm`, or to nearest where a value goes to doubles, which hold it exactly.
 use Rattle.std.specs.Prelude.{ℕ, List, [], ◌∷◌, ◌++◌, codes}
 use Rattle.std.specs.Fmt.{decimal}
-use Rattle.std.specs.Option.{option_map_or}
 use Rattle.rv_tables.specs.declared.code.Code.{Code}
 use Rattle.rv_tables.specs.declared.code.Code.TheVariants.{Half, Word}
 use Rattle.rv_float_tables.specs.declared.instr.FloatInstr.{FloatInstr}
@@ -14,9 +13,8 @@ use Rattle.rv_float_tables.specs.declared.instr.Format.{Format}
 use Rattle.rv_float_tables.specs.declared.instr.Format.TheVariants.{Single, Double}
 use Rattle.rv_float_tables.specs.declared.instr.RoundingField.{RoundingField}
 use Rattle.rv_float_tables.specs.declared.instr.RoundingField.TheVariants.{Rne, Dyn}
-use Rattle.rv_float_tables.specs.Codes.{float_decoded}
 use Rattle.rv_float_tables.specs.Mnemonics.{float_mnemonic_of, rounding_name, csr_name}
-use Rattle.rv_listing.specs.Statement.{register, relative, operand_list, statement_of}
+use Rattle.rv_listing.specs.Statement.{register, relative, operand_list}
 
 -- the floating-point register with a number, as `f10`
 abbrev pub float_register : ℕ → List ℕ
@@ -64,7 +62,3 @@ float_instruction_text i = float_mnemonic_of i ++ operand_list (float_operands_o
 abbrev pub float_code_text : Code → FloatInstr → List ℕ
 float_code_text (Half half) i = float_instruction_text i ++ codes " # compressed"
 float_code_text (Word word) i = float_instruction_text i
-
--- the statement of a code at `addr`, where instructions of floating point have their names
-unfoldable pub float_statement_of : Code → ℕ → List ℕ
-float_statement_of code addr = option_map_or (float_code_text code) (float_decoded code) (statement_of code addr)

@@ -1,7 +1,9 @@
+pub mod Atomics
 pub mod FloatOperands
 pub mod Floats
 pub mod Lines
 pub mod Listing
+pub mod Named
 pub mod Numerals
 pub mod Operands
 pub mod Statement

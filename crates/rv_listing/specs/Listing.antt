@@ -1,6 +1,6 @@
 -- The listing of an image, as disassemblers write one: a line for each instruction, with its address and its statement (own
 -- layout).
-use Rattle.std.specs.Prelude.{ℕ, zero, suc, ◌+◌, ◌-◌, Bool, if◌then◌else◌, List, ◌∷◌, ◌++◌, codes, length, map}
+use Rattle.std.specs.Prelude.{ℕ, zero, suc, ◌+◌, ◌-◌, List, ◌∷◌, ◌++◌, codes, length, map}
 use Rattle.std.specs.List.{flat_map, range_with_len}
 use Rattle.std.specs.Option.{option_map_or}
 use Rattle.node_memory.specs.Bytes.{byte_at}
@@ -8,9 +8,10 @@ use Rattle.node_memory.specs.Image.{Image, Segment}
 use Rattle.rv_tables.specs.declared.code.Code.{Code as AnyCode}
 use Rattle.rv_tables.specs.declared.code.Code.TheVariants.{Half, Word}
 use Rattle.rv_tables.specs.Codes.{length_of, code_at}
+use Rattle.rv_atomics.specs.declared.extensions.Extensions.{Extensions}
 use Rattle.rv_listing.specs.declared.lines.Line.{Line}
 use Rattle.rv_listing.specs.declared.lines.Line.TheVariants.{Code, Byte}
-use Rattle.rv_listing.specs.Floats.{float_statement_of}
+use Rattle.rv_listing.specs.Named.{named_statement_of}
 use Rattle.rv_listing.specs.Numerals.{two_digits, four_digits, eight_digits}
 use Rattle.rv_listing.specs.Statement.{statement_of}
 
@@ -29,9 +30,9 @@ text_with statement (Byte addr byte) = eight_digits addr ++ codes ": " ++ two_di
 abbrev pub text_of : Line → List ℕ
 text_of = text_with statement_of
 
--- a line in which instructions of floating point have their names, or are data as any code without an instruction
-abbrev pub shown_text : (float : Bool) → Line → List ℕ
-shown_text float line = if float then text_with float_statement_of line else text_of line
+-- a line in which instructions of some extensions have their names; those of others are data, as any code without an instruction
+abbrev pub shown_text : Extensions → Line → List ℕ
+shown_text extensions = text_with (named_statement_of extensions)
 
 -- of bytes from an address on: the line of the byte at an offset
 abbrev pub byte_line : ℕ → List ℕ → ℕ → Line
@@ -57,13 +58,13 @@ listing_lines addr bytes = lines_from (length bytes) addr bytes 0
 abbrev pub ended_text : Line → List ℕ
 ended_text line = text_of line ++ codes "\n"
 
-abbrev pub ended_line : (float : Bool) → Line → List ℕ
-ended_line float line = shown_text float line ++ codes "\n"
+abbrev pub ended_line : Extensions → Line → List ℕ
+ended_line extensions line = shown_text extensions line ++ codes "\n"
 
 -- the listing of a segment: the lines of its bytes, and none for the zeros after them
-abbrev pub listing_of_segment : (float : Bool) → Segment → List ℕ
-listing_of_segment float s = flat_map (ended_line float) (listing_lines s.addr s.bytes)
+abbrev pub listing_of_segment : Extensions → Segment → List ℕ
+listing_of_segment extensions s = flat_map (ended_line extensions) (listing_lines s.addr s.bytes)
 
 -- the listing of an image: those of its segments, in their order
-abbrev pub listing_of : (float : Bool) → Image → List ℕ
-listing_of float i = flat_map (listing_of_segment float) i.segments
+abbrev pub listing_of : Extensions → Image → List ℕ
+listing_of extensions i = flat_map (listing_of_segment extensions) i.segments

@@ -1,86 +1,21 @@
-//! Statements and lines in which instructions of floating point have their names.
+//! Statements of instructions of floating point.
 
 ghost use Rattle.std.specs.Prelude.{◌≡◌, ◌++◌, codes};
 ghost use Rattle.std.specs.List.{flat_map};
 ghost use Rattle.rv_listing.specs.FloatOperands.{float_operand_texts, rounding_operands};
 ghost use Rattle.rv_listing.specs.Floats.{float_operands_of, unless_dyn, unless_rne, rounding_to};
 
-use crate::lines::Line;
-use crate::numerals::{EightDigits, FourDigits};
-use crate::statement::{Operand, Statement};
+use crate::statement::Operand;
 use FloatOperand::{Csr, Float, Other};
 use FloatOperands::{Four, Three, Two};
-use rv_float_tables::{
-    FloatCsr, FloatInstr, Format, RoundingField, csr_name, decode_code, mnemonic,
-};
-use rv_tables::Code;
+use rv_float_tables::{FloatCsr, FloatInstr, Format, RoundingField, csr_name, mnemonic};
 use std::fmt;
 
-/// A line of a listing. Where `float` says so, instructions of floating point have their names in its text, as
-/// `00000000: 02c5f553  fadd.d f10,f11,f12`; else it is the text of the line.
-#[derive(Clone, Copy, Debug, PartialEq, Eq)]
-pub struct ShownLine {
-    pub line: Line,
-    pub float: bool,
-}
-
-impl fmt::Display for ShownLine {
-    ghost use Rattle.std.specs.Prelude.{Some};
-    ghost use Rattle.rv_listing.specs.Listing.{shown_text};
-
-    ghost output = { λ shown. Some (shown_text shown.float shown.line) };
-
-    fn fmt<W: fmt::Write>(&self, f: &mut fmt::Formatter<W>) -> fmt::Result {
-        match self.line {
-            Line::Code { addr, code } if self.float => {
-                let address = EightDigits(addr);
-                let statement = FloatStatement { code, addr };
-                match code {
-                    Code::Half(half) => write!(
-                        f,
-                        "{address}: {}      {statement}",
-                        FourDigits(half)
-                    ),
-                    Code::Word(word) => write!(f, "{address}: {}  {statement}", EightDigits(word)),
-                }
-            }
-            line => write!(f, "{line}"),
-        }
-    }
-}
-
-/// A code at an address. Its text is that of [`Statement`], but for an instruction of floating point, which has its name:
-/// `fadd.d f10,f11,f12`, or `fld f15,8(x10) # compressed`.
-#[derive(Clone, Copy, Debug, PartialEq, Eq)]
-pub struct FloatStatement {
-    pub code: Code,
-    pub addr: u32,
-}
-
-impl fmt::Display for FloatStatement {
-    ghost use Rattle.std.specs.Prelude.{Some};
-    ghost use Rattle.rv_listing.specs.Floats.{float_statement_of};
-
-    ghost output = { λ s. Some (float_statement_of s.code s.addr) };
-
-    #[tactic(auto, unfolding(crate::specs::Floats::float_statement_of))]
-    fn fmt<W: fmt::Write>(&self, f: &mut fmt::Formatter<W>) -> fmt::Result {
-        let FloatStatement { code, addr } = *self;
-        let Some(instr) = decode_code(code) else {
-            return write!(f, "{}", Statement { code, addr });
-        };
-        match code {
-            Code::Half(_) => write!(f, "{} # compressed", Instruction(instr)),
-            Code::Word(_) => write!(f, "{}", Instruction(instr)),
-        }
-    }
-}
-
-/// An instruction. Its text is its mnemonic and its operands.
+/// An instruction of floating point. Its text is its mnemonic and its operands.
 #[derive(Clone, Copy)]
-struct Instruction(FloatInstr);
+pub(crate) struct FloatInstruction(pub(crate) FloatInstr);
 
-impl fmt::Display for Instruction {
+impl fmt::Display for FloatInstruction {
     ghost use Rattle.std.specs.Prelude.{Some};
     ghost use Rattle.rv_listing.specs.Floats.{float_instruction_text};
 

@@ -10,8 +10,8 @@
 //! - [`Lines`] goes over the lines of a segment in order, without memory: each [`Line`] displays as its text. So whoever
 //!   writes a listing needs room for one line at a time. The listing of an image is the lines of its segments in their
 //!   order, each ended by a line feed.
-//! - Instructions of floating point are data in all of these, as on nodes without units. [`ShownLine`] and [`FloatStatement`] have
-//!   their names, as GNU objdump writes them; all else is the same there.
+//! - Instructions of extensions are data in all of these, as on nodes without them. [`ShownLine`] and [`NamedStatement`] have the names
+//!   of those of floating point and of A, as GNU objdump writes them; all else is the same there.
 //! - [`TwoDigits`], [`FourDigits`] and [`EightDigits`] display bytes, halfwords and words as listings write them, for other texts
 //!   that show such; [`word_at`] gives the word that stands at a place among bytes.
 //! - The text of a code does not rest on the codes beside it, and says nothing of labels, sections or pseudo-instructions. A
@@ -21,12 +21,14 @@
 //! assembly of chapter 25; section 1.5 for how long codes are. Layout and the spelling of numbers are this project's own.
 #![tactic(auto)]
 
+mod atomics;
 mod floats;
 mod lines;
+mod named;
 mod numerals;
 mod statement;
 
-pub use floats::{FloatStatement, ShownLine};
 pub use lines::{Line, Lines, word_at};
+pub use named::{NamedStatement, ShownLine};
 pub use numerals::{EightDigits, FourDigits, TwoDigits};
 pub use statement::{Statement, list};

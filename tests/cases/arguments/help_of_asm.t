@@ -8,8 +8,9 @@
     <IMAGE>  File to save the program in; it is created, or emptied, once TEXT is open
   
   Options:
-        --float  Take statements of floating point, those of F and D
-    -h, --help   Print help
+        --float   Take statements of floating point, those of F and D
+        --atomic  Take statements of A
+    -h, --help    Print help
   
   A text that is refused has a line `line N: NAME` on standard error:
     BadToken         something that is no name, number, string or sign

@@ -47,7 +47,7 @@
     over RANK            make a step of this rank, and at a call of a function all steps up to its return
     words RANK ADDR N    show N words of the memory of this rank
     text RANK ADDR N     show N bytes of it as a text, or those before the first that is 0
-    list RANK ADDR N     show N instructions of it, with --float those of floating point by name
+    list RANK ADDR N     show N instructions of it: those of F, D and A by name if the nodes have them
     areas RANK           show the areas that this rank has registered
     requests RANK        show what this rank has asked for in this superstep
     where [RANK]         show where this rank, or each rank, is: its address, superstep and state

@@ -9,5 +9,6 @@
   Options:
         --format <FORMAT>  Format of IMAGE: elf, an ELF executable; raw, the bytes of memory from address 0; asm, an assembly text [default: elf]
         --float            Name instructions of floating point, as on nodes with units for them; without it they are data
+        --atomic           Name instructions of A; without it they are data
         --large            Read a program that only a large machine takes: a file of at most 268435456 bytes
     -h, --help             Print help

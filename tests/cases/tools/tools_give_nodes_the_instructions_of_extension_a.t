@@ -26,6 +26,12 @@ What bspemu asm makes does not say that it wants the instructions of extension A
   $ bsprun --atomic seven.elf
   7 (no-eol)
 
+A text that has their statements gets them without the option.
+
+  $ sed 's/\.word    0x00532e2f #//' seven.s > named.s
+  $ bsprun named.s
+  7 (no-eol)
+
 A misaligned address is told with the instruction.
 
   $ sed 's/64/66/' seven.s > odd.s

@@ -11,4 +11,5 @@ returns c =
     let named : HasApp c.after_help.result (new_app (codes "asm")) = record { is = search rules; local = search rules } in
     let text = with_arg _ _ _ _ _ c.in_ok-arg.ensures named c.file.ensures in
     let image = with_arg _ _ _ _ _ c.in_ok-arg-2.ensures text c.file-2.ensures in
-    IfOk-weaker c.arg-3.result _ _ (λ r adds. with_arg _ _ _ _ _ adds image c.flag.ensures) c.arg-3.ensures
+    let float = with_arg _ _ _ _ _ c.in_ok-arg-3.ensures image c.flag.ensures in
+    IfOk-weaker c.arg-4.result _ _ (λ r adds. with_arg _ _ _ _ _ adds float c.flag-2.ensures) c.arg-4.ensures

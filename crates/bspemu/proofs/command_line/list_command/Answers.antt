@@ -12,4 +12,5 @@ returns c =
     let image = with_arg _ _ _ _ _ c.in_ok-arg.ensures named c.file.ensures in
     let format = with_arg _ _ _ _ _ c.in_ok-arg-2.ensures image c.format.ensures in
     let float = with_arg _ _ _ _ _ c.in_ok-arg-3.ensures format c.flag.ensures in
-    IfOk-weaker c.arg-4.result _ _ (λ r adds. with_arg _ _ _ _ _ adds float c.flag-2.ensures) c.arg-4.ensures
+    let atomic = with_arg _ _ _ _ _ c.in_ok-arg-4.ensures float c.flag-2.ensures in
+    IfOk-weaker c.arg-5.result _ _ (λ r adds. with_arg _ _ _ _ _ adds atomic c.flag-3.ensures) c.arg-5.ensures

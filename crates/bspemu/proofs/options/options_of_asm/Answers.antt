@@ -2,7 +2,7 @@
 use Rattle.std.proofs.Common.{◌∙◌, codes, sym}
 use Rattle.clap.specs.Words.{found_of}
 use Rattle.clap.proofs.WalkLemmas.{first_value-rows}
-use Rattle.bspemu.proofs.Getters.{flag_of_getter, no_flag_of_getter, none≢some}
+use Rattle.bspemu.proofs.Getters.{none≢some}
 use Rattle.bspemu.proofs.options.options_of_asm.Goals as goal
 
 pub returns-clause-some : goal.returns-clause-some
@@ -11,7 +11,7 @@ returns-clause-some c =
     record {
       text = sym (c.in_ok-get_str.ensures ∙ first_value-rows found (codes "text"));
       image = sym (c.in_ok-get_str-2.ensures ∙ first_value-rows found (codes "image"));
-      float = flag_of_getter _ found (codes "float") c.in_ok-get_one.ensures.none c.in_ok-get_one.ensures.value;
+      extensions = c.in_ok-extensions_of.ensures.some;
     }
 
 pub returns-in_err-get_str-clause-none : goal.returns-in_err-get_str-clause-none
@@ -24,7 +24,6 @@ returns-in_err-get_str-2-clause-none c =
     let row = c.in_err-get_str-2.ensures ∙ first_value-rows (found_of c.args.asm.now) (codes "image") in
     rw c.from_residual-in_err-get_str-2.ensures (λ o gives. none≢some (row ∙ gives.image))
 
-pub returns-in_err-get_one-clause-none : goal.returns-in_err-get_one-clause-none
-returns-in_err-get_one-clause-none c =
-    rw c.from_residual-in_err-get_one.ensures
-    (λ o gives. no_flag_of_getter o.float (found_of c.args.asm.now) (codes "float") c.in_err-get_one.ensures.value gives.float)
+pub returns-in_err-extensions_of-clause-none : goal.returns-in_err-extensions_of-clause-none
+returns-in_err-extensions_of-clause-none c =
+    rw c.from_residual-in_err-extensions_of.ensures (λ o gives. c.in_err-extensions_of.ensures.none o.extensions gives.extensions)

@@ -13,15 +13,14 @@ returns-clause-some c =
       format =
           sym (c.in_ok-get_str-2.ensures ∙ first_value-rows found (codes "format"))
           ∙ ap (λ (name : List ℕ). Some name) c.in_ok-format_named.ensures.some.0;
-      float = flag_of_getter _ found (codes "float") c.in_ok-float.ensures.none c.in_ok-float.ensures.value;
+      extensions = c.in_ok-extensions.ensures.some;
       large = flag_of_getter _ found (codes "large") c.in_ok-large.ensures.none c.in_ok-large.ensures.value;
       language = c.in_ok-format_named.ensures.some.1;
     }
 
-pub returns-in_err-float-clause-none : goal.returns-in_err-float-clause-none
-returns-in_err-float-clause-none c =
-    rw c.from_residual.ensures
-    (λ o gives. no_flag_of_getter o.float (found_of c.args.list.now) (codes "float") c.in_err-float.ensures.value gives.float)
+pub returns-in_err-extensions-clause-none : goal.returns-in_err-extensions-clause-none
+returns-in_err-extensions-clause-none c =
+    rw c.from_residual.ensures (λ o gives. c.in_err-extensions.ensures.none o.extensions gives.extensions)
 
 pub returns-in_err-large-clause-none : goal.returns-in_err-large-clause-none
 returns-in_err-large-clause-none c =

@@ -11,7 +11,7 @@ take-next n k line left lines below is = let one : n - k ≡ suc (n - (k + 1)) =
 
 pub loop-told-preserved : goal.loop-told-preserved
 loop-told-preserved g c =
-    one-more (ended_line c.args.float) c.in-Some.line _ _ (string_bytes c.loop-told.text) (string_bytes c.writeln.new.self) _
+    one-more (ended_line c.args.extensions) c.in-Some.line _ _ (string_bytes c.loop-told.text) (string_bytes c.writeln.new.self) _
     (take-next c.args.count c.loop-told._told c.in-Some.line c.loop-told.lines c.next.new.self c.loop-told-test.true
     c.in-Some.ensures.steps)
     c.in_ok-writeln.ensures.bytes c.loop-told.invariant

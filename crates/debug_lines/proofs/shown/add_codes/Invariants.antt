@@ -6,5 +6,5 @@ use Rattle.debug_lines.proofs.shown.add_codes.Given as goal
 
 abbrev pub invariant-loop-told : goal.invariant-loop-told
 invariant-loop-told g l =
-    string_bytes l.text ++ flat_map (ended_line l.float) (take (l.count - l._told) l.lines)
-    ≡ string_bytes l.initial.text ++ flat_map (ended_line l.float) (take l.count l.initial.lines)
+    string_bytes l.text ++ flat_map (ended_line l.extensions) (take (l.count - l._told) l.lines)
+    ≡ string_bytes l.initial.text ++ flat_map (ended_line l.extensions) (take l.count l.initial.lines)

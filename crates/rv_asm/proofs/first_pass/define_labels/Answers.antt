@@ -18,12 +18,14 @@ lines-preserved g c =
     left-below c.split_line.result.1 _ c.split_line.ensures.shorter in
     record {
       judged = c.lines.invariant.judged
-          ∙ ap (λ ls. first_faulty_line fault_alone (placed c.args.float c.lines.number c.lines.address (λ q. is_some (s q)) ls)) lines
-          ∙ judged_more c.args.float s t c.lines.number c.lines.address c.in-Ok.end line texts c.in-Ok.ensures.end c.in-Ok.ensures.labels
+          ∙ ap (λ ls. first_faulty_line fault_alone (placed c.args.extensions c.lines.number c.lines.address (λ q. is_some (s q)) ls)) lines
+          ∙ judged_more c.args.extensions s t c.lines.number c.lines.address c.in-Ok.end line texts c.in-Ok.ensures.end
+          c.in-Ok.ensures.labels
           c.in-Ok.ensures.ok;
       known = λ q. c.lines.invariant.known q
-          ∙ ap (λ ls. symbols_from s (placed c.args.float c.lines.number c.lines.address (λ p. is_some (s p)) ls) q) lines
-          ∙ known_more c.args.float s t c.lines.number c.lines.address c.in-Ok.end line texts c.in-Ok.ensures.end c.in-Ok.ensures.labels q;
+          ∙ ap (λ ls. symbols_from s (placed c.args.extensions c.lines.number c.lines.address (λ p. is_some (s p)) ls) q) lines
+          ∙ known_more c.args.extensions s t c.lines.number c.lines.address c.in-Ok.end line texts c.in-Ok.ensures.end
+          c.in-Ok.ensures.labels q;
       within = c.in-Ok.ensures.limit;
       counted = omega (arith, c.lines.invariant.counted, left, fewer);
     }

@@ -8,10 +8,10 @@ use Rattle.rv_asm.proofs.first_pass.define_labels.Given as goal
 
 abbrev pub invariant-lines : goal.invariant-lines
 invariant-lines g l = record {
-  judged : first_faulty_line fault_alone (places_of l.float l.fn.text)
-      ≡ first_faulty_line fault_alone (placed l.float l.number l.address (λ q. is_some (symbols l.labels q)) (lines_in l.rest));
-  known : (q : List ℕ) → symbols_of (places_of l.float l.fn.text) q
-      ≡ symbols_from (symbols l.labels) (placed l.float l.number l.address (λ p. is_some (symbols l.labels p)) (lines_in l.rest)) q;
+  judged : first_faulty_line fault_alone (places_of l.extensions l.fn.text)
+      ≡ first_faulty_line fault_alone (placed l.extensions l.number l.address (λ q. is_some (symbols l.labels q)) (lines_in l.rest));
+  known : (q : List ℕ) → symbols_of (places_of l.extensions l.fn.text) q
+      ≡ symbols_from (symbols l.labels) (placed l.extensions l.number l.address (λ p. is_some (symbols l.labels p)) (lines_in l.rest)) q;
   within : l.address ≤ 2 ^ 24;
   counted : l.number + left_in l.rest ≤ length l.fn.text + 2;
 }

@@ -4,4 +4,4 @@ use Rattle.rv_asm.proofs.SomeImage.{some_image}
 use Rattle.rv_asm.proofs.laws.a_text_without_a_fault_has_an_image.Goals as goal
 
 pub returns : goal.returns
-returns c = λ float. some_image float (in_range float)
+returns c = λ extensions. some_image extensions (in_range extensions)

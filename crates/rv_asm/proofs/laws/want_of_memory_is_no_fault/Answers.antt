@@ -4,4 +4,4 @@ use Rattle.rv_asm.proofs.NeverMemory.{never_memory}
 use Rattle.rv_asm.proofs.laws.want_of_memory_is_no_fault.Goals as goal
 
 pub returns : goal.returns
-returns c = λ float. never_memory float (Facts.never_memory float)
+returns c = λ extensions. never_memory extensions (Facts.never_memory extensions)

@@ -9,7 +9,7 @@ use Rattle.rv_asm.proofs.second_pass.write_lines.Goals as goal
 
 pub lines-init : goal.lines-init
 lines-init g c =
-    let f = c.args.float in
+    let f = c.args.extensions in
     let s = symbols c.args.labels.now in
     let texts = lines_of c.args.text.now in
     let at_start : 0 ≡ vec_len c.new.result = sym c.new.ensures.len in
@@ -23,7 +23,7 @@ lines-init g c =
 
 pub lines-preserved : goal.lines-preserved
 lines-preserved g c =
-    let f = c.args.float in
+    let f = c.args.extensions in
     let s = symbols c.args.labels.now in
     let line = c.split_line.result.0.now in
     let texts = lines_in c.split_line.result.1 in
@@ -49,6 +49,6 @@ lines-preserved g c =
 pub returns-clause-laid : goal.returns-clause-laid
 returns-clause-laid g c =
     let none : c.lines.rest ≡ None = search rules in
-    laid_whole c.args.float (symbols c.args.labels.now) (lines_of c.args.text.now) c.lines.program.bytes.items c.lines.program.entry
-    (subst (λ ls. IsLaidUpTo c.args.float (symbols c.args.labels.now) (lines_of c.args.text.now) ls c.lines.program.bytes.items
+    laid_whole c.args.extensions (symbols c.args.labels.now) (lines_of c.args.text.now) c.lines.program.bytes.items c.lines.program.entry
+    (subst (λ ls. IsLaidUpTo c.args.extensions (symbols c.args.labels.now) (lines_of c.args.text.now) ls c.lines.program.bytes.items
     c.lines.program.entry) (ap lines_in none) c.lines.invariant.laid)

@@ -11,10 +11,10 @@ use Rattle.rv_asm.proofs.second_pass.write_lines.Given as goal
 
 abbrev pub invariant-lines : goal.invariant-lines
 invariant-lines g l = record {
-  sound : AreSound l.float (symbols l.labels) (vec_len l.program.bytes) (lines_in l.rest);
-  judged : first_faulty_line (fault_of_uses (symbols l.labels)) (places_of l.float l.fn.text)
-      ≡ uses_from l.float (symbols l.labels) l.number (vec_len l.program.bytes) (lines_in l.rest);
-  laid : IsLaidUpTo l.float (symbols l.labels) (lines_of l.fn.text) (lines_in l.rest) l.program.bytes.items l.program.entry;
+  sound : AreSound l.extensions (symbols l.labels) (vec_len l.program.bytes) (lines_in l.rest);
+  judged : first_faulty_line (fault_of_uses (symbols l.labels)) (places_of l.extensions l.fn.text)
+      ≡ uses_from l.extensions (symbols l.labels) l.number (vec_len l.program.bytes) (lines_in l.rest);
+  laid : IsLaidUpTo l.extensions (symbols l.labels) (lines_of l.fn.text) (lines_in l.rest) l.program.bytes.items l.program.entry;
   within : vec_len l.program.bytes ≤ 2 ^ 24;
   counted : l.number + left_in l.rest ≤ length l.fn.text + 2;
 }
